@@ -1,0 +1,114 @@
+-- A domain of bridges and stations, its links, and the paths of streams through it.
+use Rattle.std.specs.Prelude.{ℕ, ◌≡◌, ◌≢◌, ◌+◌, ◌-◌, ◌*◌, ◌≤◌, ◌<◌, List, [], ◌∷◌, Bool, true, false, ◌==◌, ◌&&◌, if◌then◌else◌, length, Option, Some, None, All, AllPairs, slice_get, position}
+use Rattle.std.specs.Option.{option_map_or}
+use Rattle.cqf_units.specs.Timing.{nanos_of_octet, budget_of, cycle_at}
+use Rattle.cqf_model.specs.declared.topology.Link.{Link}
+use Rattle.cqf_model.specs.declared.topology.Node.{Node}
+use Rattle.cqf_model.specs.declared.topology.Node.TheVariants.{Bridge, Station}
+
+-- a domain: times in nanoseconds, the names of its bridges and stations, and its directed links, each by its place
+pub record Domain : Type 0 where
+  pub cycle_time : ℕ
+  pub guard : ℕ
+  pub bridges : List (List ℕ)
+  pub stations : List (List ℕ)
+  pub links : List Link
+
+-- the node is one of the domain's
+abbrev pub IsNode : Domain → Node → Type 0
+IsNode d (Bridge b) = b < length d.bridges
+IsNode d (Station s) = s < length d.stations
+
+-- a link that is accepted: its ends exist; what is sent in a cycle comes in it, since its delay is within the guard
+-- time; and the gap behind the last frame of a cycle is over at the cycle's end (profile)
+pub record IsAcceptedLink (d : Domain) (link : Link) : Type 0 where
+  pub from_bridge : link.from < length d.bridges
+  pub to_node : IsNode d link.to
+  pub not_to_itself : link.to ≢ Bridge link.from
+  pub delay_short : link.delay < d.guard
+  pub gap_short : 12 * nanos_of_octet link.rate ≤ d.guard
+
+-- a domain that is accepted (profile)
+pub record IsAccepted (d : Domain) : Type 0 where
+  pub cycle_least : 10000 ≤ d.cycle_time
+  pub cycle_most : d.cycle_time ≤ 10000000
+  pub guard_some : 0 < d.guard
+  pub guard_short : d.guard < d.cycle_time
+  pub some_bridge : 0 < length d.bridges
+  pub few_bridges : length d.bridges ≤ 32
+  pub few_stations : length d.stations ≤ 64
+  pub few_links : length d.links ≤ 64
+  pub links_good : (l : ℕ) (link : Link) → slice_get d.links l ≡ Some link → IsAcceptedLink d link
+
+-- the cycle of an instant
+abbrev pub cycle_of : Domain → ℕ → ℕ
+cycle_of d t = cycle_at d.cycle_time t
+
+-- a link's octet time and delay
+abbrev pub octet_time_of : Domain → ℕ → ℕ
+octet_time_of d l = option_map_or (λ (link : Link). nanos_of_octet link.rate) (slice_get d.links l) 0
+
+abbrev pub delay_of : Domain → ℕ → ℕ
+delay_of d l = option_map_or (λ (link : Link). link.delay) (slice_get d.links l) 0
+
+-- what reservations may cost on a link, in octets a cycle
+abbrev pub budget : Domain → ℕ → ℕ
+budget d l = budget_of d.cycle_time d.guard (octet_time_of d l)
+
+-- whether the link leaves the bridge, and whether it ends in it. A link that the domain lacks does neither
+abbrev pub leaves : Domain → ℕ → ℕ → Bool
+leaves d l bridge = option_map_or (λ (link : Link). link.from == bridge) (slice_get d.links l) false
+
+abbrev pub node_is : Node → ℕ → Bool
+node_is (Bridge b) bridge = b == bridge
+node_is (Station s) bridge = false
+
+abbrev pub enters : Domain → ℕ → ℕ → Bool
+enters d l bridge = option_map_or (λ (link : Link). node_is link.to bridge) (slice_get d.links l) false
+
+-- whether the first link ends in the bridge that the second leaves
+abbrev pub joins : Domain → ℕ → ℕ → Bool
+joins d m l = option_map_or (λ (link : Link). enters d m link.from) (slice_get d.links l) false
+
+-- the path's first link, and the link that directly follows a link in it
+abbrev pub first_link : List ℕ → Option ℕ
+first_link path = slice_get path 0
+
+abbrev pub next_link : List ℕ → ℕ → Option ℕ
+next_link [] m = None
+next_link (x ∷ path) m = if x == m then first_link path else next_link path m
+
+-- a path: each link ends in the bridge that the next one leaves, the last ends in no bridge, and no bridge stands in it
+-- twice
+pub record IsPath (d : Domain) (path : List ℕ) : Type 0 where
+  pub some : 0 < length path
+  pub few : length path ≤ 16
+  pub inside : All (λ l. l < length d.links) path
+  pub joined : (k m l : ℕ) → slice_get path k ≡ Some m → slice_get path (k + 1) ≡ Some l → joins d m l ≡ true
+  pub no_bridge_twice : (j k m l bridge : ℕ) → j < k → slice_get path j ≡ Some m → slice_get path k ≡ Some l → leaves d m bridge ≡ true → leaves d l bridge ≡ false
+  pub ends : (m bridge : ℕ) → slice_get path (length path - 1) ≡ Some m → enters d m bridge ≡ false
+
+-- the node of a name, bridges before stations
+abbrev pub is_text : List ℕ → List ℕ → Bool
+is_text [] [] = true
+is_text [] (y ∷ ys) = false
+is_text (x ∷ xs) [] = false
+is_text (x ∷ xs) (y ∷ ys) = (x == y) && is_text xs ys
+
+abbrev pub node_or : Option ℕ → Option ℕ → Option Node
+node_or (Some b) s = Some (Bridge b)
+node_or None (Some s) = Some (Station s)
+node_or None None = None
+
+abbrev pub node_named : Domain → List ℕ → Option Node
+node_named d name = node_or (position (λ other. is_text other name) d.bridges) (position (λ other. is_text other name) d.stations)
+
+-- the link from a bridge to a node
+abbrev pub same_node : Node → Node → Bool
+same_node (Bridge a) (Bridge b) = a == b
+same_node (Bridge a) (Station b) = false
+same_node (Station a) (Bridge b) = false
+same_node (Station a) (Station b) = a == b
+
+abbrev pub link_between : Domain → ℕ → Node → Option ℕ
+link_between d from to = position (λ (link : Link). (link.from == from) && same_node link.to to) d.links

@@ -1,0 +1,9 @@
+pub mod GateList
+pub mod Port
+pub mod StreamGate
+pub mod Domain
+pub mod Table
+pub mod Traffic
+pub mod Network
+pub mod Shift
+pub mod Book

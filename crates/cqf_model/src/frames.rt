@@ -1,0 +1,88 @@
+//! Frames: as they are offered, as they are sent, and as a book has them.
+
+use cqf_units::{Cycle, Name, Nanos};
+
+/// A frame that is offered at the edge.
+#[derive(Debug, Drop)]
+pub struct Offer {
+    pub at: Nanos,
+    /// The number of the bridge at which it is offered.
+    pub bridge: u8,
+    /// The name of the stream that it claims.
+    pub stream: Name,
+    /// Its size from the destination address to the FCS.
+    pub octets: u32,
+}
+
+/// An offer with its number among all offers.
+#[derive(Debug, Drop)]
+pub struct Offered {
+    /// The offer's place among the offers, from 1.
+    pub frame: u32,
+    pub offer: Offer,
+}
+
+/// A frame that a link carries.
+#[derive(Clone, Copy, Debug, PartialEq, Eq)]
+pub struct Sent {
+    pub start: Nanos,
+    pub frame: u32,
+    /// The number of its stream.
+    pub stream: u32,
+    pub octets: u32,
+}
+
+/// A transmission, as a book has it.
+#[derive(Clone, Copy, Debug, PartialEq, Eq)]
+pub struct Started {
+    /// The cycle of the start.
+    pub cycle: Cycle,
+    pub link: u8,
+    pub frame: u32,
+    pub octets: u32,
+    pub start: Nanos,
+}
+
+/// Why an offer is dropped at its edge (profile).
+#[derive(Clone, Copy, Debug, PartialEq, Eq)]
+pub enum Reason {
+    /// No held stream has the name.
+    Unknown,
+    /// The stream is held, and not live.
+    Withdrawn,
+    /// The bridge is not the first of the stream's path.
+    OtherBridge,
+    /// The stream's gate has fewer octets left.
+    Octets,
+}
+
+/// An offer that was dropped at its edge, as a book has it.
+#[derive(Clone, Copy, Debug, PartialEq, Eq)]
+pub struct Dropped {
+    /// The offer's cycle.
+    pub cycle: Cycle,
+    pub bridge: u8,
+    pub frame: u32,
+    pub octets: u32,
+    pub reason: Reason,
+}
+
+/// What one bridge sent and dropped in one cycle.
+#[derive(Debug, Drop)]
+pub struct Page {
+    pub bridge: u8,
+    pub cycle: Cycle,
+    /// By link, then start instant.
+    pub starts: Vec<Started>,
+    /// By frame.
+    pub drops: Vec<Dropped>,
+}
+
+/// All that a network sent and dropped in the cycles of a run.
+#[derive(Debug, Drop)]
+pub struct Book {
+    /// By cycle, then link, then start instant.
+    pub starts: Vec<Started>,
+    /// By cycle, then bridge, then frame.
+    pub drops: Vec<Dropped>,
+}

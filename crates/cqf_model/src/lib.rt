@@ -1,0 +1,20 @@
+//! The definitions that this repository is proved against, and the plain data that they speak of.
+//!
+//! `specs/` says what a gate list opens, which starts of a port are legal, what a stream gate lets pass, what a domain
+//! and a history of admissions are, and what the network of a domain does: one module a subject, each with its clause
+//! of IEEE Std 802.1Q-2018 or IEEE Std 802.3, or the word 'profile' where the rule is this project's own. `src/` has
+//! the data, with public fields and no logic. The crate that works with a type hands it on to its users.
+//!
+//! Read the modules of `specs/` in this order: `GateList`, `Port`, `StreamGate`, `Domain`, `Traffic`, `Network`,
+//! `Shift`, `Book`, `History`.
+#![tactic(auto)]
+
+mod frames;
+mod gates;
+mod ports;
+mod topology;
+
+pub use frames::{Book, Dropped, Offer, Offered, Page, Reason, Sent, Started};
+pub use gates::{OpenFor, StreamEntry};
+pub use ports::{Arrival, Start};
+pub use topology::{Link, Node, Row};
