@@ -7,3 +7,4 @@ pub mod Traffic
 pub mod Network
 pub mod Shift
 pub mod Book
+pub mod History

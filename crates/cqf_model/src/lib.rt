@@ -11,10 +11,12 @@
 
 mod frames;
 mod gates;
+mod history;
 mod ports;
 mod topology;
 
 pub use frames::{Book, Dropped, Offer, Offered, Page, Reason, Sent, Started};
 pub use gates::{OpenFor, StreamEntry};
+pub use history::{Receipt, Refused, Reply};
 pub use ports::{Arrival, Start};
 pub use topology::{Link, Node, Row};
