@@ -1,0 +1,2 @@
+pub mod Timing
+pub mod Name
