@@ -1,0 +1,73 @@
+-- Offers as they are listed.
+use Rattle.std.proofs.Common.{ℕ, ◌≡◌, ◌+◌, ◌<◌, ◌≤◌, ◌==◌, ◌∙◌, true, false, List, [], ◌∷◌, ◌++◌, length, map, filter, take, nat_lt, get_or, refl, sym, ap, arith, append-nil}
+use Rattle.std.specs.List.{enumerate_from}
+use Rattle.std.proofs.lemmas.List.{take_more, map-append, length-take-le}
+use Rattle.std.proofs.lemmas.Bool.{and_parts, ltb-true, eqb-true}
+use Rattle.std.proofs.lemmas.List.Elements.{filter-append, All-push}
+use Rattle.std.specs.List.{All}
+use Rattle.cqf_model.specs.declared.frames.Offer.{Offer}
+use Rattle.cqf_edge.specs.declared.Due.{Due}
+use Rattle.cqf_edge.specs.InTime.{no_offer, seen, is_kept}
+
+-- one element more is numbered by how many stand before it
+pub enumerate_from-push : {X : Type 0} (n : ℕ) (xs : List X) (x : X) → enumerate_from n (xs ++ x ∷ []) ≡ enumerate_from n xs ++ (n + length xs, x) ∷ []
+enumerate_from-push n [] x = let e : n ≡ n + 0 = omega arith in ap (λ k. (k, x) ∷ []) e
+enumerate_from-push n (y ∷ xs) x =
+    let e : (n + 1) + length xs ≡ n + length (y ∷ xs) = omega arith in
+    ap (λ zs. (n, y) ∷ zs) (enumerate_from-push (n + 1) xs x ∙ ap (λ k. enumerate_from (n + 1) xs ++ (k, x) ∷ []) e)
+
+-- the numbered offers before a place, and one more
+numbered-more : (offers : List Offer) (k : ℕ) → k < length offers → enumerate_from 0 (take (k + 1) offers) ≡ enumerate_from 0 (take k offers) ++ (k, get_or offers k no_offer) ∷ []
+numbered-more offers k below =
+    let le : k ≤ length offers = omega arith in
+    let count : 0 + length (take k offers) ≡ k = omega (arith, length-take-le k offers le) in
+    ap (enumerate_from 0) (take_more offers k no_offer below)
+    ∙ enumerate_from-push 0 (take k offers) (get_or offers k no_offer)
+    ∙ ap (λ n. enumerate_from 0 (take k offers) ++ (n, get_or offers k no_offer) ∷ []) count
+
+-- the offers before a place are listed
+pub record ListedBefore (offers : List Offer) (bridge end k : ℕ) (list : List Due) : Type 0 where
+  pub are : map (seen offers) list ≡ filter (is_kept bridge end) (enumerate_from 0 (take k offers))
+  pub instants : All (λ (due : Due). due.at ≡ (seen offers due).1.at.0) list
+  pub early : All (λ (due : Due). due.at < end) list
+  pub here : All (λ (due : Due). (seen offers due).1.bridge ≡ bridge) list
+
+-- what is kept of one more, which is kept
+kept-more : (offers : List Offer) (bridge end k : ℕ) → k < length offers → is_kept bridge end (k, get_or offers k no_offer) ≡ true
+    → filter (is_kept bridge end) (enumerate_from 0 (take (k + 1) offers)) ≡ filter (is_kept bridge end) (enumerate_from 0 (take k offers)) ++ (k, get_or offers k no_offer) ∷ []
+kept-more offers bridge end k below hit =
+    let one : filter (is_kept bridge end) ((k, get_or offers k no_offer) ∷ []) ≡ (k, get_or offers k no_offer) ∷ [] = rw hit refl in
+    ap (filter (is_kept bridge end)) (numbered-more offers k below)
+    ∙ filter-append (is_kept bridge end) (enumerate_from 0 (take k offers)) ((k, get_or offers k no_offer) ∷ [])
+    ∙ ap (λ zs. filter (is_kept bridge end) (enumerate_from 0 (take k offers)) ++ zs) one
+
+-- what is kept of one more, which isn't kept
+passed-more : (offers : List Offer) (bridge end k : ℕ) → k < length offers → is_kept bridge end (k, get_or offers k no_offer) ≡ false
+    → filter (is_kept bridge end) (enumerate_from 0 (take (k + 1) offers)) ≡ filter (is_kept bridge end) (enumerate_from 0 (take k offers))
+passed-more offers bridge end k below miss =
+    let none : filter (is_kept bridge end) ((k, get_or offers k no_offer) ∷ []) ≡ [] = rw miss refl in
+    ap (filter (is_kept bridge end)) (numbered-more offers k below)
+    ∙ filter-append (is_kept bridge end) (enumerate_from 0 (take k offers)) ((k, get_or offers k no_offer) ∷ [])
+    ∙ ap (λ zs. filter (is_kept bridge end) (enumerate_from 0 (take k offers)) ++ zs) none
+    ∙ append-nil _
+
+pub ListedBefore-kept : (offers : List Offer) (bridge end k : ℕ) (list : List Due) (at : ℕ) → k < length offers → at ≡ (get_or offers k no_offer).at.0
+    → is_kept bridge end (k, get_or offers k no_offer) ≡ true
+    → ListedBefore offers bridge end k list → ListedBefore offers bridge end (k + 1) (list ++ record { at = at; place = k } ∷ [])
+ListedBefore-kept offers bridge end k list at below is_at hit before =
+    let due : Due = record { at = at; place = k } in
+    let parts = and_parts ((get_or offers k no_offer).bridge == bridge) (nat_lt (get_or offers k no_offer).at.0 end) hit in
+    let soon : at < end = omega (arith, is_at, ltb-true (get_or offers k no_offer).at.0 end parts.1) in
+    record {
+      are = map-append (seen offers) list (due ∷ []) ∙ ap (λ zs. zs ++ seen offers due ∷ []) before.are ∙ sym (kept-more offers bridge end k below hit);
+      instants = All-push (λ (due : Due). due.at ≡ (seen offers due).1.at.0) list due before.instants is_at;
+      early = All-push (λ (due : Due). due.at < end) list due before.early soon;
+      here = All-push (λ (due : Due). (seen offers due).1.bridge ≡ bridge) list due before.here (eqb-true (get_or offers k no_offer).bridge bridge parts.0);
+    }
+
+pub ListedBefore-passed : (offers : List Offer) (bridge end k : ℕ) (list : List Due) → k < length offers
+    → is_kept bridge end (k, get_or offers k no_offer) ≡ false
+    → ListedBefore offers bridge end k list → ListedBefore offers bridge end (k + 1) list
+ListedBefore-passed offers bridge end k list below miss before =
+    let more = passed-more offers bridge end k below miss in
+    record { are = before.are ∙ sym more; instants = before.instants; early = before.early; here = before.here }

@@ -1,0 +1,29 @@
+-- Offers that wait to be taken.
+use Rattle.std.specs.Prelude.{ℕ, ◌≡◌, ◌==◌, ◌&&◌, ◌<◌, Bool, All, List, [], map, filter, nat_lt, slice_index_or}
+use Rattle.std.specs.List.{enumerate_from}
+use Rattle.cqf_model.specs.declared.frames.Offer.{Offer}
+use Rattle.cqf_model.specs.Traffic.{Received, offer_received}
+use Rattle.cqf_edge.specs.declared.Due.{Due}
+
+-- what stands past the end of a list of offers
+abbrev pub no_offer : Offer
+no_offer = record { at = record { 0 = 0 }; bridge = 0; stream = []; octets = 0 }
+
+-- the offer that waits, with its place
+abbrev pub seen : List Offer → Due → ℕ × Offer
+seen offers due = (due.place, slice_index_or offers due.place no_offer)
+
+-- the frame that it offers
+abbrev pub received_of : List Offer → Due → Received
+received_of offers due = offer_received (seen offers due)
+
+-- the offer is at the bridge and before the end
+abbrev pub is_kept : ℕ → ℕ → ℕ × Offer → Bool
+is_kept bridge end x = (x.1.bridge == bridge) && nat_lt x.1.at.0 end
+
+-- what waits is each such offer, with its instant, as they are listed
+pub record IsListed (offers : List Offer) (bridge end : ℕ) (list : List Due) : Type 0 where
+  pub are : map (seen offers) list ≡ filter (is_kept bridge end) (enumerate_from 0 offers)
+  pub instants : All (λ (due : Due). due.at ≡ (seen offers due).1.at.0) list
+  pub early : All (λ (due : Due). due.at < end) list
+  pub here : All (λ (due : Due). (seen offers due).1.bridge ≡ bridge) list

@@ -1,0 +1,7 @@
+-- What is left of the offset in the round lies behind the entries so far.
+use Rattle.std.proofs.Common.{◌≡◌, ◌+◌, ◌%◌, take}
+use Rattle.cqf_model.specs.GateList.{round_of}
+use Rattle.cqf_gates.proofs.transmission.TxList.entry_at.Given as goal
+
+abbrev pub invariant-loop-place : goal.invariant-loop-place
+invariant-loop-place l = round_of (take l.place l.entries) + l.offset ≡ l.fn.t.0 % round_of l.entries

@@ -1,0 +1,18 @@
+//! Why a gate list is refused.
+
+/// Why no gate list can be made of some entries (profile).
+#[derive(Clone, Copy, Debug, PartialEq, Eq, Drop, thiserror::Error)]
+pub enum ListFault {
+    /// There is no entry.
+    #[error("the gate list has no entry")]
+    Empty,
+    /// There are more than 16 entries.
+    #[error("the gate list has more than 16 entries")]
+    TooMany,
+    /// An interval is 0.
+    #[error("an interval of the gate list is 0")]
+    ZeroInterval,
+    /// An internal priority value is neither 6 nor 7.
+    #[error("an internal priority value of the gate list is neither 6 nor 7")]
+    BadIpv,
+}

@@ -1,0 +1,178 @@
+//! Transmission gate control lists (IEEE 802.1Q, 8.6.8.4).
+ghost use Rattle.std.specs.Prelude.{◌≡◌, ◌==◌, ◌+◌, ◌*◌, ◌-◌, ◌^◌, ◌<◌, ◌≤◌, ◌↔◌, ℕ, IsTrue, IsBitSet, All, take, length, slice_index_or};
+ghost use Rattle.std.specs.List.{list_any};
+ghost use Rattle.cqf_model.specs.GateList.{Entry, InForce, IsOpen, IsOpenFor, round_of, states_at};
+ghost use Rattle.cqf_model.specs.declared.gates.OpenFor.TheVariants.{Always};
+ghost use Rattle.cqf_gates.specs.TxList.{AreSteady, IsTxList, tx_list_of, IsOpenRun};
+
+use crate::{ListFault, OpenFor};
+use arrayvec::ArrayVec;
+use cqf_units::Nanos;
+use std::marker::Model;
+
+/// The most entries that a list can have (profile).
+const MOST_ENTRIES: usize = 16;
+
+/// A transmission gate control list: entries of eight gate states and an interval in nanoseconds. Rounds of the list
+/// follow one another from instant 0 without end (IEEE 802.1Q, 8.6.8.4; base time and limits: profile).
+#[derive(Debug, Drop)]
+pub struct TxList {
+    entries: ArrayVec<(u8, u32), 16>,
+}
+
+impl Model for TxList {
+    ghost use Rattle.std.specs.Prelude.{ℕ, List};
+    ghost use Rattle.cqf_gates.specs.TxList.{IsTxList};
+
+    ghost Value = { List (ℕ × ℕ) };
+
+    ghost view = { λ list. list.entries.items };
+
+    ghost invariant = { λ list. IsTxList list.entries.items };
+
+    ghost inverse = { λ entries. record { entries = record { items = entries } } };
+}
+
+/// Whether the entry would be in force for no time.
+fn is_zero(entry: &(u8, u32)) -> bool
+    ensures { result ≡ (entry.now.1 == 0) }
+{
+    entry.1 == 0
+}
+
+/// Whether one of the entries would be in force for no time.
+fn has_zero(entries: &[(u8, u32)]) -> bool
+    ensures { result ≡ list_any (λ (entry : Entry). entry.1 == 0) entries.now }
+{
+    entries.iter().any(|entry| is_zero(entry))
+}
+
+/// The entries, kept in place.
+fn kept(entries: &[(u8, u32)]) -> ArrayVec<(u8, u32), 16>
+    requires { length entries.now ≤ 16 }
+    ensures { result.items ≡ entries.now }
+{
+    let mut kept = ArrayVec::new();
+    for entry in entries {
+        kept.push(*entry);
+    }
+    kept
+}
+
+/// How long the entries take together, in nanoseconds.
+fn length_of(entries: &[(u8, u32)]) -> u64
+    requires { length entries.now ≤ 16 }
+    ensures value { result ≡ round_of entries.now }
+    ensures short { result < 2 ^ 36 + 1 }
+{
+    let mut nanos: u64 = 0;
+    for entry in entries {
+        nanos += u64::from(entry.1);
+    }
+    nanos
+}
+
+/// Whether the states open the class.
+fn opens(states: u8, class: u8) -> bool
+    requires { class < 8 }
+    ensures { IsTrue result ↔ IsBitSet states class }
+{
+    states & (1 << class) != 0
+}
+
+/// How many entries, from the first on, open the class.
+fn open_run(entries: &[(u8, u32)], class: u8) -> usize
+    requires { class < 8 }
+    ensures run { IsOpenRun entries.now class result }
+{
+    for (place, entry) in entries.iter().enumerate() {
+        if !opens(entry.0, class) {
+            return place;
+        }
+    }
+    entries.len()
+}
+
+impl TxList {
+    /// The list of these entries, each with the states of eight gates, class 7 in the highest bit and 1 for open,
+    /// and its interval in nanoseconds. It refuses no entries as `Empty`, more than 16 as `TooMany`, and an interval
+    /// of 0 as `ZeroInterval`, the first of these that fits (profile).
+    pub fn new(entries: &[(u8, u32)]) -> Result<TxList, ListFault>
+        ensures { result ≡ tx_list_of entries.now }
+    {
+        if entries.is_empty() {
+            return Err(ListFault::Empty);
+        }
+        if entries.len() > MOST_ENTRIES {
+            return Err(ListFault::TooMany);
+        }
+        if has_zero(entries) {
+            return Err(ListFault::ZeroInterval);
+        }
+        Ok(TxList {
+            entries: kept(entries),
+        })
+    }
+
+    /// What the list was made of.
+    pub fn entries(&self) -> &[(u8, u32)]
+        ensures value { result.now ≡ self.now }
+        ensures facts { IsTxList self.now }
+    {
+        self.entries.as_slice()
+    }
+
+    /// The place of the entry in force at the instant, and how many nanoseconds it has been in force.
+    pub fn entry_at(&self, t: Nanos) -> (usize, u32)
+        ensures in_force { InForce self.now t.0 result.0 result.1 }
+        ensures steady { let entry = slice_index_or self.now result.0 (0, 0) in
+            AreSteady self.now entry.0 t.0 (t.0 + entry.1 - result.1) }
+    {
+        let entries = self.entries();
+        let mut offset = t.0 % length_of(entries);
+        for (place, entry) in entries.iter().enumerate() {
+            let interval = u64::from(entry.1);
+            if offset < interval {
+                return (place, offset as u32);
+            }
+            offset -= interval;
+        }
+        unreachable!()
+    }
+
+    /// The states of the eight gates at the instant, class 7 in the highest bit and 1 for open.
+    pub fn mask_at(&self, t: Nanos) -> u8
+        ensures { result ≡ states_at self.now t.0 }
+    {
+        let (place, _) = self.entry_at(t);
+        self.entries()[place].0
+    }
+
+    /// How long the class stays open from the instant on: `Closed` where it is closed at the instant, `Always` where
+    /// each entry opens it, and otherwise up to the first later instant at which it is closed. A boundary between two
+    /// entries that both open the class is no close of its gate (profile).
+    pub fn open_for(&self, t: Nanos, class: u8) -> OpenFor
+        requires gate { class < 8 }
+        requires early { t.0 < 2 ^ 62 }
+        ensures span { IsOpenFor self.now class t.0 result }
+        ensures always { result ≡ Always → (s : ℕ) → IsOpen self.now class s }
+    {
+        let entries = self.entries();
+        let leading = open_run(entries, class);
+        if leading == entries.len() {
+            return OpenFor::Always;
+        }
+        let (place, offset) = self.entry_at(t);
+        let rest = &entries[place..];
+        let ahead = open_run(rest, class);
+        if ahead == 0 {
+            return OpenFor::Closed;
+        }
+        let begun = t.0 - u64::from(offset);
+        if ahead < rest.len() {
+            return OpenFor::Until(Nanos(begun + length_of(&rest[..ahead])));
+        }
+        let round_end = begun + length_of(rest);
+        OpenFor::Until(Nanos(round_end + length_of(&entries[..leading])))
+    }
+}

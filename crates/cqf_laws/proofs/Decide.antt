@@ -1,0 +1,101 @@
+-- What can be told of finitely many.
+use Rattle.std.proofs.Common.{◌≡◌, ℕ, ◌<◌, ◌≤◌, ◌⊎◌, List, length, inl, inr, arith, subst}
+use Rattle.std.specs.Prelude.{Contains, slice_index_or, zero, suc}
+use Rattle.std.proofs.lemmas.Bool.{cases_lt}
+use Rattle.std.proofs.lemmas.List.Elements.{All-contains, All-from_get_or, Contains-get_or}
+
+-- it can be told whether a statement holds
+abbrev pub Told : Type 0 → Type 0
+Told P = P ⊎ (P → ⊥)
+
+pub told_both : {P Q : Type 0} → Told P → Told Q → Told (P × Q)
+told_both (inl p) (inl q) = inl (p, q)
+told_both (inl p) (inr never) = inr (λ w. never w.1)
+told_both (inr never) q = inr (λ w. never w.0)
+
+pub told_if : {P Q : Type 0} → Told P → Told Q → Told (P → Q)
+told_if p (inl q) = inl (λ x. q)
+told_if (inl p) (inr never) = inr (λ f. never (f p))
+told_if (inr other) (inr never) = inl (λ p. absurd (other p))
+
+pub told_not : {P : Type 0} → Told P → Told (P → ⊥)
+told_not (inl p) = inr (λ f. f p)
+told_not (inr never) = inl never
+
+pub told_like : {P Q : Type 0} → (P → Q) → (Q → P) → Told P → Told Q
+told_like to from (inl p) = inl (to p)
+told_like to from (inr never) = inr (λ q. never (from q))
+
+pub told_lt : (m n : ℕ) → Told (m < n)
+told_lt m n = elim (cases_lt m n) [ inl l ↦ inl l | inr g ↦ inr (λ l. omega (arith, l, g)) ]
+
+pub told_le : (m n : ℕ) → Told (m ≤ n)
+told_le m n = elim (cases_lt n m) [ inl l ↦ inr (λ g. omega (arith, l, g)) | inr g ↦ inl g ]
+
+-- of all numbers below one
+pub told_below : (P : ℕ → Type 0) → ((k : ℕ) → Told (P k)) → (n : ℕ) → Told ((k : ℕ) → k < n → P k)
+told_below P told zero = inl (λ k l. absurd (omega (arith, l)))
+told_below P told (suc n) =
+    told_like {P = ((k : ℕ) → k < n → P k) × P n}
+    (λ w k l. elim (cases_lt k n) [ inl m ↦ w.0 k m | inr g ↦ let e : n ≡ k = omega (arith, l, g) in subst P e w.1 ])
+    (λ f. (λ k l. f k (omega (arith, l)), f n (omega arith)))
+    (told_both (told_below P told n) (told n))
+
+-- of all members of a list
+pub told_members : {X : Type 0} (P : X → Type 0) → ((x : X) → Told (P x)) → X → (xs : List X) → Told ((x : X) → Contains xs x → P x)
+told_members P told d xs =
+    told_like {P = (k : ℕ) → k < length xs → P (slice_index_or xs k d)}
+    (λ f x h. All-contains P xs x (All-from_get_or P xs d f) h)
+    (λ f k l. f (slice_index_or xs k d) (Contains-get_or xs k d l))
+    (told_below (λ k. P (slice_index_or xs k d)) (λ k. told (slice_index_or xs k d)) (length xs))
+
+-- of the numbers below one for which something holds, one that is the greatest by a measure
+pub record IsBest (P : ℕ → Type 0) (measure : ℕ → ℕ) (n k : ℕ) : Type 0 where
+  pub below : k < n
+  pub holds : P k
+  pub best : (j : ℕ) → j < n → P j → measure j ≤ measure k
+
+pub best_below : (P : ℕ → Type 0) (measure : ℕ → ℕ) → ((k : ℕ) → Told (P k)) → (n : ℕ) → ((k : ℕ) × IsBest P measure n k) ⊎ ((k : ℕ) → k < n → P k → ⊥)
+best_below P measure told zero = inr (λ k l p. omega (arith, l))
+best_below P measure told (suc n) = further P measure n (best_below P measure told n) (told n)
+  where
+    further : (P : ℕ → Type 0) (measure : ℕ → ℕ) (n : ℕ) → ((k : ℕ) × IsBest P measure n k) ⊎ ((k : ℕ) → k < n → P k → ⊥) → Told (P n) → ((k : ℕ) × IsBest P measure (suc n) k) ⊎ ((k : ℕ) → k < suc n → P k → ⊥)
+    further P measure n (inl w) (inr never) =
+        inl (
+          w.0,
+          record {
+            below = omega (arith, w.1.below);
+            holds = w.1.holds;
+            best = λ j l p. elim (cases_lt j n) [ inl m ↦ w.1.best j m p | inr g ↦ (let e : j ≡ n = omega (arith, l, g) in absurd (never (subst P e p))) ];
+          },
+        )
+    further P measure n (inr none) (inr never) =
+        inr (λ k l p. elim (cases_lt k n) [ inl m ↦ none k m p | inr g ↦ (let e : k ≡ n = omega (arith, l, g) in never (subst P e p)) ])
+    further P measure n (inr none) (inl p) =
+        inl (
+          n,
+          record {
+            below = omega arith;
+            holds = p;
+            best = λ j l q. elim (cases_lt j n) [ inl m ↦ absurd (none j m q) | inr g ↦ (let e : j ≡ n = omega (arith, l, g) in subst (λ (x : ℕ). measure j ≤ measure x) e (omega arith)) ];
+          },
+        )
+    further P measure n (inl w) (inl p) =
+        elim (cases_lt (measure w.0) (measure n)) [
+          | inl less ↦ inl (
+            n,
+            record {
+              below = omega arith;
+              holds = p;
+              best = λ j l q. elim (cases_lt j n) [ inl m ↦ omega (arith, less, w.1.best j m q) | inr g ↦ (let e : j ≡ n = omega (arith, l, g) in subst (λ (x : ℕ). measure j ≤ measure x) e (omega arith)) ];
+            },
+          )
+          | inr more ↦ inl (
+            w.0,
+            record {
+              below = omega (arith, w.1.below);
+              holds = w.1.holds;
+              best = λ j l q. elim (cases_lt j n) [ inl m ↦ w.1.best j m q | inr g ↦ (let e : n ≡ j = omega (arith, l, g) in subst (λ (x : ℕ). measure x ≤ measure w.0) e more) ];
+            },
+          )
+        ]

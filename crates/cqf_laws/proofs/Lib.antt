@@ -1,0 +1,7 @@
+pub mod Members
+pub mod Alike
+pub mod Spans
+pub mod Settled
+pub mod Late
+pub mod Decide
+pub mod Exist

@@ -1,0 +1,33 @@
+-- Laws about gate control lists, in a planner's words.
+use Rattle.std.specs.Prelude.{ℕ, ◌≡◌, ◌≤◌, ◌<◌, ◌↔◌, List, slice_index_or}
+use Rattle.cqf_model.specs.declared.gates.OpenFor.{OpenFor}
+use Rattle.cqf_model.specs.declared.gates.OpenFor.TheVariants.{Closed, Always, Until}
+use Rattle.cqf_units.specs.Timing.{ending_of}
+use Rattle.cqf_model.specs.GateList.{Entry, InForce, IsOpenFor, IsOpenThrough, round_of, states_at}
+
+-- the states in force at an instant are those of the entry whose span, repeated from instant 0 without end, holds it
+abbrev pub StatesAreOfTheEntry : Type 0
+StatesAreOfTheEntry =
+    (entries : List Entry) (t place offset : ℕ) → InForce entries t place offset → states_at entries t ≡ (slice_index_or entries place (0, 0)).0
+
+-- where a round takes any time at all, some entry is in force at each instant
+abbrev pub SomeEntryIsInForce : Type 0
+SomeEntryIsInForce =
+    (entries : List Entry) (t : ℕ) → 0 < round_of entries → (place : ℕ) × (offset : ℕ) × InForce entries t place offset
+
+-- no two entries are in force at one instant, and one is so at one offset alone
+abbrev pub OneEntryIsInForce : Type 0
+OneEntryIsInForce =
+    (entries : List Entry) (t place offset other other_offset : ℕ) → InForce entries t place offset → InForce entries t other other_offset → (place ≡ other) × (offset ≡ other_offset)
+
+-- a frame that ends at this instant is sent before the next close of its gate
+abbrev pub Fits : OpenFor → ℕ → Type 0
+Fits Closed ending = ⊥
+Fits Always ending = Unit {0}
+Fits (Until end) ending = ending ≤ end.0
+
+-- a frame may start exactly where its gate stays open for good, or until its end or later: there is time to send it
+-- before the next gate-close event (8.6.8.4)
+abbrev pub FrameFitsWhileOpen : Type 0
+FrameFitsWhileOpen =
+    (entries : List Entry) (class t octets octet_time : ℕ) (open_for : OpenFor) → 0 < round_of entries → 0 < octet_time → IsOpenFor entries class t open_for → (let ending = ending_of t octets octet_time in (IsOpenThrough entries class t ending ↔ Fits open_for ending))

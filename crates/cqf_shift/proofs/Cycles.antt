@@ -1,0 +1,47 @@
+-- Instants and cycles.
+use Rattle.std.proofs.Common.{◌≡◌, ℕ, ◌+◌, ◌-◌, ◌*◌, ◌/◌, ◌%◌, ◌<◌, ◌≤◌, ◌⊎◌, ap, ◌∙◌, arith, mod-lt, div-add-mod'}
+use Rattle.std.proofs.lemmas.Nat.{div-mul-add, mod-mul-add}
+
+-- an instant of a cycle is in that cycle alone
+pub cycle_is : (n c t : ℕ) → c * n ≤ t → t < c * n + n → t / n ≡ c
+cycle_is n c t from upto =
+    let parts : t ≡ c * n + (t - c * n) = omega arith in
+    ap (λ x. x / n) parts ∙ div-mul-add c n (t - c * n) (omega arith)
+
+-- a cycle's instants
+pub cycle_from : (n t : ℕ) → t / n * n ≤ t
+cycle_from n t = omega (arith, div-add-mod' t n)
+
+pub cycle_upto : (n t : ℕ) → 0 < n → t < t / n * n + n
+cycle_upto n t some = omega (arith, div-add-mod' t n, mod-lt t some)
+
+-- where an instant lies in the round of two cycles
+pub in_round : (n c t : ℕ) → c * n ≤ t → t < c * n + n → t % (n + n) ≡ (c % 2) * n + (t - c * n)
+in_round n c t from upto =
+    let halves = div-add-mod' c 2 in
+    let bit : c % 2 < 2 = mod-lt c (omega arith) in
+    let parts : t ≡ (c / 2) * (n + n) + ((c % 2) * n + (t - c * n)) = omega (arith, ap (λ x. x * n) halves) in
+    let below : (c % 2) * n ≤ n = two n (c % 2) bit in
+    ap (λ x. x % (n + n)) parts ∙ mod-mul-add (c / 2) (n + n) ((c % 2) * n + (t - c * n)) (omega arith)
+  where
+    two : (n b : ℕ) → b < 2 → b * n ≤ n
+    two n b h = grind arith
+
+-- which round of two cycles it lies in
+pub round_is : (n c t : ℕ) → c * n ≤ t → t < c * n + n → t / (n + n) ≡ c / 2
+round_is n c t from upto =
+    let halves = div-add-mod' c 2 in
+    let bit : c % 2 < 2 = mod-lt c (omega arith) in
+    let parts : t ≡ (c / 2) * (n + n) + ((c % 2) * n + (t - c * n)) = omega (arith, ap (λ x. x * n) halves) in
+    let below : (c % 2) * n ≤ n = two n (c % 2) bit in
+    ap (λ x. x / (n + n)) parts ∙ div-mul-add (c / 2) (n + n) ((c % 2) * n + (t - c * n)) (omega arith)
+  where
+    two : (n b : ℕ) → b < 2 → b * n ≤ n
+    two n b h = grind arith
+
+-- the two bits
+pub parity : (c : ℕ) → (c % 2 ≡ 0) ⊎ (c % 2 ≡ 1)
+parity c = two (c % 2) (mod-lt c (omega arith))
+  where
+    two : (b : ℕ) → b < 2 → (b ≡ 0) ⊎ (b ≡ 1)
+    two b h = grind arith

@@ -1,0 +1,50 @@
+-- The first line of a text.
+use Rattle.std.proofs.Common.{◌≡◌, ℕ, ◌<◌, ◌≤◌, ◌+◌, ◌∙◌, List, [], ◌∷◌, length, take, drop, arith, rules, Bool, true, false, Option, Some, None, MatchOption, position, refl, sym, ap, inl, inr}
+use Rattle.std.specs.List.{slice_split, position_or_len, before_first, after_first}
+use Rattle.std.proofs.lemmas.List.Splits.{slice_split_first, slice_split_none, slice_split-cons_yes, slice_split-cons_no, length-slice_split}
+use Rattle.std.proofs.lemmas.List.Sums.{prefix_len-le-length, fails_before_first}
+use Rattle.std.proofs.lemmas.Bool.{cases_lt}
+use Rattle.std.proofs.lemmas.Grind.{common_steps}
+use Rattle.cqf_text.specs.Lines.{is_line_feed, without_empty_last, lines_of}
+
+-- where no element passes, the list is the one part
+pub slice_split-alone : (p : ℕ → Bool) (xs : List ℕ) → length xs ≤ position_or_len p xs → slice_split p xs ≡ xs ∷ []
+slice_split-alone p [] h = refl
+slice_split-alone p (x ∷ xs) h = grind (arith, common_steps, slice_split-alone p xs)
+
+-- a piece that others follow is a line
+pub without_empty_last-cons : (piece : List ℕ) (pieces : List (List ℕ)) → 0 < length pieces → without_empty_last (piece ∷ pieces) ≡ piece ∷ without_empty_last pieces
+without_empty_last-cons piece [] h = absurd (omega arith)
+without_empty_last-cons piece (next ∷ more) h = refl
+
+-- there is a piece
+pub slice_split-some : (text : List ℕ) → 0 < length (slice_split is_line_feed text)
+slice_split-some text = omega (arith, length-slice_split is_line_feed text)
+
+-- the lines of one piece
+pub without_empty_last-one : (piece : List ℕ) → 0 < length piece → without_empty_last (piece ∷ []) ≡ piece ∷ []
+without_empty_last-one piece h = grind (arith, common_steps)
+
+-- the first line ends at a line feed
+lines_of-at_feed : (text : List ℕ) → position_or_len is_line_feed text < length text → lines_of text ≡ before_first is_line_feed text ∷ lines_of (after_first is_line_feed text)
+lines_of-at_feed text h = ap without_empty_last (slice_split_first is_line_feed text 0 h) ∙ without_empty_last-cons _ _ (slice_split-some (after_first is_line_feed text))
+
+-- the first line ends with the text
+lines_of-at_end : (text : List ℕ) → 0 < length text → length text ≤ position_or_len is_line_feed text → lines_of text ≡ before_first is_line_feed text ∷ lines_of (after_first is_line_feed text)
+lines_of-at_end text some h =
+    let front : before_first is_line_feed text ≡ text = grind (arith, common_steps) in
+    let back : after_first is_line_feed text ≡ [] = grind (arith, common_steps) in
+    let alone : lines_of text ≡ text ∷ [] = ap without_empty_last (slice_split-alone is_line_feed text h) ∙ without_empty_last-one text some in
+    let none : lines_of (after_first is_line_feed text) ≡ [] = ap lines_of back in
+    cc
+
+-- a text that isn't empty has its first line first
+pub lines_of-first : (text : List ℕ) → 0 < length text → lines_of text ≡ before_first is_line_feed text ∷ lines_of (after_first is_line_feed text)
+lines_of-first text some = elim (cases_lt (position_or_len is_line_feed text) (length text)) [
+  | inl h ↦ lines_of-at_feed text h
+  | inr h ↦ lines_of-at_end text some h
+]
+
+-- the first place of an element that passes, as `position` says it
+pub position_or_len-none : (p : ℕ → Bool) (xs : List ℕ) → None ≡ position p xs → length xs ≡ position_or_len p xs
+position_or_len-none p xs h = grind (arith, common_steps, prefix_len-le-length)

@@ -1,0 +1,39 @@
+//! The lines of a text (profile).
+ghost use Rattle.std.specs.Prelude.{◌≡◌, ◌<◌, ◌≤◌, ◌↔◌, [], ◌∷◌, length, position, IsSome, IfSome, MatchOption};
+ghost use Rattle.std.specs.List.{position_or_len, before_first, after_first};
+ghost use Rattle.cqf_text.specs.Lines.{is_line_feed, lines_of};
+
+/// Where the first line feed stands.
+fn line_feed(text: &[u8]) -> Option<usize>
+    ensures { result ≡ position is_line_feed text.now }
+{
+    text.iter().position(|byte| *byte == b'\n')
+}
+
+/// Where the first line ends: before its line feed, or at the end of the text.
+pub(crate) fn line_end(text: &[u8]) -> usize
+    ensures end { result ≡ position_or_len is_line_feed text.now }
+    ensures inside { result ≤ length text.now }
+{
+    match line_feed(text) {
+        Some(end) => end,
+        None => text.len(),
+    }
+}
+
+/// The first line of the text, and what stands behind its line feed. `None` exactly where the text is empty: it has
+/// no line. The last line may lack its line feed, and an empty piece behind the last line feed is no line (profile).
+pub fn split_line(text: &[u8]) -> Option<(&[u8], &[u8])>
+    ensures any { IsSome result ↔ (0 < length text.now) }
+    ensures line { IfSome result (λ p. p.0.now ≡ before_first is_line_feed text.now) }
+    ensures rest { IfSome result (λ p. p.1.now ≡ after_first is_line_feed text.now) }
+    ensures lines { MatchOption result (lines_of text.now ≡ []) (λ p. lines_of text.now ≡ p.0.now ∷ lines_of p.1.now) }
+    ensures shorter { IfSome result (λ p. length p.1.now < length text.now) }
+{
+    if text.is_empty() {
+        return None;
+    }
+    let end = line_end(text);
+    let rest = if end < text.len() { end + 1 } else { end };
+    Some((&text[..end], &text[rest..]))
+}
