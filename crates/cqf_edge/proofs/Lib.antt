@@ -1,3 +1,5 @@
 pub mod Listing
 pub mod InOrder
+pub mod Groups
 pub mod Taken
+pub mod BookSorts

@@ -7,7 +7,7 @@ use Rattle.std.proofs.lemmas.List.Elements.{filter-append, All-push}
 use Rattle.std.specs.List.{All}
 use Rattle.cqf_model.specs.declared.frames.Offer.{Offer}
 use Rattle.cqf_edge.specs.declared.Due.{Due}
-use Rattle.cqf_edge.specs.InTime.{no_offer, seen, is_kept}
+use Rattle.cqf_edge.specs.InTime.{no_offer, seen, is_kept, IsDue}
 
 -- one element more is numbered by how many stand before it
 pub enumerate_from-push : {X : Type 0} (n : ℕ) (xs : List X) (x : X) → enumerate_from n (xs ++ x ∷ []) ≡ enumerate_from n xs ++ (n + length xs, x) ∷ []
@@ -28,9 +28,7 @@ numbered-more offers k below =
 -- the offers before a place are listed
 pub record ListedBefore (offers : List Offer) (bridge end k : ℕ) (list : List Due) : Type 0 where
   pub are : map (seen offers) list ≡ filter (is_kept bridge end) (enumerate_from 0 (take k offers))
-  pub instants : All (λ (due : Due). due.at ≡ (seen offers due).1.at.0) list
-  pub early : All (λ (due : Due). due.at < end) list
-  pub here : All (λ (due : Due). (seen offers due).1.bridge ≡ bridge) list
+  pub each : All (IsDue offers bridge end) list
 
 -- what is kept of one more, which is kept
 kept-more : (offers : List Offer) (bridge end k : ℕ) → k < length offers → is_kept bridge end (k, get_or offers k no_offer) ≡ true
@@ -60,9 +58,8 @@ ListedBefore-kept offers bridge end k list at below is_at hit before =
     let soon : at < end = omega (arith, is_at, ltb-true (get_or offers k no_offer).at.0 end parts.1) in
     record {
       are = map-append (seen offers) list (due ∷ []) ∙ ap (λ zs. zs ++ seen offers due ∷ []) before.are ∙ sym (kept-more offers bridge end k below hit);
-      instants = All-push (λ (due : Due). due.at ≡ (seen offers due).1.at.0) list due before.instants is_at;
-      early = All-push (λ (due : Due). due.at < end) list due before.early soon;
-      here = All-push (λ (due : Due). (seen offers due).1.bridge ≡ bridge) list due before.here (eqb-true (get_or offers k no_offer).bridge bridge parts.0);
+      each = All-push (IsDue offers bridge end) list due before.each
+          (record { inside = below; instant = is_at; early = soon; here = eqb-true (get_or offers k no_offer).bridge bridge parts.0 });
     }
 
 pub ListedBefore-passed : (offers : List Offer) (bridge end k : ℕ) (list : List Due) → k < length offers
@@ -70,4 +67,4 @@ pub ListedBefore-passed : (offers : List Offer) (bridge end k : ℕ) (list : Lis
     → ListedBefore offers bridge end k list → ListedBefore offers bridge end (k + 1) list
 ListedBefore-passed offers bridge end k list below miss before =
     let more = passed-more offers bridge end k below miss in
-    record { are = before.are ∙ sym more; instants = before.instants; early = before.early; here = before.here }
+    record { are = before.are ∙ sym more; each = before.each }

@@ -1,5 +1,5 @@
 -- Offers that wait to be taken.
-use Rattle.std.specs.Prelude.{ℕ, ◌≡◌, ◌==◌, ◌&&◌, ◌<◌, Bool, All, List, [], map, filter, nat_lt, slice_index_or}
+use Rattle.std.specs.Prelude.{ℕ, ◌≡◌, ◌==◌, ◌&&◌, ◌<◌, Bool, All, List, [], map, filter, length, nat_lt, slice_index_or}
 use Rattle.std.specs.List.{enumerate_from}
 use Rattle.cqf_model.specs.declared.frames.Offer.{Offer}
 use Rattle.cqf_model.specs.Traffic.{Received, offer_received}
@@ -21,9 +21,14 @@ received_of offers due = offer_received (seen offers due)
 abbrev pub is_kept : ℕ → ℕ → ℕ × Offer → Bool
 is_kept bridge end x = (x.1.bridge == bridge) && nat_lt x.1.at.0 end
 
+-- an offer at the bridge and before the end waits, with its instant
+pub record IsDue (offers : List Offer) (bridge end : ℕ) (due : Due) : Type 0 where
+  pub inside : due.place < length offers
+  pub instant : due.at ≡ (seen offers due).1.at.0
+  pub early : due.at < end
+  pub here : (seen offers due).1.bridge ≡ bridge
+
 -- what waits is each such offer, with its instant, as they are listed
 pub record IsListed (offers : List Offer) (bridge end : ℕ) (list : List Due) : Type 0 where
   pub are : map (seen offers) list ≡ filter (is_kept bridge end) (enumerate_from 0 offers)
-  pub instants : All (λ (due : Due). due.at ≡ (seen offers due).1.at.0) list
-  pub early : All (λ (due : Due). due.at < end) list
-  pub here : All (λ (due : Due). (seen offers due).1.bridge ≡ bridge) list
+  pub each : All (IsDue offers bridge end) list

@@ -1,14 +1,20 @@
-//! The order in which offers are taken at the edge: by instant, then by their place among the offers (profile).
+//! The order in which offers are taken at the edge, by instant and then by their place among the offers; and the order
+//! in which a book has drops, by cycle, bridge and frame (profile).
 //!
-//! [`in_time`] gives the places of a bridge's offers before an instant in that order.
+//! - [`in_time`] gives the places of a bridge's offers before an instant in the order in which they are taken.
+//! - [`sort_drops`] puts drops into the order of a book.
 #![tactic(auto)]
 
-ghost use Rattle.std.specs.Prelude.{◌≡◌, ◌==◌, ◌&&◌, IfOk, map, nat_lt};
+mod drops;
+
+ghost use Rattle.std.specs.Prelude.{◌≡◌, ◌==◌, ◌&&◌, All, IfOk, map, nat_lt};
+ghost use Rattle.std.specs.List.Sorted.{IsNonDecreasingBy};
 ghost use Rattle.cqf_model.specs.Shift.{offered_before};
-ghost use Rattle.cqf_edge.specs.InTime.{received_of, IsListed};
+ghost use Rattle.cqf_edge.specs.InTime.{received_of, IsListed, IsDue};
 
 use cqf_model::Offer;
 use cqf_units::Memory;
+pub use drops::sort_drops;
 use std::alloc::Global;
 
 /// An offer that waits to be taken: its instant in nanoseconds, and its place among the offers, from 0.
@@ -43,7 +49,9 @@ fn listed(alloc: Global, offers: &[Offer], bridge: u8, end: u64) -> Result<Vec<D
 
 /// The offers at a bridge before an instant, in the order in which they are taken: by instant, then place.
 pub fn in_time(alloc: Global, offers: &[Offer], bridge: u8, end: u64) -> Result<Vec<Due>, Memory>
-    ensures { IfOk result (λ list. map (received_of offers.now) list.items ≡ offered_before offers.now bridge end) }
+    ensures order { IfOk result (λ list. map (received_of offers.now) list.items ≡ offered_before offers.now bridge end) }
+    ensures ascends { IfOk result (λ list. IsNonDecreasingBy (λ due. due.at) list.items) }
+    ensures each { IfOk result (λ list. All (IsDue offers.now bridge end) list.items) }
 {
     let mut list = listed(alloc, offers, bridge, end)?;
     list.sort_by_key(|due| due.at)?;

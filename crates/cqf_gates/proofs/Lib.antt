@@ -1,3 +1,4 @@
 pub mod Rounds
 pub mod Entries
 pub mod OpenSpans
+pub mod Intervals

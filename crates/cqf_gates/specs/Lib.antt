@@ -1,1 +1,2 @@
 pub mod TxList
+pub mod StreamGate

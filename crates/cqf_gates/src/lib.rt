@@ -1,9 +1,22 @@
-//! Gate lists of ports (IEEE 802.1Q, 8.6.8.4).
+//! Gate lists: which traffic classes a port may send, and which frames of a stream pass (IEEE 802.1Q, 8.6.8.4 and
+//! 8.6.5.1).
+//!
+//! - [`TxList`] is the list of a port. [`TxList::mask_at`] gives the states of its gates at an instant, and
+//!   [`TxList::open_for`] how long a class stays open from then on.
+//! - [`StreamList`] is the list of a stream gate, and [`StreamGate`] the gate, which counts octets against it.
+//!
+//! ```text
+//! TxList::new(&[(0x80, 120_000), (0x00, 5000), (0x40, 120_000), (0x00, 5000)]) is Ok(list)
+//! list.open_for(Nanos(0), 7)       is OpenFor::Until(Nanos(120_000))
+//! list.open_for(Nanos(130_000), 6) is OpenFor::Until(Nanos(245_000))
+//! ```
 #![tactic(auto)]
 
 mod faults;
+mod streams;
 mod transmission;
 
 pub use cqf_model::{OpenFor, StreamEntry};
 pub use faults::ListFault;
+pub use streams::{Passed, StreamGate, StreamList, gate_counts_calls};
 pub use transmission::TxList;

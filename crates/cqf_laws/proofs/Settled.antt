@@ -81,10 +81,17 @@ part_legal rules xs ys earlier end starts le came legal =
     (λ p s h. ltb-true s earlier (contains_from_filter test starts (p, s) h).1)
     legal
 
+-- what comes before an instant is what comes at each instant before it
+same_past : (xs ys : List Arrival) (earlier : ℕ) → HasAllBefore earlier xs ys → HasAllBefore earlier ys xs → (t : ℕ) → t < earlier → CameAlike t xs ys
+same_past xs ys earlier to from t l = record { to = λ p h k. to p h (omega (arith, k, l)); from = λ p h k. from p h (omega (arith, k, l)) }
+
+pub part_legal_past : (rules : PortRules) (xs ys : List Arrival) (earlier end : ℕ) (starts : List Transmission) → earlier ≤ end → HasAllBefore earlier xs ys → HasAllBefore earlier ys xs → AreLegal rules xs end starts → AreLegal rules ys earlier (starts_before earlier starts)
+part_legal_past rules xs ys earlier end starts le to from legal =
+    part_legal rules xs ys earlier end starts le (same_past xs ys earlier to from) legal
+
 -- what comes before an instant settles what is sent before it
 pub past_counts : (rules : PortRules) (xs ys : List Arrival) (earlier end other_end : ℕ) (a b : List Transmission) → earlier ≤ end → earlier ≤ other_end → HasAllBefore earlier xs ys → HasAllBefore earlier ys xs → AreLegal rules xs end a → AreLegal rules ys other_end b → starts_before earlier a ≡ starts_before earlier b
 past_counts rules xs ys earlier end other_end a b le other_le to from la lb =
-    let came : (t : ℕ) → t < earlier → CameAlike t xs ys = λ t l. record { to = λ p h k. to p h (omega (arith, k, l)); from = λ p h k. from p h (omega (arith, k, l)) } in
     legal_same rules ys earlier (starts_before earlier a) (starts_before earlier b)
-    (part_legal rules xs ys earlier end a le came la)
+    (part_legal_past rules xs ys earlier end a le to from la)
     (part_legal rules ys ys earlier other_end b other_le (λ t l. came_same t ys) lb)

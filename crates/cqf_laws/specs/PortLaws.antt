@@ -27,6 +27,11 @@ abbrev pub HasAllBefore : ℕ → List Arrival → List Arrival → Type 0
 HasAllBefore earlier arrivals others =
     (place : ℕ) → place < length arrivals → instant_of arrivals place < earlier → (place < length others) × (slice_index_or arrivals place no_arrival ≡ slice_index_or others place no_arrival)
 
+-- of what a port legally sends, the part before an instant is legal up to it for any arrivals that are the same before it
+abbrev pub LegalPartIsLegalForTheSamePast : Type 0
+LegalPartIsLegalForTheSamePast =
+    (rules : PortRules) (arrivals others : List Arrival) (earlier end : ℕ) (starts : List Transmission) → earlier ≤ end → HasAllBefore earlier arrivals others → HasAllBefore earlier others arrivals → AreLegal rules arrivals end starts → AreLegal rules others earlier (starts_before earlier starts)
+
 -- only the past counts: two ports by the same rules, to which the same comes before an instant, send the same before it
 abbrev pub OnlyThePastCounts : Type 0
 OnlyThePastCounts =

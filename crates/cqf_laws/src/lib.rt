@@ -26,6 +26,7 @@ ghost use Rattle.cqf_laws.specs.PortLaws.{
   LegalStartsAreUnique,
   LegalStartsExist,
   LegalPartIsLegal,
+  LegalPartIsLegalForTheSamePast,
   OnlyThePastCounts,
   LateArrivalChangesNothing,
 };
@@ -54,9 +55,11 @@ pub fn legal_starts_exist()
     ensures { LegalStartsExist }
 {}
 
-/// Of the legal transmissions up to an end, the part before an earlier end is legal up to that.
+/// Of the legal transmissions up to an end, the part before an earlier end is legal up to that, and so it is for any
+/// arrivals that are the same before the earlier end.
 pub fn legal_part_is_legal()
-    ensures { LegalPartIsLegal }
+    ensures part { LegalPartIsLegal }
+    ensures same_past { LegalPartIsLegalForTheSamePast }
 {}
 
 /// Two ports by the same rules, to which the same comes before an instant, send the same before it.

@@ -1,2 +1,9 @@
 pub mod Cycles
 pub mod GateLists
+pub mod Lists
+pub mod Costs
+pub mod OnePorts
+pub mod Verdicts
+pub mod Edges
+pub mod Paths
+pub mod EdgesAmongRelayed

@@ -1,1 +1,4 @@
 pub mod Compiled
+pub mod Cost
+pub mod OnePort
+pub mod Edge

@@ -1,4 +1,3 @@
-use Rattle.std.proofs.Common.{sym}
 use Rattle.cqf_text.specs.Lines.{is_line_feed}
 use Rattle.cqf_text.proofs.LineLemmas.{position_or_len-none}
 use Rattle.cqf_text.proofs.lines.line_end.Goals as goal

@@ -1,0 +1,4 @@
+pub mod Lists
+pub mod Came
+pub mod Ports
+pub mod Networks

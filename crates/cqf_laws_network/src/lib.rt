@@ -1,0 +1,51 @@
+//! Laws about the legal network of a domain and about its book.
+//!
+//! Each law is a function that does nothing: its contract is a statement of `specs/` about the definitions of
+//! `cqf_model`, and its proof shows that the statement holds for each domain, whatever its gate lists, tables and offers
+//! are. A proof elsewhere uses the law by a call of the function.
+//!
+//! - There is a legal network ([`legal_network_exists`]), and no other ([`legal_network_is_unique`]), so what a domain does
+//!   is settled; and what a book of it says is ([`book_is_unique`]).
+//! - A run of fewer cycles is the beginning of a longer one ([`shorter_run_is_the_beginning`]), so nothing hangs on what is
+//!   offered, admitted or withdrawn later.
+//!
+//! ```
+//! // here on, a proof knows that two legal networks of the same domain, tables and offers are equal
+//! cqf_laws_network::legal_network_is_unique();
+//! ```
+#![tactic(auto)]
+
+ghost use Rattle.cqf_laws_network.specs.NetworkLaws.{LegalNetworkExists, LegalNetworkIsUnique, BeginningIsLegal, ShorterRunIsTheBeginning, FirstTablesAreTheSame, BookIsUnique};
+
+/// For any domain, gate lists, tables, offers and number of cycles some network is legal.
+pub fn legal_network_exists()
+    ensures { LegalNetworkExists }
+{
+    cqf_laws::only_the_past_counts();
+    cqf_laws::legal_starts_exist();
+}
+
+/// For the same domain, gate lists, tables, offers and number of cycles no two networks are legal.
+pub fn legal_network_is_unique()
+    ensures { LegalNetworkIsUnique }
+{
+    cqf_laws::only_the_past_counts();
+}
+
+/// What a legal network sends before an earlier cycle begins is the legal network of the shorter run, and the tables from
+/// that cycle on don't count for it: the first tables alone give the same.
+pub fn shorter_run_is_the_beginning()
+    ensures legal { BeginningIsLegal }
+    ensures only { ShorterRunIsTheBeginning }
+    ensures tables { FirstTablesAreTheSame }
+{
+    cqf_laws::legal_part_is_legal();
+    legal_network_is_unique();
+}
+
+/// For the same domain, gate lists, tables, offers and number of cycles there are no two books.
+pub fn book_is_unique()
+    ensures { BookIsUnique }
+{
+    legal_network_is_unique();
+}

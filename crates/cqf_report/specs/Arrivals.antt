@@ -1,0 +1,31 @@
+-- The arrivals of a port as a text (profile).
+use Rattle.std.specs.Prelude.{ℕ, ◌-◌, ◌^◌, List, [], ◌∷◌, Option, Some, None, Result, codes}
+use Rattle.cqf_model.specs.declared.ports.Arrival.{Arrival}
+use Rattle.cqf_text.specs.Decimal.{decimal_in}
+use Rattle.cqf_report.specs.Records.{Fields}
+use Rattle.cqf_report.specs.Table.{table_of}
+use Rattle.cqf_report.specs.declared.tables.TableFault.{TableFault}
+
+abbrev pub arrival_header : Fields
+arrival_header = codes "at" ∷ codes "class" ∷ codes "octets" ∷ codes "frame" ∷ []
+
+-- the arrival, where each of its numbers is there
+abbrev pub arrival_with : Option ℕ → Option ℕ → Option ℕ → Option ℕ → Option Arrival
+arrival_with None class octets frame = None
+arrival_with (Some at) None octets frame = None
+arrival_with (Some at) (Some class) None frame = None
+arrival_with (Some at) (Some class) (Some octets) None = None
+arrival_with (Some at) (Some class) (Some octets) (Some frame) = Some (record { at = record { 0 = at }; class = class; octets = octets; frame = frame })
+
+-- the arrival that a row writes: four numbers, each in its range
+abbrev pub arrival_of : Fields → Option Arrival
+arrival_of (at ∷ class ∷ octets ∷ frame ∷ []) =
+    arrival_with (decimal_in 0 100000000 at) (decimal_in 0 7 class) (decimal_in 64 1522 octets) (decimal_in 0 (2 ^ 32 - 1) frame)
+arrival_of _ = None
+
+abbrev pub instant_of : Arrival → ℕ
+instant_of arrival = arrival.at.0
+
+-- the arrivals that a text writes, in order, or its first fault
+abbrev pub arrivals_of : List ℕ → Result (List Arrival) TableFault
+arrivals_of text = table_of arrival_header arrival_of instant_of text

@@ -1,0 +1,76 @@
+-- Tables: a header, and under it rows in order of instant (profile). Rows count from 1.
+use Rattle.std.specs.Prelude.{ℕ, ◌≡◌, ◌≢◌, ◌+◌, List, [], ◌∷◌, Bool, true, false, Option, Some, None, Result, Ok, Err, if◌then◌else◌, nat_lt}
+use Rattle.std.specs.Cmp.Lexicographic.{pointwise}
+use Rattle.std.specs.Str.{bytes_eq}
+use Rattle.csv.specs.declared.reader.Reader.{Reader}
+use Rattle.cqf_report.specs.Records.{Fields, StillGives, records_of}
+use Rattle.cqf_report.specs.declared.tables.TableFault.{TableFault}
+use Rattle.cqf_report.specs.declared.tables.TableFault.TheVariants.{BadHeader, TooMany, BadRow, OutOfOrder, Memory}
+
+-- the most rows that a table may have
+abbrev pub most_rows : ℕ
+most_rows = 1000000
+
+-- the fields are exactly those of the header
+abbrev pub is_header : Fields → Fields → Bool
+is_header names fields = pointwise bytes_eq names fields
+
+-- the four fields of a record that has four
+abbrev pub four_of : Fields → Option (List ℕ × List ℕ × List ℕ × List ℕ)
+four_of (first ∷ second ∷ third ∷ fourth ∷ []) = Some (first, second, third, fourth)
+four_of _ = None
+
+-- a row in front of the others
+abbrev pub with_row : {A : Type 0} → A → Result (List A) TableFault → Result (List A) TableFault
+with_row row (Ok rows) = Ok (row ∷ rows)
+with_row row (Err fault) = Err fault
+
+-- the row of this number, if it has the form of one and isn't before an instant, and then the others, each of which may
+-- not be before this one
+abbrev pub row_then : {A : Type 0} → (A → ℕ) → ℕ → ℕ → Option A → (ℕ → Result (List A) TableFault) → Result (List A) TableFault
+row_then instant number before None others = Err (BadRow number)
+row_then instant number before (Some row) others =
+    if nat_lt (instant row) before then Err (OutOfOrder number) else with_row row (others (instant row))
+
+-- the rows from this number on, or the first fault
+abbrev pub rows_from : {A : Type 0} → (Fields → Option A) → (A → ℕ) → ℕ → ℕ → List Fields → Result (List A) TableFault
+rows_from read instant number before [] = Ok []
+rows_from read instant number before (fields ∷ rows) =
+    if nat_lt most_rows number then Err TooMany
+    else row_then instant number before (read fields) (λ last. rows_from read instant (number + 1) last rows)
+
+-- the rows under the header, or the first fault
+abbrev pub rows_under : {A : Type 0} → Fields → (Fields → Option A) → (A → ℕ) → List Fields → Result (List A) TableFault
+rows_under names read instant [] = Err BadHeader
+rows_under names read instant (first ∷ rows) =
+    if is_header names first then rows_from read instant 1 0 rows else Err BadHeader
+
+-- the rows of a table's text, or its first fault
+abbrev pub table_of : {A : Type 0} → Fields → (Fields → Option A) → (A → ℕ) → List ℕ → Result (List A) TableFault
+table_of names read instant text = rows_under names read instant (records_of text)
+
+-- the fault is the table's first. Nothing is said of want of memory
+abbrev pub IsFaultOf : {A : Type 0} → Result (List A) TableFault → TableFault → Type 0
+IsFaultOf table fault = fault ≢ Memory → table ≡ Err fault
+
+-- what taking the next row does, of the rows from this number on: there is none; or it is taken, and the reader still
+-- gives the others; or it is the first fault
+abbrev pub TakesNext : {A R : Type 0} → (Fields → Option A) → (A → ℕ) → (R → Option (List ℕ)) → ℕ → ℕ → List Fields → Reader R → Result (Option A) TableFault → Type 0
+TakesNext read instant remaining number before rows after (Ok None) = rows ≡ []
+TakesNext read instant remaining number before rows after (Ok (Some row)) =
+    (rest : List Fields) × StillGives remaining (Some 4) after rest
+    × (rows_from read instant number before rows ≡ with_row row (rows_from read instant (number + 1) (instant row) rest))
+TakesNext read instant remaining number before rows after (Err fault) = IsFaultOf (rows_from read instant number before rows) fault
+
+-- the rows begin with the header
+abbrev pub has_header : Fields → List Fields → Bool
+has_header names [] = false
+has_header names (first ∷ rows) = is_header names first
+
+-- the header was taken, and the reader still gives the rows under it
+pub record TakesHeader {R : Type 0} (remaining : R → Option (List ℕ)) (names : Fields) (rows : List Fields) (after : Reader R) : Type 0 where
+  pub first : Fields
+  pub rest : List Fields
+  pub begins : rows ≡ first ∷ rest
+  pub named : is_header names first ≡ true
+  pub goes_on : StillGives remaining (Some 4) after rest

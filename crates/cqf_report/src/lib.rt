@@ -1,0 +1,19 @@
+//! Tables of arrivals, read from comma-separated values as the crate `csv` reads them.
+//!
+//! - [`read_arrivals`] reads the arrivals of a port.
+//! - [`TableFault`] says why a table is refused, and at which row.
+//!
+//! ```text
+//! read_arrivals(alloc, b"at,class,octets,frame\n10,6,64,1\n")
+//!     is Ok of one arrival: class 6, 64 octets, frame 1, at instant 10
+//! read_arrivals(alloc, b"at,class,octets,frame\n10,8,64,1\n")
+//!     is Err(TableFault::BadRow(1)), since there is no class 8
+//! ```
+#![tactic(auto)]
+
+mod arrivals;
+mod records;
+mod tables;
+
+pub use arrivals::read_arrivals;
+pub use tables::{OfferFault, TableFault};

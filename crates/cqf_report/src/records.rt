@@ -1,0 +1,39 @@
+//! The records of a text, one at a time.
+
+ghost use Rattle.std.specs.Prelude.{ℕ, List, Option, IfOk};
+ghost use Rattle.csv.specs.Records.{fields_of};
+ghost use Rattle.cqf_report.specs.Records.{Fields, StillGives, Takes};
+
+use cqf_units::Memory;
+use csv::{ByteRecord, Error, ErrorKind, Reader};
+use std::alloc::AllocError;
+use std::io::Read;
+
+/// What was taken of a reader.
+#[derive(Clone, Copy, Debug, PartialEq, Eq)]
+pub(crate) enum Taken {
+    /// The next record.
+    Row,
+    /// Nothing: there is no further record.
+    End,
+    /// A record that has another number of fields than the first.
+    Refused,
+}
+
+/// Takes the reader's next record into `row`. An error of anything but lengths is want of memory, since the text
+/// lies in memory.
+pub(crate) fn take_record<R: Read>(
+    reader: &mut Reader<R>,
+    row: &mut ByteRecord,
+) -> Result<Taken, Memory>
+    ensures { IfOk result (λ taken. (expected : Option ℕ) (rows : List Fields) → StillGives R.remaining expected reader.old rows → Takes R.remaining expected taken reader.new (fields_of row.new) rows) }
+{
+    match reader.read_byte_record(row) {
+        Ok(true) => Ok(Taken::Row),
+        Ok(false) => Ok(Taken::End),
+        Err(error) => match error.kind() {
+            ErrorKind::UnequalLengths { .. } => Ok(Taken::Refused),
+            _ => Err(AllocError),
+        },
+    }
+}

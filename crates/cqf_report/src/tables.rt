@@ -1,0 +1,116 @@
+//! What is common to the tables that are read: their header, their fields and their faults.
+
+ghost use Rattle.std.specs.Prelude.{ℕ, ◌≡◌, ◌≢◌, ◌≤◌, ◌∷◌, [], List, Option, IfOk, IfErr, IfSome, MatchOption, length, Some, None, false};
+ghost use Rattle.cqf_text.specs.Decimal.{decimal_in};
+ghost use Rattle.csv.specs.Records.{fields_of};
+ghost use Rattle.cqf_report.specs.Records.{Fields, StillGives, records_of};
+ghost use Rattle.cqf_report.specs.Table.{TakesHeader, four_of, has_header, is_header};
+ghost use Rattle.cqf_report.specs.declared.tables.TableFault.TheVariants as fault_kind;
+
+use crate::records::{Taken, take_record};
+use cqf_text::read_decimal;
+use csv::{ByteRecord, Reader, ReaderBuilder};
+use std::alloc::Global;
+use std::io::Read;
+use thiserror::Error;
+
+/// Why a table is refused. Rows are the records after the header, counted from 1.
+#[derive(Clone, Copy, Debug, PartialEq, Eq, Error)]
+pub enum TableFault {
+    /// The first record is not the header, or there is no record.
+    #[error("BadHeader")]
+    BadHeader,
+    /// There are more than 1,000,000 rows.
+    #[error("TooMany")]
+    TooMany,
+    /// A field of this row is not as it has to be, or it has another number of fields.
+    #[error("BadRow {0}")]
+    BadRow(u32),
+    /// This row's instant is before that of the row before it.
+    #[error("OutOfOrder {0}")]
+    OutOfOrder(u32),
+    /// A growth was refused.
+    #[error("Memory")]
+    Memory,
+}
+
+/// Why a table of offers is refused.
+pub type OfferFault = TableFault;
+
+/// The most rows that a table may have.
+pub(crate) const MOST_ROWS: u32 = 1_000_000;
+
+/// A record's four fields, where it has exactly four.
+pub(crate) fn four_fields(row: &ByteRecord) -> Option<(&[u8], &[u8], &[u8], &[u8])>
+    ensures { MatchOption result (four_of (fields_of row.now) ≡ None) (λ fields. four_of (fields_of row.now) ≡ Some (fields.0.now, fields.1.now, fields.2.now, fields.3.now)) }
+{
+    if row.len() != 4 {
+        return None;
+    }
+    let Some(first) = row.get(0) else {
+        return None;
+    };
+    let Some(second) = row.get(1) else {
+        return None;
+    };
+    let Some(third) = row.get(2) else {
+        return None;
+    };
+    let Some(fourth) = row.get(3) else {
+        return None;
+    };
+    Some((first, second, third, fourth))
+}
+
+/// Whether the record has exactly these four fields.
+pub(crate) fn is_header_of(row: &ByteRecord, names: (&[u8], &[u8], &[u8], &[u8])) -> bool
+    ensures { result ≡ is_header (names.entry.0.now ∷ names.entry.1.now ∷ names.entry.2.now ∷ names.entry.3.now ∷ []) (fields_of row.now) }
+{
+    let Some((first, second, third, fourth)) = four_fields(row) else {
+        return false;
+    };
+    names.0 == first && names.1 == second && names.2 == third && names.3 == fourth
+}
+
+/// The decimal number of a field, if it is one of this range.
+pub(crate) fn read_number(field: &[u8], least: u32, most: u32) -> Option<u32>
+    ensures value { result ≡ decimal_in least most field.now }
+    ensures most { IfSome result (λ number. number ≤ most) }
+{
+    let Some(number) = read_decimal(field, u64::from(least), u64::from(most)) else {
+        return None;
+    };
+    Some(number as u32)
+}
+
+/// A reader that gives each record of the text, the header too.
+pub(crate) fn open_table<R: Read>(alloc: Global, text: R) -> Reader<R>
+    ensures { (bytes : List ℕ) → R.remaining text ≡ Some bytes → StillGives R.remaining None result (records_of bytes) }
+{
+    ReaderBuilder::new()
+        .has_headers(false)
+        .from_reader(alloc, text)
+}
+
+/// Takes the first record, which has to have exactly these four fields.
+pub(crate) fn take_header<R: Read>(
+    reader: &mut Reader<R>,
+    row: &mut ByteRecord,
+    names: (&[u8], &[u8], &[u8], &[u8]),
+) -> Result<(), TableFault>
+    ensures ok { IfOk result (λ _. (rows : List Fields) → StillGives R.remaining None reader.old rows → TakesHeader R.remaining (names.entry.0.now ∷ names.entry.1.now ∷ names.entry.2.now ∷ names.entry.3.now ∷ []) rows reader.new) }
+    ensures err { IfErr result (λ fault. (rows : List Fields) → StillGives R.remaining None reader.old rows → fault ≢ fault_kind.Memory → (fault ≡ fault_kind.BadHeader) × (has_header (names.entry.0.now ∷ names.entry.1.now ∷ names.entry.2.now ∷ names.entry.3.now ∷ []) rows ≡ false)) }
+{
+    match take_record(reader, row) {
+        Ok(Taken::Row) => {
+            if is_header_of(row, names) {
+                Ok(())
+            } else {
+                Err(TableFault::BadHeader)
+            }
+        }
+        Ok(Taken::End) => Err(TableFault::BadHeader),
+        Ok(Taken::Refused) => Err(TableFault::BadHeader),
+        Err(_) => Err(TableFault::Memory),
+    }
+}

@@ -1,0 +1,109 @@
+//! The parts of an input (profile).
+ghost use Rattle.std.specs.Prelude.{◌≡◌, ◌+◌, ◌<◌, [], ◌∷◌, length, map, take, drop, ⊤, IfOk, MatchOption};
+ghost use Rattle.std.specs.List.{position_or_len};
+ghost use Rattle.cqf_text.specs.Lines.{is_line_feed};
+ghost use Rattle.cqf_text.specs.Parts.{is_divider, parts_of};
+
+use crate::lines::line_end;
+use cqf_units::Memory;
+use std::alloc::Global;
+
+/// Whether the line is a divider: `%%`, with its line feed or without.
+fn divides(line: &[u8]) -> bool
+    ensures { result ≡ is_divider line.now }
+{
+    matches!(line, [b'%', b'%'] | [b'%', b'%', b'\n'])
+}
+
+/// The first line with its line feed, and what stands behind it.
+fn split_whole_line(text: &[u8]) -> (&[u8], &[u8])
+    ensures line { result.0.now ≡ take (position_or_len is_line_feed text.now + 1) text.now }
+    ensures rest { result.1.now ≡ drop (position_or_len is_line_feed text.now + 1) text.now }
+    ensures lengths { length result.0.now + length result.1.now ≡ length text.now }
+    ensures some { 0 < length text.now → 0 < length result.0.now }
+{
+    let end = line_end(text);
+    if end < text.len() {
+        text.split_at(end + 1)
+    } else {
+        text.split_at(end)
+    }
+}
+
+/// The first part of the input, and what stands behind the divider that ends it, or `None` where the part is the
+/// last.
+fn split_part(input: &[u8]) -> (&[u8], Option<&[u8]>)
+    ensures parts { MatchOption result.1 (parts_of input.now ≡ result.0.now ∷ []) (λ rest. parts_of input.now ≡ result.0.now ∷ parts_of rest.now) }
+    ensures shorter { MatchOption result.1 ⊤ (λ rest. length rest.now < length input.now) }
+{
+    let mut rest = input;
+    while !rest.is_empty() {
+        let (line, behind) = split_whole_line(rest);
+        if divides(line) {
+            return (&input[..input.len() - rest.len()], Some(behind));
+        }
+        rest = behind;
+    }
+    (input, None)
+}
+
+/// The parts of an input: what stands before, between and behind the lines that are exactly `%%`. The last `%%` may
+/// lack its line feed, and an empty part follows it all the same. An empty input is one empty part. The line feed
+/// before a divider belongs to the part before it (profile).
+pub fn parts(alloc: Global, input: &[u8]) -> Result<Vec<&[u8]>, Memory>
+    ensures { IfOk result (λ parts. map (λ part. part.now) parts.items ≡ parts_of input.now) }
+{
+    let mut parts = Vec::new(alloc);
+    let mut rest = Some(input);
+    while let Some(text) = rest {
+        let (part, behind) = split_part(text);
+        parts.push(part)?;
+        rest = behind;
+    }
+    Ok(parts)
+}
+
+#[cfg(test)]
+mod tests {
+    use super::*;
+    use std::test::Fail;
+
+    fn is_divided(alloc: Global, input: &[u8], expected: &[&[u8]]) -> Result<bool, Memory> {
+        let found = parts(alloc, input)?;
+        let mut same = found.len() == expected.len();
+        for (part, other) in found.iter().zip(expected.iter()) {
+            same = same && *part == *other;
+        }
+        Ok(same)
+    }
+
+    #[test]
+    fn dividers_are_lines_of_two_percent_signs(rt: HostRuntime) -> Result<(), Fail> {
+        let alloc = rt.alloc();
+        assert!(rt; is_divided(alloc, b"a\n%%\nb", &[b"a\n".as_slice(), b"b".as_slice()])?);
+        assert!(rt;
+            is_divided(
+                alloc,
+                b"%%\n%%\n",
+                &[b"".as_slice(), b"".as_slice(), b"".as_slice()]
+            )?
+        );
+        assert!(rt; is_divided(alloc, b"a\n%%", &[b"a\n".as_slice(), b"".as_slice()])?);
+        assert!(rt; is_divided(alloc, b"", &[b"".as_slice()])?);
+        Ok(())
+    }
+
+    #[test]
+    fn other_lines_are_no_dividers(rt: HostRuntime) -> Result<(), Fail> {
+        for input in [
+            b"a\n%%%\nb".as_slice(),
+            b"%%\r\nb".as_slice(),
+            b" %%\n".as_slice(),
+            b"%% \n".as_slice(),
+            b"a%%".as_slice(),
+        ] {
+            assert!(rt; is_divided(rt.alloc(), input, &[input])?);
+        }
+        Ok(())
+    }
+}
