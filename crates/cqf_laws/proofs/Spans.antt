@@ -3,7 +3,7 @@ use Rattle.std.proofs.Common.{◌≡◌, ℕ, Bool, cond, ◌+◌, ◌-◌, ◌*
 use Rattle.std.specs.Prelude.{[], ◌∷◌, All, take, slice_index_or, zero, suc, IsBitSet}
 use Rattle.std.proofs.lemmas.Bool.{cases_lt, lt-ltb, le-ltb}
 use Rattle.std.proofs.lemmas.Nat.{mod-mul-add, div-add-mod', mod_below}
-use Rattle.std.proofs.lemmas.List.Sums.{sum_by-cons}
+use Rattle.std.proofs.lemmas.List.Sums.{get_or-le-sum_by, sum_by-cons}
 use Rattle.cqf_units.specs.Timing.{ending_of}
 use Rattle.cqf_model.specs.declared.gates.OpenFor.{OpenFor}
 use Rattle.cqf_model.specs.declared.gates.OpenFor.TheVariants.{Closed, Always, Until}
@@ -96,6 +96,10 @@ in_round entries t place offset f =
 pub states_of_entry : (entries : List Entry) (t place offset : ℕ) → InForce entries t place offset → states_at entries t ≡ (slice_index_or entries place (0, 0)).0
 states_of_entry entries t place offset f =
     ap (states_in entries) (in_round entries t place offset f) ∙ states_in_span entries place offset f.within
+
+-- a round takes time if any entry does
+pub round_takes_time : (entries : List Entry) (place : ℕ) → place < length entries → 0 < (slice_index_or entries place (0, 0)).1 → 0 < round_of entries
+round_takes_time entries place l h = omega (arith, h, get_or-le-sum_by (λ (x : Entry). x.1) entries place (0, 0) l)
 
 -- some entry is in force
 pub some_in_force : (entries : List Entry) (t : ℕ) → 0 < round_of entries → (place : ℕ) × (offset : ℕ) × InForce entries t place offset

@@ -1,5 +1,5 @@
 -- Laws about gate control lists, in a planner's words.
-use Rattle.std.specs.Prelude.{ℕ, ◌≡◌, ◌≤◌, ◌<◌, ◌↔◌, List, slice_index_or}
+use Rattle.std.specs.Prelude.{ℕ, ◌≡◌, ◌≤◌, ◌<◌, ◌↔◌, List, length, slice_index_or}
 use Rattle.cqf_model.specs.declared.gates.OpenFor.{OpenFor}
 use Rattle.cqf_model.specs.declared.gates.OpenFor.TheVariants.{Closed, Always, Until}
 use Rattle.cqf_units.specs.Timing.{ending_of}
@@ -9,6 +9,10 @@ use Rattle.cqf_model.specs.GateList.{Entry, InForce, IsOpenFor, IsOpenThrough, r
 abbrev pub StatesAreOfTheEntry : Type 0
 StatesAreOfTheEntry =
     (entries : List Entry) (t place offset : ℕ) → InForce entries t place offset → states_at entries t ≡ (slice_index_or entries place (0, 0)).0
+
+-- a round takes time if any entry does
+abbrev pub RoundTakesTime : Type 0
+RoundTakesTime = (entries : List Entry) (place : ℕ) → place < length entries → 0 < (slice_index_or entries place (0, 0)).1 → 0 < round_of entries
 
 -- where a round takes any time at all, some entry is in force at each instant
 abbrev pub SomeEntryIsInForce : Type 0
@@ -27,7 +31,7 @@ Fits Always ending = Unit {0}
 Fits (Until end) ending = ending ≤ end.0
 
 -- a frame may start exactly where its gate stays open for good, or until its end or later: there is time to send it
--- before the next gate-close event (8.6.8.4)
+-- before the next gate-close event (IEEE Std 802.1Q-2018, 8.6.8.4)
 abbrev pub FrameFitsWhileOpen : Type 0
 FrameFitsWhileOpen =
     (entries : List Entry) (class t octets octet_time : ℕ) (open_for : OpenFor) → 0 < round_of entries → 0 < octet_time → IsOpenFor entries class t open_for → (let ending = ending_of t octets octet_time in (IsOpenThrough entries class t ending ↔ Fits open_for ending))

@@ -6,9 +6,10 @@
 //!
 //! - Of a gate list: the states at an instant are those of the one entry in force, and a frame is eligible just where its
 //!   class stays open long enough ([`mask_is_in_force`], [`eligible_by_open_for`]).
-//! - Of a port: it can always go on ([`legal_starts_exist`]), what it sends is settled ([`legal_starts_are_unique`]) by what came before ([`only_the_past_counts`]), an
-//!   earlier end cuts it off and no more ([`legal_part_is_legal`]), and an arrival told late while its gate was closed
-//!   changes nothing ([`late_arrival_changes_nothing`]).
+//! - Of a port: it can always go on ([`legal_starts_exist`]); what it sends is settled ([`legal_starts_are_unique`]), by
+//!   what came before alone ([`only_the_past_counts`]); an earlier end cuts it off and changes nothing before
+//!   ([`legal_part_is_legal`]); and neither does an arrival that is told late, where its gate was closed since it came
+//!   ([`late_arrival_changes_nothing`]).
 //!
 //! ```
 //! // here on, a proof knows that two legal lists of transmissions for the same arrivals are equal
@@ -18,6 +19,7 @@
 
 ghost use Rattle.cqf_laws.specs.GateLaws.{
   StatesAreOfTheEntry,
+  RoundTakesTime,
   SomeEntryIsInForce,
   OneEntryIsInForce,
   FrameFitsWhileOpen,
@@ -32,9 +34,11 @@ ghost use Rattle.cqf_laws.specs.PortLaws.{
 };
 
 /// The states at an instant are those of the entry whose span, repeated from instant 0 without end, holds the instant;
-/// where a round takes any time there is such an entry, and it is one, at one offset (IEEE 802.1Q, 8.6.8.4).
+/// where a round takes any time, as it does if any entry does, there is such an entry, and it is one, at one offset
+/// (IEEE 802.1Q, 8.6.8.4).
 pub fn mask_is_in_force()
     ensures states { StatesAreOfTheEntry }
+    ensures round { RoundTakesTime }
     ensures some { SomeEntryIsInForce }
     ensures one { OneEntryIsInForce }
 {}

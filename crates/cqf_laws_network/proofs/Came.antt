@@ -17,7 +17,7 @@ use Rattle.cqf_model.specs.declared.topology.Row.{Row}
 use Rattle.cqf_model.specs.Domain.{Domain, cycle_of, enters, octet_time_of}
 use Rattle.cqf_model.specs.Network.{QueuedFrame, bridge_of, queued_before, queued_by, queued_frame, queued_to}
 use Rattle.cqf_model.specs.Table.{table_of}
-use Rattle.cqf_model.specs.Traffic.{DroppedFor, ExceedsGate, LacksRow, Network, Policed, Queued, Received, Test, Verdict, each_below, is_offered_at, offer_received, offered_at, police, police_all, received_at, received_before, relayed_at, sent_received, verdict_by, whole_at, within_gate}
+use Rattle.cqf_model.specs.Traffic.{DroppedFor, ExceedsGate, LacksRow, Network, Policed, Queued, Received, Test, Verdict, each_below, is_offered_at, offer_received, offered_at, police, police_all, policed_before, received_at, received_before, relayed_at, sent_received, verdict_by, whole_at, within_gate}
 use Rattle.cqf_laws_network.specs.NetworkLaws.{sent_before}
 use Rattle.cqf_laws_network.proofs.Lists.{Front, contains_cons, contains_from_each, contains_from_filter, contains_from_flat_map, contains_from_map, contains_here, contains_if, contains_nil, contains_there, each_front, each_same, filter_twice}
 
@@ -135,30 +135,45 @@ queued_when d l x (DroppedFor reason) q h = absurd (contains_nil q h)
 queued_when d l x LacksRow q h = absurd (contains_nil q h)
 queued_when d l x ExceedsGate q h = absurd (contains_nil q h)
 
--- what a port's queue holds before an instant is the front of what it holds later, and the rest comes later
-pub queued_front : (d : Domain) (tables : List (List Row)) (offers : List Offer) (net : Network) (l n m : ℕ) → n ≤ m → Front (queued_before d tables offers net l m) (queued_before d tables offers net l n) (λ q. n ≤ q.arrival.at.0)
-queued_front d tables offers net l n m le =
-    let bridge = bridge_of d l in
+-- the verdicts at a bridge before an instant are the front of those before a later one, and the rest are on later frames
+pub policed_front : (d : Domain) (tables : List (List Row)) (offers : List Offer) (net : Network) (bridge n m : ℕ) → n ≤ m → Front (policed_before d tables offers net bridge m) (policed_before d tables offers net bridge n) (λ p. (n ≤ p.received.at) × (p.received.at < m))
+policed_front d tables offers net bridge n m le =
     let test = within_gate d in
-    let by = λ (p : Policed). queued_by d l p.received p.verdict in
     let r = each_front (received_at d offers net bridge) n m le in
     let front = received_before d offers net bridge n in
     let split = police_append d test bridge tables front r.rest [] in
-    let late = police_all d tables test bridge split.0 r.rest in
     record {
-      rest = queued_to d l late;
-      is = ap (λ (xs : List Received). queued_to d l (police_all d tables test bridge [] xs)) r.is ∙ ap (queued_to d l) split.1 ∙ flat_map-append by (police_all d tables test bridge [] front) late;
-      late = λ q h.
-          let w = contains_from_flat_map by late q h in
-          let k = r.late w.0.received (police_member d test bridge tables r.rest split.0 w.0 w.1) in
-          omega (arith, queued_when d l w.0.received w.0.verdict q w.2, k.1, received_when d offers net bridge k.0 w.0.received k.2);
+      rest = police_all d tables test bridge split.0 r.rest;
+      is = ap (λ (xs : List Received). police_all d tables test bridge [] xs) r.is ∙ split.1;
+      late = λ p h.
+          let k = r.late p.received (police_member d test bridge tables r.rest split.0 p h) in
+          let at = received_when d offers net bridge k.0 p.received k.3 in
+          (omega (arith, k.1, at), omega (arith, k.2, at));
     }
 
--- two networks that send the same before an instant queue the same up to it, by tables that agree there
-pub queued_same : (d : Domain) (tables others : List (List Row)) (offers : List Offer) (net other : Network) (l t n : ℕ) → SentAlike d t net other → n ≤ suc t → ((u : ℕ) → u < n → table_of tables (cycle_of d u) ≡ table_of others (cycle_of d u)) → queued_before d tables offers net l n ≡ queued_before d others offers other l n
-queued_same d tables others offers net other l t n alike le same =
-    let bridge = bridge_of d l in
+-- what a port's queue holds before an instant is the front of what it holds later, and the rest comes later
+pub queued_front : (d : Domain) (tables : List (List Row)) (offers : List Offer) (net : Network) (l n m : ℕ) → n ≤ m → Front (queued_before d tables offers net l m) (queued_before d tables offers net l n) (λ q. n ≤ q.arrival.at.0)
+queued_front d tables offers net l n m le =
+    let by = λ (p : Policed). queued_by d l p.received p.verdict in
+    let front = policed_before d tables offers net (bridge_of d l) n in
+    let f = policed_front d tables offers net (bridge_of d l) n m le in
+    record {
+      rest = queued_to d l f.rest;
+      is = ap (queued_to d l) f.is ∙ flat_map-append by front f.rest;
+      late = λ q h.
+          let w = contains_from_flat_map by f.rest q h in
+          omega (arith, queued_when d l w.0.received w.0.verdict q w.2, (f.late w.0 w.1).0);
+    }
+
+-- two networks that send the same before an instant have the same verdicts up to it, by tables that agree there
+pub policed_same : (d : Domain) (tables others : List (List Row)) (offers : List Offer) (net other : Network) (bridge t n : ℕ) → SentAlike d t net other → n ≤ suc t → ((u : ℕ) → u < n → table_of tables (cycle_of d u) ≡ table_of others (cycle_of d u)) → policed_before d tables offers net bridge n ≡ policed_before d others offers other bridge n
+policed_same d tables others offers net other bridge t n alike le same =
     let test = within_gate d in
     let xs = received_before d offers net bridge n in
-    ap (queued_to d l) (police_same d test bridge tables others xs [] (λ x h. same x.at (before_when d offers net bridge n x h)))
-    ∙ ap (λ (ys : List Received). queued_to d l (police_all d others test bridge [] ys)) (received_before_same d offers net other bridge t n alike le)
+    police_same d test bridge tables others xs [] (λ x h. same x.at (before_when d offers net bridge n x h))
+    ∙ ap (λ (ys : List Received). police_all d others test bridge [] ys) (received_before_same d offers net other bridge t n alike le)
+
+-- and the same queues
+pub queued_same : (d : Domain) (tables others : List (List Row)) (offers : List Offer) (net other : Network) (l t n : ℕ) → SentAlike d t net other → n ≤ suc t → ((u : ℕ) → u < n → table_of tables (cycle_of d u) ≡ table_of others (cycle_of d u)) → queued_before d tables offers net l n ≡ queued_before d others offers other l n
+queued_same d tables others offers net other l t n alike le same =
+    ap (queued_to d l) (policed_same d tables others offers net other (bridge_of d l) t n alike le same)

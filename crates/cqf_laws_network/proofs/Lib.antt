@@ -2,3 +2,4 @@ pub mod Lists
 pub mod Came
 pub mod Ports
 pub mod Networks
+pub mod Books

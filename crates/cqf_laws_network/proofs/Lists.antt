@@ -3,7 +3,7 @@ use Rattle.std.proofs.Common.{◌≡◌, ℕ, ◌<◌, ◌≤◌, ◌⊎◌, Boo
 use Rattle.std.specs.Prelude.{[], ◌∷◌, ◌++◌, map, zero, suc}
 use Rattle.std.specs.List.{Contains, filter, flat_map}
 use Rattle.std.proofs.lemmas.Bool.{cases_lt}
-use Rattle.std.proofs.lemmas.List.Elements.{Contains-append_cases}
+use Rattle.std.proofs.lemmas.List.Elements.{Contains-append_cases, filter-append}
 use Rattle.cqf_model.specs.Traffic.{each_below}
 
 module _ {X : Type 0} where
@@ -49,6 +49,11 @@ module _ {X : Type 0} where
   filter_none p [] h = refl
   filter_none p (x ∷ xs) h = ap (λ (b : Bool). cond b (x ∷ filter p xs) (filter p xs)) (h x) ∙ filter_none p xs h
 
+  pub filter_none_of : (p : X → Bool) (xs : List X) → ((x : X) → Contains xs x → p x ≡ false) → filter p xs ≡ []
+  filter_none_of p [] h = refl
+  filter_none_of p (x ∷ xs) h =
+      ap (λ (b : Bool). cond b (x ∷ filter p xs) (filter p xs)) (h x (contains_here x x xs refl)) ∙ filter_none_of p xs (λ z k. h z (contains_there x z xs k))
+
   kept_or_not : (p : X → Bool) (x : X) (ys : List X) (b : Bool) → (p x ≡ true → b ≡ true) → cond (p x) (x ∷ filter p ys) (filter p ys) ≡ filter p (cond b (x ∷ ys) ys)
   kept_or_not p x ys true h = refl
   kept_or_not p x ys false h = ap (λ (c : Bool). cond c (x ∷ filter p ys) (filter p ys)) (never (p x) h)
@@ -58,10 +63,13 @@ module _ {X : Type 0} where
       never false h = refl
 
   -- to filter by a weaker test first changes nothing
+  pub filter_twice_of : (p q : X → Bool) (xs : List X) → ((x : X) → Contains xs x → p x ≡ true → q x ≡ true) → filter p xs ≡ filter p (filter q xs)
+  filter_twice_of p q [] h = refl
+  filter_twice_of p q (x ∷ xs) h =
+      ap (λ (zs : List X). cond (p x) (x ∷ zs) zs) (filter_twice_of p q xs (λ z k. h z (contains_there x z xs k))) ∙ kept_or_not p x (filter q xs) (q x) (h x (contains_here x x xs refl))
+
   pub filter_twice : (p q : X → Bool) → ((x : X) → p x ≡ true → q x ≡ true) → (xs : List X) → filter p xs ≡ filter p (filter q xs)
-  filter_twice p q h [] = refl
-  filter_twice p q h (x ∷ xs) =
-      ap (λ (zs : List X). cond (p x) (x ∷ zs) zs) (filter_twice p q h xs) ∙ kept_or_not p x (filter q xs) (q x) (h x)
+  filter_twice p q h xs = filter_twice_of p q xs (λ x k. h x)
 
 module _ {X Y : Type 0} where
   map_if : (f : X → Y) (x : X) (ys : List X) (b : Bool) → cond b (f x ∷ map f ys) (map f ys) ≡ map f (cond b (x ∷ ys) ys)
@@ -124,15 +132,32 @@ module _ {A : Type 0} where
       ]
 
   -- up to a smaller number they are the front, and the rest is of the later ones
-  pub each_front : (f : ℕ → List A) (n m : ℕ) → n ≤ m → Front (each_below f m) (each_below f n) (λ x. (k : ℕ) × (n ≤ k) × Contains (f k) x)
-  each_front f n zero le = let e : 0 ≡ n = omega (arith, le) in front_whole (each_below f 0) (each_below f n) (λ x. (k : ℕ) × (n ≤ k) × Contains (f k) x) (ap (each_below f) e)
+  pub each_front : (f : ℕ → List A) (n m : ℕ) → n ≤ m → Front (each_below f m) (each_below f n) (λ x. (k : ℕ) × (n ≤ k) × (k < m) × Contains (f k) x)
+  each_front f n zero le =
+      let e : 0 ≡ n = omega (arith, le) in
+      front_whole (each_below f 0) (each_below f n) (λ x. (k : ℕ) × (n ≤ k) × (k < 0) × Contains (f k) x) (ap (each_below f) e)
   each_front f n (suc m) le =
       elim (cases_lt m n) [
-        | inl l ↦ let e : suc m ≡ n = omega (arith, l, le) in front_whole (each_below f (suc m)) (each_below f n) (λ x. (k : ℕ) × (n ≤ k) × Contains (f k) x) (ap (each_below f) e)
+        | inl l ↦
+            let e : suc m ≡ n = omega (arith, l, le) in
+            front_whole (each_below f (suc m)) (each_below f n) (λ x. (k : ℕ) × (n ≤ k) × (k < suc m) × Contains (f k) x) (ap (each_below f) e)
         | inr g ↦ let r = each_front f n m g in
             record {
               rest = r.rest ++ f m;
               is = ap (λ (xs : List A). xs ++ f m) r.is ∙ append_assoc (each_below f n) r.rest (f m);
-              late = λ x h. elim (Contains-append_cases r.rest (f m) x h) [ inl k ↦ r.late x k | inr k ↦ (m, g, k) ];
+              late = λ x h. elim (Contains-append_cases r.rest (f m) x h) [
+                | inl k ↦ let w = r.late x k in (w.0, w.1, omega (arith, w.2), w.3)
+                | inr k ↦ (m, g, omega arith, k)
+              ];
             }
       ]
+
+  -- a test that holds just for what is of the lists before n keeps those
+  pub filter_each : (p : A → Bool) (f : ℕ → List A) (n m : ℕ) → n ≤ m → ((k : ℕ) (x : A) → k < n → Contains (f k) x → p x ≡ true) → ((k : ℕ) (x : A) → n ≤ k → Contains (f k) x → p x ≡ false) → filter p (each_below f m) ≡ each_below f n
+  filter_each p f n m le pass fail =
+      let r = each_front f n m le in
+      let kept : filter p (each_below f n) ≡ each_below f n =
+      filter_all p (each_below f n) (λ x h. let w = contains_from_each f n x h in pass w.0 x w.1 w.2) in
+      let left : filter p r.rest ≡ [] =
+      filter_none_of p r.rest (λ x h. let w = r.late x h in fail w.0 x w.1 w.3) in
+      ap (filter p) r.is ∙ filter-append p (each_below f n) r.rest ∙ ap (λ (xs : List A). xs ++ filter p r.rest) kept ∙ ap (λ (xs : List A). each_below f n ++ xs) left ∙ append-nil (each_below f n)

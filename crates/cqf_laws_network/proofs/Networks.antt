@@ -26,7 +26,7 @@ sent_before_0 : (sents : List Sent) → sent_before 0 sents ≡ []
 sent_before_0 sents = filter_none (λ (sent : Sent). nat_lt sent.start.0 0) sents (λ sent. le-ltb sent.start.0 0 (omega arith))
 
 -- what is sent before an instant, of that before a later one
-sent_before_less : (t n : ℕ) (sents : List Sent) → t ≤ n → sent_before t (sent_before n sents) ≡ sent_before t sents
+pub sent_before_less : (t n : ℕ) (sents : List Sent) → t ≤ n → sent_before t (sent_before n sents) ≡ sent_before t sents
 sent_before_less t n sents le =
     sym (filter_twice (λ (sent : Sent). nat_lt sent.start.0 t) (λ (sent : Sent). nat_lt sent.start.0 n) (λ sent h. lt-ltb sent.start.0 n (omega (arith, le, ltb-true sent.start.0 t h))) sents)
 
@@ -74,7 +74,7 @@ module _ (d : Domain) (lists : ℕ → List Entry) (offers : List Offer) where
       port_part d (lists l) l part n end (queued_before d tables offers net l end) ys front (net l) le (queued_front d tables offers net l n end le) (front_whole ys front (Late n) (sym e)) (legal l h)
 
   -- the tables of the cycles of a run
-  tables_until : (tables others : List (List Row)) (cycles : ℕ) → HaveTheSameTables cycles tables others → (u : ℕ) → u < cycles * d.cycle_time → table_of tables (cycle_of d u) ≡ table_of others (cycle_of d u)
+  pub tables_until : (tables others : List (List Row)) (cycles : ℕ) → HaveTheSameTables cycles tables others → (u : ℕ) → u < cycles * d.cycle_time → table_of tables (cycle_of d u) ≡ table_of others (cycle_of d u)
   tables_until tables others cycles same u l = same (cycle_of d u) (div_below u d.cycle_time cycles (positive l) l)
     where
       positive : u < cycles * d.cycle_time → 0 < d.cycle_time

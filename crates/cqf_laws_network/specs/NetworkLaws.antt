@@ -52,3 +52,20 @@ FirstTablesAreTheSame = (cycles : ℕ) (tables : List (List Row)) → HaveTheSam
 abbrev pub BookIsUnique : Type 0
 BookIsUnique =
     (d : Domain) (lists : ℕ → List Entry) (tables : List (List Row)) (offers : List Offer) (cycles : ℕ) (starts other_starts : List Started) (drops other_drops : List Dropped) → IsBook d lists tables offers cycles starts drops → IsBook d lists tables offers cycles other_starts other_drops → (starts ≡ other_starts) × (drops ≡ other_drops)
+
+-- and there is one
+abbrev pub BookExists : Type 0
+BookExists =
+    (d : Domain) (lists : ℕ → List Entry) (tables : List (List Row)) (offers : List Offer) (cycles : ℕ) → (starts : List Started) × (drops : List Dropped) × IsBook d lists tables offers cycles starts drops
+
+-- what a book says of the cycles before one
+abbrev pub starts_before_cycle : ℕ → List Started → List Started
+starts_before_cycle cycle starts = filter (λ (start : Started). nat_lt start.cycle.0 cycle) starts
+
+abbrev pub drops_before_cycle : ℕ → List Dropped → List Dropped
+drops_before_cycle cycle drops = filter (λ (drop : Dropped). nat_lt drop.cycle.0 cycle) drops
+
+-- the book of a shorter run is what a longer run's book says of its cycles
+abbrev pub ShorterBookIsTheBeginning : Type 0
+ShorterBookIsTheBeginning =
+    (d : Domain) (lists : ℕ → List Entry) (tables others : List (List Row)) (offers : List Offer) (cycles longer : ℕ) (starts : List Started) (drops : List Dropped) → cycles ≤ longer → HaveTheSameTables cycles tables others → IsBook d lists tables offers longer starts drops → IsBook d lists others offers cycles (starts_before_cycle cycles starts) (drops_before_cycle cycles drops)

@@ -5,9 +5,9 @@
 //! are. A proof elsewhere uses the law by a call of the function.
 //!
 //! - There is a legal network ([`legal_network_exists`]), and no other ([`legal_network_is_unique`]), so what a domain does
-//!   is settled; and what a book of it says is ([`book_is_unique`]).
-//! - A run of fewer cycles is the beginning of a longer one ([`shorter_run_is_the_beginning`]), so nothing hangs on what is
-//!   offered, admitted or withdrawn later.
+//!   is settled; and so is what a book of it says ([`book_exists`], [`book_is_unique`]).
+//! - A run of fewer cycles is the beginning of a longer one, and so is its book ([`shorter_run_is_the_beginning`],
+//!   [`shorter_book_is_the_beginning`]): nothing hangs on what is offered, admitted or withdrawn later.
 //!
 //! ```
 //! // here on, a proof knows that two legal networks of the same domain, tables and offers are equal
@@ -15,7 +15,7 @@
 //! ```
 #![tactic(auto)]
 
-ghost use Rattle.cqf_laws_network.specs.NetworkLaws.{LegalNetworkExists, LegalNetworkIsUnique, BeginningIsLegal, ShorterRunIsTheBeginning, FirstTablesAreTheSame, BookIsUnique};
+ghost use Rattle.cqf_laws_network.specs.NetworkLaws.{LegalNetworkExists, LegalNetworkIsUnique, BeginningIsLegal, ShorterRunIsTheBeginning, FirstTablesAreTheSame, BookIsUnique, BookExists, ShorterBookIsTheBeginning};
 
 /// For any domain, gate lists, tables, offers and number of cycles some network is legal.
 pub fn legal_network_exists()
@@ -48,4 +48,19 @@ pub fn book_is_unique()
     ensures { BookIsUnique }
 {
     legal_network_is_unique();
+}
+
+/// For any domain, gate lists, tables, offers and number of cycles there is a book.
+pub fn book_exists()
+    ensures { BookExists }
+{
+    legal_network_exists();
+}
+
+/// What the book of a run says of its first cycles is the book of the run of those cycles alone, with the same tables or
+/// with the tables of those cycles alone.
+pub fn shorter_book_is_the_beginning()
+    ensures { ShorterBookIsTheBeginning }
+{
+    cqf_laws::legal_part_is_legal();
 }
