@@ -2,3 +2,6 @@ pub mod Rounds
 pub mod Entries
 pub mod OpenSpans
 pub mod Intervals
+pub mod ReadLines
+pub mod Written
+pub mod RoundTrip

@@ -1,2 +1,4 @@
 pub mod TxList
 pub mod StreamGate
+pub mod TxText
+pub mod StreamText

@@ -16,3 +16,14 @@ pub enum ListFault {
     #[error("an internal priority value of the gate list is neither 6 nor 7")]
     BadIpv,
 }
+
+/// Why a text is no gate list (profile).
+#[derive(Clone, Copy, Debug, PartialEq, Eq, Drop, thiserror::Error)]
+pub enum TextFault {
+    /// The first line that writes no entry, where lines count from 1.
+    #[error("line {0} is no entry of a gate list")]
+    BadLine(u64),
+    /// Each line writes an entry, and the entries make no list.
+    #[error("{0}")]
+    List(ListFault),
+}

@@ -4,6 +4,7 @@
 //! - [`TxList`] is the list of a port. [`TxList::mask_at`] gives the states of its gates at an instant, and
 //!   [`TxList::open_for`] how long a class stays open from then on.
 //! - [`StreamList`] is the list of a stream gate, and [`StreamGate`] the gate, which counts octets against it.
+//! - [`read_tx`], [`write_tx`] and [`write_stream`] read and write lists as texts.
 //!
 //! ```text
 //! TxList::new(&[(0x80, 120_000), (0x00, 5000), (0x40, 120_000), (0x00, 5000)]) is Ok(list)
@@ -14,9 +15,11 @@
 
 mod faults;
 mod streams;
+mod text;
 mod transmission;
 
 pub use cqf_model::{OpenFor, StreamEntry};
-pub use faults::ListFault;
+pub use faults::{ListFault, TextFault};
 pub use streams::{Passed, StreamGate, StreamList, gate_counts_calls};
+pub use text::{read_tx, write_stream, write_tx};
 pub use transmission::TxList;

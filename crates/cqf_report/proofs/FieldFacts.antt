@@ -1,9 +1,9 @@
 -- The fields of a record of four, by their places.
-use Rattle.std.proofs.Common.{◌≡◌, ◌<◌, ℕ, zero, suc, List, [], ◌∷◌, Option, Some, None, length, refl, arith}
+use Rattle.std.proofs.Common.{◌≡◌, ◌<◌, ℕ, zero, suc, List, [], ◌∷◌, Option, Some, None, length, ap, refl, arith}
 use Rattle.csv.specs.Records.{field_at}
 use Rattle.cqf_report.specs.Records.{Fields}
-use Rattle.cqf_report.specs.Arrivals.{arrival_of}
-use Rattle.cqf_report.specs.Table.{four_of}
+use Rattle.cqf_report.specs.Table.{four_of, in_four}
+use Rattle.std.specs.Option.{option_map_or}
 
 -- there is a field at each place below the number of fields
 pub field_at-inside : (fields : Fields) (i : ℕ) → i < length fields → field_at fields i ≡ None → ⊥
@@ -35,11 +35,30 @@ four_of-places (a ∷ b ∷ c ∷ []) p q r s size at0 at1 at2 at3 = cc
 four_of-places (a ∷ b ∷ c ∷ d ∷ []) p q r s size at0 at1 at2 at3 = rw (some-inj p a at0, some-inj q b at1, some-inj r c at2, some-inj s d at3) refl
 four_of-places (a ∷ b ∷ c ∷ d ∷ e ∷ fields) p q r s size at0 at1 at2 at3 = absurd (omega arith)
 
--- a row of another number of fields writes no arrival
-pub arrival_of-other : (fields : Fields) → (4 ≡ length fields → ⊥) → arrival_of fields ≡ None
-arrival_of-other [] other = refl
-arrival_of-other (a ∷ []) other = refl
-arrival_of-other (a ∷ b ∷ []) other = refl
-arrival_of-other (a ∷ b ∷ c ∷ []) other = refl
-arrival_of-other (a ∷ b ∷ c ∷ d ∷ []) other = absurd (other refl)
-arrival_of-other (a ∷ b ∷ c ∷ d ∷ e ∷ fields) other = refl
+-- a record of another number of fields writes nothing
+pub in_four-other : {A : Type 0} (read : List ℕ → List ℕ → List ℕ → List ℕ → Option A) (fields : Fields) → (4 ≡ length fields → ⊥) → in_four read fields ≡ None
+in_four-other read [] other = refl
+in_four-other read (a ∷ []) other = refl
+in_four-other read (a ∷ b ∷ []) other = refl
+in_four-other read (a ∷ b ∷ c ∷ []) other = refl
+in_four-other read (a ∷ b ∷ c ∷ d ∷ []) other = absurd (other refl)
+in_four-other read (a ∷ b ∷ c ∷ d ∷ e ∷ fields) other = refl
+
+-- nor does one that has no four fields
+pub in_four-none : {A : Type 0} (read : List ℕ → List ℕ → List ℕ → List ℕ → Option A) (fields : Fields) → four_of fields ≡ None → in_four read fields ≡ None
+in_four-none read [] none = refl
+in_four-none read (a ∷ []) none = refl
+in_four-none read (a ∷ b ∷ []) none = refl
+in_four-none read (a ∷ b ∷ c ∷ []) none = refl
+in_four-none read (a ∷ b ∷ c ∷ d ∷ []) none = cc
+in_four-none read (a ∷ b ∷ c ∷ d ∷ e ∷ fields) none = refl
+
+-- what four fields write
+pub in_four-some : {A : Type 0} (read : List ℕ → List ℕ → List ℕ → List ℕ → Option A) (fields : Fields) (p q r s : List ℕ) → four_of fields ≡ Some (p, q, r, s) → in_four read fields ≡ read p q r s
+in_four-some read [] p q r s four = cc
+in_four-some read (a ∷ []) p q r s four = cc
+in_four-some read (a ∷ b ∷ []) p q r s four = cc
+in_four-some read (a ∷ b ∷ c ∷ []) p q r s four = cc
+in_four-some read (a ∷ b ∷ c ∷ d ∷ []) p q r s four =
+    ap (λ (o : Option (List ℕ × List ℕ × List ℕ × List ℕ)). option_map_or (λ (f : List ℕ × List ℕ × List ℕ × List ℕ). read f.0 f.1 f.2 f.3) o None) four
+in_four-some read (a ∷ b ∷ c ∷ d ∷ e ∷ fields) p q r s four = cc

@@ -1,3 +1,4 @@
 pub mod Turns
 pub mod FieldFacts
 pub mod TableLemmas
+pub mod WrittenLemmas

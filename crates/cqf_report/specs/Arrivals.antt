@@ -18,14 +18,13 @@ arrival_with (Some at) (Some class) (Some octets) None = None
 arrival_with (Some at) (Some class) (Some octets) (Some frame) = Some (record { at = record { 0 = at }; class = class; octets = octets; frame = frame })
 
 -- the arrival that a row writes: four numbers, each in its range
-abbrev pub arrival_of : Fields → Option Arrival
-arrival_of (at ∷ class ∷ octets ∷ frame ∷ []) =
+abbrev pub arrival_of : List ℕ → List ℕ → List ℕ → List ℕ → Option Arrival
+arrival_of at class octets frame =
     arrival_with (decimal_in 0 100000000 at) (decimal_in 0 7 class) (decimal_in 64 1522 octets) (decimal_in 0 (2 ^ 32 - 1) frame)
-arrival_of _ = None
 
-abbrev pub instant_of : Arrival → ℕ
-instant_of arrival = arrival.at.0
+abbrev pub arrival_instant : Arrival → ℕ
+arrival_instant arrival = arrival.at.0
 
 -- the arrivals that a text writes, in order, or its first fault
 abbrev pub arrivals_of : List ℕ → Result (List Arrival) TableFault
-arrivals_of text = table_of arrival_header arrival_of instant_of text
+arrivals_of text = table_of arrival_header arrival_of arrival_instant text

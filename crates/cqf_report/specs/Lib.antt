@@ -1,3 +1,5 @@
 pub mod Records
 pub mod Table
 pub mod Arrivals
+pub mod Written
+pub mod Starts

@@ -20,6 +20,11 @@ abbrev pub four_of : Fields → Option (List ℕ × List ℕ × List ℕ × List
 four_of (first ∷ second ∷ third ∷ fourth ∷ []) = Some (first, second, third, fourth)
 four_of _ = None
 
+-- what a record of four fields writes. One of another number of fields writes nothing
+abbrev pub in_four : {A : Type 0} → (List ℕ → List ℕ → List ℕ → List ℕ → Option A) → Fields → Option A
+in_four read (first ∷ second ∷ third ∷ fourth ∷ []) = read first second third fourth
+in_four read _ = None
+
 -- a row in front of the others
 abbrev pub with_row : {A : Type 0} → A → Result (List A) TableFault → Result (List A) TableFault
 with_row row (Ok rows) = Ok (row ∷ rows)
@@ -45,9 +50,9 @@ rows_under names read instant [] = Err BadHeader
 rows_under names read instant (first ∷ rows) =
     if is_header names first then rows_from read instant 1 0 rows else Err BadHeader
 
--- the rows of a table's text, or its first fault
-abbrev pub table_of : {A : Type 0} → Fields → (Fields → Option A) → (A → ℕ) → List ℕ → Result (List A) TableFault
-table_of names read instant text = rows_under names read instant (records_of text)
+-- the rows of a text of four columns, or its first fault
+abbrev pub table_of : {A : Type 0} → Fields → (List ℕ → List ℕ → List ℕ → List ℕ → Option A) → (A → ℕ) → List ℕ → Result (List A) TableFault
+table_of names read instant text = rows_under names (in_four read) instant (records_of text)
 
 -- the fault is the table's first. Nothing is said of want of memory
 abbrev pub IsFaultOf : {A : Type 0} → Result (List A) TableFault → TableFault → Type 0

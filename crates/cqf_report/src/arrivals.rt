@@ -4,95 +4,49 @@ ghost use Rattle.std.specs.Prelude.{ℕ, ◌≡◌, ◌≤◌, List, Option, Som
 ghost use Rattle.csv.specs.Records.{fields_of};
 ghost use Rattle.cqf_report.specs.Records.{Fields, StillGives};
 ghost use Rattle.cqf_report.specs.Table.{IsFaultOf, TakesNext, rows_from};
-ghost use Rattle.cqf_report.specs.Arrivals.{arrival_of, arrivals_of, instant_of};
+ghost use Rattle.cqf_report.specs.Arrivals.{arrival_instant, arrival_of, arrivals_of};
 
-use crate::records::{Taken, take_record};
-use crate::tables::{MOST_ROWS, TableFault, four_fields, open_table, read_number, take_header};
+use crate::rows::{RowFormat, read_rows};
+use crate::tables::{TableFault, open_table, read_number, take_header};
 use cqf_model::Arrival;
 use cqf_text::read_decimal;
 use cqf_units::Nanos;
-use csv::{ByteRecord, Reader};
+use csv::ByteRecord;
 use std::alloc::Global;
-use std::io::Read;
 
-/// The arrival that a row writes, if it writes one.
-fn read_arrival(row: &ByteRecord) -> Option<Arrival>
-    ensures { result ≡ arrival_of (fields_of row.now) }
-{
-    let Some((at, class, octets, frame)) = four_fields(row) else {
-        return None;
-    };
-    let Some(at) = read_decimal(at, 0, 100_000_000) else {
-        return None;
-    };
-    let Some(class) = read_number(class, 0, 7) else {
-        return None;
-    };
-    let Some(octets) = read_number(octets, 64, 1522) else {
-        return None;
-    };
-    let Some(frame) = read_number(frame, 0, u32::MAX) else {
-        return None;
-    };
-    Some(Arrival {
-        at: Nanos(at),
-        class: class as u8,
-        octets,
-        frame,
-    })
-}
+/// The rows of arrivals.
+struct ArrivalRows;
 
-/// Takes the row of this number, behind a row at `before`, and gives its arrival; `None` where there is no further row.
-fn next_arrival<R: Read>(
-    reader: &mut Reader<R>,
-    row: &mut ByteRecord,
-    number: u32,
-    before: Nanos,
-) -> Result<Option<Arrival>, TableFault>
-    requires { number ≤ 1000000 }
-    ensures { (rows : List Fields) → StillGives R.remaining (Some 4) reader.old rows → TakesNext arrival_of instant_of R.remaining number before.0 rows reader.new result }
-{
-    match take_record(reader, row) {
-        Ok(Taken::End) => Ok(None),
-        Ok(Taken::Refused) => Err(TableFault::BadRow(number)),
-        Ok(Taken::Row) => {
-            let Some(arrival) = read_arrival(row) else {
-                return Err(TableFault::BadRow(number));
-            };
-            if arrival.at < before {
-                return Err(TableFault::OutOfOrder(number));
-            }
-            Ok(Some(arrival))
-        }
-        Err(_) => Err(TableFault::Memory),
-    }
-}
+impl RowFormat for ArrivalRows {
+    type Row = Arrival;
 
-/// The arrivals of the rows that the reader still gives, from row 1 on.
-fn read_rows<R: Read>(
-    alloc: Global,
-    reader: &mut Reader<R>,
-    row: &mut ByteRecord,
-) -> Result<Vec<Arrival>, TableFault>
-    ensures ok { IfOk result (λ arrivals. (rows : List Fields) → StillGives R.remaining (Some 4) reader.old rows → rows_from arrival_of instant_of 1 0 rows ≡ Ok arrivals.items) }
-    ensures err { IfErr result (λ fault. (rows : List Fields) → StillGives R.remaining (Some 4) reader.old rows → IsFaultOf (rows_from arrival_of instant_of 1 0 rows) fault) }
-{
-    let mut arrivals = Vec::new(alloc);
-    let mut before = Nanos(0);
-    for number in 1..=MOST_ROWS {
-        let Some(arrival) = next_arrival(reader, row, number, before)? else {
-            return Ok(arrivals);
+    ghost row_of = { λ _. arrival_of };
+
+    ghost instant_of = { arrival_instant };
+
+    fn read_row(&self, at: &[u8], class: &[u8], octets: &[u8], frame: &[u8]) -> Option<Arrival> {
+        let Some(at) = read_decimal(at, 0, 100_000_000) else {
+            return None;
         };
-        before = arrival.at;
-        if arrivals.push(arrival).is_err() {
-            return Err(TableFault::Memory);
-        }
+        let Some(class) = read_number(class, 0, 7) else {
+            return None;
+        };
+        let Some(octets) = read_number(octets, 64, 1522) else {
+            return None;
+        };
+        let Some(frame) = read_number(frame, 0, u32::MAX) else {
+            return None;
+        };
+        Some(Arrival {
+            at: Nanos(at),
+            class: class as u8,
+            octets,
+            frame,
+        })
     }
-    match take_record(reader, row) {
-        Ok(Taken::End) => Ok(arrivals),
-        Ok(Taken::Row) => Err(TableFault::TooMany),
-        Ok(Taken::Refused) => Err(TableFault::TooMany),
-        Err(_) => Err(TableFault::Memory),
+
+    fn instant(row: &Arrival) -> Nanos {
+        row.at
     }
 }
 
@@ -118,5 +72,123 @@ pub fn read_arrivals(alloc: Global, text: &[u8]) -> Result<Vec<Arrival>, TableFa
         b"frame".as_slice(),
     );
     take_header(&mut reader, &mut row, names)?;
-    read_rows(alloc, &mut reader, &mut row)
+    read_rows(alloc, &ArrivalRows, &mut reader, &mut row)
+}
+
+#[cfg(test)]
+mod tests {
+    use super::*;
+    use std::test::Fail;
+
+    #[test]
+    fn rows_are_read_in_order(rt: HostRuntime) -> Result<(), Fail> {
+        let arrivals = read_arrivals(
+            rt.alloc(),
+            b"at,class,octets,frame\n10,6,64,1\n10,7,1522,4294967295\n",
+        )?;
+        assert_eq!(rt; arrivals.len(), 2);
+        let first = Arrival {
+            at: Nanos(10),
+            class: 6,
+            octets: 64,
+            frame: 1,
+        };
+        let second = Arrival {
+            at: Nanos(10),
+            class: 7,
+            octets: 1522,
+            frame: u32::MAX,
+        };
+        assert!(rt; arrivals[0] == first);
+        assert!(rt; arrivals[1] == second);
+        Ok(())
+    }
+
+    #[test]
+    fn quotes_and_line_ends_are_those_of_csv(rt: HostRuntime) -> Result<(), Fail> {
+        for text in [
+            b"\"at\",class,octets,frame\r\n\"10\",6,0064,1\r\n".as_slice(),
+            b"at,class,octets,frame\n10,6,64,1".as_slice(),
+            b"at,class,octets,frame\n\n10,6,64,1\n\n".as_slice(),
+        ] {
+            let arrivals = read_arrivals(rt.alloc(), text)?;
+            assert_eq!(rt; arrivals.len(), 1);
+            assert!(rt;
+                arrivals[0]
+                    == Arrival {
+                        at: Nanos(10),
+                        class: 6,
+                        octets: 64,
+                        frame: 1
+                    }
+            );
+        }
+        Ok(())
+    }
+
+    #[test]
+    fn a_header_may_stand_alone(rt: HostRuntime) -> Result<(), Fail> {
+        for text in [
+            b"at,class,octets,frame\n".as_slice(),
+            b"at,class,octets,frame".as_slice(),
+        ] {
+            assert_eq!(rt; read_arrivals(rt.alloc(), text)?.len(), 0);
+        }
+        Ok(())
+    }
+
+    #[test]
+    fn another_header_is_refused(rt: HostRuntime) -> Result<(), Fail> {
+        for text in [
+            b"".as_slice(),
+            b"at,class,octets\n".as_slice(),
+            b"at,class,octets,frame,more\n".as_slice(),
+            b"class,at,octets,frame\n".as_slice(),
+            b"\xff".as_slice(),
+        ] {
+            assert!(rt; read_arrivals(rt.alloc(), text).err() == Some(TableFault::BadHeader));
+        }
+        Ok(())
+    }
+
+    #[test]
+    fn the_first_bad_row_is_told(rt: HostRuntime) -> Result<(), Fail> {
+        for (text, fault) in [
+            (
+                b"at,class,octets,frame\n10,6,64,1\n10,8,64,2\n".as_slice(),
+                TableFault::BadRow(2),
+            ),
+            (
+                b"at,class,octets,frame\n10,6,63,1\n".as_slice(),
+                TableFault::BadRow(1),
+            ),
+            (
+                b"at,class,octets,frame\n+5,6,64,1\n".as_slice(),
+                TableFault::BadRow(1),
+            ),
+            (
+                b"at,class,octets,frame\n100000001,6,64,1\n".as_slice(),
+                TableFault::BadRow(1),
+            ),
+            (
+                b"at,class,octets,frame\n10,6,64\n".as_slice(),
+                TableFault::BadRow(1),
+            ),
+            (
+                b"at,class,octets,frame\n10,6,64,\xff\n".as_slice(),
+                TableFault::BadRow(1),
+            ),
+            (
+                b"at,class,octets,frame\n10,6,64,1\n9,6,64,2\n".as_slice(),
+                TableFault::OutOfOrder(2),
+            ),
+            (
+                b"at,class,octets,frame\n10,6,64,1\n9,8,64,2\n".as_slice(),
+                TableFault::BadRow(2),
+            ),
+        ] {
+            assert!(rt; read_arrivals(rt.alloc(), text).err() == Some(fault));
+        }
+        Ok(())
+    }
 }

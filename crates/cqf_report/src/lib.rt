@@ -1,7 +1,8 @@
-//! Tables of arrivals, read from comma-separated values as the crate `csv` reads them.
+//! Tables as comma-separated values: arrivals read, and starts written, by the crate `csv`.
 //!
 //! - [`read_arrivals`] reads the arrivals of a port.
 //! - [`TableFault`] says why a table is refused, and at which row.
+//! - [`write_starts`] writes the starts of a port.
 //!
 //! ```text
 //! read_arrivals(alloc, b"at,class,octets,frame\n10,6,64,1\n")
@@ -12,8 +13,12 @@
 #![tactic(auto)]
 
 mod arrivals;
+mod lines;
 mod records;
+mod rows;
+mod starts;
 mod tables;
 
 pub use arrivals::read_arrivals;
+pub use starts::write_starts;
 pub use tables::{OfferFault, TableFault};

@@ -1,5 +1,6 @@
 -- Instants and cycles.
-use Rattle.std.proofs.Common.{◌≡◌, ℕ, ◌+◌, ◌-◌, ◌*◌, ◌/◌, ◌%◌, ◌<◌, ◌≤◌, ◌⊎◌, ap, ◌∙◌, arith, mod-lt, div-add-mod'}
+use Rattle.std.proofs.Common.{◌≡◌, ℕ, ◌+◌, ◌-◌, ◌*◌, ◌/◌, ◌%◌, ◌<◌, ◌≤◌, ◌⊎◌, ap, ◌∙◌, arith, mod-lt, div-add-mod', mul-le-mul_right, inl, inr}
+use Rattle.std.proofs.lemmas.Bool.{cases_lt}
 use Rattle.std.proofs.lemmas.Nat.{div-mul-add, mod-mul-add}
 
 -- an instant of a cycle is in that cycle alone
@@ -45,3 +46,10 @@ parity c = two (c % 2) (mod-lt c (omega arith))
   where
     two : (b : ℕ) → b < 2 → (b ≡ 0) ⊎ (b ≡ 1)
     two b h = grind arith
+
+-- an instant before the end of a run is in one of its cycles
+pub cycle_below : (n t cycles : ℕ) → t < cycles * n → t / n < cycles
+cycle_below n t cycles early = elim (cases_lt (t / n) cycles) [
+  | inl less ↦ less
+  | inr more ↦ absurd (omega (arith, mul-le-mul_right n more, cycle_from n t, early))
+]

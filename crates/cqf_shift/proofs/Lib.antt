@@ -7,3 +7,11 @@ pub mod Verdicts
 pub mod Edges
 pub mod Paths
 pub mod EdgesAmongRelayed
+pub mod Sums
+pub mod Orders
+pub mod Policing
+pub mod Queues
+pub mod Runs
+pub mod SentSums
+pub mod Ways
+pub mod Shifts

@@ -1,6 +1,6 @@
 -- What a verdict says of the frame and its row.
 use Rattle.std.proofs.Common.{◌≡◌, ℕ, ◌∷◌, [], ◌++◌, List, Bool, true, false, Option, Some, None, inl, inr, sym, ap, ◌∙◌, subst, refl, Contains, find, append_assoc, append-nil, if◌then◌else◌, ◌==◌, eqb-true}
-use Rattle.std.proofs.lemmas.Bool.{cases_Bool, cond-true, cond-false}
+use Rattle.std.proofs.lemmas.Bool.{cases_Bool, cond-true, cond-false, false≢true}
 use Rattle.cqf_model.specs.declared.frames.Reason.TheVariants.{Withdrawn, OtherBridge, Octets}
 use Rattle.cqf_model.specs.declared.topology.Row.{Row}
 use Rattle.cqf_model.specs.Domain.{Domain, leaves, first_link, next_link, is_text}
@@ -19,6 +19,17 @@ find_member test (y ∷ ys) x e = elim (cases_Bool (test y)) [
   | inr f ↦
       let r = find_member test ys x (sym (cond-false (test y) (Some y) (find test ys) f) ∙ e) in
       (contains_later y ys x r.0, r.1)
+]
+
+-- and where some member passes, it gives one
+pub find_some : {X : Type 0} (test : X → Bool) (xs : List X) (x : X) → Contains xs x → test x ≡ true → (y : X) × (find test xs ≡ Some y)
+find_some test [] x c t = absurd (contains_none x c)
+find_some test (z ∷ xs) x c t = elim (cases_Bool (test z)) [
+  | inl u ↦ (z, cond-true (test z) (Some z) (find test xs) u)
+  | inr u ↦ elim (contains_cases z xs x c) [
+    | inl e ↦ absurd (false≢true (sym u ∙ ap test e ∙ t))
+    | inr h ↦ let r = find_some test xs x h t in (r.0, cond-false (test z) (Some z) (find test xs) u ∙ r.1)
+  ]
 ]
 
 -- a frame that is queued at the edge: its stream's row is live, and the path's first link leaves the bridge

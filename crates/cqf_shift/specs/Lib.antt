@@ -2,3 +2,5 @@ pub mod Compiled
 pub mod Cost
 pub mod OnePort
 pub mod Edge
+pub mod Run
+pub mod Books

@@ -1,11 +1,13 @@
 //! Laws that lead to one: the gates mean the shift.
 #![tactic(auto)]
 
+mod books;
 mod compiled;
 mod cost;
 mod edge;
 mod port;
 
+pub use books::book_says_the_shift;
 pub use compiled::{
     classes_alternate, gate_counts_cycles, gate_gives_class, port_list_is_open, port_list_sends,
 };

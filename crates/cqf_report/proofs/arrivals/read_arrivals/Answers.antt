@@ -1,15 +1,16 @@
 use Rattle.std.proofs.Common.{refl, List, ℕ, Bor, Some}
 use Rattle.cqf_report.specs.Records.{records_of}
-use Rattle.cqf_report.specs.Arrivals.{arrival_header, arrival_of, instant_of}
+use Rattle.cqf_report.specs.Arrivals.{arrival_header, arrival_of, arrival_instant}
+use Rattle.cqf_report.specs.Table.{in_four}
 use Rattle.cqf_report.proofs.TableLemmas.{table-err, table-ok}
 use Rattle.cqf_report.proofs.arrivals.read_arrivals.Goals as goal
 
 pub returns-clause-err : goal.returns-clause-err
 returns-clause-err c =
-    table-err arrival_of instant_of (λ (s : Bor (List ℕ)). Some s.now) arrival_header (records_of c.args.text.now) c.take_header.new.reader c.read_rows.result
+    table-err (in_four arrival_of) arrival_instant (λ (s : Bor (List ℕ)). Some s.now) arrival_header (records_of c.args.text.now) c.take_header.new.reader c.read_rows.result
     (rw (c.as_slice.ensures, c.as_slice-2.ensures, c.as_slice-3.ensures, c.as_slice-4.ensures) at (c.in_ok-take_header.ensures.ok (records_of c.args.text.now) (c.open_table-reader.ensures c.args.text.now refl))) c.read_rows.ensures.err
 
 pub returns-clause-ok : goal.returns-clause-ok
 returns-clause-ok c =
-    table-ok arrival_of instant_of (λ (s : Bor (List ℕ)). Some s.now) (λ v. v.items) arrival_header (records_of c.args.text.now) c.take_header.new.reader c.read_rows.result
+    table-ok (in_four arrival_of) arrival_instant (λ (s : Bor (List ℕ)). Some s.now) (λ v. v.items) arrival_header (records_of c.args.text.now) c.take_header.new.reader c.read_rows.result
     (rw (c.as_slice.ensures, c.as_slice-2.ensures, c.as_slice-3.ensures, c.as_slice-4.ensures) at (c.in_ok-take_header.ensures.ok (records_of c.args.text.now) (c.open_table-reader.ensures c.args.text.now refl))) c.read_rows.ensures.ok

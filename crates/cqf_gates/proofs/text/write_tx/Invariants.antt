@@ -1,0 +1,11 @@
+-- The entries so far are written, each in the range of its type.
+use Rattle.std.proofs.Common.{◌≡◌, ◌<◌, ◌^◌, All, take}
+use Rattle.cqf_model.specs.GateList.{Entry}
+use Rattle.cqf_text.specs.GateListText.{text_of_entries}
+use Rattle.cqf_gates.proofs.text.write_tx.Given as goal
+
+abbrev pub invariant-loop-entry : goal.invariant-loop-entry
+invariant-loop-entry l = record {
+  written : l.text.items ≡ text_of_entries (take l.entry-index l.entry-items);
+  ranges : All (λ (entry : Entry). (entry.0 < 256) × (entry.1 < 2 ^ 32)) (take l.entry-index l.entry-items);
+}

@@ -1,0 +1,153 @@
+//! Gate lists as texts (profile).
+ghost use Rattle.std.specs.Prelude.{◌≡◌, ◌<◌, ◌^◌, ◌++◌, ◌∷◌, [], IfOk, OnOk};
+ghost use Rattle.std.specs.String.{string_bytes};
+ghost use Rattle.cqf_text.specs.GateListText.{hex_digit, line_of_entry, text_of_entries};
+ghost use Rattle.cqf_gates.specs.StreamText.{line_of_stream_entry, text_of_stream_entries};
+ghost use Rattle.cqf_gates.specs.TxText.{list_of_text};
+
+use crate::{StreamEntry, StreamList, TextFault, TxList};
+use arrayvec::ArrayVec;
+use cqf_text::{read_entry, split_line};
+use cqf_units::Memory;
+use std::alloc::Global;
+
+/// One entry more than a list can have: with so many kept, further ones change nothing.
+const TOO_MANY: usize = 17;
+
+/// The list that the text writes: on each line two hexadecimal digits of either case for the states, one space, and
+/// the interval as a decimal number up to 4,294,967,295. It refuses the first line of another form as `BadLine`, and
+/// then entries that make no list as `List` with [`TxList::new`]'s fault. An empty text has no line (profile).
+pub fn read_tx(text: &[u8]) -> Result<TxList, TextFault>
+    ensures { result ≡ list_of_text text.now }
+{
+    let mut kept: ArrayVec<(u8, u32), 17> = ArrayVec::new();
+    let mut number: u64 = 1;
+    let mut left = text;
+    while let Some((line, behind)) = split_line(left) {
+        let Some(entry) = read_entry(line) else {
+            return Err(TextFault::BadLine(number));
+        };
+        if kept.len() < TOO_MANY {
+            kept.push(entry);
+        }
+        number += 1;
+        left = behind;
+    }
+    match TxList::new(kept.as_slice()) {
+        Ok(list) => Ok(list),
+        Err(fault) => Err(TextFault::List(fault)),
+    }
+}
+
+/// The upper case hexadecimal digit of a number below 16.
+fn hex_digit_of(number: u8) -> u8
+    requires { number < 16 }
+    ensures { result ≡ hex_digit number }
+{
+    if number < 10 {
+        b'0' + number
+    } else {
+        b'A' + (number - 10)
+    }
+}
+
+/// Appends the line that writes an entry.
+fn push_entry(alloc: Global, text: &mut Vec<u8>, states: u8, interval: u32) -> Result<(), Memory>
+    ensures line { OnOk result (text.new.items ≡ text.old.items ++ line_of_entry (states, interval) ++ 10 ∷ []) }
+    ensures ranges { (states < 256) × (interval < 2 ^ 32) }
+{
+    let end = format!(in alloc; " {interval}\n")?;
+    text.push(hex_digit_of(states / 16))?;
+    text.push(hex_digit_of(states % 16))?;
+    text.extend_from_slice(end.as_bytes())?;
+    Ok(())
+}
+
+/// The text that [`read_tx`] reads as this list: for each entry a line with its states as two upper case hexadecimal
+/// digits, one space, and its interval (profile).
+pub fn write_tx(alloc: Global, list: &TxList) -> Result<Vec<u8>, Memory>
+    ensures text { IfOk result (λ text. text.items ≡ text_of_entries list.now) }
+    ensures again { IfOk result (λ text. list_of_text text.items ≡ Ok list.now) }
+{
+    let mut text = Vec::new(alloc);
+    for entry in list.entries() {
+        push_entry(alloc, &mut text, entry.0, entry.1)?;
+    }
+    Ok(text)
+}
+
+/// The line that writes an entry of a stream gate.
+fn stream_line(alloc: Global, entry: StreamEntry) -> Result<String, Memory>
+    ensures { IfOk result (λ line. string_bytes line ≡ line_of_stream_entry entry ++ 10 ∷ []) }
+{
+    let (ipv, interval) = (entry.ipv, entry.interval);
+    let Some(most) = entry.octet_max else {
+        let line = format!(in alloc; "open {ipv} {interval} -\n")?;
+        return Ok(line);
+    };
+    let line = format!(in alloc; "open {ipv} {interval} {most}\n")?;
+    Ok(line)
+}
+
+/// The text of a stream gate's list: for each entry a line with `open`, the internal priority value, the interval and
+/// the octet maximum, `-` where there is none (profile).
+pub fn write_stream(alloc: Global, list: &StreamList) -> Result<Vec<u8>, Memory>
+    ensures { IfOk result (λ text. text.items ≡ text_of_stream_entries list.now) }
+{
+    let mut text = Vec::new(alloc);
+    for entry in list.entries() {
+        let line = stream_line(alloc, *entry)?;
+        text.extend_from_slice(line.as_bytes())?;
+    }
+    Ok(text)
+}
+
+#[cfg(test)]
+mod tests {
+    use super::*;
+    use crate::ListFault;
+    use std::test::Fail;
+
+    #[test]
+    fn each_fault_of_a_text_is_told(rt: HostRuntime) {
+        let seventeen_lines =
+            b"FF 1\nFF 1\nFF 1\nFF 1\nFF 1\nFF 1\nFF 1\nFF 1\nFF 1\nFF 1\nFF 1\nFF 1\nFF 1\nFF 1\nFF 1\nFF 1\nFF 1\n";
+        for (text, fault) in [
+            (b"".as_slice(), TextFault::List(ListFault::Empty)),
+            (b"80 120000\n0G 5000\n".as_slice(), TextFault::BadLine(2)),
+            (b"80 0".as_slice(), TextFault::List(ListFault::ZeroInterval)),
+            (
+                seventeen_lines.as_slice(),
+                TextFault::List(ListFault::TooMany),
+            ),
+        ] {
+            assert!(rt; read_tx(text).err() == Some(fault));
+        }
+    }
+
+    #[test]
+    fn lower_case_and_leading_zeros_are_read(rt: HostRuntime) -> Result<(), Fail> {
+        let list = read_tx(b"c0 007")?;
+        assert!(rt; list.entries() == [(0xC0, 7)].as_slice());
+        assert!(rt; write_tx(rt.alloc(), &list)?.as_slice() == b"C0 7\n".as_slice());
+        Ok(())
+    }
+
+    #[test]
+    fn the_list_of_a_reservation_is_written(rt: HostRuntime) -> Result<(), Fail> {
+        let limited = StreamEntry {
+            ipv: 6,
+            interval: 125_000,
+            octet_max: Some(1500),
+        };
+        let unlimited = StreamEntry {
+            ipv: 7,
+            interval: 125_000,
+            octet_max: None,
+        };
+        let list = StreamList::new(&[limited, unlimited])?;
+        let text = write_stream(rt.alloc(), &list)?;
+        assert!(rt; text.as_slice() == b"open 6 125000 1500\nopen 7 125000 -\n".as_slice());
+        Ok(())
+    }
+}

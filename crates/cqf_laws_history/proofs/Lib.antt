@@ -1,0 +1,5 @@
+pub mod Lists
+pub mod Paths
+pub mod Places
+pub mod Sound
+pub mod Orderly

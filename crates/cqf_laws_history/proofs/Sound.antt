@@ -1,0 +1,298 @@
+-- What the streams of a legal history have before each of its places.
+use Rattle.std.proofs.Common.{◌≡◌, ◌≢◌, ℕ, ◌+◌, ◌≤◌, ◌⊎◌, Bool, true, false, cond, List, Option, Some, None, length, sym, refl, ap, ◌∙◌, inl, inr, arith, subst, append-nil, length-append}
+use Rattle.std.specs.Prelude.{[], ◌∷◌, ◌++◌, ◌==◌, ◌&&◌, ◌||◌, if◌then◌else◌, filter, map, nat_le, nat_lt, position, is_none, not, slice_get, take, zero, suc, AllPairs, Contains}
+use Rattle.std.specs.Option.{option_map_or}
+use Rattle.std.specs.List.{list_any}
+use Rattle.std.proofs.lemmas.Bool.{cases_Bool, cases_lt, both_ways, and_parts, and_from, or_parts, le-leb, ltb-true, ltb-false, lt-ltb, eqb-true, eq-eqb}
+use Rattle.std.proofs.lemmas.List.{length-map, map-append}
+use Rattle.std.proofs.lemmas.List.Elements.{Contains-append_cases, filter-append}
+use Rattle.std.proofs.lemmas.List.Sums.{sum_by-append, sum_by-cons}
+use Rattle.std.proofs.lemmas.Option.{same_Some, slice_get_within}
+use Rattle.cqf_units.specs.Name.{is_name}
+use Rattle.cqf_units.specs.Timing.{cost_of}
+use Rattle.cqf_units.specs.declared.reservations.Cycle.{Cycle}
+use Rattle.cqf_model.specs.declared.history.Reply.{Reply}
+use Rattle.cqf_model.specs.declared.history.Refused.{Refused}
+use Rattle.cqf_model.specs.declared.history.Refused.TheVariants.{BadName, BadOctets, UnknownNode, BrokenPath, LoopingPath, NameHeld, TooManyStreams, BudgetShort}
+use Rattle.cqf_model.specs.declared.topology.Row.{Row}
+use Rattle.cqf_model.specs.Domain.{Domain, IsPath, budget, is_text, node_named}
+use Rattle.cqf_model.specs.History.{Act, Admits, Asked, IsLegalHistory, Recorded, Seals, Withdraws, admit_reply, held_in, is_broken_at, is_loop_at, least, left_on, links_along, or_else, refusal_of, refused_at, refused_if, reply_to, short_link, stream_by, streams_of}
+use Rattle.cqf_model.specs.Table.{is_held, link_cost}
+use Rattle.cqf_model.specs.Traffic.{each_below}
+use Rattle.cqf_laws_history.proofs.Lists.{contains_cons, contains_filter, contains_here, contains_map, contains_nil, contains_there, first_stays, pairs_nil, pairs_push, pairs_weaker, slice_get_behind, slice_get_front}
+use Rattle.cqf_laws_history.proofs.Paths.{least_none, path_from_nodes}
+use Rattle.cqf_laws_history.proofs.Places.{admitted_at, admitted_before, entry_at, sealed_before, sealed_more, streams_front, with_end, withdrawn_at, withdrawn_before}
+
+-- ---- refusals
+
+or_else_none : (a b : Option Refused) → or_else a b ≡ None → (a ≡ None) × (b ≡ None)
+or_else_none None b e = (refl, e)
+or_else_none (Some refused) b e = absurd cc
+
+refused_if_none : (b : Bool) (refused : Refused) → refused_if b refused ≡ None → b ≡ false
+refused_if_none true refused e = absurd cc
+refused_if_none false refused e = refl
+
+refused_at_none : (refused : ℕ → Refused) (o : Option ℕ) → refused_at refused o ≡ None → o ≡ None
+refused_at_none refused None e = refl
+refused_at_none refused (Some place) e = absurd cc
+
+-- what a request that isn't refused has
+pub record IsGranted (d : Domain) (rows : List Row) (asked : Asked) : Type 0 where
+  pub whole : least (is_broken_at d asked.path) (length asked.path + 1) ≡ None
+  pub simple : least (is_loop_at d asked.path) (length asked.path) ≡ None
+  pub name_free : list_any (λ (row : Row). is_text row.name asked.name) rows ≡ false
+  pub enough : short_link d rows (cost_of asked.octets) (links_along d asked.path) ≡ None
+
+granted : (d : Domain) (rows : List Row) (asked : Asked) → refusal_of d rows asked ≡ None → IsGranted d rows asked
+granted d rows asked e =
+    let budget_short = refused_at (λ l. BudgetShort l (left_on d rows l)) (short_link d rows (cost_of asked.octets) (links_along d asked.path)) in
+    let too_many = refused_if (nat_le 1024 (length rows)) TooManyStreams in
+    let name_held = refused_if (list_any (λ (row : Row). is_text row.name asked.name) rows) NameHeld in
+    let looping = refused_at (λ place. LoopingPath place) (least (is_loop_at d asked.path) (length asked.path)) in
+    let broken = refused_at (λ place. BrokenPath place) (least (is_broken_at d asked.path) (length asked.path + 1)) in
+    let unknown = refused_at (λ place. UnknownNode place) (position (λ name. is_none (node_named d name)) asked.path) in
+    let octets = refused_if (not (nat_le 64 asked.octets && nat_le asked.octets 60000)) BadOctets in
+    let name = refused_if (not (is_name asked.name)) BadName in
+    let after_name = or_else_none name (or_else octets (or_else unknown (or_else broken (or_else looping (or_else name_held (or_else too_many budget_short)))))) e in
+    let after_octets = or_else_none octets (or_else unknown (or_else broken (or_else looping (or_else name_held (or_else too_many budget_short))))) after_name.1 in
+    let after_unknown = or_else_none unknown (or_else broken (or_else looping (or_else name_held (or_else too_many budget_short)))) after_octets.1 in
+    let after_broken = or_else_none broken (or_else looping (or_else name_held (or_else too_many budget_short))) after_unknown.1 in
+    let after_looping = or_else_none looping (or_else name_held (or_else too_many budget_short)) after_broken.1 in
+    let after_held = or_else_none name_held (or_else too_many budget_short) after_looping.1 in
+    let after_many = or_else_none too_many budget_short after_held.1 in
+    record {
+      whole = refused_at_none (λ place. BrokenPath place) (least (is_broken_at d asked.path) (length asked.path + 1)) after_broken.0;
+      simple = refused_at_none (λ place. LoopingPath place) (least (is_loop_at d asked.path) (length asked.path)) after_looping.0;
+      name_free = refused_if_none (list_any (λ (row : Row). is_text row.name asked.name) rows) NameHeld after_held.0;
+      enough = refused_at_none (λ l. BudgetShort l (left_on d rows l)) (short_link d rows (cost_of asked.octets) (links_along d asked.path)) after_many.1;
+    }
+
+-- ---- names
+
+is_text_itself : (xs : List ℕ) → is_text xs xs ≡ true
+is_text_itself [] = refl
+is_text_itself (x ∷ xs) = and_from (x == x) (is_text xs xs) (eq-eqb x x refl) (is_text_itself xs)
+
+name_apart : (rows : List Row) (name : List ℕ) (row : Row) → list_any (λ (row : Row). is_text row.name name) rows ≡ false → Contains rows row → row.name ≢ name
+name_apart [] name row e h s = absurd (contains_nil row h)
+name_apart (x ∷ rows) name row e h s =
+    let parts = or_parts (is_text x.name name) (list_any (λ (row : Row). is_text row.name name) rows) e in
+    elim (contains_cons x row rows h) [
+      | inl same ↦ both_ways (is_text x.name name) parts.0 (ap (λ (n : List ℕ). is_text n name) (ap (λ (r : Row). r.name) same ∙ s) ∙ is_text_itself name)
+      | inr k ↦ name_apart rows name row parts.1 k s
+    ]
+
+-- ---- costs
+
+-- what a stream costs of a link
+abbrev pub cost_on : Row → ℕ → ℕ
+cost_on row l = if list_any (λ k. k == l) row.path.items then cost_of row.octets else 0
+
+link_cost-cons : (y : Row) (ys : List Row) (l : ℕ) → link_cost (y ∷ ys) l ≡ cost_on y l + link_cost ys l
+link_cost-cons y ys l = sum_by-cons (λ (row : Row). if list_any (λ k. k == l) row.path.items then cost_of row.octets else 0) y ys
+
+cost_cond : (b c : Bool) (y z : Row) (ys zs : List Row) (l : ℕ) → (b ≡ true → c ≡ true) → cost_on y l ≡ cost_on z l → link_cost ys l ≤ link_cost zs l → link_cost (cond b (y ∷ ys) ys) l ≤ link_cost (cond c (z ∷ zs) zs) l
+cost_cond true true y z ys zs l h e r =
+    let early : link_cost (y ∷ ys) l ≡ cost_on y l + link_cost ys l = link_cost-cons y ys l in
+    let late : link_cost (z ∷ zs) l ≡ cost_on z l + link_cost zs l = link_cost-cons z zs l in
+    let sums : link_cost (y ∷ ys) l ≤ link_cost (z ∷ zs) l = omega (arith, early, late, e, r) in
+    sums
+cost_cond true false y z ys zs l h e r = absurd (both_ways false refl (h refl))
+cost_cond false true y z ys zs l h e r =
+    let late : link_cost (z ∷ zs) l ≡ cost_on z l + link_cost zs l = link_cost-cons z zs l in
+    let kept : link_cost ys l ≤ link_cost (z ∷ zs) l = omega (arith, late, r) in
+    kept
+cost_cond false false y z ys zs l h e r = r
+
+-- where fewer rows are held they cost no more
+pub cost_less : (rows : List Row) (p q : Row → Bool) (v w : ℕ → Option Cycle) (l : ℕ) → ((row : Row) → Contains rows row → p (with_end v row) ≡ true → q (with_end w row) ≡ true) → link_cost (filter p (map (with_end v) rows)) l ≤ link_cost (filter q (map (with_end w) rows)) l
+cost_less [] p q v w l h = omega arith
+cost_less (x ∷ rows) p q v w l h =
+    cost_cond (p (with_end v x)) (q (with_end w x)) (with_end v x) (with_end w x) (filter p (map (with_end v) rows)) (filter q (map (with_end w) rows)) l (h x (contains_here x x rows refl)) refl (cost_less rows p q v w l (λ row k. h row (contains_there x row rows k)))
+
+link_cost_one : (b : Bool) (row : Row) (l : ℕ) → link_cost (cond b (row ∷ []) []) l ≤ cost_on row l
+link_cost_one true row l = omega arith
+link_cost_one false row l = omega arith
+
+-- a link of a path that has enough left takes the cost
+room_on : (d : Domain) (rows : List Row) (cost : ℕ) (path : List ℕ) (l : ℕ) → short_link d rows cost path ≡ None → list_any (λ k. k == l) path ≡ true → cost ≤ left_on d rows l
+room_on d rows cost [] l e t = absurd cc
+room_on d rows cost (x ∷ path) l e t =
+    room_case (nat_lt (left_on d rows x) cost) refl e (x == l) refl t (room_on d rows cost path l)
+  where
+    room_case : (short : Bool) → nat_lt (left_on d rows x) cost ≡ short → (if short then Some x else short_link d rows cost path) ≡ None → (here : Bool) → (x == l) ≡ here → (here || list_any (λ k. k == l) path) ≡ true → (short_link d rows cost path ≡ None → list_any (λ k. k == l) path ≡ true → cost ≤ left_on d rows l) → cost ≤ left_on d rows l
+    room_case true s f here i u r = absurd cc
+    room_case false s f true i u r = let same : x ≡ l = eqb-true x l i in subst (λ (k : ℕ). cost ≤ left_on d rows k) same (ltb-false (left_on d rows x) cost s)
+    room_case false s f false i u r = r f u
+
+-- ---- held streams
+
+-- a stream that is held in a cycle was held in the one before, or is held with less withdrawn
+held_less : (row : Row) (v w : ℕ → Option Cycle) (c e : ℕ) → c ≤ e → row.admitted.0 ≤ c → (w row.no ≡ None) ⊎ (w row.no ≡ v row.no) → is_held (with_end v row) e ≡ true → is_held (with_end w row) c ≡ true
+held_less row v w c e le begun same h =
+    let parts = and_parts (nat_le row.admitted.0 e) (option_map_or (λ (x : Cycle). nat_lt e (x.0 + length row.path.items)) (v row.no) true) h in
+    and_from (nat_le row.admitted.0 c) (option_map_or (λ (x : Cycle). nat_lt c (x.0 + length row.path.items)) (w row.no) true) (le-leb row.admitted.0 c begun) (elim same [
+      | inl none ↦ ap (λ (o : Option Cycle). option_map_or (λ (x : Cycle). nat_lt c (x.0 + length row.path.items)) o true) none
+      | inr equal ↦ ap (λ (o : Option Cycle). option_map_or (λ (x : Cycle). nat_lt c (x.0 + length row.path.items)) o true) equal ∙ sooner (v row.no) parts.1
+    ])
+  where
+    sooner : (o : Option Cycle) → option_map_or (λ (x : Cycle). nat_lt e (x.0 + length row.path.items)) o true ≡ true → option_map_or (λ (x : Cycle). nat_lt c (x.0 + length row.path.items)) o true ≡ true
+    sooner None t = refl
+    sooner (Some x) t = lt-ltb c (x.0 + length row.path.items) (omega (arith, le, ltb-true e (x.0 + length row.path.items) t))
+
+-- a withdrawal stays the first of its number
+end_stays : (entries : List Recorded) (n number : ℕ) → (withdrawn_before entries n number ≡ None) ⊎ (withdrawn_before entries n number ≡ withdrawn_before entries (suc n) number)
+end_stays entries n number = stays (withdrawn_before entries n number) refl
+  where
+    stays : (o : Option Cycle) → withdrawn_before entries n number ≡ o → (withdrawn_before entries n number ≡ None) ⊎ (withdrawn_before entries n number ≡ withdrawn_before entries (suc n) number)
+    stays None e = inl e
+    stays (Some x) e = inr (e ∙ sym (first_stays (each_below (withdrawn_at entries number) n) (withdrawn_at entries number n) x e))
+
+-- whether a stream of a history is held in the cycle that the next Seal closes
+abbrev pub held_before : List Recorded → ℕ → Row → Bool
+held_before entries n row = is_held (with_end (withdrawn_before entries n) row) (sealed_before entries n)
+
+-- what the streams have that a legal history admits before a place
+pub record Sound (d : Domain) (entries : List Recorded) (n : ℕ) : Type 0 where
+  pub numbers : (k : ℕ) (row : Row) → slice_get (admitted_before d entries n) k ≡ Some row → row.no ≡ k
+  pub paths : (row : Row) → Contains (admitted_before d entries n) row → IsPath d row.path.items
+  pub begun : (row : Row) → Contains (admitted_before d entries n) row → row.admitted.0 ≤ sealed_before entries n
+  pub names : AllPairs (λ (a b : Row). held_before entries n a ≡ true → held_before entries n b ≡ true → a.name ≢ b.name) (admitted_before d entries n)
+  pub loads : (l : ℕ) → link_cost (filter (λ (row : Row). is_held row (sealed_before entries n)) (map (with_end (withdrawn_before entries n)) (admitted_before d entries n))) l ≤ budget d l
+
+-- what is held behind an entry was held before it
+held_shrinks : (d : Domain) (entries : List Recorded) (n : ℕ) → suc n ≤ length entries → Sound d entries n → (row : Row) → Contains (admitted_before d entries n) row → held_before entries (suc n) row ≡ true → held_before entries n row ≡ true
+held_shrinks d entries n h s row k t =
+    held_less row (withdrawn_before entries (suc n)) (withdrawn_before entries n) (sealed_before entries n) (sealed_before entries (suc n)) (sealed_more entries n (suc n) (omega arith) h) (s.begun row k) (end_stays entries n row.no) t
+
+-- an entry that admits nothing keeps all that
+sound_kept : (d : Domain) (entries : List Recorded) (n : ℕ) → suc n ≤ length entries → admitted_at d entries n ≡ [] → Sound d entries n → Sound d entries (suc n)
+sound_kept d entries n h none s =
+    let rows = admitted_before d entries n in
+    let same : admitted_before d entries (suc n) ≡ rows = ap (λ (xs : List Row). rows ++ xs) none ∙ append-nil rows in
+    let back : (row : Row) → Contains (admitted_before d entries (suc n)) row → Contains rows row = λ row k. subst (λ (xs : List Row). Contains xs row) same k in
+    let apart : Row → Row → Type 0 = λ (a b : Row). held_before entries n a ≡ true → held_before entries n b ≡ true → a.name ≢ b.name in
+    let apart_later : Row → Row → Type 0 = λ (a b : Row). held_before entries (suc n) a ≡ true → held_before entries (suc n) b ≡ true → a.name ≢ b.name in
+    record {
+      numbers = λ k row e. s.numbers k row (ap (λ (xs : List Row). slice_get xs k) (sym same) ∙ e);
+      paths = λ row k. s.paths row (back row k);
+      begun = λ row k. omega (arith, s.begun row (back row k), sealed_more entries n (suc n) (omega arith) h);
+      names = subst (λ (xs : List Row). AllPairs apart_later xs) (sym same) (pairs_weaker apart apart_later rows (λ a b k l r t u. r (held_shrinks d entries n h s a k t) (held_shrinks d entries n h s b l u)) s.names);
+      loads = λ l.
+          let less = cost_less rows (λ (row : Row). is_held row (sealed_before entries (suc n))) (λ (row : Row). is_held row (sealed_before entries n)) (withdrawn_before entries (suc n)) (withdrawn_before entries n) l (held_shrinks d entries n h s) in
+          subst (λ (xs : List Row). link_cost (filter (λ (row : Row). is_held row (sealed_before entries (suc n))) (map (with_end (withdrawn_before entries (suc n))) xs)) l ≤ budget d l) (sym same) (omega (arith, less, s.loads l));
+    }
+
+-- what stands in a list with one more behind
+pushed_cases : (rows : List Row) (new row : Row) → Contains (rows ++ new ∷ []) row → Contains rows row ⊎ (new ≡ row)
+pushed_cases rows new row h =
+    elim (Contains-append_cases rows (new ∷ []) row h) [
+      | inl k ↦ inl k
+      | inr k ↦ elim (contains_cons new row [] k) [ inl e ↦ inr e | inr none ↦ absurd (contains_nil row none) ]
+    ]
+
+-- the row of a stream that is admitted behind so many Seals
+abbrev new_row : Domain → Asked → ℕ → ℕ → Row
+new_row d asked number effect = record { no = number; name = asked.name; octets = asked.octets; path = record { items = links_along d asked.path }; admitted = record { 0 = effect }; withdrawn = None }
+
+-- a stream more that finds room on each link of its path
+load_more : (d : Domain) (rows : List Row) (new : Row) (p q : Row → Bool) (v w : ℕ → Option Cycle) (l : ℕ) → ((row : Row) → Contains rows row → p (with_end v row) ≡ true → q (with_end w row) ≡ true) → link_cost (filter q (map (with_end w) rows)) l ≤ budget d l → short_link d (filter q (map (with_end w) rows)) (cost_of new.octets) new.path.items ≡ None → link_cost (filter p (map (with_end v) (rows ++ new ∷ []))) l ≤ budget d l
+load_more d rows new p q v w l less within room =
+    let old = filter p (map (with_end v) rows) in
+    let one = filter p (with_end v new ∷ []) in
+    let split : link_cost (filter p (map (with_end v) (rows ++ new ∷ []))) l ≡ link_cost old l + link_cost one l =
+    ap (λ (xs : List Row). link_cost (filter p xs) l) (map-append (with_end v) rows (new ∷ []))
+    ∙ ap (λ (xs : List Row). link_cost xs l) (filter-append p (map (with_end v) rows) (with_end v new ∷ []))
+    ∙ sum_by-append (λ (row : Row). if list_any (λ k. k == l) row.path.items then cost_of row.octets else 0) old one in
+    let shrunk = cost_less rows p q v w l less in
+    let single : link_cost one l ≤ cost_on new l = link_cost_one (p (with_end v new)) (with_end v new) l in
+    let fits : cost_on new l + link_cost (filter q (map (with_end w) rows)) l ≤ budget d l =
+    elim (cases_Bool (list_any (λ k. k == l) new.path.items)) [
+      | inl t ↦ (let cost : cost_on new l ≡ cost_of new.octets = ap (λ (b : Bool). if b then cost_of new.octets else 0) t in
+          omega (arith, cost, within, room_on d (filter q (map (with_end w) rows)) (cost_of new.octets) new.path.items l room t))
+      | inr f ↦ (let cost : cost_on new l ≡ 0 = ap (λ (b : Bool). if b then cost_of new.octets else 0) f in omega (arith, cost, within))
+    ] in
+    omega (arith, split, shrunk, single, fits)
+
+-- an entry that admits a stream keeps all that
+sound_admitted : (d : Domain) (entries : List Recorded) (n : ℕ) (asked : Asked) → suc n ≤ length entries → admitted_at d entries n ≡ new_row d asked (length (streams_of d (take n entries))) (sealed_before entries n) ∷ [] → IsGranted d (held_in d (take n entries) (sealed_before entries n)) asked → Sound d entries n → Sound d entries (suc n)
+sound_admitted d entries n asked h is g s =
+    let rows = admitted_before d entries n in
+    let w = withdrawn_before entries n in
+    let v = withdrawn_before entries (suc n) in
+    let c = sealed_before entries n in
+    let e = sealed_before entries (suc n) in
+    let later : c ≤ e = sealed_more entries n (suc n) (omega arith) h in
+    let streams = streams_front entries n (omega (arith, h)) d in
+    let held = filter (λ (row : Row). is_held row c) (map (with_end w) rows) in
+    let granted_here : IsGranted d held asked = subst (λ (xs : List Row). IsGranted d (filter (λ (row : Row). is_held row c) xs) asked) streams g in
+    let new = new_row d asked (length (streams_of d (take n entries))) c in
+    let count : new.no ≡ length rows = ap length streams ∙ length-map rows (with_end w) in
+    let same : admitted_before d entries (suc n) ≡ rows ++ new ∷ [] = ap (λ (xs : List Row). rows ++ xs) is in
+    let back : (row : Row) → Contains (admitted_before d entries (suc n)) row → Contains rows row ⊎ (new ≡ row) =
+    λ row k. pushed_cases rows new row (subst (λ (xs : List Row). Contains xs row) same k) in
+    let path_good : IsPath d (links_along d asked.path) =
+    path_from_nodes d asked.path (least_none (is_broken_at d asked.path) (length asked.path + 1) granted_here.whole) (least_none (is_loop_at d asked.path) (length asked.path) granted_here.simple) in
+    let apart : Row → Row → Type 0 = λ (a b : Row). held_before entries n a ≡ true → held_before entries n b ≡ true → a.name ≢ b.name in
+    let apart_later : Row → Row → Type 0 = λ (a b : Row). held_before entries (suc n) a ≡ true → held_before entries (suc n) b ≡ true → a.name ≢ b.name in
+    record {
+      numbers = λ k row f.
+          let there : slice_get (rows ++ new ∷ []) k ≡ Some row = ap (λ (xs : List Row). slice_get xs k) (sym same) ∙ f in
+          elim (cases_lt k (length rows)) [
+            | inl l ↦ s.numbers k row (sym (slice_get_front rows (new ∷ []) k l) ∙ there)
+            | inr l ↦ (let last : k ≡ length rows = omega (arith, l, slice_get_within (rows ++ new ∷ []) k row there, length-append rows (new ∷ [])) in
+                let is_new : new ≡ row = same_Some new row (sym (slice_get_behind rows new [] k last) ∙ there) in
+                ap (λ (r : Row). r.no) (sym is_new) ∙ count ∙ sym last)
+          ];
+      paths = λ row k. elim (back row k) [ inl m ↦ s.paths row m | inr m ↦ subst (λ (r : Row). IsPath d r.path.items) m path_good ];
+      begun = λ row k. elim (back row k) [ inl m ↦ omega (arith, later, s.begun row m) | inr m ↦ subst (λ (r : Row). r.admitted.0 ≤ e) m later ];
+      names = subst (λ (xs : List Row). AllPairs apart_later xs) (sym same)
+          (pairs_push apart_later rows new
+          (pairs_weaker apart apart_later rows (λ a b k l r t u. r (held_shrinks d entries n h s a k t) (held_shrinks d entries n h s b l u)) s.names)
+          (λ row k t u same_name.
+          let kept = contains_filter (λ (r : Row). is_held r c) (map (with_end w) rows) (with_end w row) (held_shrinks d entries n h s row k t) (contains_map (with_end w) rows row k) in
+          name_apart held asked.name (with_end w row) granted_here.name_free kept same_name));
+      loads = λ l.
+          subst (λ (xs : List Row). link_cost (filter (λ (row : Row). is_held row e) (map (with_end v) xs)) l ≤ budget d l) (sym same)
+          (load_more d rows new (λ (row : Row). is_held row e) (λ (row : Row). is_held row c) v w l (held_shrinks d entries n h s) (s.loads l) granted_here.enough);
+    }
+
+-- no entry but an accepted request admits a stream
+admits_none : (d : Domain) (entries : List Recorded) (n : ℕ) (e : Recorded) → slice_get entries n ≡ Some e → stream_by d [] (sealed_before entries n) e.act e.reply ≡ [] → admitted_at d entries n ≡ []
+admits_none d entries n e is none =
+    ap (λ (o : Option Recorded). option_map_or (λ (x : Recorded). stream_by d [] (sealed_before entries n) x.act x.reply) o []) is ∙ none
+
+request_sound : (d : Domain) (entries : List Recorded) (n : ℕ) (e : Recorded) (asked : Asked) (refusal : Option Refused) → suc n ≤ length entries → slice_get entries n ≡ Some e → e.act ≡ Admits asked → e.reply ≡ admit_reply (length (streams_of d (take n entries))) (sealed_before entries n) refusal → refusal_of d (held_in d (take n entries) (sealed_before entries n)) asked ≡ refusal → Sound d entries n → Sound d entries (suc n)
+request_sound d entries n e asked None h is act reply refusal s =
+    let found : admitted_at d entries n ≡ stream_by d [] (sealed_before entries n) (Admits asked) (admit_reply (length (streams_of d (take n entries))) (sealed_before entries n) None) =
+    ap (λ (o : Option Recorded). option_map_or (λ (x : Recorded). stream_by d [] (sealed_before entries n) x.act x.reply) o []) is
+    ∙ ap (λ (a : Act). stream_by d [] (sealed_before entries n) a e.reply) act
+    ∙ ap (λ (r : Reply). stream_by d [] (sealed_before entries n) (Admits asked) r) reply in
+    sound_admitted d entries n asked h found (granted d (held_in d (take n entries) (sealed_before entries n)) asked refusal) s
+request_sound d entries n e asked (Some refused) h is act reply refusal s =
+    sound_kept d entries n h (admits_none d entries n e is
+    (ap (λ (a : Act). stream_by d [] (sealed_before entries n) a e.reply) act ∙ ap (λ (r : Reply). stream_by d [] (sealed_before entries n) (Admits asked) r) reply)) s
+
+entry_sound : (d : Domain) (entries : List Recorded) (n : ℕ) (e : Recorded) (act : Act) → suc n ≤ length entries → slice_get entries n ≡ Some e → e.act ≡ act → e.reply ≡ reply_to d (take n entries) act → Sound d entries n → Sound d entries (suc n)
+entry_sound d entries n e (Admits asked) h is act reply s =
+    request_sound d entries n e asked (refusal_of d (held_in d (take n entries) (sealed_before entries n)) asked) h is act reply refl s
+entry_sound d entries n e (Withdraws name) h is act reply s =
+    sound_kept d entries n h (admits_none d entries n e is (ap (λ (a : Act). stream_by d [] (sealed_before entries n) a e.reply) act)) s
+entry_sound d entries n e Seals h is act reply s =
+    sound_kept d entries n h (admits_none d entries n e is (ap (λ (a : Act). stream_by d [] (sealed_before entries n) a e.reply) act)) s
+
+-- all that holds before each place of a legal history
+pub sound : (d : Domain) (entries : List Recorded) → IsLegalHistory d entries → (n : ℕ) → n ≤ length entries → Sound d entries n
+sound d entries legal zero h =
+    record {
+      numbers = λ k row e. absurd cc;
+      paths = λ row k. absurd (contains_nil row k);
+      begun = λ row k. absurd (contains_nil row k);
+      names = pairs_nil (λ (a b : Row). held_before entries 0 a ≡ true → held_before entries 0 b ≡ true → a.name ≢ b.name);
+      loads = λ l. omega arith;
+    }
+sound d entries legal (suc n) h =
+    let e = entry_at entries n (omega (arith, h)) in
+    let due = legal.replies n e.0 e.1 in
+    entry_sound d entries n e.0 e.0.act h e.1 refl due (sound d entries legal n (omega (arith, h)))

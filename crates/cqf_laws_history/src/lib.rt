@@ -1,0 +1,21 @@
+//! Laws about the tables of a history of admissions.
+//!
+//! Each law is a function that does nothing: its contract is a statement of `specs/` about the definitions of
+//! `cqf_model`, and its proof shows that the statement holds for each domain and legal history. A proof elsewhere uses
+//! the law by a call of the function.
+//!
+//! ```
+//! // here on, a proof knows that the tables of a legal history are orderly: no link of them is over its budget
+//! cqf_laws_history::tables_are_orderly();
+//! ```
+#![tactic(auto)]
+
+ghost use Rattle.cqf_laws_history.specs.HistoryLaws.{TablesAreOrderly, ThereAreSoManyTables};
+
+/// The tables of the first cycles of a legal history are one a cycle, and orderly: their paths are paths of the domain,
+/// numbers and names name one stream, a live stream stays until its last frame has left its last bridge, and what the
+/// streams of a table cost of a link is within the link's budget (profile).
+pub fn tables_are_orderly()
+    ensures orderly { TablesAreOrderly }
+    ensures count { ThereAreSoManyTables }
+{}

@@ -1,0 +1,6 @@
+pub mod Policing
+pub mod Books
+pub mod Steps
+pub mod Starts
+pub mod Taking
+pub mod Running

@@ -1,0 +1,19 @@
+use Rattle.std.proofs.Common.{◌<◌, sym, subst, List, arith}
+use Rattle.std.specs.List.{All}
+use Rattle.std.proofs.lemmas.List.Elements.{All-weaker}
+use Rattle.cqf_model.specs.declared.ports.Start.{Start}
+use Rattle.cqf_line.proofs.Running.{starts-early, book-of-calls}
+use Rattle.cqf_line.proofs.book.line_book.Goals as goal
+
+pub started-requires : goal.started-requires
+started-requires c =
+    let A : List Start → Type 0 = λ xs. All (λ (s : Start). s.start.0 < 1000000000000) xs in
+    subst A (sym c.as_slice-2.ensures.value)
+    (All-weaker (λ (s : Start). s.start.0 < c.end_of_run-end.result) (λ (s : Start). s.start.0 < 1000000000000) (λ s early. omega (arith, early, c.end_of_run-end.ensures, c.requires.short)) _
+    (starts-early _ c.end_of_run-end.result _ c.in_ok-starts.ensures.ok))
+
+pub returns : goal.returns
+returns c =
+    book-of-calls c.args.cycles c.end_of_run-end.result c.args.offers.now _ _ _ _ _ _ _ _ _ _ _
+    c.end_of_run-end.ensures c.as_slice.ensures.value c.run.ensures.drops c.as_slice-2.ensures.value c.into_drops.ensures
+    c.in_ok-dues.ensures.each c.in_ok-dues.ensures.order c.in_ok-edge.ensures c.in_ok-starts.ensures.ok c.in_ok-started.ensures c.in_ok-sort_drops.ensures.ok

@@ -1,0 +1,11 @@
+use Rattle.std.proofs.Common.{◌-◌}
+use Rattle.cqf_port.specs.Progress.{WasClosed}
+use Rattle.cqf_port.proofs.late.was_open.Given as goal
+
+-- the class was closed at each instant that has been looked at
+abbrev pub invariant-loop-t : goal.invariant-loop-t
+invariant-loop-t l = WasClosed l.list l.class l.fn.first.0 l.t
+
+-- what is left up to the last instant
+abbrev pub decreases-loop-t : goal.decreases-loop-t
+decreases-loop-t l = l.last.0 - l.t

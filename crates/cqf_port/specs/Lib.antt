@@ -1,0 +1,2 @@
+pub mod PortState
+pub mod Progress

@@ -1,0 +1,76 @@
+-- What a port is to its callers, what it keeps, and what each of its operations does.
+use Rattle.std.specs.Prelude.{ℕ, ◌≡◌, ◌≢◌, ◌^◌, ◌≤◌, ◌<◌, ◌==◌, ◌&&◌, ◌++◌, Bool, List, length, map, not, count_by, slice_index_or, Contains}
+use Rattle.std.specs.List.{enumerate_from, list_any}
+use Rattle.cqf_units.specs.Timing.{nanos_of_octet}
+use Rattle.cqf_units.specs.declared.timing.Rate.{Rate}
+use Rattle.cqf_model.specs.declared.ports.Arrival.{Arrival}
+use Rattle.cqf_model.specs.declared.ports.Start.{Start}
+use Rattle.cqf_model.specs.GateList.{Entry, IsOpen}
+use Rattle.cqf_model.specs.Port.{Transmission, PortRules, AreLegal, no_arrival, instant_of, class_of, octets_of}
+
+-- what a port of a list and a rate goes by
+abbrev pub rules_of : List Entry → Rate → PortRules
+rules_of entries rate = record { entries = entries; octet_time = nanos_of_octet rate }
+
+-- a port: what it goes by, the instant up to which it has run, the arrivals that it has taken, and the starts that it
+-- has handed out
+pub record PortState : Type 0 where
+  pub rules : PortRules
+  pub reached : ℕ
+  pub arrivals : List Arrival
+  pub starts : List Transmission
+
+-- the arrivals that a port takes: of eight classes, early enough (profile), and of each class in order of instant
+pub record AreTaken (arrivals : List Arrival) : Type 0 where
+  pub classes : (place : ℕ) → place < length arrivals → class_of arrivals place < 8
+  pub early : (place : ℕ) → place < length arrivals → instant_of arrivals place < 2 ^ 62
+  pub by_class : (place later : ℕ) → place < later → later < length arrivals → class_of arrivals place ≡ class_of arrivals later → instant_of arrivals place ≤ instant_of arrivals later
+
+-- what each port keeps: its starts are legal up to the instant that it has reached
+pub record IsPort (p : PortState) : Type 0 where
+  pub legal : AreLegal p.rules p.arrivals p.reached p.starts
+  pub taken : AreTaken p.arrivals
+  pub early : p.reached < 2 ^ 62
+
+-- the class was open at an instant from the first one up to and without the last
+pub record WasOpen (entries : List Entry) (class first last : ℕ) : Type 0 where
+  pub instant : ℕ
+  pub from_first : first ≤ instant
+  pub before_last : instant < last
+  pub is_open : IsOpen entries class instant
+
+-- the arrival comes too late: its class was open at an instant from its own one on that the port has passed
+abbrev pub IsLate : PortState → Arrival → Type 0
+IsLate p arrival = WasOpen p.rules.entries arrival.class arrival.at.0 p.reached
+
+-- the last arrival of the class stands at this place
+pub record IsLast (arrivals : List Arrival) (class place : ℕ) : Type 0 where
+  pub inside : place < length arrivals
+  pub of_class : class_of arrivals place ≡ class
+  pub none_behind : (other : ℕ) → place < other → other < length arrivals → class_of arrivals other ≢ class
+
+-- the arrival is before the last one taken of its class
+pub record IsOutOfOrder (p : PortState) (arrival : Arrival) : Type 0 where
+  pub place : ℕ
+  pub last : IsLast p.arrivals arrival.class place
+  pub earlier : arrival.at.0 < instant_of p.arrivals place
+
+-- a transmission as callers get it, with what its arrival said
+abbrev pub start_of : List Arrival → Transmission → Start
+start_of arrivals x = record { start = record { 0 = x.1 }; class = class_of arrivals x.0; octets = octets_of arrivals x.0; frame = (slice_index_or arrivals x.0 no_arrival).frame }
+
+-- the port runs up to an instant: it makes starts from the instant that it had reached on, and hands each on behind
+-- what its caller had
+pub record Advances (before after : PortState) (until : ℕ) (given given_after : List Start) : Type 0 where
+  pub made : List Transmission
+  pub from_reached : (place s : ℕ) → Contains made (place, s) → before.reached ≤ s
+  pub value : after ≡ record { rules = before.rules; reached = until; arrivals = before.arrivals; starts = before.starts ++ made }
+  pub handed : given_after ≡ given ++ map (start_of before.arrivals) made
+
+-- whether the arrival at the place has started
+abbrev pub has_started : List Transmission → ℕ → Bool
+has_started starts place = list_any (λ (x : Transmission). x.0 == place) starts
+
+-- how many arrivals of the class haven't started
+abbrev pub waiting_of : List Arrival → List Transmission → ℕ → ℕ
+waiting_of arrivals starts class = count_by (λ (x : ℕ × Arrival). (x.1.class == class) && not (has_started starts x.0)) (enumerate_from 0 arrivals)

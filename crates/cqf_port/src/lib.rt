@@ -1,0 +1,27 @@
+//! One output port: gates that open and close eight queues, and the frames that it starts (IEEE Std 802.1Q-2018,
+//! 8.6.6, 8.6.8.1 and 8.6.8.4).
+//!
+//! - A [`Port`] goes by a gate control list on a link of a rate. It takes arrivals with [`Port::offer`] and runs to an
+//!   instant with [`Port::advance`], which hands out the starts on the way. In `specs/` it is its `PortState`: what it
+//!   goes by, the instant that it has reached, the arrivals that it has taken, and the starts that it has handed out.
+//! - An [`Arrival`] is a frame that waits from an instant on; a [`Start`] is one that the port transmits.
+//! - A [`PortFault`] says why an arrival isn't taken.
+//!
+//! Whatever the order of calls, the starts are legal up to the port's now for the arrivals taken: a frame starts
+//! where the port is idle, as the first of its class, and where its gate stays open until it is sent; of those the
+//! highest class goes first; and a frame starts wherever one may. There is only one list of such starts.
+//!
+//! ```text
+//! list 80 120000, 00 5000, 40 120000, 00 5000 at 1,000 Mb/s
+//! offer(class 6 at 10, 64 octets), then advance(1,000,000)    starts it at 125,000, when class 6 opens
+//! ```
+#![tactic(auto)]
+
+mod choice;
+mod late;
+mod port;
+mod progress;
+mod run;
+
+pub use cqf_model::{Arrival, Start};
+pub use port::{Port, PortFault};

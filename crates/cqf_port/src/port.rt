@@ -1,0 +1,263 @@
+//! An output port.
+ghost use Rattle.std.specs.Prelude.{◌≡◌, ◌+◌, ◌++◌, ◌^◌, ◌<◌, ◌≤◌, ◌↔◌, [], ◌∷◌, ◌==◌, count_by, IsOk, IsErrOf, OnErr, OnOk};
+ghost use Rattle.cqf_model.specs.declared.ports.Arrival.{Arrival};
+ghost use Rattle.cqf_port.specs.PortState.{Advances, IsLate, IsOutOfOrder, IsPort, rules_of, waiting_of};
+
+use crate::late::was_open;
+use crate::progress::{Progress, after_arrival};
+use crate::run::{hand_on, run};
+use cqf_gates::TxList;
+use cqf_model::{Arrival, Start};
+use cqf_units::{Memory, Nanos, Rate};
+use std::alloc::Global;
+use std::marker::Model;
+
+/// Why a port takes no arrival. The port is then as it was.
+#[derive(Clone, Copy, Debug, PartialEq, Eq, Drop, thiserror::Error)]
+pub enum PortFault {
+    /// The arrival's class was open at an instant from the arrival's own one on that the port has passed.
+    #[error("the frame comes after its class was open")]
+    Late,
+    /// The arrival is before the last one taken of its class.
+    #[error("the frame comes before the last one of its class")]
+    OutOfOrder,
+    /// A growth was refused.
+    #[error("out of memory")]
+    Memory,
+}
+
+/// An output port: a gate control list, eight queues, and the transmissions that strict priority selects from them
+/// (IEEE 802.1Q, 8.6.8.1 and 8.6.8.4).
+#[derive(Debug, Drop)]
+pub struct Port {
+    list: TxList,
+    rate: Rate,
+    /// The instant up to which the port has run.
+    reached: Nanos,
+    progress: Progress,
+    /// By class, the instant of the last arrival, or 0.
+    newest: [Nanos; 8],
+    arrivals: Vec<Arrival>,
+    /// By start, the place of the arrival and the instant.
+    starts: Vec<(usize, u64)>,
+}
+
+impl Model for Port {
+    ghost use Rattle.cqf_port.specs.PortState.{PortState, rules_of};
+    ghost use Rattle.cqf_port.specs.Progress.{IsKept};
+
+    ghost Value = { PortState };
+
+    ghost view = { λ p. record { rules = rules_of p.list p.rate; reached = p.reached.0; arrivals = p.arrivals.items; starts = p.starts.items } };
+
+    ghost invariant = { λ p. IsKept (rules_of p.list p.rate) p.arrivals.items p.reached.0 p.starts.items p.progress p.newest };
+}
+
+impl Port {
+    /// A port at instant 0 that goes by the gate control list, at the end of a link of the rate. It takes no memory
+    /// yet.
+    pub fn new(alloc: Global, list: TxList, rate: Rate) -> Port
+        ensures { result ≡ record { rules = rules_of list rate; reached = 0; arrivals = []; starts = [] } }
+    {
+        Port {
+            list,
+            rate,
+            reached: Nanos(0),
+            progress: Progress {
+                idle_from: Nanos(0),
+                heads: [None; 8],
+            },
+            newest: [Nanos(0); 8],
+            arrivals: Vec::new(alloc),
+            starts: Vec::new(alloc),
+        }
+    }
+
+    /// The instant up to, and without, which the port has run, 0 at first. What it has started by then is legal for
+    /// the arrivals that it has taken.
+    pub fn now(&self) -> Nanos
+        ensures value { result.0 ≡ self.now.reached }
+        ensures facts { IsPort self.now }
+    {
+        self.reached
+    }
+
+    /// How many arrivals of the class, 0 to 7, haven't started.
+    pub fn waiting(&self, class: u8) -> usize
+        requires { class < 8 }
+        ensures { result ≡ waiting_of self.now.arrivals self.now.starts class }
+    {
+        match self.progress.heads[usize::from(class)] {
+            Some(head) => count_of_class(&self.arrivals.as_slice()[head..], class),
+            None => 0,
+        }
+    }
+
+    /// Takes an arrival of a class from 0 to 7 (8.6.6). It is refused as `Late` where the class was open at an
+    /// instant from the arrival's own one on that the port has passed, else as `OutOfOrder` where it is before the
+    /// last arrival taken of its class, else as `Memory` where a growth is refused. The port is then as it was.
+    pub fn offer(&mut self, arrival: Arrival) -> Result<(), PortFault>
+        requires gate { arrival.class < 8 }
+        requires early { arrival.at.0 < 2 ^ 62 }
+        ensures late { IsErrOf result PortFault.Late ↔ IsLate self.old arrival }
+        ensures out_of_order { IsErrOf result PortFault.OutOfOrder ↔ ((¬ IsLate self.old arrival) × IsOutOfOrder self.old arrival) }
+        ensures ok { OnOk result (self.new ≡ record self.old { arrivals = self.old.arrivals ++ arrival ∷ [] }) }
+        ensures err { OnErr result (self.new ≡ self.old) }
+        ensures facts { IsPort self.new }
+    {
+        if was_open(&self.list, arrival.class, arrival.at, self.reached) {
+            return Err(PortFault::Late);
+        }
+        let class = usize::from(arrival.class);
+        if arrival.at < self.newest[class] {
+            return Err(PortFault::OutOfOrder);
+        }
+        let place = self.arrivals.len();
+        if self.arrivals.push(arrival).is_err() {
+            return Err(PortFault::Memory);
+        }
+        self.newest[class] = arrival.at;
+        self.progress = after_arrival(place, arrival.class, self.progress);
+        Ok(())
+    }
+
+    /// Runs the port up to, and without, an instant, and appends what it starts on the way, in order. Where the
+    /// instant isn't after the port's now, nothing changes. Where a growth is refused, the port and the list are as
+    /// they were.
+    pub fn advance(&mut self, until: Nanos, given: &mut Vec<Start>) -> Result<(), Memory>
+        requires { until.0 < 2 ^ 62 }
+        ensures ok { OnOk result (self.old.reached < until.0 → Advances self.old self.new until.0 given.old.items given.new.items) }
+        ensures past { until.0 ≤ self.old.reached → IsOk result × (self.new ≡ self.old) × (given.new.items ≡ given.old.items) }
+        ensures err { OnErr result ((self.new ≡ self.old) × (given.new.items ≡ given.old.items)) }
+        ensures facts { IsPort self.new }
+    {
+        if until <= self.reached {
+            return Ok(());
+        }
+        let kept = self.starts.len();
+        let ran = run(
+            &self.list,
+            self.rate,
+            self.arrivals.as_slice(),
+            self.reached,
+            until,
+            self.progress,
+            &mut self.starts,
+        );
+        let progress = match ran {
+            Ok(progress) => progress,
+            Err(refused) => {
+                self.starts.truncate(kept);
+                return Err(refused);
+            }
+        };
+        let made = &self.starts.as_slice()[kept..];
+        if let Err(refused) = hand_on(self.arrivals.as_slice(), made, given) {
+            self.starts.truncate(kept);
+            return Err(refused);
+        }
+        self.progress = progress;
+        self.reached = until;
+        Ok(())
+    }
+}
+
+/// How many of the arrivals are of the class.
+fn count_of_class(arrivals: &[Arrival], class: u8) -> usize
+    ensures { result ≡ count_by (λ (x : Arrival). x.class == class) arrivals.now }
+{
+    arrivals
+        .iter()
+        .filter(|arrival| arrival.class == class)
+        .count()
+}
+
+#[cfg(test)]
+mod tests {
+    use super::*;
+    use std::test::Fail;
+
+    const ALTERNATING: [(u8, u32); 4] = [
+        (0x80, 120_000),
+        (0x00, 5000),
+        (0x40, 120_000),
+        (0x00, 5000),
+    ];
+
+    fn arrival(at: u64, class: u8, octets: u32) -> Arrival
+        ensures { result ≡ record { at = record { 0 = at }; class = class; octets = octets; frame = class } }
+    {
+        Arrival {
+            at: Nanos(at),
+            class,
+            octets,
+            frame: u32::from(class),
+        }
+    }
+
+    fn start(at: u64, class: u8, octets: u32) -> Start {
+        Start {
+            start: Nanos(at),
+            class,
+            octets,
+            frame: u32::from(class),
+        }
+    }
+
+    #[test]
+    fn a_frame_waits_until_its_class_opens(rt: HostRuntime) -> Result<(), Fail> {
+        let mut port = Port::new(rt.alloc(), TxList::new(&ALTERNATING)?, Rate::Mb1000);
+        let mut given = Vec::new(rt.alloc());
+        port.offer(arrival(10, 6, 64))?;
+        assert_eq!(rt; port.waiting(6), 1);
+        port.advance(Nanos(125_000), &mut given)?;
+        assert!(rt; given.is_empty());
+        port.advance(Nanos(125_001), &mut given)?;
+        assert!(rt; given.as_slice() == [start(125_000, 6, 64)].as_slice());
+        assert_eq!(rt; port.waiting(6), 0);
+        assert_eq!(rt; port.now(), Nanos(125_001));
+        Ok(())
+    }
+
+    #[test]
+    fn a_frame_starts_where_it_just_fits_its_gate(rt: HostRuntime) -> Result<(), Fail> {
+        for (at, begins) in [(107_760, 107_760), (107_761, 250_000)] {
+            let mut port = Port::new(rt.alloc(), TxList::new(&ALTERNATING)?, Rate::Mb1000);
+            let mut given = Vec::new(rt.alloc());
+            port.offer(arrival(at, 7, 1522))?;
+            port.advance(Nanos(250_001), &mut given)?;
+            assert!(rt;
+                given.as_slice() == [start(begins, 7, 1522)].as_slice(),
+                "from {at}"
+            );
+        }
+        Ok(())
+    }
+
+    #[test]
+    fn the_higher_class_goes_first(rt: HostRuntime) -> Result<(), Fail> {
+        let list = TxList::new(&[(0xC0, 1000), (0x80, 1000)])?;
+        let mut port = Port::new(rt.alloc(), list, Rate::Mb1000);
+        let mut given = Vec::new(rt.alloc());
+        port.offer(arrival(425, 6, 64))?;
+        port.offer(arrival(900, 7, 64))?;
+        port.advance(Nanos(3000), &mut given)?;
+        assert!(rt; given.as_slice() == [start(900, 7, 64), start(2000, 6, 64)].as_slice());
+        Ok(())
+    }
+
+    #[test]
+    fn only_a_frame_whose_class_was_open_is_late(rt: HostRuntime) -> Result<(), Fail> {
+        let list = TxList::new(&[(0x80, 1000), (0x40, 1000)])?;
+        let mut port = Port::new(rt.alloc(), list, Rate::Mb1000);
+        let mut given = Vec::new(rt.alloc());
+        port.advance(Nanos(500), &mut given)?;
+        assert!(rt; port.offer(arrival(100, 7, 64)).err() == Some(PortFault::Late));
+        port.offer(arrival(100, 6, 64))?;
+        assert!(rt; port.offer(arrival(50, 6, 64)).err() == Some(PortFault::OutOfOrder));
+        port.advance(Nanos(1500), &mut given)?;
+        assert!(rt; given.as_slice() == [start(1000, 6, 64)].as_slice());
+        assert!(rt; port.offer(arrival(1200, 6, 64)).err() == Some(PortFault::Late));
+        Ok(())
+    }
+}

@@ -1,0 +1,70 @@
+//! What a port remembers of where it stands, so that it needn't look through its starts again.
+ghost use Rattle.std.specs.Prelude.{◌≡◌, ◌+◌, ◌^◌, ◌<◌, ◌≤◌, length};
+ghost use Rattle.cqf_units.specs.Timing.{nanos_of_octet, idle_after};
+ghost use Rattle.cqf_model.specs.Port.{class_of};
+ghost use Rattle.cqf_port.specs.Progress.{IsNextOf, IsAfterStart, IsAfterArrival};
+
+use cqf_model::Arrival;
+use cqf_units::{Nanos, Octets, Rate, idle_from};
+
+/// What follows from the arrivals that a port has taken and the starts that it has made.
+#[derive(Clone, Copy, Debug)]
+pub(crate) struct Progress {
+    /// The instant from which the port may start again.
+    pub(crate) idle_from: Nanos,
+    /// By class, the place of the first arrival that hasn't started.
+    pub(crate) heads: [Option<usize>; 8],
+}
+
+/// The place of the first arrival of the class from a place on.
+fn next_of_class(arrivals: &[Arrival], first: usize, class: u8) -> Option<usize>
+    ensures { IsNextOf arrivals.now first class result }
+{
+    for place in first..arrivals.len() {
+        if arrivals[place].class == class {
+            return Some(place);
+        }
+    }
+    None
+}
+
+/// The instant from which the port may start again behind a frame of so many octets.
+fn idle_behind(octets: u32, rate: Rate, start: Nanos) -> Nanos
+    requires { start.0 < 2 ^ 62 }
+    ensures { result.0 ≡ idle_after start.0 octets (nanos_of_octet rate) }
+{
+    idle_from(start, Octets(octets), rate)
+}
+
+/// What the port remembers once the arrival at the place has started.
+pub(crate) fn after_start(
+    arrivals: &[Arrival],
+    rate: Rate,
+    place: usize,
+    t: Nanos,
+    before: Progress,
+) -> Progress
+    requires inside { place < length arrivals.now }
+    requires class { class_of arrivals.now place < 8 }
+    requires early { t.0 < 2 ^ 62 }
+    ensures { IsAfterStart (nanos_of_octet rate) arrivals.now place t.0 before result }
+{
+    let arrival = arrivals[place];
+    let mut after = before;
+    after.idle_from = idle_behind(arrival.octets, rate, t);
+    after.heads[usize::from(arrival.class)] = next_of_class(arrivals, place + 1, arrival.class);
+    after
+}
+
+/// What the port remembers once an arrival of the class has come to the place behind all others.
+pub(crate) fn after_arrival(place: usize, class: u8, before: Progress) -> Progress
+    requires { class < 8 }
+    ensures { IsAfterArrival place class before result }
+{
+    let mut after = before;
+    let head = usize::from(class);
+    if after.heads[head].is_none() {
+        after.heads[head] = Some(place);
+    }
+    after
+}

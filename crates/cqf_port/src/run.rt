@@ -1,0 +1,91 @@
+//! A port from one instant to another.
+ghost use Rattle.std.specs.Prelude.{◌≡◌, ◌+◌, ◌++◌, ◌^◌, ◌<◌, ◌≤◌, All, IfOk, OnErr, OnOk, length, map};
+ghost use Rattle.cqf_port.specs.PortState.{AreTaken, rules_of, start_of};
+ghost use Rattle.cqf_port.specs.Progress.{AreMore, IsAbreast};
+
+use crate::choice::choose;
+use crate::progress::{Progress, after_start};
+use cqf_gates::TxList;
+use cqf_model::{Arrival, Start};
+use cqf_units::{Memory, Nanos, Rate};
+use std::alloc::AllocError;
+
+/// What happens at one instant: the frame that is due starts. It answers what the port remembers then.
+fn step(
+    list: &TxList,
+    rate: Rate,
+    arrivals: &[Arrival],
+    t: Nanos,
+    before: Progress,
+    starts: &mut Vec<(usize, u64)>,
+) -> Result<Progress, Memory>
+    requires early { t.0 < 2 ^ 62 }
+    requires taken { AreTaken arrivals.now }
+    requires abreast { IsAbreast (rules_of list.now rate) arrivals.now t.0 starts.old.items before }
+    ensures more { AreMore starts.old.items starts.new.items t.0 }
+    ensures ok { IfOk result (IsAbreast (rules_of list.now rate) arrivals.now (t.0 + 1) starts.new.items) }
+{
+    if t < before.idle_from {
+        return Ok(before);
+    }
+    match choose(list, rate, arrivals, &before.heads, t) {
+        Some(place) => {
+            starts.push((place, t.0))?;
+            Ok(after_start(arrivals, rate, place, t, before))
+        }
+        None => Ok(before),
+    }
+}
+
+/// What happens from an instant up to and without another. It answers what the port remembers then. Where a growth
+/// is refused, some starts may have been added.
+pub(crate) fn run(
+    list: &TxList,
+    rate: Rate,
+    arrivals: &[Arrival],
+    reached: Nanos,
+    until: Nanos,
+    before: Progress,
+    starts: &mut Vec<(usize, u64)>,
+) -> Result<Progress, Memory>
+    requires in_order { reached.0 ≤ until.0 }
+    requires early { until.0 < 2 ^ 62 }
+    requires taken { AreTaken arrivals.now }
+    requires abreast { IsAbreast (rules_of list.now rate) arrivals.now reached.0 starts.old.items before }
+    ensures more { AreMore starts.old.items starts.new.items reached.0 }
+    ensures ok { IfOk result (IsAbreast (rules_of list.now rate) arrivals.now until.0 starts.new.items) }
+{
+    let mut progress = before;
+    for t in reached.0..until.0 {
+        progress = step(list, rate, arrivals, Nanos(t), progress, starts)?;
+    }
+    Ok(progress)
+}
+
+/// Hands on the starts that were made, behind what its caller has. Where a growth is refused, the caller has what it
+/// had.
+pub(crate) fn hand_on(
+    arrivals: &[Arrival],
+    made: &[(usize, u64)],
+    given: &mut Vec<Start>,
+) -> Result<(), Memory>
+    requires { All (λ x. x.0 < length arrivals.now) made.now }
+    ensures ok { OnOk result (given.new.items ≡ given.old.items ++ map (start_of arrivals.now) made.now) }
+    ensures err { OnErr result (given.new.items ≡ given.old.items) }
+{
+    let kept = given.len();
+    for transmission in made {
+        let arrival = arrivals[transmission.0];
+        let start = Start {
+            start: Nanos(transmission.1),
+            class: arrival.class,
+            octets: arrival.octets,
+            frame: arrival.frame,
+        };
+        if given.push(start).is_err() {
+            given.truncate(kept);
+            return Err(AllocError);
+        }
+    }
+    Ok(())
+}

@@ -1,0 +1,19 @@
+-- The starts of a port as a text (profile).
+use Rattle.std.specs.Prelude.{ℕ, ◌++◌, List, [], ◌∷◌, codes, decimal}
+use Rattle.std.specs.List.{flat_map}
+use Rattle.cqf_units.specs.Timing.{ending_of}
+use Rattle.cqf_model.specs.declared.ports.Start.{Start}
+use Rattle.cqf_report.specs.Records.{Fields}
+use Rattle.cqf_report.specs.Written.{line_of}
+
+abbrev pub start_header : Fields
+start_header = codes "class" ∷ codes "frame" ∷ codes "start" ∷ codes "end" ∷ []
+
+-- a start's class, label, first instant and the instant at which its frame is over, where an octet takes so long
+abbrev pub start_fields : ℕ → Start → Fields
+start_fields octet_time start =
+    decimal start.class ∷ decimal start.frame ∷ decimal start.start.0 ∷ decimal (ending_of start.start.0 start.octets octet_time) ∷ []
+
+-- the text of starts: the header, and then one line a start, in their order
+abbrev pub text_of_starts : ℕ → List Start → List ℕ
+text_of_starts octet_time starts = line_of start_header ++ flat_map (λ (start : Start). line_of (start_fields octet_time start)) starts

@@ -1,0 +1,14 @@
+use Rattle.std.proofs.Common.{◌≡◌, drop, ok_or}
+use Rattle.toml.specs.Data.{as_table}
+use Rattle.toml.specs.View.{items_view}
+use Rattle.cqf_topology.specs.declared.faults.Key.TheVariants.{Links}
+use Rattle.cqf_topology.specs.declared.faults.StreamsFault.TheVariants.{BadValue}
+use Rattle.cqf_topology.specs.Fields.{and_then, each_from}
+use Rattle.cqf_topology.specs.DomainText.{link_from}
+use Rattle.cqf_topology.proofs.Arrays.{with_front}
+use Rattle.cqf_topology.proofs.draft.read_links.Given as goal
+
+abbrev pub invariant-loop-value : goal.invariant-loop-value
+invariant-loop-value l =
+    with_front l.links.items (each_from (λ d. and_then (ok_or (as_table d) (BadValue Links)) link_from) (items_view (drop l.value-index l.values)))
+    ≡ each_from (λ d. and_then (ok_or (as_table d) (BadValue Links)) link_from) (items_view l.values)

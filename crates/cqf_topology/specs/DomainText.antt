@@ -1,0 +1,183 @@
+-- The domain that a text means, or the first fault of the text (profile).
+use Rattle.std.specs.Prelude.{ℕ, ◌≡◌, ◌*◌, ◌<◌, ◌≤◌, ℤ, pos, negsuc, List, [], ◌∷◌, ◌++◌, ◌==◌, ◌&&◌, ◌||◌, Bool, true, false, if◌then◌else◌, length, nat_le, nat_lt, position, Option, Some, None, option_and_then, ok_or, Result, Ok, Err, All, IsTrue}
+use Rattle.std.specs.List.{list_any}
+use Rattle.toml.specs.Data.{Data, as_integer, as_array, Members}
+use Rattle.cqf_units.specs.Name.{is_name}
+use Rattle.cqf_units.specs.Timing.{nanos_of_octet}
+use Rattle.cqf_units.specs.declared.timing.Rate.{Rate as LinkRate}
+use Rattle.cqf_units.specs.declared.timing.Rate.TheVariants.{Mb10, Mb100, Mb1000}
+use Rattle.cqf_model.specs.declared.topology.Link.{Link}
+use Rattle.cqf_model.specs.declared.topology.Node.{Node}
+use Rattle.cqf_model.specs.declared.topology.Node.TheVariants.{Bridge}
+use Rattle.cqf_model.specs.Domain.{Domain, IsAccepted, is_text, node_or, same_node}
+use Rattle.cqf_topology.specs.declared.draft.DraftLink.{DraftLink}
+use Rattle.cqf_topology.specs.declared.faults.Key.{Key}
+use Rattle.cqf_topology.specs.declared.faults.Key.TheVariants.{Cycle, Guard, Bridges, Stations, Links, From, To, Rate, Delay}
+use Rattle.cqf_topology.specs.declared.faults.StreamsFault.{StreamsFault}
+use Rattle.cqf_topology.specs.declared.faults.StreamsFault.TheVariants as early
+use Rattle.cqf_topology.specs.declared.faults.DomainFault.{DomainFault}
+use Rattle.cqf_topology.specs.declared.faults.DomainFault.TheVariants as fault
+use Rattle.cqf_topology.specs.Fields.{and_then, and_first, refuse, whole_document, read_at, each_from, tables_at, number_from, name_from}
+
+-- the keys of a domain text, and those of each of its links, in reading order
+abbrev pub domain_keys : List Key
+domain_keys = Cycle ∷ Guard ∷ Bridges ∷ Stations ∷ Links ∷ []
+
+abbrev pub link_keys : List Key
+link_keys = From ∷ To ∷ Rate ∷ Delay ∷ []
+
+-- what a domain text says, before it is asked whether a network can be like that: times in nanoseconds, names, and links
+-- by the names of their ends
+pub record DomainText : Type 0 where
+  pub cycle_time : ℕ
+  pub guard : ℕ
+  pub bridges : List (List ℕ)
+  pub stations : List (List ℕ)
+  pub links : List DraftLink
+
+-- a rate, written in Mb/s
+abbrev pub rate_of : ℤ → Option LinkRate
+rate_of (negsuc n) = None
+rate_of (pos n) =
+    if n == 10 then Some Mb10
+    else (if n == 100 then Some Mb100
+    else (if n == 1000 then Some Mb1000 else None))
+
+abbrev pub rate_from : Data → Option LinkRate
+rate_from d = option_and_then rate_of (as_integer d)
+
+-- an array of names, and one of at least one name
+abbrev pub names_at : Key → Members → Result (List (List ℕ)) StreamsFault
+names_at key table = and_then (read_at key as_array table) (each_from (λ d. ok_or (name_from d) (early.BadValue key)))
+
+abbrev pub if_some : {A : Type 0} → Key → List A → Result (List A) StreamsFault
+if_some key [] = Err (early.BadValue key)
+if_some key (x ∷ xs) = Ok (x ∷ xs)
+
+-- a link's table
+abbrev pub link_from : Members → Result DraftLink StreamsFault
+link_from table =
+    and_then (read_at From name_from table) (λ from.
+    and_then (read_at To name_from table) (λ to.
+    and_then (read_at Rate rate_from table) (λ rate.
+    and_then (read_at Delay (number_from 0 10000000) table) (λ delay.
+    Ok (record { from = from; to = to; rate = rate; delay = delay })))))
+
+-- a domain's table
+abbrev pub domain_from : Members → Result DomainText StreamsFault
+domain_from table =
+    and_then (read_at Cycle (number_from 10000 10000000) table) (λ cycle_time.
+    and_then (read_at Guard (number_from 1 10000000) table) (λ guard.
+    and_then (and_then (names_at Bridges table) (if_some Bridges)) (λ bridges.
+    and_then (names_at Stations table) (λ stations.
+    and_then (tables_at Links link_from table) (λ links.
+    Ok (record { cycle_time = cycle_time; guard = guard; bridges = bridges; stations = stations; links = links }))))))
+
+-- the first of some names that stood earlier
+abbrev pub is_among : List ℕ → List (List ℕ) → Bool
+is_among name names = list_any (λ other. is_text other name) names
+
+abbrev pub first_taken : List (List ℕ) → List (List ℕ) → Option (List ℕ)
+first_taken earlier [] = None
+first_taken earlier (name ∷ names) = if is_among name earlier then Some name else first_taken (earlier ++ name ∷ []) names
+
+-- a link with its ends found: its `from` has to name a bridge, and its `to` a node other than that
+abbrev pub apart : List ℕ → DraftLink → ℕ → Node → Result Link DomainFault
+apart name link from to =
+    if same_node to (Bridge from)
+    then Err (fault.UnknownName name)
+    else Ok (record { from = from; to = to; rate = link.rate; delay = link.delay })
+
+abbrev pub place_of : List ℕ → List (List ℕ) → Option ℕ
+place_of name names = position (λ other. is_text other name) names
+
+abbrev pub joined_link : List (List ℕ) → List (List ℕ) → DraftLink → Result Link DomainFault
+joined_link bridges stations link =
+    and_then (ok_or (place_of link.from bridges) (fault.UnknownName link.from)) (λ from.
+    and_then (ok_or (node_or (place_of link.to bridges) (place_of link.to stations)) (fault.UnknownName link.to)) (λ to.
+    apart link.to link from to))
+
+abbrev pub joined : List (List ℕ) → List (List ℕ) → List DraftLink → Result (List Link) DomainFault
+joined bridges stations [] = Ok []
+joined bridges stations (link ∷ links) = and_first (joined_link bridges stations link) (joined bridges stations links)
+
+-- the number of the first link whose ends are those of an earlier one
+abbrev pub same_ends : Link → Link → Bool
+same_ends a b = (a.from == b.from) && same_node a.to b.to
+
+abbrev pub first_twice : List Link → List Link → Option ℕ
+first_twice earlier [] = None
+first_twice earlier (link ∷ links) =
+    if list_any (same_ends link) earlier then Some (length earlier) else first_twice (earlier ++ link ∷ []) links
+
+-- the number of the first link that is too long: its delay isn't within the guard time; the gap behind a frame isn't
+abbrev pub first_long_delay : ℕ → List Link → Option ℕ
+first_long_delay guard links = position (λ (link : Link). nat_le guard link.delay) links
+
+abbrev pub first_long_gap : ℕ → List Link → Option ℕ
+first_long_gap guard links = position (λ (link : Link). nat_lt guard (12 * nanos_of_octet link.rate)) links
+
+abbrev pub if_so : Bool → Option (Unit {0})
+if_so true = Some tt
+if_so false = None
+
+abbrev pub is_too_many : List (List ℕ) → List (List ℕ) → List Link → Bool
+is_too_many bridges stations links = nat_lt 32 (length bridges) || nat_lt 64 (length stations) || nat_lt 64 (length links)
+
+-- the domain that the text says, or the first check that it fails, each made over the whole before the next
+abbrev pub with_links : DomainText → List Link → Result Domain DomainFault
+with_links d links =
+    refuse (first_twice [] links) fault.LinkTwice (
+    refuse (if_so (nat_le d.cycle_time d.guard)) (λ _. fault.GuardTooLong) (
+    refuse (first_long_delay d.guard links) fault.DelayTooLong (
+    refuse (first_long_gap d.guard links) fault.GapTooLong (
+    refuse (if_so (is_too_many d.bridges d.stations links)) (λ _. fault.TooMany) (
+    Ok (record { cycle_time = d.cycle_time; guard = d.guard; bridges = d.bridges; stations = d.stations; links = links }))))))
+
+abbrev pub checked : DomainText → Result Domain DomainFault
+checked d =
+    refuse (first_taken [] (d.bridges ++ d.stations)) fault.NameTaken (
+    and_then (joined d.bridges d.stations d.links) (with_links d))
+
+-- a fault in reading, as one of the domain's
+abbrev pub domain_fault : StreamsFault → DomainFault
+domain_fault early.NotToml = fault.NotToml
+domain_fault (early.Missing key) = fault.Missing key
+domain_fault (early.BadValue key) = fault.BadValue key
+domain_fault early.Memory = fault.Memory
+
+abbrev pub as_domain_fault : {A : Type 0} → Result A StreamsFault → Result A DomainFault
+as_domain_fault (Ok x) = Ok x
+as_domain_fault (Err e) = Err (domain_fault e)
+
+-- what a domain text says, or its first fault in being read
+abbrev pub read_text : List ℕ → Result DomainText StreamsFault
+read_text text = and_then (whole_document domain_keys Links link_keys text) domain_from
+
+-- the domain that a text means, or its first fault
+abbrev pub domain_of_text : List ℕ → Result Domain DomainFault
+domain_of_text text = and_then (as_domain_fault (read_text text)) checked
+
+-- what the ranges and forms of the values give
+pub record IsReadable (d : DomainText) : Type 0 where
+  pub cycle_least : 10000 ≤ d.cycle_time
+  pub cycle_most : d.cycle_time ≤ 10000000
+  pub guard_some : 0 < d.guard
+  pub some_bridge : 0 < length d.bridges
+  pub bridges_named : All (λ name. IsTrue (is_name name)) d.bridges
+  pub stations_named : All (λ name. IsTrue (is_name name)) d.stations
+
+-- a text's names and links by number: what its checks up to that of its ends give
+pub record IsNumbered (d : DomainText) (bridges stations : List (List ℕ)) (links : List Link) : Type 0 where
+  pub readable : IsReadable d
+  pub bridges_are : bridges ≡ d.bridges
+  pub stations_are : stations ≡ d.stations
+  pub distinct : first_taken [] (d.bridges ++ d.stations) ≡ None
+  pub joined_are : joined d.bridges d.stations d.links ≡ Ok links
+
+-- what a domain's text gives beyond being accepted: each name has the form of a name, and no two are equal
+pub record IsDomain (d : Domain) : Type 0 where
+  pub accepted : IsAccepted d
+  pub bridges_named : All (λ name. IsTrue (is_name name)) d.bridges
+  pub stations_named : All (λ name. IsTrue (is_name name)) d.stations
+  pub distinct : first_taken [] (d.bridges ++ d.stations) ≡ None

@@ -1,0 +1,4 @@
+pub mod Fields
+pub mod DomainText
+pub mod JoinedLink
+pub mod StreamsText

@@ -1,0 +1,211 @@
+//! A domain of bridges and stations.
+ghost use Rattle.std.specs.Prelude.{◌≡◌, ◌<◌, ◌==◌, ◌&&◌, length, slice_get, position, Some, IfOk};
+ghost use Rattle.cqf_model.specs.Domain.{IsAccepted, node_named, link_between, same_node};
+ghost use Rattle.cqf_topology.specs.Fields.{Gives};
+ghost use Rattle.cqf_topology.specs.DomainText.{IsReadable, IsNumbered, with_links, checked, domain_of_text};
+
+use crate::DomainFault;
+use crate::draft::{Draft, read_draft};
+use crate::joined::{
+    JoinedLink, end_of_name, find_long_delay, find_long_gap, find_twice, join_links, links_of,
+    node_of_end, numbered_names,
+};
+use cqf_model::{Link, Node};
+use cqf_units::{Memory, Name, Nanos};
+use indexmap::IndexSet;
+use std::alloc::Global;
+use std::marker::Model;
+
+/// A domain: its cycle time and guard time, its bridges and stations by name and by number, and its directed links by
+/// number. It is accepted: cyclic queuing and forwarding works on it.
+#[derive(Debug, Drop)]
+pub struct Domain {
+    cycle_time: u32,
+    guard: u32,
+    bridges: IndexSet<Name>,
+    stations: IndexSet<Name>,
+    links: Vec<Link>,
+}
+
+impl Model for Domain {
+    ghost use Rattle.cqf_model.specs.Domain.{Domain as DomainValue};
+    ghost use Rattle.cqf_topology.specs.DomainText.{IsDomain};
+
+    ghost Value = { DomainValue };
+
+    ghost view = { λ d. record { cycle_time = d.cycle_time; guard = d.guard; bridges = d.bridges.keys; stations = d.stations.keys; links = d.links.items } };
+
+    ghost invariant = { λ d. IsDomain (record { cycle_time = d.cycle_time; guard = d.guard; bridges = d.bridges.keys; stations = d.stations.keys; links = d.links.items }) };
+}
+
+impl Domain {
+    /// The domain that a text means, or the first fault of the text. Keys that mean nothing here are passed over.
+    pub fn read(alloc: Global, text: &[u8]) -> Result<Domain, DomainFault>
+        ensures { Gives DomainFault.Memory (λ domain. domain) result (domain_of_text text.now) }
+    {
+        let draft = read_draft(alloc, text)?;
+        Domain::of_draft(alloc, &draft)
+    }
+
+    /// The domain that a draft means, or the first check that it fails.
+    fn of_draft(alloc: Global, draft: &Draft) -> Result<Domain, DomainFault>
+        requires { IsReadable draft.now }
+        ensures { Gives DomainFault.Memory (λ domain. domain) result (checked draft.now) }
+    {
+        let none = IndexSet::new(alloc);
+        let bridges = numbered_names(alloc, draft.bridges(), &none)?;
+        let stations = numbered_names(alloc, draft.stations(), &bridges)?;
+        let joined = join_links(alloc, &bridges, &stations, draft.links())?;
+        Domain::of_joined(alloc, draft, bridges, stations, joined.as_slice())
+    }
+
+    /// The domain of a draft whose names and links are numbered, or the first check that these fail.
+    fn of_joined(
+        alloc: Global,
+        draft: &Draft,
+        bridges: IndexSet<Name>,
+        stations: IndexSet<Name>,
+        joined: &[JoinedLink],
+    ) -> Result<Domain, DomainFault>
+        requires { IsNumbered draft.now bridges.keys stations.keys joined.now }
+        ensures { Gives DomainFault.Memory (λ domain. domain) result (with_links draft.now joined.now) }
+    {
+        let cycle_time = draft.cycle_time();
+        let guard = draft.guard();
+        if let Some(link) = find_twice(alloc, joined).map_err(|_| DomainFault::Memory)? {
+            return Err(DomainFault::LinkTwice(link));
+        }
+        if cycle_time <= guard {
+            return Err(DomainFault::GuardTooLong);
+        }
+        if let Some(link) = find_long_delay(joined, guard) {
+            return Err(DomainFault::DelayTooLong(link));
+        }
+        if let Some(link) = find_long_gap(joined, guard) {
+            return Err(DomainFault::GapTooLong(link));
+        }
+        if bridges.len() > 32 || stations.len() > 64 || joined.len() > 64 {
+            return Err(DomainFault::TooMany);
+        }
+        let links = links_of(alloc, joined).map_err(|_| DomainFault::Memory)?;
+        Ok(Domain {
+            cycle_time,
+            guard,
+            bridges,
+            stations,
+            links,
+        })
+    }
+
+    /// The cycle time: all bridges divide time into cycles of it (IEEE 802.1Q, Annex T). It is 10,000 to 10,000,000 ns.
+    ///
+    /// The domain is accepted: the guard time is within the cycle time, each link's delay is within the guard time, and so
+    /// is the gap behind a frame on each link.
+    pub fn cycle_time(&self) -> Nanos
+        ensures value { result.0 ≡ self.now.cycle_time }
+        ensures accepted { IsAccepted self.now }
+    {
+        Nanos(u64::from(self.cycle_time))
+    }
+
+    /// The guard time: no transmission gate is open in the last so many nanoseconds of a cycle (profile).
+    pub fn guard(&self) -> Nanos
+        ensures { result.0 ≡ self.now.guard }
+    {
+        Nanos(u64::from(self.guard))
+    }
+
+    /// How many bridges there are, 1 to 32. They are numbered from 0.
+    pub fn bridges(&self) -> u8
+        ensures { result ≡ length self.now.bridges }
+    {
+        self.bridges.len() as u8
+    }
+
+    /// How many stations there are, 0 to 64. They are numbered from 0.
+    pub fn stations(&self) -> u8
+        ensures { result ≡ length self.now.stations }
+    {
+        self.stations.len() as u8
+    }
+
+    /// How many directed links there are, 0 to 64. They are numbered from 0.
+    pub fn links(&self) -> u8
+        ensures { result ≡ length self.now.links }
+    {
+        self.links.len() as u8
+    }
+
+    /// The name of the bridge of this number.
+    pub fn bridge_name(&self, bridge: u8) -> &Name
+        requires { bridge < length self.now.bridges }
+        ensures { slice_get self.now.bridges bridge ≡ Some result.now }
+    {
+        &self.bridges.as_slice()[usize::from(bridge)]
+    }
+
+    /// The name of the station of this number.
+    pub fn station_name(&self, station: u8) -> &Name
+        requires { station < length self.now.stations }
+        ensures { slice_get self.now.stations station ≡ Some result.now }
+    {
+        &self.stations.as_slice()[usize::from(station)]
+    }
+
+    /// The link of this number.
+    pub fn link(&self, link: u8) -> Link
+        requires { link < length self.now.links }
+        ensures { slice_get self.now.links link ≡ Some result }
+    {
+        self.links[usize::from(link)]
+    }
+
+    /// The node of this name, or `None` where the domain has none.
+    pub fn find(&self, name: &str) -> Option<Node>
+        ensures { result ≡ node_named self.now name.now }
+    {
+        let bridges = &self.bridges;
+        match Name::new(name.as_bytes()) {
+            Some(name) => {
+                let end = end_of_name(bridges, &self.stations, &name)?;
+                Some(node_of_end(end))
+            }
+            None => None,
+        }
+    }
+
+    /// The number of the link from a bridge to a node, or `None` where the domain has none.
+    pub fn find_link(&self, from: u8, to: Node) -> Option<u8>
+        ensures { result ≡ link_between self.now from to }
+    {
+        let link = place_of_link(self.links.as_slice(), from, to)?;
+        Some(link as u8)
+    }
+
+    /// The same domain again, unless memory runs out.
+    pub fn try_copy(&self, alloc: Global) -> Result<Domain, Memory>
+        ensures { IfOk result (λ copy. copy ≡ self.now) }
+    {
+        Ok(Domain {
+            cycle_time: self.cycle_time,
+            guard: self.guard,
+            bridges: self.bridges.clone()?,
+            stations: self.stations.clone()?,
+            links: Vec::from_slice(alloc, self.links.as_slice())?,
+        })
+    }
+}
+
+/// Whether the link leads from the bridge to the node.
+fn leads(link: &Link, from: u8, to: Node) -> bool
+    ensures { result ≡ ((link.now.from == from) && same_node link.now.to to) }
+{
+    link.from == from && link.to == to
+}
+
+/// The place of the link from the bridge to the node.
+fn place_of_link(links: &[Link], from: u8, to: Node) -> Option<usize>
+    ensures { result ≡ position (λ link. (link.from == from) && same_node link.to to) links.now }
+{
+    links.iter().position(|link| leads(link, from, to))
+}

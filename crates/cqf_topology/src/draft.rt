@@ -1,0 +1,196 @@
+//! What a domain text says, before it is asked whether a network can be like that.
+ghost use Rattle.std.specs.Prelude.{◌≡◌, option_and_then, ok_or};
+ghost use Rattle.toml.specs.View.{view, table_view, items_view};
+ghost use Rattle.toml.specs.Data.{as_table};
+ghost use Rattle.cqf_topology.specs.Fields.{Gives, and_then, read_at, each_from, tables_at};
+ghost use Rattle.cqf_topology.specs.DomainText.{rate_of, rate_from, link_from, names_at, if_some, domain_from, read_text};
+
+use crate::fields::{are_all_tables, array_at, entry, name_at, names_in, number_at, read_document};
+use crate::{Key, StreamsFault};
+use cqf_units::{Name, Rate};
+use std::alloc::Global;
+use std::marker::Model;
+use toml::{Table, Value};
+
+/// A link by the names of its ends.
+#[derive(Debug, Drop)]
+pub(crate) struct DraftLink {
+    pub from: Name,
+    pub to: Name,
+    pub rate: Rate,
+    /// In nanoseconds.
+    pub delay: u32,
+}
+
+/// A domain as its text says it: times in nanoseconds, and links by the names of their ends.
+#[derive(Debug, Drop)]
+pub(crate) struct Draft {
+    cycle_time: u32,
+    guard: u32,
+    bridges: Vec<Name>,
+    stations: Vec<Name>,
+    links: Vec<DraftLink>,
+}
+
+impl Model for Draft {
+    ghost use Rattle.cqf_topology.specs.DomainText.{DomainText};
+
+    ghost Value = { DomainText };
+
+    ghost view = { λ d. record { cycle_time = d.cycle_time; guard = d.guard; bridges = d.bridges.items; stations = d.stations.items; links = d.links.items } };
+}
+
+impl Draft {
+    pub fn cycle_time(&self) -> u32
+        ensures { result ≡ self.now.cycle_time }
+    {
+        self.cycle_time
+    }
+
+    pub fn guard(&self) -> u32
+        ensures { result ≡ self.now.guard }
+    {
+        self.guard
+    }
+
+    pub fn bridges(&self) -> &[Name]
+        ensures { result.now ≡ self.now.bridges }
+    {
+        self.bridges.as_slice()
+    }
+
+    pub fn stations(&self) -> &[Name]
+        ensures { result.now ≡ self.now.stations }
+    {
+        self.stations.as_slice()
+    }
+
+    pub fn links(&self) -> &[DraftLink]
+        ensures { result.now ≡ self.now.links }
+    {
+        self.links.as_slice()
+    }
+}
+
+/// The keys of a domain text, in reading order.
+const KEYS: [Key; 5] = [
+    Key::Cycle,
+    Key::Guard,
+    Key::Bridges,
+    Key::Stations,
+    Key::Links,
+];
+
+/// The keys of a link's table, in reading order.
+const LINK_KEYS: [Key; 4] = [Key::From, Key::To, Key::Rate, Key::Delay];
+
+/// The rate of so many Mb/s.
+fn rate_of_number(number: i64) -> Option<Rate>
+    ensures { result ≡ rate_of number }
+{
+    match number {
+        10 => Some(Rate::Mb10),
+        100 => Some(Rate::Mb100),
+        1000 => Some(Rate::Mb1000),
+        _ => None,
+    }
+}
+
+/// The rate that a value means.
+fn rate_of_value(value: &Value) -> Option<Rate>
+    ensures { result ≡ rate_from (view value.now) }
+{
+    match value.as_integer() {
+        Some(number) => rate_of_number(number),
+        None => None,
+    }
+}
+
+/// The rate at a key.
+fn rate_at(table: &Table) -> Result<Rate, StreamsFault>
+    ensures { result ≡ read_at Key.Rate rate_from (table_view table.now) }
+{
+    match entry(table, Key::Rate).and_then(rate_of_value) {
+        Some(rate) => Ok(rate),
+        None => Err(StreamsFault::BadValue(Key::Rate)),
+    }
+}
+
+/// A link's table.
+fn read_link(table: &Table) -> Result<DraftLink, StreamsFault>
+    ensures { result ≡ link_from (table_view table.now) }
+{
+    let from = name_at(table, Key::From)?;
+    let to = name_at(table, Key::To)?;
+    let rate = rate_at(table)?;
+    let delay = number_at(table, Key::Delay, 0, 10_000_000)?;
+    Ok(DraftLink {
+        from,
+        to,
+        rate,
+        delay,
+    })
+}
+
+/// A link, as an element of the array of links.
+fn link_in(value: &Value) -> Result<DraftLink, StreamsFault>
+    ensures { result ≡ and_then (ok_or (as_table (view value.now)) (StreamsFault.BadValue Key.Links)) link_from }
+{
+    match value.as_table() {
+        Some(table) => read_link(table),
+        None => Err(StreamsFault::BadValue(Key::Links)),
+    }
+}
+
+/// The links of a domain's table.
+fn read_links(alloc: Global, table: &Table) -> Result<Vec<DraftLink>, StreamsFault>
+    ensures { Gives StreamsFault.Memory (λ links. links.items) result (tables_at Key.Links link_from (table_view table.now)) }
+{
+    let values = array_at(table, Key::Links)?;
+    if !are_all_tables(values) {
+        return Err(StreamsFault::BadValue(Key::Links));
+    }
+    let mut links = Vec::new(alloc);
+    for value in values {
+        let link = link_in(value)?;
+        links.push(link).map_err(|_| StreamsFault::Memory)?;
+    }
+    Ok(links)
+}
+
+/// The bridges of a domain's table, of which there is at least one.
+fn read_bridges(alloc: Global, table: &Table) -> Result<Vec<Name>, StreamsFault>
+    ensures { Gives StreamsFault.Memory (λ names. names.items) result (and_then (names_at Key.Bridges (table_view table.now)) (if_some Key.Bridges)) }
+{
+    let bridges = names_in(alloc, table, Key::Bridges)?;
+    if bridges.is_empty() {
+        return Err(StreamsFault::BadValue(Key::Bridges));
+    }
+    Ok(bridges)
+}
+
+/// A domain's table.
+fn read_table(alloc: Global, table: &Table) -> Result<Draft, StreamsFault>
+    ensures { Gives StreamsFault.Memory (λ draft. draft) result (domain_from (table_view table.now)) }
+{
+    let cycle_time = number_at(table, Key::Cycle, 10_000, 10_000_000)?;
+    let guard = number_at(table, Key::Guard, 1, 10_000_000)?;
+    let bridges = read_bridges(alloc, table)?;
+    let stations = names_in(alloc, table, Key::Stations)?;
+    let links = read_links(alloc, table)?;
+    Ok(Draft {
+        cycle_time,
+        guard,
+        bridges,
+        stations,
+        links,
+    })
+}
+
+/// What a domain text says.
+pub(crate) fn read_draft(alloc: Global, text: &[u8]) -> Result<Draft, StreamsFault>
+    ensures { Gives StreamsFault.Memory (λ draft. draft) result (read_text text.now) }
+{
+    let table = read_document(alloc, text, &KEYS, Key::Links, &LINK_KEYS)?;
+    read_table(alloc, &table)
+}

@@ -1,0 +1,222 @@
+//! Links by the numbers of their ends, before these are known to be small.
+ghost use Rattle.std.specs.Prelude.{◌≡◌, ◌++◌, [], ◌∷◌, All, IfOk, OnOk, Ok, option_map, map, nat_le, nat_lt, ◌*◌, false};
+ghost use Rattle.std.specs.List.{list_any};
+ghost use Rattle.cqf_units.specs.Timing.{nanos_of_octet};
+ghost use Rattle.cqf_model.specs.Domain.{node_or};
+ghost use Rattle.cqf_topology.specs.Fields.{Gives, refuse};
+ghost use Rattle.cqf_topology.specs.DomainText.{is_among, first_taken, place_of, joined_link, joined, first_twice, first_long_delay, first_long_gap};
+ghost use Rattle.cqf_topology.specs.JoinedLink.{node_of, ends_held, ends_of, are_same_ends, IsSmallNode, HasSmallEnds};
+
+use crate::DomainFault;
+use crate::draft::DraftLink;
+use crate::names::{add_name, has_name, number_of_name};
+use cqf_model::{Link, Node};
+use cqf_units::{Memory, Name, Rate, octet_time};
+use indexmap::IndexSet;
+use std::alloc::Global;
+use std::marker::Model;
+
+/// A node by its number among the bridges or among the stations, however many there are.
+#[derive(Clone, Copy, Debug, PartialEq, Eq, Hash)]
+pub(crate) enum End {
+    Bridge(usize),
+    Station(usize),
+}
+
+/// A link by the numbers of its ends.
+#[derive(Debug, Drop)]
+pub(crate) struct JoinedLink {
+    from: usize,
+    to: End,
+    rate: Rate,
+    delay: u32,
+}
+
+impl Model for JoinedLink {
+    ghost use Rattle.cqf_model.specs.declared.topology.Link.{Link};
+    ghost use Rattle.cqf_topology.specs.JoinedLink.{node_of};
+
+    ghost Value = { Link };
+
+    ghost view = { λ l. record { from = l.from; to = node_of l.to; rate = l.rate; delay = l.delay } };
+}
+
+/// Whether the name is among either names.
+fn is_taken(others: &IndexSet<Name>, names: &IndexSet<Name>, name: &Name) -> bool
+    ensures { result ≡ is_among name.now (others.now.keys ++ names.now.keys) }
+{
+    has_name(others, name) || has_name(names, name)
+}
+
+/// The names, numbered: none of them is among the others, and none stands twice.
+pub(crate) fn numbered_names(
+    alloc: Global,
+    names: &[Name],
+    others: &IndexSet<Name>,
+) -> Result<IndexSet<Name>, DomainFault>
+    ensures { Gives DomainFault.Memory (λ numbered. numbered.keys) result (refuse (first_taken others.now.keys names.now) DomainFault.NameTaken (Ok names.now)) }
+{
+    let mut numbered = IndexSet::new(alloc);
+    for name in names {
+        if is_taken(others, &numbered, name) {
+            return Err(DomainFault::NameTaken(name.copied()));
+        }
+        add_name(&mut numbered, name).map_err(|_| DomainFault::Memory)?;
+    }
+    Ok(numbered)
+}
+
+/// The node of a name.
+pub(crate) fn end_of_name(
+    bridges: &IndexSet<Name>,
+    stations: &IndexSet<Name>,
+    name: &Name,
+) -> Option<End>
+    ensures { option_map node_of result ≡ node_or (place_of name.now bridges.now.keys) (place_of name.now stations.now.keys) }
+{
+    if let Some(bridge) = number_of_name(bridges, name) {
+        return Some(End::Bridge(bridge));
+    }
+    match number_of_name(stations, name) {
+        Some(station) => Some(End::Station(station)),
+        None => None,
+    }
+}
+
+/// A link, by the numbers of its ends.
+fn join_link(
+    bridges: &IndexSet<Name>,
+    stations: &IndexSet<Name>,
+    link: &DraftLink,
+) -> Result<JoinedLink, DomainFault>
+    ensures { result ≡ joined_link bridges.now.keys stations.now.keys link.now }
+{
+    let from = match number_of_name(bridges, &link.from) {
+        Some(from) => from,
+        None => return Err(DomainFault::UnknownName(link.from.copied())),
+    };
+    let to = match end_of_name(bridges, stations, &link.to) {
+        Some(to) => to,
+        None => return Err(DomainFault::UnknownName(link.to.copied())),
+    };
+    if to == End::Bridge(from) {
+        return Err(DomainFault::UnknownName(link.to.copied()));
+    }
+    Ok(JoinedLink {
+        from,
+        to,
+        rate: link.rate,
+        delay: link.delay,
+    })
+}
+
+/// The links, by the numbers of their ends.
+pub(crate) fn join_links(
+    alloc: Global,
+    bridges: &IndexSet<Name>,
+    stations: &IndexSet<Name>,
+    links: &[DraftLink],
+) -> Result<Vec<JoinedLink>, DomainFault>
+    ensures { Gives DomainFault.Memory (λ links. links.items) result (joined bridges.now.keys stations.now.keys links.now) }
+{
+    let mut joined = Vec::new(alloc);
+    for link in links {
+        let link = join_link(bridges, stations, link)?;
+        joined.push(link).map_err(|_| DomainFault::Memory)?;
+    }
+    Ok(joined)
+}
+
+/// Whether the link's delay isn't within the guard time.
+fn has_long_delay(link: &JoinedLink, guard: u32) -> bool
+    ensures { result ≡ nat_le guard link.now.delay }
+{
+    guard <= link.delay
+}
+
+/// Whether the gap behind a frame isn't within the guard time.
+fn has_long_gap(link: &JoinedLink, guard: u32) -> bool
+    ensures { result ≡ nat_lt guard (12 * nanos_of_octet link.now.rate) }
+{
+    u64::from(guard) < 12 * octet_time(link.rate)
+}
+
+/// The first link whose delay isn't within the guard time.
+pub(crate) fn find_long_delay(links: &[JoinedLink], guard: u32) -> Option<usize>
+    ensures { result ≡ first_long_delay guard links.now }
+{
+    links.iter().position(|link| has_long_delay(link, guard))
+}
+
+/// The first link on which the gap behind a frame isn't within the guard time.
+pub(crate) fn find_long_gap(links: &[JoinedLink], guard: u32) -> Option<usize>
+    ensures { result ≡ first_long_gap guard links.now }
+{
+    links.iter().position(|link| has_long_gap(link, guard))
+}
+
+/// The node, where its number is small.
+pub(crate) fn node_of_end(end: End) -> Node
+    requires { IsSmallNode (node_of end) }
+    ensures { result ≡ node_of end }
+{
+    match end {
+        End::Bridge(bridge) => Node::Bridge(bridge as u8),
+        End::Station(station) => Node::Station(station as u8),
+    }
+}
+
+/// The link, where the numbers of its ends are small.
+fn link_of(link: &JoinedLink) -> Link
+    requires { HasSmallEnds link.now }
+    ensures { result ≡ link.now }
+{
+    Link {
+        from: link.from as u8,
+        to: node_of_end(link.to),
+        rate: link.rate,
+        delay: link.delay,
+    }
+}
+
+/// The links, where the numbers of their ends are small.
+pub(crate) fn links_of(alloc: Global, joined: &[JoinedLink]) -> Result<Vec<Link>, Memory>
+    requires { All HasSmallEnds joined.now }
+    ensures { IfOk result (λ links. links.items ≡ joined.now) }
+{
+    let mut links = Vec::new(alloc);
+    for link in joined {
+        links.push(link_of(link))?;
+    }
+    Ok(links)
+}
+
+/// Whether the link's ends are held.
+fn holds_ends(ends: &IndexSet<(usize, End)>, link: &JoinedLink) -> bool
+    ensures { result ≡ list_any (are_same_ends (ends_of link.now)) (map ends_held ends.now.keys) }
+{
+    ends.contains(&(link.from, link.to))
+}
+
+/// Holds the link's ends, which aren't held yet.
+fn hold_ends(ends: &mut IndexSet<(usize, End)>, link: &JoinedLink) -> Result<(), Memory>
+    requires { list_any (are_same_ends (ends_of link.now)) (map ends_held ends.old.keys) ≡ false }
+    ensures { OnOk result (map ends_held ends.new.keys ≡ map ends_held ends.old.keys ++ ends_of link.now ∷ []) }
+{
+    ends.insert((link.from, link.to))?;
+    Ok(())
+}
+
+/// The first link whose ends are those of an earlier link.
+pub(crate) fn find_twice(alloc: Global, links: &[JoinedLink]) -> Result<Option<usize>, Memory>
+    ensures { IfOk result (λ twice. twice ≡ first_twice [] links.now) }
+{
+    let mut ends = IndexSet::new(alloc);
+    for (number, link) in links.iter().enumerate() {
+        if holds_ends(&ends, link) {
+            return Ok(Some(number));
+        }
+        hold_ends(&mut ends, link)?;
+    }
+    Ok(None)
+}

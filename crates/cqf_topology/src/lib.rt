@@ -1,0 +1,36 @@
+//! Domains and streams, read from TOML texts.
+//!
+//! - [`Domain`] is an accepted domain: its cycle time and guard time, its bridges and stations by name and number, and
+//!   its directed links. [`Domain::read`] gives the domain that a text means, or a [`DomainFault`], the first that is
+//!   wrong with it.
+//! - [`Request`] is a request for a stream.
+//!
+//! ```text
+//! cycle = 125000
+//! guard = 5000
+//! bridges = ["a"]
+//! stations = ["s"]
+//!
+//! [[links]]
+//! from = "a"
+//! to = "s"
+//! rate = 1000
+//! delay = 500
+//! ```
+//!
+//! is a domain of one bridge and one station, joined by link 0 from bridge 0 to station 0. With `delay = 5000` it is
+//! refused: `DelayTooLong 0`.
+#![tactic(auto)]
+
+mod domain;
+mod draft;
+mod faults;
+mod fields;
+mod joined;
+mod names;
+mod streams;
+
+pub use cqf_model::{Link, Node};
+pub use domain::Domain;
+pub use faults::{DomainFault, Key, StreamsFault};
+pub use streams::Request;
