@@ -1,5 +1,8 @@
 //! Why a gate list is refused.
 
+/// The most entries that a gate list can have (profile).
+pub(crate) const MOST_ENTRIES: usize = 16;
+
 /// Why no gate list can be made of some entries (profile).
 #[derive(Clone, Copy, Debug, PartialEq, Eq, Drop, thiserror::Error)]
 pub enum ListFault {

@@ -6,12 +6,10 @@ ghost use Rattle.cqf_model.specs.declared.gates.StreamEntry.{StreamEntry as Entr
 ghost use Rattle.cqf_model.specs.StreamGate.{gate_round, place_at, round_at, same_interval};
 ghost use Rattle.cqf_gates.specs.StreamGate.{Counts, DecidesByCalls, IsStreamList, entry_at, fresh, gate_after, is_bad_ipv, stream_list_of, taken_at, verdict_on};
 
+use crate::faults::MOST_ENTRIES;
 use crate::{ListFault, StreamEntry};
 use cqf_units::{Nanos, Octets};
 use std::marker::Model;
-
-/// The most entries that a list can have (profile).
-const MOST_ENTRIES: usize = 16;
 
 /// What stands in a place that isn't used.
 const BLANK: StreamEntry = StreamEntry {

@@ -5,13 +5,11 @@ ghost use Rattle.cqf_model.specs.GateList.{Entry, InForce, IsOpen, IsOpenFor, ro
 ghost use Rattle.cqf_model.specs.declared.gates.OpenFor.TheVariants.{Always};
 ghost use Rattle.cqf_gates.specs.TxList.{AreSteady, IsTxList, tx_list_of, IsOpenRun};
 
+use crate::faults::MOST_ENTRIES;
 use crate::{ListFault, OpenFor};
 use arrayvec::ArrayVec;
 use cqf_units::Nanos;
 use std::marker::Model;
-
-/// The most entries that a list can have (profile).
-const MOST_ENTRIES: usize = 16;
 
 /// A transmission gate control list: entries of eight gate states and an interval in nanoseconds. Rounds of the list
 /// follow one another from instant 0 without end (IEEE 802.1Q, 8.6.8.4; base time and limits: profile).

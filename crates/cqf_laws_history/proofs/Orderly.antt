@@ -59,7 +59,7 @@ module _ (d : Domain) (entries : List Recorded) (cycles : ℕ) (legal : IsLegalH
       record {
         place = place;
         seal = seal;
-        sound_there = sound d entries legal place within;
+        sound_there = sound d entries legal.replies place within;
         is = get_or-singles (table_at d entries) cycles cycle [] h
             ∙ ap (filter (λ (row : Row). is_held row cycle)) (streams_front entries place within d);
       }
@@ -166,7 +166,7 @@ module _ (d : Domain) (entries : List Recorded) (cycles : ℕ) (legal : IsLegalH
       let e = row_of_table cycle early h a in
       let l = row_of_table later late k b in
       let number : Row → ℕ = λ r. r.no in
-      let one : e.stream ≡ l.stream = one_admitted (length entries) (sound d entries legal (length entries) (omega arith)) e.stream l.stream
+      let one : e.stream ≡ l.stream = one_admitted (length entries) (sound d entries legal.replies (length entries) (omega arith)) e.stream l.stream
       (admitted_later (closed cycle h).place (length entries) (omega (arith, (closed cycle h).seal.inside)) e.stream e.admitted_there)
       (admitted_later (closed later k).place (length entries) (omega (arith, (closed later k).seal.inside)) l.stream l.admitted_there)
       (ap number e.is ∙ same ∙ ap number (sym l.is)) in

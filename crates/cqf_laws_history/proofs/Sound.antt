@@ -1,13 +1,13 @@
 -- What the streams of a legal history have before each of its places.
-use Rattle.std.proofs.Common.{◌≡◌, ◌≢◌, ℕ, ◌+◌, ◌≤◌, ◌⊎◌, Bool, true, false, cond, List, Option, Some, None, length, sym, refl, ap, ◌∙◌, inl, inr, arith, subst, append-nil, length-append}
+use Rattle.std.proofs.Common.{◌≡◌, ◌≢◌, ℕ, ◌+◌, ◌<◌, ◌≤◌, ◌⊎◌, Bool, true, false, cond, List, Option, Some, None, length, sym, refl, ap, ◌∙◌, inl, inr, arith, subst, append-nil, length-append}
 use Rattle.std.specs.Prelude.{[], ◌∷◌, ◌++◌, ◌==◌, ◌&&◌, ◌||◌, if◌then◌else◌, filter, map, nat_le, nat_lt, position, is_none, not, slice_get, take, zero, suc, AllPairs, Contains}
 use Rattle.std.specs.Option.{option_map_or}
 use Rattle.std.specs.List.{list_any}
-use Rattle.std.proofs.lemmas.Bool.{cases_Bool, cases_lt, both_ways, and_parts, and_from, or_parts, le-leb, ltb-true, ltb-false, lt-ltb, eqb-true, eq-eqb}
+use Rattle.std.proofs.lemmas.Bool.{cases_Bool, cases_lt, both_ways, and_parts, and_from, or_parts, not-false, leb-true, le-leb, ltb-true, ltb-false, lt-ltb, eqb-true, eq-eqb}
 use Rattle.std.proofs.lemmas.List.{length-map, map-append}
 use Rattle.std.proofs.lemmas.List.Elements.{Contains-append_cases, filter-append}
 use Rattle.std.proofs.lemmas.List.Sums.{sum_by-append, sum_by-cons}
-use Rattle.std.proofs.lemmas.Option.{same_Some, slice_get_within}
+use Rattle.std.proofs.lemmas.Option.{same_Some, slice_get-get_or, slice_get_within}
 use Rattle.cqf_units.specs.Name.{is_name}
 use Rattle.cqf_units.specs.Timing.{cost_of}
 use Rattle.cqf_units.specs.declared.reservations.Cycle.{Cycle}
@@ -16,10 +16,10 @@ use Rattle.cqf_model.specs.declared.history.Refused.{Refused}
 use Rattle.cqf_model.specs.declared.history.Refused.TheVariants.{BadName, BadOctets, UnknownNode, BrokenPath, LoopingPath, NameHeld, TooManyStreams, BudgetShort}
 use Rattle.cqf_model.specs.declared.topology.Row.{Row}
 use Rattle.cqf_model.specs.Domain.{Domain, IsPath, budget, is_text, node_named}
-use Rattle.cqf_model.specs.History.{Act, Admits, Asked, IsLegalHistory, Recorded, Seals, Withdraws, admit_reply, held_in, is_broken_at, is_loop_at, least, left_on, links_along, or_else, refusal_of, refused_at, refused_if, reply_to, short_link, stream_by, streams_of}
-use Rattle.cqf_model.specs.Table.{is_held, link_cost}
+use Rattle.cqf_model.specs.History.{Act, Admits, Asked, Recorded, Seals, Withdraws, admit_reply, held_in, is_broken_at, is_loop_at, least, left_on, links_along, or_else, refusal_of, refused_at, refused_if, reply_to, short_link, stream_by, streams_of, withdraw_reply, withdraw_row, withdrawal_by}
+use Rattle.cqf_model.specs.Table.{is_held, link_cost, row_named}
 use Rattle.cqf_model.specs.Traffic.{each_below}
-use Rattle.cqf_laws_history.proofs.Lists.{contains_cons, contains_filter, contains_here, contains_map, contains_nil, contains_there, first_stays, pairs_nil, pairs_push, pairs_weaker, slice_get_behind, slice_get_front}
+use Rattle.cqf_laws_history.proofs.Lists.{contains_cons, contains_filter, contains_from_filter, contains_from_map, contains_here, contains_map, contains_nil, contains_there, first_stays, pairs_nil, pairs_push, pairs_weaker, slice_get_behind, slice_get_front}
 use Rattle.cqf_laws_history.proofs.Paths.{least_none, path_from_nodes}
 use Rattle.cqf_laws_history.proofs.Places.{admitted_at, admitted_before, entry_at, sealed_before, sealed_more, streams_front, with_end, withdrawn_at, withdrawn_before}
 
@@ -39,6 +39,8 @@ refused_at_none refused (Some place) e = absurd cc
 
 -- what a request that isn't refused has
 pub record IsGranted (d : Domain) (rows : List Row) (asked : Asked) : Type 0 where
+  pub least_octets : 64 ≤ asked.octets
+  pub most_octets : asked.octets ≤ 60000
   pub whole : least (is_broken_at d asked.path) (length asked.path + 1) ≡ None
   pub simple : least (is_loop_at d asked.path) (length asked.path) ≡ None
   pub name_free : list_any (λ (row : Row). is_text row.name asked.name) rows ≡ false
@@ -61,7 +63,10 @@ granted d rows asked e =
     let after_looping = or_else_none looping (or_else name_held (or_else too_many budget_short)) after_broken.1 in
     let after_held = or_else_none name_held (or_else too_many budget_short) after_looping.1 in
     let after_many = or_else_none too_many budget_short after_held.1 in
+    let in_range = and_parts (nat_le 64 asked.octets) (nat_le asked.octets 60000) (not-false (nat_le 64 asked.octets && nat_le asked.octets 60000) (refused_if_none (not (nat_le 64 asked.octets && nat_le asked.octets 60000)) BadOctets after_octets.0)) in
     record {
+      least_octets = leb-true 64 asked.octets in_range.0;
+      most_octets = leb-true asked.octets 60000 in_range.1;
       whole = refused_at_none (λ place. BrokenPath place) (least (is_broken_at d asked.path) (length asked.path + 1)) after_broken.0;
       simple = refused_at_none (λ place. LoopingPath place) (least (is_loop_at d asked.path) (length asked.path)) after_looping.0;
       name_free = refused_if_none (list_any (λ (row : Row). is_text row.name asked.name) rows) NameHeld after_held.0;
@@ -129,7 +134,7 @@ room_on d rows cost (x ∷ path) l e t =
 -- ---- held streams
 
 -- a stream that is held in a cycle was held in the one before, or is held with less withdrawn
-held_less : (row : Row) (v w : ℕ → Option Cycle) (c e : ℕ) → c ≤ e → row.admitted.0 ≤ c → (w row.no ≡ None) ⊎ (w row.no ≡ v row.no) → is_held (with_end v row) e ≡ true → is_held (with_end w row) c ≡ true
+pub held_less : (row : Row) (v w : ℕ → Option Cycle) (c e : ℕ) → c ≤ e → row.admitted.0 ≤ c → (w row.no ≡ None) ⊎ (w row.no ≡ v row.no) → is_held (with_end v row) e ≡ true → is_held (with_end w row) c ≡ true
 held_less row v w c e le begun same h =
     let parts = and_parts (nat_le row.admitted.0 e) (option_map_or (λ (x : Cycle). nat_lt e (x.0 + length row.path.items)) (v row.no) true) h in
     and_from (nat_le row.admitted.0 c) (option_map_or (λ (x : Cycle). nat_lt c (x.0 + length row.path.items)) (w row.no) true) (le-leb row.admitted.0 c begun) (elim same [
@@ -157,6 +162,9 @@ held_before entries n row = is_held (with_end (withdrawn_before entries n) row) 
 pub record Sound (d : Domain) (entries : List Recorded) (n : ℕ) : Type 0 where
   pub numbers : (k : ℕ) (row : Row) → slice_get (admitted_before d entries n) k ≡ Some row → row.no ≡ k
   pub paths : (row : Row) → Contains (admitted_before d entries n) row → IsPath d row.path.items
+  pub least_octets : (row : Row) → Contains (admitted_before d entries n) row → 64 ≤ row.octets
+  pub most_octets : (row : Row) → Contains (admitted_before d entries n) row → row.octets ≤ 60000
+  pub ends : (number : ℕ) (x : Cycle) → withdrawn_before entries n number ≡ Some x → number < length (admitted_before d entries n)
   pub begun : (row : Row) → Contains (admitted_before d entries n) row → row.admitted.0 ≤ sealed_before entries n
   pub names : AllPairs (λ (a b : Row). held_before entries n a ≡ true → held_before entries n b ≡ true → a.name ≢ b.name) (admitted_before d entries n)
   pub loads : (l : ℕ) → link_cost (filter (λ (row : Row). is_held row (sealed_before entries n)) (map (with_end (withdrawn_before entries n)) (admitted_before d entries n))) l ≤ budget d l
@@ -167,8 +175,8 @@ held_shrinks d entries n h s row k t =
     held_less row (withdrawn_before entries (suc n)) (withdrawn_before entries n) (sealed_before entries n) (sealed_before entries (suc n)) (sealed_more entries n (suc n) (omega arith) h) (s.begun row k) (end_stays entries n row.no) t
 
 -- an entry that admits nothing keeps all that
-sound_kept : (d : Domain) (entries : List Recorded) (n : ℕ) → suc n ≤ length entries → admitted_at d entries n ≡ [] → Sound d entries n → Sound d entries (suc n)
-sound_kept d entries n h none s =
+sound_kept : (d : Domain) (entries : List Recorded) (n : ℕ) → suc n ≤ length entries → admitted_at d entries n ≡ [] → ((number : ℕ) (x : Cycle) → withdrawn_before entries (suc n) number ≡ Some x → number < length (admitted_before d entries n)) → Sound d entries n → Sound d entries (suc n)
+sound_kept d entries n h none ends s =
     let rows = admitted_before d entries n in
     let same : admitted_before d entries (suc n) ≡ rows = ap (λ (xs : List Row). rows ++ xs) none ∙ append-nil rows in
     let back : (row : Row) → Contains (admitted_before d entries (suc n)) row → Contains rows row = λ row k. subst (λ (xs : List Row). Contains xs row) same k in
@@ -177,6 +185,9 @@ sound_kept d entries n h none s =
     record {
       numbers = λ k row e. s.numbers k row (ap (λ (xs : List Row). slice_get xs k) (sym same) ∙ e);
       paths = λ row k. s.paths row (back row k);
+      least_octets = λ row k. s.least_octets row (back row k);
+      most_octets = λ row k. s.most_octets row (back row k);
+      ends = λ number x e. omega (arith, ends number x e, ap (λ (xs : List Row). length xs) same);
       begun = λ row k. omega (arith, s.begun row (back row k), sealed_more entries n (suc n) (omega arith) h);
       names = subst (λ (xs : List Row). AllPairs apart_later xs) (sym same) (pairs_weaker apart apart_later rows (λ a b k l r t u. r (held_shrinks d entries n h s a k t) (held_shrinks d entries n h s b l u)) s.names);
       loads = λ l.
@@ -216,8 +227,8 @@ load_more d rows new p q v w l less within room =
     omega (arith, split, shrunk, single, fits)
 
 -- an entry that admits a stream keeps all that
-sound_admitted : (d : Domain) (entries : List Recorded) (n : ℕ) (asked : Asked) → suc n ≤ length entries → admitted_at d entries n ≡ new_row d asked (length (streams_of d (take n entries))) (sealed_before entries n) ∷ [] → IsGranted d (held_in d (take n entries) (sealed_before entries n)) asked → Sound d entries n → Sound d entries (suc n)
-sound_admitted d entries n asked h is g s =
+sound_admitted : (d : Domain) (entries : List Recorded) (n : ℕ) (asked : Asked) → suc n ≤ length entries → admitted_at d entries n ≡ new_row d asked (length (streams_of d (take n entries))) (sealed_before entries n) ∷ [] → ((number : ℕ) → withdrawn_before entries (suc n) number ≡ withdrawn_before entries n number) → IsGranted d (held_in d (take n entries) (sealed_before entries n)) asked → Sound d entries n → Sound d entries (suc n)
+sound_admitted d entries n asked h is ends g s =
     let rows = admitted_before d entries n in
     let w = withdrawn_before entries n in
     let v = withdrawn_before entries (suc n) in
@@ -246,6 +257,9 @@ sound_admitted d entries n asked h is g s =
                 ap (λ (r : Row). r.no) (sym is_new) ∙ count ∙ sym last)
           ];
       paths = λ row k. elim (back row k) [ inl m ↦ s.paths row m | inr m ↦ subst (λ (r : Row). IsPath d r.path.items) m path_good ];
+      least_octets = λ row k. elim (back row k) [ inl m ↦ s.least_octets row m | inr m ↦ subst (λ (r : Row). 64 ≤ r.octets) m granted_here.least_octets ];
+      most_octets = λ row k. elim (back row k) [ inl m ↦ s.most_octets row m | inr m ↦ subst (λ (r : Row). r.octets ≤ 60000) m granted_here.most_octets ];
+      ends = λ number x e. omega (arith, s.ends number x (sym (ends number) ∙ e), ap (λ (xs : List Row). length xs) same, length-append rows (new ∷ []));
       begun = λ row k. elim (back row k) [ inl m ↦ omega (arith, later, s.begun row m) | inr m ↦ subst (λ (r : Row). r.admitted.0 ≤ e) m later ];
       names = subst (λ (xs : List Row). AllPairs apart_later xs) (sym same)
           (pairs_push apart_later rows new
@@ -263,36 +277,93 @@ admits_none : (d : Domain) (entries : List Recorded) (n : ℕ) (e : Recorded) �
 admits_none d entries n e is none =
     ap (λ (o : Option Recorded). option_map_or (λ (x : Recorded). stream_by d [] (sealed_before entries n) x.act x.reply) o []) is ∙ none
 
+-- an entry that withdraws nothing leaves each number's withdrawal as it was
+pub no_end_more : (entries : List Recorded) (n number : ℕ) (e : Recorded) → slice_get entries n ≡ Some e → withdrawal_by (sealed_before entries n) number e.act e.reply ≡ [] → withdrawn_before entries (suc n) number ≡ withdrawn_before entries n number
+no_end_more entries n number e is none =
+    let front = each_below (withdrawn_at entries number) n in
+    let nothing : withdrawn_at entries number n ≡ [] = ap (λ (o : Option Recorded). option_map_or (λ (x : Recorded). withdrawal_by (sealed_before entries n) number x.act x.reply) o []) is ∙ none in
+    ap (λ (xs : List Cycle). slice_get (front ++ xs) 0) nothing ∙ ap (λ (xs : List Cycle). slice_get xs 0) (append-nil front)
+
 request_sound : (d : Domain) (entries : List Recorded) (n : ℕ) (e : Recorded) (asked : Asked) (refusal : Option Refused) → suc n ≤ length entries → slice_get entries n ≡ Some e → e.act ≡ Admits asked → e.reply ≡ admit_reply (length (streams_of d (take n entries))) (sealed_before entries n) refusal → refusal_of d (held_in d (take n entries) (sealed_before entries n)) asked ≡ refusal → Sound d entries n → Sound d entries (suc n)
 request_sound d entries n e asked None h is act reply refusal s =
     let found : admitted_at d entries n ≡ stream_by d [] (sealed_before entries n) (Admits asked) (admit_reply (length (streams_of d (take n entries))) (sealed_before entries n) None) =
     ap (λ (o : Option Recorded). option_map_or (λ (x : Recorded). stream_by d [] (sealed_before entries n) x.act x.reply) o []) is
     ∙ ap (λ (a : Act). stream_by d [] (sealed_before entries n) a e.reply) act
     ∙ ap (λ (r : Reply). stream_by d [] (sealed_before entries n) (Admits asked) r) reply in
-    sound_admitted d entries n asked h found (granted d (held_in d (take n entries) (sealed_before entries n)) asked refusal) s
+    sound_admitted d entries n asked h found (λ number. no_end_more entries n number e is (ap (λ (a : Act). withdrawal_by (sealed_before entries n) number a e.reply) act)) (granted d (held_in d (take n entries) (sealed_before entries n)) asked refusal) s
 request_sound d entries n e asked (Some refused) h is act reply refusal s =
     sound_kept d entries n h (admits_none d entries n e is
-    (ap (λ (a : Act). stream_by d [] (sealed_before entries n) a e.reply) act ∙ ap (λ (r : Reply). stream_by d [] (sealed_before entries n) (Admits asked) r) reply)) s
+    (ap (λ (a : Act). stream_by d [] (sealed_before entries n) a e.reply) act ∙ ap (λ (r : Reply). stream_by d [] (sealed_before entries n) (Admits asked) r) reply))
+    (λ number x f. s.ends number x (sym (no_end_more entries n number e is (ap (λ (a : Act). withdrawal_by (sealed_before entries n) number a e.reply) act)) ∙ f)) s
+
+-- the row of a name is one of the rows
+pub named_is_held : (rows : List Row) (name : List ℕ) (row : Row) → row_named rows name ≡ Some row → Contains rows row
+named_is_held [] name row e = absurd cc
+named_is_held (x ∷ rows) name row e = first_or_later (is_text x.name name) e (named_is_held rows name row)
+  where
+    first_or_later : (b : Bool) → cond b (Some x) (row_named rows name) ≡ Some row → (row_named rows name ≡ Some row → Contains rows row) → Contains (x ∷ rows) row
+    first_or_later true f r = contains_here x row rows (same_Some x row f)
+    first_or_later false f r = contains_there x row rows (r f)
+
+-- a held row is an admitted one with its withdrawal
+pub held_stream : (d : Domain) (entries : List Recorded) (n : ℕ) (row : Row) → n ≤ length entries → Contains (held_in d (take n entries) (sealed_before entries n)) row → (stream : Row) × Contains (admitted_before d entries n) stream × (with_end (withdrawn_before entries n) stream ≡ row)
+held_stream d entries n row within h =
+    let streams = contains_from_filter (λ (r : Row). is_held r (sealed_before entries n)) (streams_of d (take n entries)) row h in
+    contains_from_map (with_end (withdrawn_before entries n)) (admitted_before d entries n) row (subst (λ (xs : List Row). Contains xs row) (streams_front entries n within d) streams.0)
+
+-- the number of an admitted stream is below the next one
+pub number_below : (d : Domain) (entries : List Recorded) (n : ℕ) (stream : Row) → Sound d entries n → Contains (admitted_before d entries n) stream → stream.no < length (admitted_before d entries n)
+number_below d entries n stream s (k, h, e) =
+    let rows = admitted_before d entries n in
+    let there : slice_get rows k ≡ Some stream = slice_get-get_or rows k stream h ∙ ap (λ (r : Row). Some r) e in
+    omega (arith, h, s.numbers k stream there)
+
+-- an entry that withdraws a stream does so of an admitted one
+withdrawal_of_one : (d : Domain) (entries : List Recorded) (n : ℕ) (e : Recorded) (name : List ℕ) (found : Option Row) → n ≤ length entries → slice_get entries n ≡ Some e → e.act ≡ Withdraws name → e.reply ≡ withdraw_reply (sealed_before entries n) found → row_named (held_in d (take n entries) (sealed_before entries n)) name ≡ found → Sound d entries n → (number : ℕ) (x : Cycle) → withdrawn_before entries (suc n) number ≡ Some x → number < length (admitted_before d entries n)
+withdrawal_of_one d entries n e name None within is act reply found s number x f =
+    s.ends number x (sym (no_end_more entries n number e is (ap (λ (a : Act). withdrawal_by (sealed_before entries n) number a e.reply) act ∙ ap (λ (r : Reply). withdrawal_by (sealed_before entries n) number (Withdraws name) r) reply)) ∙ f)
+withdrawal_of_one d entries n e name (Some row) within is act reply found s number x f = by_end row.withdrawn reply
+  where
+    of_this : (b : Bool) → (row.no == number) ≡ b → withdrawal_by (sealed_before entries n) number e.act e.reply ≡ (if row.no == number then record { 0 = sealed_before entries n } ∷ [] else []) → number < length (admitted_before d entries n)
+    of_this true t w =
+        let held = held_stream d entries n row within (named_is_held (held_in d (take n entries) (sealed_before entries n)) name row found) in
+        let same : row.no ≡ number = eqb-true row.no number t in
+        let of_stream : held.0.no ≡ row.no = ap (λ (r : Row). r.no) held.2 in
+        omega (arith, same, of_stream, number_below d entries n held.0 s held.1)
+    of_this false t w = s.ends number x (sym (no_end_more entries n number e is (w ∙ ap (λ (b : Bool). if b then record { 0 = sealed_before entries n } ∷ [] else []) t)) ∙ f)
+
+    by_end : (o : Option Cycle) → e.reply ≡ withdraw_row (sealed_before entries n) row.no o → number < length (admitted_before d entries n)
+    by_end None r = of_this (row.no == number) refl (ap (λ (a : Act). withdrawal_by (sealed_before entries n) number a e.reply) act ∙ ap (λ (q : Reply). withdrawal_by (sealed_before entries n) number (Withdraws name) q) r)
+    by_end (Some before) r =
+        s.ends number x (sym (no_end_more entries n number e is (ap (λ (a : Act). withdrawal_by (sealed_before entries n) number a e.reply) act ∙ ap (λ (q : Reply). withdrawal_by (sealed_before entries n) number (Withdraws name) q) r)) ∙ f)
 
 entry_sound : (d : Domain) (entries : List Recorded) (n : ℕ) (e : Recorded) (act : Act) → suc n ≤ length entries → slice_get entries n ≡ Some e → e.act ≡ act → e.reply ≡ reply_to d (take n entries) act → Sound d entries n → Sound d entries (suc n)
 entry_sound d entries n e (Admits asked) h is act reply s =
     request_sound d entries n e asked (refusal_of d (held_in d (take n entries) (sealed_before entries n)) asked) h is act reply refl s
 entry_sound d entries n e (Withdraws name) h is act reply s =
-    sound_kept d entries n h (admits_none d entries n e is (ap (λ (a : Act). stream_by d [] (sealed_before entries n) a e.reply) act)) s
+    sound_kept d entries n h (admits_none d entries n e is (ap (λ (a : Act). stream_by d [] (sealed_before entries n) a e.reply) act))
+    (withdrawal_of_one d entries n e name (row_named (held_in d (take n entries) (sealed_before entries n)) name) (omega (arith, h)) is act reply refl s) s
 entry_sound d entries n e Seals h is act reply s =
-    sound_kept d entries n h (admits_none d entries n e is (ap (λ (a : Act). stream_by d [] (sealed_before entries n) a e.reply) act)) s
+    sound_kept d entries n h (admits_none d entries n e is (ap (λ (a : Act). stream_by d [] (sealed_before entries n) a e.reply) act))
+    (λ number x f. s.ends number x (sym (no_end_more entries n number e is (ap (λ (a : Act). withdrawal_by (sealed_before entries n) number a e.reply) act)) ∙ f)) s
+
+-- each answer is the one that is due
+abbrev pub AreDue : Domain → List Recorded → Type 0
+AreDue d entries = (place : ℕ) (e : Recorded) → slice_get entries place ≡ Some e → e.reply ≡ reply_to d (take place entries) e.act
 
 -- all that holds before each place of a legal history
-pub sound : (d : Domain) (entries : List Recorded) → IsLegalHistory d entries → (n : ℕ) → n ≤ length entries → Sound d entries n
-sound d entries legal zero h =
+pub sound : (d : Domain) (entries : List Recorded) → AreDue d entries → (n : ℕ) → n ≤ length entries → Sound d entries n
+sound d entries due zero h =
     record {
       numbers = λ k row e. absurd cc;
       paths = λ row k. absurd (contains_nil row k);
+      least_octets = λ row k. absurd (contains_nil row k);
+      most_octets = λ row k. absurd (contains_nil row k);
+      ends = λ number x e. absurd cc;
       begun = λ row k. absurd (contains_nil row k);
       names = pairs_nil (λ (a b : Row). held_before entries 0 a ≡ true → held_before entries 0 b ≡ true → a.name ≢ b.name);
       loads = λ l. omega arith;
     }
-sound d entries legal (suc n) h =
+sound d entries due (suc n) h =
     let e = entry_at entries n (omega (arith, h)) in
-    let due = legal.replies n e.0 e.1 in
-    entry_sound d entries n e.0 e.0.act h e.1 refl due (sound d entries legal n (omega (arith, h)))
+    entry_sound d entries n e.0 e.0.act h e.1 refl (due n e.0 e.1) (sound d entries due n (omega (arith, h)))

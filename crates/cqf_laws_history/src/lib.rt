@@ -4,6 +4,10 @@
 //! `cqf_model`, and its proof shows that the statement holds for each domain and legal history. A proof elsewhere uses
 //! the law by a call of the function.
 //!
+//! - [`tables_are_orderly`]: what the tables of a legal history give to the laws of the network.
+//! - [`state_follows_history`]: how the streams that are held change with each entry, so that an administration needn't
+//!   look through its history.
+//!
 //! ```
 //! // here on, a proof knows that the tables of a legal history are orderly: no link of them is over its budget
 //! cqf_laws_history::tables_are_orderly();
@@ -11,6 +15,16 @@
 #![tactic(auto)]
 
 ghost use Rattle.cqf_laws_history.specs.HistoryLaws.{TablesAreOrderly, ThereAreSoManyTables};
+ghost use Rattle.cqf_laws_history.specs.StateLaws.{
+  HistoryGoesOn,
+  SealsAreCounted,
+  GrantedIsHeld,
+  RefusedChangesNothing,
+  WithdrawnIsHeldOn,
+  SealLetsGo,
+  SealClosesTable,
+  HeldAreSound,
+};
 
 /// The tables of the first cycles of a legal history are one a cycle, and orderly: their paths are paths of the domain,
 /// numbers and names name one stream, a live stream stays until its last frame has left its last bridge, and what the
@@ -18,4 +32,17 @@ ghost use Rattle.cqf_laws_history.specs.HistoryLaws.{TablesAreOrderly, ThereAreS
 pub fn tables_are_orderly()
     ensures orderly { TablesAreOrderly }
     ensures count { ThereAreSoManyTables }
+{}
+
+/// A running state tells what a whole history says: with each entry the streams that are held in the next cycle, and the
+/// number of the next stream, change in one small step (profile).
+pub fn state_follows_history()
+    ensures goes_on { HistoryGoesOn }
+    ensures counted { SealsAreCounted }
+    ensures granted { GrantedIsHeld }
+    ensures refused { RefusedChangesNothing }
+    ensures withdrawn { WithdrawnIsHeldOn }
+    ensures lets_go { SealLetsGo }
+    ensures closes { SealClosesTable }
+    ensures held { HeldAreSound }
 {}

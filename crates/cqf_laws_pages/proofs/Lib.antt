@@ -1,2 +1,6 @@
 pub mod Picked
 pub mod PageParts
+pub mod Closed
+pub mod PortCycles
+pub mod Continued
+pub mod Batches

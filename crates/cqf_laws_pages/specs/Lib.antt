@@ -1,1 +1,3 @@
 pub mod PageLaws
+pub mod PortCycle
+pub mod BridgeCycle

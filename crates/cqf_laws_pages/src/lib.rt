@@ -1,9 +1,30 @@
 //! Laws about a book and its pages, and about what a bridge does in one cycle.
 //!
 //! Each law is a function that does nothing: its contract is a statement of `specs/` about the definitions of
-//! `cqf_model`. A proof elsewhere uses the law by a call of the function.
+//! `cqf_model`, and its proof shows that the statement holds for each domain. A proof elsewhere uses the law by a call of
+//! the function.
+//!
+//! - Of a book: each page is of its bridge alone, and the pages together are the book ([`page_is_of_its_bridge`],
+//!   [`book_is_its_pages`]).
+//! - Of a port under the compiled gate lists: what is queued in a cycle waits ([`queued_frames_wait`]), so what the port
+//!   sends in a cycle hangs on what was queued before it ([`port_sends_what_was_queued_before`]).
+//! - Of a bridge: it takes a cycle's frames behind those of the cycles before ([`bridge_goes_on`]), and these are what its
+//!   incoming links send in the cycle and what is offered in it ([`cycle_brings_its_batches`]).
+//!
+//! ```
+//! // here on, a proof knows that books of one domain with the same pages are equal
+//! cqf_laws_pages::book_is_its_pages();
+//! ```
 #![tactic(auto)]
 
+mod bridges;
 mod pages;
+mod ports;
 
+pub use bridges::{
+    bridge_goes_on, cycle_brings_its_batches, drops_are_of_the_cycle, frames_keep_their_order,
+};
 pub use pages::{book_is_its_pages, page_is_of_its_bridge};
+pub use ports::{
+    closed_arrivals_change_nothing, port_sends_what_was_queued_before, queued_frames_wait,
+};

@@ -4,3 +4,4 @@ pub mod Steps
 pub mod Starts
 pub mod Taking
 pub mod Running
+pub mod Orderly

@@ -5,6 +5,7 @@ ghost use Rattle.cqf_model.specs.declared.ports.Start.{Start as AStart};
 ghost use Rattle.cqf_model.specs.Traffic.{AreOffers};
 ghost use Rattle.cqf_model.specs.Book.{IsOneThreadBook};
 ghost use Rattle.cqf_edge.specs.InTime.{IsDue};
+ghost use Rattle.cqf_shift.specs.Books.{SaysTheShift};
 ghost use Rattle.cqf_line.specs.Line.{line_domain, line_tables};
 ghost use Rattle.cqf_line.specs.Run.{line_rules, started_by, HasTaken, HasRun};
 
@@ -12,6 +13,7 @@ use crate::compiled::CYCLE_TIME;
 use crate::edge::Edge;
 use cqf_edge::{Due, in_time, sort_drops};
 use cqf_model::{Book, Offer, Start, Started};
+use cqf_shift::book_says_the_shift;
 use cqf_units::{Memory, Nanos, cycle_of};
 use std::alloc::Global;
 
@@ -85,8 +87,10 @@ pub fn line_book(alloc: Global, offers: &[Offer], cycles: u32) -> Result<Book, M
     requires offers { AreOffers line_domain offers.now }
     requires few { length offers.now ≤ 1000000 }
     requires short { cycles ≤ 100000 }
-    ensures { IfOk result (λ book. IsOneThreadBook line_domain (line_tables cycles) offers.now book.starts.items book.drops.items) }
+    ensures book { IfOk result (λ book. IsOneThreadBook line_domain (line_tables cycles) offers.now book.starts.items book.drops.items) }
+    ensures shift { IfOk result (λ book. SaysTheShift line_domain (line_tables cycles) offers.now book.starts.items book.drops.items) }
 {
+    book_says_the_shift();
     let end = end_of_run(cycles);
     let dues = in_time(alloc, offers, 0, end)?;
     let mut edge = taken(alloc, offers, dues.as_slice(), cycles)?;

@@ -3,6 +3,8 @@ use Rattle.std.specs.List.{All}
 use Rattle.std.proofs.lemmas.List.Elements.{All-weaker}
 use Rattle.cqf_model.specs.declared.ports.Start.{Start}
 use Rattle.cqf_line.proofs.Running.{starts-early, book-of-calls}
+use Rattle.cqf_line.specs.Line.{line_domain, line_tables}
+use Rattle.cqf_line.proofs.Orderly.{line-accepted, line-orderly}
 use Rattle.cqf_line.proofs.book.line_book.Goals as goal
 
 pub started-requires : goal.started-requires
@@ -14,6 +16,7 @@ started-requires c =
 
 pub returns : goal.returns
 returns c =
-    book-of-calls c.args.cycles c.end_of_run-end.result c.args.offers.now _ _ _ _ _ _ _ _ _ _ _
+    let book = book-of-calls c.args.cycles c.end_of_run-end.result c.args.offers.now _ _ _ _ _ _ _ _ _ _ _
     c.end_of_run-end.ensures c.as_slice.ensures.value c.run.ensures.drops c.as_slice-2.ensures.value c.into_drops.ensures
-    c.in_ok-dues.ensures.each c.in_ok-dues.ensures.order c.in_ok-edge.ensures c.in_ok-starts.ensures.ok c.in_ok-started.ensures c.in_ok-sort_drops.ensures.ok
+    c.in_ok-dues.ensures.each c.in_ok-dues.ensures.order c.in_ok-edge.ensures c.in_ok-starts.ensures.ok c.in_ok-started.ensures c.in_ok-sort_drops.ensures.ok in
+    record { book = book; shift = c.book_says_the_shift.ensures line_domain (line_tables c.args.cycles) c.args.offers.now _ _ line-accepted (line-orderly c.args.cycles) c.requires.offers book }

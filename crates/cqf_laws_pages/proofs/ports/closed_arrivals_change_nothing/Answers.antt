@@ -1,0 +1,8 @@
+use Rattle.cqf_laws_pages.proofs.Closed.{front_legal, more_legal}
+use Rattle.cqf_laws_pages.proofs.ports.closed_arrivals_change_nothing.Goals as goal
+
+pub returns : goal.returns
+returns c rules arrivals closed end starts positive shut = (
+  front_legal rules arrivals closed end positive (λ x h t. shut x t h) starts,
+  more_legal rules arrivals closed end starts positive (λ x h t. shut x t h),
+)

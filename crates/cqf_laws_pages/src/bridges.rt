@@ -1,0 +1,28 @@
+//! What a bridge takes in one cycle.
+ghost use Rattle.cqf_laws_pages.specs.BridgeCycle.{BatchIsWholeInItsCycle, BridgeGoesOn, CycleBringsItsBatches, DropsAreOfTheCycle, FramesKeepTheirOrder, QueueGoesOn};
+
+/// What becomes of all that came to a bridge by the end of a cycle is what became of it before the cycle, and then what
+/// becomes of the cycle's frames behind that; and so it is in the queue of each port (profile).
+pub fn bridge_goes_on()
+    ensures policed { BridgeGoesOn }
+    ensures queued { QueueGoesOn }
+{}
+
+/// What a link sends in a cycle is whole in the next node within the cycle, so what comes to a bridge in a cycle is what
+/// its incoming links send in it and what is offered in it (IEEE 802.1Q, Annex T).
+pub fn cycle_brings_its_batches()
+    ensures whole { BatchIsWholeInItsCycle }
+    ensures brings { CycleBringsItsBatches }
+{
+    cqf_shift::port_list_sends();
+}
+
+/// The frames of a link are whole in the next node in the order in which they were sent, at different instants.
+pub fn frames_keep_their_order()
+    ensures { FramesKeepTheirOrder }
+{}
+
+/// The drops of a cycle at a bridge are those among what comes to it in the cycle.
+pub fn drops_are_of_the_cycle()
+    ensures { DropsAreOfTheCycle }
+{}
