@@ -20,7 +20,7 @@ use Rattle.cqf_shift.proofs.Cycles.{cycle_from}
 use Rattle.cqf_laws_pages.specs.BridgeCycle.{policed_in, received_in}
 
 -- the lists of all numbers below a sum
-each_more : {A : Type 0} (f : ℕ → List A) (n m : ℕ) → each_below f (n + m) ≡ each_below f n ++ each_below (λ k. f (n + k)) m
+pub each_more : {A : Type 0} (f : ℕ → List A) (n m : ℕ) → each_below f (n + m) ≡ each_below f n ++ each_below (λ k. f (n + k)) m
 each_more f n zero =
     let e : n + 0 ≡ n = omega arith in ap (each_below f) e ∙ sym (append-nil (each_below f n))
 each_more {A} f n (suc m) =
@@ -35,6 +35,11 @@ police_more d tables test bridge earlier (x ∷ xs) ys =
     let more = earlier ++ p ∷ [] in
     let rest = police_all d tables test bridge more xs in
     ap (λ (ps : List Policed). p ∷ ps) (police_more d tables test bridge more xs ys ∙ ap (λ (ps : List Policed). rest ++ police_all d tables test bridge ps ys) (append_assoc earlier (p ∷ []) rest))
+
+-- cycles take time where anything comes before the end
+pub takes_time : (t cycles cycle_time : ℕ) → t < cycles * cycle_time → 0 < cycle_time
+takes_time t cycles cycle_time l =
+    elim (cases_lt 0 cycle_time) [ inl h ↦ h | inr g ↦ (let e : cycle_time ≡ 0 = omega (arith, g) in absurd (omega (arith, l, ap (λ (x : ℕ). cycles * x) e))) ]
 
 module _ (d : Domain) (tables : List (List Row)) (offers : List Offer) (net : Network) where
   abbrev so_far : ℕ → ℕ → List Policed
@@ -54,11 +59,6 @@ module _ (d : Domain) (tables : List (List Row)) (offers : List Offer) (net : Ne
   queue_goes_on l cycle =
       let bridge = bridge_of d l in
       ap (queued_to d l) (goes_on bridge cycle) ∙ flat_map-append (λ (p : Policed). queued_by d l p.received p.verdict) (so_far bridge cycle) (policed_in d tables offers net bridge cycle (so_far bridge cycle))
-
-  -- cycles take time where anything comes before the end
-  takes_time : (t cycles : ℕ) → t < cycles * d.cycle_time → 0 < d.cycle_time
-  takes_time t cycles l =
-      elim (cases_lt 0 d.cycle_time) [ inl h ↦ h | inr g ↦ (let e : d.cycle_time ≡ 0 = omega (arith, g) in absurd (omega (arith, l, ap (λ (x : ℕ). cycles * x) e))) ]
 
   module _ (cycles cycle bridge place : ℕ) (within_run : cycle < cycles) where
     abbrev test : Policed → Bool
@@ -82,7 +82,7 @@ module _ (d : Domain) (tables : List (List Row)) (offers : List Offer) (net : Ne
         let later : filter test f.rest ≡ [] =
         filter_none_of test f.rest (λ p h. fails p (λ e.
         let when = f.late p h in
-        let after : cycle + 1 ≤ cycle_of d p.received.at = le-div (cycle + 1) p.received.at d.cycle_time (takes_time p.received.at cycles when.1) when.0 in
+        let after : cycle + 1 ≤ cycle_of d p.received.at = le-div (cycle + 1) p.received.at d.cycle_time (takes_time p.received.at cycles d.cycle_time when.1) when.0 in
         omega (arith, after, e))) in
         ap (filter test) f.is
         ∙ filter-append test (so_far bridge (cycle + 1)) f.rest

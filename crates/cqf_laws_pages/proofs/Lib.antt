@@ -4,3 +4,5 @@ pub mod Closed
 pub mod PortCycles
 pub mod Continued
 pub mod Batches
+pub mod Gathering
+pub mod Steps

@@ -13,8 +13,9 @@ use Rattle.cqf_model.specs.Domain.{Domain, IsAccepted, leaves}
 use Rattle.cqf_model.specs.Network.{bridge_of}
 use Rattle.cqf_model.specs.Traffic.{DroppedFor, ExceedsGate, LacksRow, Network, Policed, Queued, Received, Verdict, each_below}
 use Rattle.cqf_laws_network.proofs.Lists.{contains_cons, contains_from_each, contains_from_flat_map, contains_from_map, contains_if, contains_nil, each_same, filter_all, filter_none_of}
+use Rattle.cqf_shift.proofs.Lists.{filter_below}
 use Rattle.cqf_laws_pages.specs.PageLaws.{drops_of_pages, is_on_link, starts_of_pages}
-use Rattle.cqf_laws_pages.proofs.Picked.{filter_below, filter_one}
+use Rattle.cqf_laws_pages.proofs.Picked.{filter_one}
 
 -- a drop is of the cycle and the bridge of its list
 dropped_at : (cycle bridge : ℕ) (x : Received) (verdict : Verdict) (drop : Dropped) → Contains (drop_by cycle bridge x verdict) drop → (drop.cycle.0 ≡ cycle) × (drop.bridge ≡ bridge)

@@ -30,7 +30,7 @@ use Rattle.cqf_laws_network.proofs.Lists.{contains_cons, contains_from_flat_map,
 use Rattle.cqf_laws_network.proofs.Ports.{Late, port_part}
 use Rattle.cqf_shift.specs.Compiled.{GateGivesClass, PortListIsOpen, given_class, open_class}
 use Rattle.cqf_shift.proofs.Cycles.{cycle_from, cycle_is, cycle_upto, parity}
-use Rattle.cqf_laws_pages.proofs.Closed.{IsClosedUntil, front_legal}
+use Rattle.cqf_laws_pages.proofs.Closed.{IsClosedUntil, front_legal, more_legal}
 
 -- an octet takes time on each link that the domain has
 rate_positive : (rate : Rate) → 0 < nanos_of_octet rate
@@ -114,6 +114,58 @@ fewer_sends d entries end l front more sents positive closed s =
           ap by (get_or_append_left front more no_frame x.0 inside));
     }
 
+-- and with them it sends the same
+more_sends : (d : Domain) (entries : List Entry) (end l : ℕ) (front more : List QueuedFrame) (sents : List Sent) → 0 < octet_time_of d l → ((x : Arrival) → Contains (arrivals_of more) x → IsClosedUntil (record { entries = entries; octet_time = octet_time_of d l }) end x) → Sends d entries end l front sents → Sends d entries end l (front ++ more) sents
+more_sends d entries end l front more sents positive closed s =
+    let rules : PortRules = record { entries = entries; octet_time = octet_time_of d l } in
+    let parts : arrivals_of (front ++ more) ≡ arrivals_of front ++ arrivals_of more = map-append (λ (x : QueuedFrame). x.arrival) front more in
+    let legal = more_legal rules (arrivals_of front) (arrivals_of more) end s.starts positive closed s.legal in
+    record {
+      starts = s.starts;
+      legal = subst (λ (xs : List Arrival). AreLegal rules xs end s.starts) (sym parts) legal;
+      are = s.are ∙ map_same (sent_of front) (sent_of (front ++ more)) s.starts (λ x h.
+          let inside : x.0 < length front = omega (arith, (s.legal.first x.0 x.1 h).waits.inside, length-map front (λ (y : QueuedFrame). y.arrival)) in
+          let by : QueuedFrame → Sent = λ y. record { start = record { 0 = x.1 }; frame = y.arrival.frame; stream = y.stream; octets = y.arrival.octets } in
+          sym (ap by (get_or_append_left front more no_frame x.0 inside)));
+    }
+
+-- what is queued to a port by the end of a cycle: what was queued before the cycle, and frames whose gates are closed to
+-- the cycle's end
+pub record QueueSplits (d : Domain) (tables : List (List Row)) (offers : List Offer) (net : Network) (cycle l : ℕ) : Type 0 where
+  pub more : List QueuedFrame
+  pub parts : queued_before d tables offers net l ((cycle + 1) * d.cycle_time) ≡ queued_before d tables offers net l (cycle * d.cycle_time) ++ more
+  pub closed : (x : Arrival) → Contains (arrivals_of more) x → IsClosedUntil (record { entries = compiled_lists d l; octet_time = octet_time_of d l }) ((cycle + 1) * d.cycle_time) x
+
+pub queue_splits : GateGivesClass → PortListIsOpen → (d : Domain) (tables : List (List Row)) (offers : List Offer) (net : Network) (cycle l : ℕ) → d.guard < d.cycle_time → QueueSplits d tables offers net cycle l
+queue_splits gives opens d tables offers net cycle l short =
+    let first = cycle * d.cycle_time in
+    let last = (cycle + 1) * d.cycle_time in
+    let entries = compiled_lists d l in
+    let f = policed_front d tables offers net (bridge_of d l) first last (omega arith) in
+    let by = λ (p : Policed). queued_by d l p.received p.verdict in
+    let some : 0 < d.cycle_time = omega (arith, short) in
+    record {
+      more = queued_to d l f.rest;
+      parts = ap (queued_to d l) f.is ∙ flat_map-append by (policed_before d tables offers net (bridge_of d l) first) f.rest;
+      closed = λ x h.
+          let w = contains_from_map (λ (q : QueuedFrame). q.arrival) (queued_to d l f.rest) x h in
+          let from = queued_from gives d l f.rest w.0 some w.1 in
+          let at : x.at.0 ≡ from.0.received.at = sym (ap (λ (y : Arrival). y.at.0) w.2) ∙ from.2.when in
+          let later : cycle ≤ cycle_of d from.0.received.at = le-div cycle from.0.received.at d.cycle_time some (f.late from.0 from.1).0 in
+          let ends : last ≤ (cycle_of d from.0.received.at + 1) * d.cycle_time = mul-le-mul_right d.cycle_time (omega (arith, later)) in
+          λ t came upto is_open. given_waits opens d l t from.0.received.at w.0 short from.2 (omega (arith, at, came)) (omega (arith, ends, upto))
+          (subst (λ (y : Arrival). IsOpen entries y.class t) (sym w.2) is_open);
+    }
+
+-- where a network sends up to the end of a cycle what its gate lists demand for what was queued before the cycle, it sends
+-- what they demand for all that was queued by then
+pub sends_of_all : GateGivesClass → PortListIsOpen → (d : Domain) (tables : List (List Row)) (offers : List Offer) (net : Network) (cycle l : ℕ) (sents : List Sent) → d.guard < d.cycle_time → l < length d.links → Sends d (compiled_lists d l) ((cycle + 1) * d.cycle_time) l (queued_before d tables offers net l (cycle * d.cycle_time)) sents → Sends d (compiled_lists d l) ((cycle + 1) * d.cycle_time) l (queued_before d tables offers net l ((cycle + 1) * d.cycle_time)) sents
+sends_of_all gives opens d tables offers net cycle l sents short in_links s =
+    let last = (cycle + 1) * d.cycle_time in
+    let q = queue_splits gives opens d tables offers net cycle l short in
+    subst (λ (xs : List QueuedFrame). Sends d (compiled_lists d l) last l xs sents) (sym q.parts)
+    (more_sends d (compiled_lists d l) last l (queued_before d tables offers net l (cycle * d.cycle_time)) q.more sents (octet_positive d l in_links) q.closed s)
+
 module _ (d : Domain) (tables : List (List Row)) (offers : List Offer) (cycles cycle l : ℕ) (net : Network) (accepted : IsAccepted d) (legal : IsLegalNetwork d (compiled_lists d) tables offers cycles net) (in_cycles : cycle < cycles) (in_links : l < length d.links) where
   abbrev first : ℕ
   first = cycle * d.cycle_time
@@ -133,21 +185,8 @@ module _ (d : Domain) (tables : List (List Row)) (offers : List Offer) (cycles c
       let le : last ≤ end = mul-le-mul_right d.cycle_time (omega (arith, in_cycles)) in
       let so_far : Sends d entries last l whole (sent_before last (net l)) =
       port_part d entries l part last end (queued_before d tables offers net l end) whole whole (net l) le (queued_front d tables offers net l last end le) (front_whole whole whole (Late last) refl) (legal.sends l in_links) in
-      let f = policed_front d tables offers net (bridge_of d l) first last (omega arith) in
-      let by = λ (p : Policed). queued_by d l p.received p.verdict in
-      let more = queued_to d l f.rest in
-      let parts : whole ≡ queue ++ more = ap (queued_to d l) f.is ∙ flat_map-append by (policed_before d tables offers net (bridge_of d l) first) f.rest in
-      let some : 0 < d.cycle_time = omega (arith, accepted.guard_short) in
-      let closed : (x : Arrival) → Contains (arrivals_of more) x → IsClosedUntil (record { entries = entries; octet_time = octet_time_of d l }) last x =
-      λ x h.
-      let w = contains_from_map (λ (q : QueuedFrame). q.arrival) more x h in
-      let from = queued_from gives d l f.rest w.0 some w.1 in
-      let at : x.at.0 ≡ from.0.received.at = sym (ap (λ (y : Arrival). y.at.0) w.2) ∙ from.2.when in
-      let later : cycle ≤ cycle_of d from.0.received.at = le-div cycle from.0.received.at d.cycle_time some (f.late from.0 from.1).0 in
-      let ends : last ≤ (cycle_of d from.0.received.at + 1) * d.cycle_time = mul-le-mul_right d.cycle_time (omega (arith, later)) in
-      λ t came upto is_open. given_waits opens d l t from.0.received.at w.0 accepted.guard_short from.2 (omega (arith, at, came)) (omega (arith, ends, upto))
-      (subst (λ (y : Arrival). IsOpen entries y.class t) (sym w.2) is_open) in
-      fewer_sends d entries last l queue more (sent_before last (net l)) (octet_positive d l in_links) closed (subst (λ (xs : List QueuedFrame). Sends d entries last l xs (sent_before last (net l))) parts so_far)
+      let q = queue_splits gives opens d tables offers net cycle l accepted.guard_short in
+      fewer_sends d entries last l queue q.more (sent_before last (net l)) (octet_positive d l in_links) q.closed (subst (λ (xs : List QueuedFrame). Sends d entries last l xs (sent_before last (net l))) q.parts so_far)
 
   -- so a port that has that alone starts in the cycle what its link sends in it
   pub batch_is_made : LegalPartIsLegalForTheSamePast → LegalStartsAreUnique → GateGivesClass → PortListIsOpen → (before made : List Transmission) → AreLegal (record { entries = compiled_lists d l; octet_time = octet_time_of d l }) (arrivals_of queue) last (before ++ made) → ((place s : ℕ) → Contains before (place, s) → s < first) → ((place s : ℕ) → Contains made (place, s) → first ≤ s) → batch d net l cycle ≡ map (sent_of queue) made

@@ -1,3 +1,5 @@
 pub mod PageLaws
 pub mod PortCycle
 pub mod BridgeCycle
+pub mod Gathered
+pub mod RunSteps

@@ -1,5 +1,6 @@
 //! What a bridge takes in one cycle.
 ghost use Rattle.cqf_laws_pages.specs.BridgeCycle.{BatchIsWholeInItsCycle, BridgeGoesOn, CycleBringsItsBatches, DropsAreOfTheCycle, FramesKeepTheirOrder, QueueGoesOn};
+ghost use Rattle.cqf_laws_pages.specs.Gathered.{FramesAreTakenInOrder};
 
 /// What becomes of all that came to a bridge by the end of a cycle is what became of it before the cycle, and then what
 /// becomes of the cycle's frames behind that; and so it is in the queue of each port (profile).
@@ -25,4 +26,10 @@ pub fn frames_keep_their_order()
 /// The drops of a cycle at a bridge are those among what comes to it in the cycle.
 pub fn drops_are_of_the_cycle()
     ensures { DropsAreOfTheCycle }
+{}
+
+/// The frames of a cycle, gathered by link and then by offer, and brought into order of instant by a stable sort, stand in
+/// the order in which the bridge takes them (profile).
+pub fn frames_are_taken_in_order()
+    ensures { FramesAreTakenInOrder }
 {}

@@ -1,4 +1,4 @@
-//! Laws about a book and its pages, and about what a bridge does in one cycle.
+//! Laws about a book and its pages, and about a run that goes on cycle by cycle.
 //!
 //! Each law is a function that does nothing: its contract is a statement of `specs/` about the definitions of
 //! `cqf_model`, and its proof shows that the statement holds for each domain. A proof elsewhere uses the law by a call of
@@ -9,7 +9,10 @@
 //! - Of a port under the compiled gate lists: what is queued in a cycle waits ([`queued_frames_wait`]), so what the port
 //!   sends in a cycle hangs on what was queued before it ([`port_sends_what_was_queued_before`]).
 //! - Of a bridge: it takes a cycle's frames behind those of the cycles before ([`bridge_goes_on`]), and these are what its
-//!   incoming links send in the cycle and what is offered in it ([`cycle_brings_its_batches`]).
+//!   incoming links send in the cycle and what is offered in it ([`cycle_brings_its_batches`]), in order of instant
+//!   ([`frames_are_taken_in_order`]).
+//! - Of a run: it goes on from legal to legal ([`run_goes_on`]), and a longer one changes nothing of its cycles
+//!   ([`longer_run_keeps_its_cycles`]).
 //!
 //! ```
 //! // here on, a proof knows that books of one domain with the same pages are equal
@@ -20,11 +23,14 @@
 mod bridges;
 mod pages;
 mod ports;
+mod runs;
 
 pub use bridges::{
-    bridge_goes_on, cycle_brings_its_batches, drops_are_of_the_cycle, frames_keep_their_order,
+    bridge_goes_on, cycle_brings_its_batches, drops_are_of_the_cycle, frames_are_taken_in_order,
+    frames_keep_their_order,
 };
 pub use pages::{book_is_its_pages, page_is_of_its_bridge};
 pub use ports::{
     closed_arrivals_change_nothing, port_sends_what_was_queued_before, queued_frames_wait,
 };
+pub use runs::{longer_run_keeps_its_cycles, run_goes_on, run_is_its_cycles};

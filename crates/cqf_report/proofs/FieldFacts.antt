@@ -1,5 +1,5 @@
 -- The fields of a record of four, by their places.
-use Rattle.std.proofs.Common.{◌≡◌, ◌<◌, ℕ, zero, suc, List, [], ◌∷◌, Option, Some, None, length, ap, refl, arith}
+use Rattle.std.proofs.Common.{◌∙◌, sym, ◌≡◌, ◌<◌, ℕ, zero, suc, List, [], ◌∷◌, Option, Some, None, length, ap, refl, arith}
 use Rattle.csv.specs.Records.{field_at}
 use Rattle.cqf_report.specs.Records.{Fields}
 use Rattle.cqf_report.specs.Table.{four_of, in_four}
@@ -62,3 +62,8 @@ in_four-some read (a ∷ b ∷ c ∷ []) p q r s four = cc
 in_four-some read (a ∷ b ∷ c ∷ d ∷ []) p q r s four =
     ap (λ (o : Option (List ℕ × List ℕ × List ℕ × List ℕ)). option_map_or (λ (f : List ℕ × List ℕ × List ℕ × List ℕ). read f.0 f.1 f.2 f.3) o None) four
 in_four-some read (a ∷ b ∷ c ∷ d ∷ e ∷ fields) p q r s four = cc
+
+-- what a record writes, by what its four fields were read as
+pub in_four-read : {A : Type 0} (read : List ℕ → List ℕ → List ℕ → List ℕ → Option A) (fields : Fields) (p q r s : List ℕ) (o what : Option A)
+    → four_of fields ≡ Some (p, q, r, s) → o ≡ read p q r s → o ≡ what → in_four read fields ≡ what
+in_four-read read fields p q r s o what four is was = in_four-some read fields p q r s four ∙ sym is ∙ was

@@ -2,3 +2,4 @@ pub mod Turns
 pub mod FieldFacts
 pub mod TableLemmas
 pub mod WrittenLemmas
+pub mod OfferLemmas

@@ -3,3 +3,4 @@ pub mod Table
 pub mod Arrivals
 pub mod Written
 pub mod Starts
+pub mod Offers

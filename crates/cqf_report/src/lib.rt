@@ -1,6 +1,6 @@
-//! Tables as comma-separated values: arrivals read, and starts written, by the crate `csv`.
+//! Tables as comma-separated values: offers and arrivals read, and starts written, by the crate `csv`.
 //!
-//! - [`read_arrivals`] reads the arrivals of a port.
+//! - [`read_arrivals`] reads the arrivals of a port, [`read_offers`] the offers of a run.
 //! - [`TableFault`] says why a table is refused, and at which row.
 //! - [`write_starts`] writes the starts of a port.
 //!
@@ -14,11 +14,13 @@
 
 mod arrivals;
 mod lines;
+mod offers;
 mod records;
 mod rows;
 mod starts;
 mod tables;
 
 pub use arrivals::read_arrivals;
+pub use offers::read_offers;
 pub use starts::write_starts;
 pub use tables::{OfferFault, TableFault};

@@ -15,3 +15,5 @@ pub mod Runs
 pub mod SentSums
 pub mod Ways
 pub mod Shifts
+pub mod Singles
+pub mod Wholes

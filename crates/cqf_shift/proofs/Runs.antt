@@ -18,9 +18,9 @@ use Rattle.cqf_model.specs.Domain.{Domain, cycle_of, octet_time_of, delay_of, en
 use Rattle.cqf_model.specs.Port.{no_arrival, instant_of, octets_of}
 use Rattle.cqf_model.specs.Traffic.{each_below, IsOffer, Network, Received, Policed, Queued, received_before, received_at, relayed_at, offered_at, offer_received, is_offered_at, policed_before, sent_received, whole_at}
 use Rattle.cqf_model.specs.Network.{QueuedFrame, queued_frame, queued_to, bridge_of, arrivals_of, no_frame, sent_of, Sends, compiled_lists}
-use Rattle.cqf_shift.specs.OnePort.{AreDue, due}
+use Rattle.cqf_shift.specs.OnePort.{AreDue, due, cycle_of_place}
 use Rattle.cqf_shift.specs.Run.{IsLegalRun}
-use Rattle.cqf_shift.proofs.Cycles.{cycle_is, cycle_from}
+use Rattle.cqf_shift.proofs.Cycles.{cycle_is, cycle_from, cycle_below}
 use Rattle.cqf_shift.proofs.Lists.{contains_map, contains_from_map, contains_filter, contains_from_filter, contains_below, contains_from_below, contains_here, contains_later, contains_cases, contains_none, pairs_below, all_from_members}
 use Rattle.cqf_shift.proofs.OnePorts.{port_is_one_cycle_late}
 use Rattle.cqf_shift.proofs.Orders.{pairs_members}
@@ -187,6 +187,7 @@ module _ (d : Domain) (tables : List (List Row)) (offers : List Offer) (net : Ne
     pub place : ℕ
     pub at_place : queued_frame d p.received row ≡ get_or (queued m) place no_frame
     pub in_queue : place < length (queued m)
+    pub is : sent_of (queued m) (place, sent.start.0) ≡ sent
 
   pub sent_for : (m : ℕ) (is_link : m < length d.links) (sent : Sent) → Contains (net m) sent → (x : IsSentFor m sent) × Contains (sends m is_link).starts (x.place, sent.start.0)
   sent_for m is_link sent c =
@@ -211,6 +212,7 @@ module _ (d : Domain) (tables : List (List Row)) (offers : List Offer) (net : Ne
           place = place;
           at_place = from.is;
           in_queue = in_queue;
+          is = ap (λ (z : ℕ). sent_of (queued m) (place, z)) (sym start) ∙ r.2;
         },
         subst (λ z. Contains s.starts (place, z)) start r.1,
       )
@@ -298,6 +300,18 @@ module _ (d : Domain) (tables : List (List Row)) (offers : List Offer) (net : Ne
       let inside = start_in_queue m is_link place s c in
       let arrival = get_or-map (λ (q : QueuedFrame). q.arrival) (queued m) place no_frame no_arrival inside in
       (timed m is_link (sent_of (queued m) (place, s)) place (get_or (queued m) place no_frame).arrival.at.0 c inside (ap (λ (a : Arrival). a.at.0) arrival) (ap (λ (a : Arrival). a.octets) arrival)).cycle
+
+  pub place_timed : (m : ℕ) (is_link : m < length d.links) (place s : ℕ) → Contains (sends m is_link).starts (place, s) → cycle_of d s ≡ cycle_of_place d.cycle_time (arrivals_of (queued m)) place + 1
+  place_timed m is_link place s c =
+      let inside = start_in_queue m is_link place s c in
+      let arrival = get_or-map (λ (q : QueuedFrame). q.arrival) (queued m) place no_frame no_arrival inside in
+      start_timed m is_link place s c ∙ ap (λ (a : Arrival). a.at.0 / d.cycle_time + 1) (sym arrival)
+
+  -- and when it is due
+  pub start_due : (m : ℕ) (is_link : m < length d.links) (place s : ℕ) → Contains (sends m is_link).starts (place, s) → s ≡ due d.cycle_time (octet_time_of d m) (arrivals_of (queued m)) place
+  start_due m is_link place s c =
+      let early = cycle_below d.cycle_time s (length tables) ((sends m is_link).legal.before_end place s c) in
+      ((ports_due m is_link).only place s c (omega (arith, early))).1
 
   -- and what is queued starts, as far as the run goes
   pub queued_starts : (m : ℕ) (is_link : m < length d.links) (p : Policed) (row : Row) → Contains (policed (bridge_of d m)) p → p.verdict ≡ Queued row m → cycle_of d p.received.at + 1 < length tables → (sent : Sent) × Contains (net m) sent × (sent.frame ≡ p.received.frame) × (sent.stream ≡ row.no) × (sent.octets ≡ p.received.octets) × IsTimed m p.received.at sent

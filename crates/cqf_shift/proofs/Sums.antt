@@ -1,8 +1,9 @@
 -- Sums over lists: members, groups, and matched elements.
-use Rattle.std.proofs.Common.{◌≡◌, ℕ, zero, suc, ◌+◌, ◌≤◌, ◌⊎◌, ◌∷◌, [], List, Bool, true, map, filter, flat_map, inl, inr, sym, ap, ap₂, ◌∙◌, subst, arith, refl, AllPairs, Contains, sum_by, if◌then◌else◌, ◌==◌, nat_lt, le_trans, zero-add, lt-ltb, le-ltb, ne_eqb, eq-eqb}
+use Rattle.std.proofs.Common.{◌≡◌, ℕ, zero, suc, ◌+◌, ◌<◌, ◌≤◌, ◌⊎◌, length, get_or, take, ◌∷◌, [], List, Bool, true, map, filter, flat_map, inl, inr, sym, ap, ap₂, ◌∙◌, subst, arith, refl, AllPairs, Contains, sum_by, if◌then◌else◌, ◌==◌, nat_lt, le_trans, zero-add, lt-ltb, le-ltb, ne_eqb, eq-eqb}
 use Rattle.std.specs.List.{enumerate_from}
-use Rattle.std.proofs.lemmas.Bool.{cases_Bool, cases_order, cases_eq, cond-true, cond-false}
-use Rattle.std.proofs.lemmas.List.Sums.{sum_by-cons, sum_by-append, get_or-le-sum_by}
+use Rattle.std.proofs.lemmas.Bool.{cases_Bool, cases_order, cases_lt, cases_eq, cond-true, cond-false}
+use Rattle.std.proofs.lemmas.List.Sums.{sum_by-cons, sum_by-append, sum_by_more_le, get_or-le-sum_by}
+use Rattle.std.proofs.lemmas.List.{get_or-take, length-take-le}
 use Rattle.cqf_model.specs.Traffic.{each_below}
 use Rattle.cqf_shift.proofs.Lists.{contains_here, contains_later}
 
@@ -106,22 +107,23 @@ sum_one_below f g m (suc n) others = elim (cases_eq n m) [
     none_before zero l = refl
     none_before (suc k) l = omega (arith, sum_below f g k, none_before k (omega (arith, l)), others k (λ e. absurd (omega (arith, e, l))))
 
+-- what a filter keeps
+pub sum_filter : {X : Type 0} (f : X → ℕ) (p : X → Bool) (xs : List X) → sum_by f (filter p xs) ≡ sum_by (λ x. if p x then f x else 0) xs
+sum_filter f p [] = refl
+sum_filter f p (x ∷ xs) = elim (cases_Bool (p x)) [
+  | inl t ↦ ap (sum_by f) (cond-true (p x) (x ∷ filter p xs) (filter p xs) t) ∙ sum_by-cons f x (filter p xs) ∙ ap₂ (λ a b. a + b) (sym (cond-true (p x) (f x) 0 t)) (sum_filter f p xs) ∙ sym (sum_by-cons (λ x. if p x then f x else 0) x xs)
+  | inr u ↦ ap (sum_by f) (cond-false (p x) (x ∷ filter p xs) (filter p xs) u) ∙ sum_filter f p xs ∙ sym (sum_by-cons (λ x. if p x then f x else 0) x xs ∙ ap (λ z. z + sum_by (λ x. if p x then f x else 0) xs) (cond-false (p x) (f x) 0 u) ∙ zero-add (sum_by (λ x. if p x then f x else 0) xs))
+]
+
 -- the elements by their keys, each once
 pub sum_by_keys : {X : Type 0} (f : X → ℕ) (key : X → ℕ) (xs : List X) (n : ℕ) → sum_by f (each_below (λ t. filter (λ x. key x == t) xs) n) ≡ sum_by (λ x. if nat_lt (key x) n then f x else 0) xs
 sum_by_keys f key xs zero = sym (sum_none (λ x. if nat_lt (key x) 0 then f x else 0) xs (λ x c. cond-false (nat_lt (key x) 0) (f x) 0 (le-ltb (key x) 0 (omega arith))))
 sum_by_keys {X} f key xs (suc n) =
     sum_below f (λ t. filter (λ x. key x == t) xs) n
-    ∙ ap₂ (λ a b. a + b) (sum_by_keys f key xs n) (sum_filter (λ x. key x == n) xs)
+    ∙ ap₂ (λ a b. a + b) (sum_by_keys f key xs n) (sum_filter f (λ x. key x == n) xs)
     ∙ sym (sum_plus (λ x. if nat_lt (key x) n then f x else 0) (λ x. if key x == n then f x else 0) xs)
     ∙ ap (λ (h : X → ℕ). sum_by h xs) (λ i. λ x. one (key x) (f x) i)
   where
-    sum_filter : (p : X → Bool) (xs : List X) → sum_by f (filter p xs) ≡ sum_by (λ x. if p x then f x else 0) xs
-    sum_filter p [] = refl
-    sum_filter p (x ∷ xs) = elim (cases_Bool (p x)) [
-      | inl t ↦ ap (sum_by f) (cond-true (p x) (x ∷ filter p xs) (filter p xs) t) ∙ sum_by-cons f x (filter p xs) ∙ ap₂ (λ a b. a + b) (sym (cond-true (p x) (f x) 0 t)) (sum_filter p xs) ∙ sym (sum_by-cons (λ x. if p x then f x else 0) x xs)
-      | inr u ↦ ap (sum_by f) (cond-false (p x) (x ∷ filter p xs) (filter p xs) u) ∙ sum_filter p xs ∙ sym (sum_by-cons (λ x. if p x then f x else 0) x xs ∙ ap (λ z. z + sum_by (λ x. if p x then f x else 0) xs) (cond-false (p x) (f x) 0 u) ∙ zero-add (sum_by (λ x. if p x then f x else 0) xs))
-    ]
-
     one : (k v : ℕ) → (if nat_lt k n then v else 0) + (if k == n then v else 0) ≡ (if nat_lt k (suc n) then v else 0)
     one k v = elim (cases_order k n) [
       | inl e ↦ omega (arith, cond-false (nat_lt k n) v 0 (le-ltb k n (omega (arith, e))), cond-true (k == n) v 0 (eq-eqb k n e), cond-true (nat_lt k (suc n)) v 0 (lt-ltb k (suc n) (omega (arith, e))))
@@ -130,3 +132,21 @@ sum_by_keys {X} f key xs (suc n) =
         | inr m ↦ omega (arith, cond-false (nat_lt k n) v 0 (le-ltb k n (omega (arith, m))), cond-false (k == n) v 0 (ne_eqb k n (λ e. absurd (omega (arith, e, m)))), cond-false (nat_lt k (suc n)) v 0 (le-ltb k (suc n) (omega (arith, m))))
       ]
     ]
+
+-- a sum that isn't 0 has a member that counts
+pub sum_some : {X : Type 0} (f : X → ℕ) (xs : List X) → (sum_by f xs ≡ 0) ⊎ ((x : X) × Contains xs x × (0 < f x))
+sum_some f [] = inl refl
+sum_some f (x ∷ xs) = elim (cases_lt 0 (f x)) [
+  | inl some ↦ inr (x, contains_here x xs, some)
+  | inr none ↦ elim (sum_some f xs) [
+    | inl z ↦ inl (omega (arith, sum_by-cons f x xs, z, none))
+    | inr r ↦ inr (r.0, contains_later x xs r.0 r.1, r.2)
+  ]
+]
+
+-- two elements are within the sum
+pub sum_two : {X : Type 0} (f : X → ℕ) (xs : List X) (i j : ℕ) (e : X) → i < j → j < length xs → f (get_or xs i e) + f (get_or xs j e) ≤ sum_by f xs
+sum_two f xs i j e less inside =
+    let first = get_or-le-sum_by f (take j xs) i e (omega (arith, length-take-le j xs (omega (arith, inside)), less)) in
+    let same : f (get_or (take j xs) i e) ≡ f (get_or xs i e) = ap f (get_or-take j xs i e less) in
+    omega (arith, first, same, sum_by_more_le f xs j e inside)

@@ -1,6 +1,6 @@
 -- Each frame inside is on the way of a covered offer, and none is lost.
-use Rattle.std.proofs.Common.{◌≡◌, ℕ, zero, suc, ◌+◌, ◌-◌, ◌/◌, ◌<◌, ◌≤◌, ◌∷◌, [], ◌++◌, List, true, Some, inl, inr, sym, ap, ap₂, ◌∙◌, subst, arith, refl, Contains, sum_by, length, slice_get, eq-eqb, eqb-true, ◌==◌, ◌&&◌, add-one, le-leb}
-use Rattle.std.proofs.lemmas.Bool.{cases_Bool, cases_lt, cond-true, cond-false, and_from, and_parts, false≢true}
+use Rattle.std.proofs.Common.{◌≡◌, ℕ, zero, suc, ◌+◌, ◌-◌, ◌/◌, ◌<◌, ◌≤◌, ◌∷◌, [], ◌++◌, List, true, Some, inl, inr, sym, ap, ap₂, ◌∙◌, subst, arith, refl, Contains, sum_by, length, slice_get, eq-eqb, eqb-true, ◌==◌, ◌&&◌, add-one, le-leb, if◌then◌else◌}
+use Rattle.std.proofs.lemmas.Bool.{cases_Bool, cases_lt, cond-true, cond-false, and_parts, false≢true}
 use Rattle.std.proofs.lemmas.List.Sums.{sum_by-append, sum_by-cons}
 use Rattle.std.proofs.lemmas.Option.{same_Some, slice_get_within, slice_get_cases}
 use Rattle.cqf_model.specs.declared.frames.Offer.{Offer}
@@ -18,7 +18,7 @@ use Rattle.cqf_shift.proofs.Lists.{contains_filter, contains_from_filter}
 use Rattle.cqf_shift.proofs.Paths.{next_link_at, next_link_is, one_leaves, link_inside, joined_leaves, joined_enters}
 use Rattle.cqf_shift.proofs.Policing.{Polices, polices_all, taken, has_come, has_verdict, is_queued_by, row_of_queued}
 use Rattle.cqf_shift.proofs.Runs.{came, policed, end, some_time, facts, octet_time_some, IsRelayed, came_by, relayed_comes, sent_timed, queued_starts, leaves_its_bridge, its_bridge}
-use Rattle.cqf_shift.proofs.SentSums.{is_by, arriving, arrives_within, sent_within, sent_octets}
+use Rattle.cqf_shift.proofs.SentSums.{of_stream, by_link, arriving_counts, arrives_within, sent_within, sent_counts}
 use Rattle.cqf_shift.proofs.Sums.{sum_map, sum_le_members}
 use Rattle.cqf_shift.proofs.Verdicts.{find_member, find_some, QueuedAtEdge, QueuedInside, IsQueuedBy, inside_passes, queued_number}
 
@@ -35,6 +35,9 @@ module _ (d : Domain) (tables : List (List Row)) (offers : List Offer) (net : Ne
   -- a covered offer: it is queued at its bridge, its row is of its cycle's table and live, and the row's path begins here
   pub record IsAtEdge (bridge : ℕ) (x : Received) (row : Row) (l : ℕ) : Type 0 where
     pub inside : Contains (given bridge) (record { received = x; verdict = Queued row l })
+    pub name : List ℕ
+    pub way : x.way ≡ AtEdge name
+    pub found : row_named (table_of tables (cycle_of d x.at)) name ≡ Some row
     pub member : Contains (table_of tables (cycle_of d x.at)) row
     pub live : is_live row (cycle_of d x.at) ≡ true
     pub first : first_link row.path.items ≡ Some l
@@ -46,11 +49,11 @@ module _ (d : Domain) (tables : List (List Row)) (offers : List Offer) (net : Ne
       let kept = contains_from_filter comes_at_edge (given bridge) p (subst (λ z. Contains z p) (sym (edge_is_covered d tables offers net bridge last (some_time d tables offers net run) run.orderly)) c) in
       let by = is_queued_by d tables bridge (come bridge) (given bridge) (facts d tables offers net run bridge) p row l kept.0 refl in
       let member = row_of_queued d tables bridge (come bridge) (given bridge) (facts d tables offers net run bridge) p row l kept.0 refl in
-      at_edge x.way kept.0 member by kept.1
+      at_edge x.way refl kept.0 member by kept.1
     where
-      at_edge : (way : Way) → Contains (given bridge) (record { received = x; verdict = Queued row l }) → Contains (table_of tables (cycle_of d x.at)) row → IsQueuedBy d (table_of tables (cycle_of d x.at)) bridge (cycle_of d x.at) way row l → is_offered way ≡ true → IsAtEdge bridge x row l
-      at_edge (AtEdge name) c member q e = record { inside = c; member = member; live = q.live; first = q.first; here = q.here }
-      at_edge (Relayed m number) c member q e = absurd (cc)
+      at_edge : (way : Way) → x.way ≡ way → Contains (given bridge) (record { received = x; verdict = Queued row l }) → Contains (table_of tables (cycle_of d x.at)) row → IsQueuedBy d (table_of tables (cycle_of d x.at)) bridge (cycle_of d x.at) way row l → is_offered way ≡ true → IsAtEdge bridge x row l
+      at_edge (AtEdge name) way c member q e = record { inside = c; name = name; way = way; found = q.is; member = member; live = q.live; first = q.first; here = q.here }
+      at_edge (Relayed m number) way c member q e = absurd (cc)
 
   -- a queued frame is on the way of a covered offer: so many hops behind it, and so many cycles later
   pub record IsOnWay (p : Policed) (row : Row) (l : ℕ) : Type 0 where
@@ -67,11 +70,11 @@ module _ (d : Domain) (tables : List (List Row)) (offers : List Offer) (net : Ne
     pub cycle : cycle_of d p.received.at ≡ cycle_of d x.at + hop
 
   -- rows of one number have one path
-  same_stream : (c e : ℕ) (early late : Row) → Contains (table_of tables c) early → Contains (table_of tables e) late → early.no ≡ late.no → SameStream early late
+  pub same_stream : (c e : ℕ) (early late : Row) → Contains (table_of tables c) early → Contains (table_of tables e) late → early.no ≡ late.no → SameStream early late
   same_stream c e early late = run.orderly.one_stream c e early late
 
   -- a link stands at one place of a path
-  one_place : (c : ℕ) (row : Row) (j k m : ℕ) → Contains (table_of tables c) row → slice_get row.path.items j ≡ Some m → slice_get row.path.items k ≡ Some m → j ≡ k
+  pub one_place : (c : ℕ) (row : Row) (j k m : ℕ) → Contains (table_of tables c) row → slice_get row.path.items j ≡ Some m → slice_get row.path.items k ≡ Some m → j ≡ k
   one_place c row j k m inside first second =
       let good = run.orderly.paths c row inside in
       let here = leaves_its_bridge d m (link_inside d row.path.items j m good first) in
@@ -84,8 +87,8 @@ module _ (d : Domain) (tables : List (List Row)) (offers : List Offer) (net : Ne
       let at = next_link_at row.path.items m l (subst (λ z. next_link z m ≡ Some l) one.path follows) in
       subst (λ z. slice_get row.path.items (suc z) ≡ Some l) (one_place c row at.0 k m inside at.1 at_k) at.2
 
-  by_link : (table : List Row) (bridge cycle m number : ℕ) (way : Way) (row : Row) (l : ℕ) → way ≡ Relayed m number → IsQueuedBy d table bridge cycle way row l → QueuedInside d bridge m (row_of table number) row l
-  by_link table bridge cycle m number way row l is q = subst (λ z. IsQueuedBy d table bridge cycle z row l) is q
+  queued_by_link : (table : List Row) (bridge cycle m number : ℕ) (way : Way) (row : Row) (l : ℕ) → way ≡ Relayed m number → IsQueuedBy d table bridge cycle way row l → QueuedInside d bridge m (row_of table number) row l
+  queued_by_link table bridge cycle m number way row l is q = subst (λ z. IsQueuedBy d table bridge cycle z row l) is q
 
   on_way_before : (t bridge : ℕ) (p : Policed) (row : Row) (l : ℕ) → Contains (given bridge) p → p.verdict ≡ Queued row l → p.received.at < t → IsOnWay p row l
   on_way_before zero bridge p row l c is early = absurd (omega (arith, early))
@@ -100,7 +103,7 @@ module _ (d : Domain) (tables : List (List Row)) (offers : List Offer) (net : Ne
             let later : r.sent.start.0 < whole_at d r.m r.sent = omega (arith, octet_time_some d tables offers net run r.m r.is_link) in
             let prior = on_way_before t before s.0.p s.0.row r.m s.0.inside s.0.verdict (omega (arith, early, whole, later, s.0.no_sooner)) in
             let cycle = cycle_of d p.received.at in
-            let q = by_link (table_of tables cycle) bridge cycle r.m r.sent.stream p.received.way row l (ap (λ (z : Received). z.way) (sym r.is)) by in
+            let q = queued_by_link (table_of tables cycle) bridge cycle r.m r.sent.stream p.received.way row l (ap (λ (z : Received). z.way) (sym r.is)) by in
             let found = find_member (λ (z : Row). z.no == r.sent.stream) (table_of tables cycle) row q.is in
             let number : row.no ≡ prior.first_row.no = eqb-true row.no r.sent.stream found.1 ∙ s.0.stream ∙ prior.number in
             let origin = covered_at_edge prior.bridge prior.x prior.first_row prior.first prior.covered in
@@ -147,7 +150,7 @@ module _ (d : Domain) (tables : List (List Row)) (offers : List Offer) (net : Ne
 
   -- what is queued of a stream at a bridge that its path enters came by the link before
   came_by_one : (bridge m number c e k l : ℕ) (row other : Row) (way : Way) (on : ℕ) → Contains (table_of tables c) row → Contains (table_of tables e) other → other.no ≡ row.no → row.no ≡ number →
-      slice_get row.path.items k ≡ Some m → slice_get row.path.items (suc k) ≡ Some l → leaves d l bridge ≡ true → IsQueuedBy d (table_of tables e) bridge e way other on → is_by m number way ≡ true
+      slice_get row.path.items k ≡ Some m → slice_get row.path.items (suc k) ≡ Some l → leaves d l bridge ≡ true → IsQueuedBy d (table_of tables e) bridge e way other on → way ≡ Relayed m number
   came_by_one bridge m number c e k l row other (AtEdge name) on inside other_inside same is at_k at_next there q =
       let one = same_stream e c other row other_inside inside same in
       let places = one_leaves d row.path.items bridge zero (suc k) on l (run.orderly.paths c row inside) (subst (λ z. first_link z ≡ Some on) one.path q.first) at_next q.here there in
@@ -160,25 +163,32 @@ module _ (d : Domain) (tables : List (List Row)) (offers : List Offer) (net : Ne
       let links : Some link ≡ Some m = sym at.1 ∙ ap (slice_get row.path.items) place ∙ at_k in
       let link_is : link ≡ m = same_Some link m links in
       let number_is : stream ≡ number = sym (queued_number d (table_of tables e) bridge e link stream other on q) ∙ same ∙ is in
-      and_from (link == m) (stream == number) (eq-eqb link m link_is) (eq-eqb stream number number_is)
+      ap₂ Relayed link_is number_is
 
   -- so what comes by a link stays within its stream's reservation
   relayed_fits : (bridge m number cycle k l : ℕ) (is_link : m < length d.links) (row prev : Row) (before after : List Received) (y : Received) →
       Contains (table_of tables (cycle + 1)) row → row.no ≡ number → slice_get row.path.items k ≡ Some m → slice_get row.path.items (suc k) ≡ Some l → leaves d l bridge ≡ true →
-      Contains (table_of tables cycle) prev → prev.no ≡ number → come bridge ≡ before ++ y ∷ after → is_by m number y.way ≡ true → cycle_of d y.at ≡ cycle + 1 →
+      Contains (table_of tables cycle) prev → prev.no ≡ number → come bridge ≡ before ++ y ∷ after → y.way ≡ Relayed m number → cycle_of d y.at ≡ cycle + 1 →
       octets_before d row.no (cycle + 1) (police_all d tables (within_reservation d) bridge [] before) + y.octets ≤ row.octets
   relayed_fits bridge m number cycle k l is_link row prev before after y inside is at_k at_next there prev_inside prev_is parts by in_cycle =
       let split = sum_by-append arrives before (y ∷ after) in
       let cons = sum_by-cons arrives y after in
       let whole = ap (sum_by arrives) parts in
-      let here : arrives y ≡ y.octets = cond-true (is_by m number y.way && (cycle_of d y.at == cycle + 1)) y.octets 0 (and_from (is_by m number y.way) (cycle_of d y.at == cycle + 1) by (eq-eqb (cycle_of d y.at) (cycle + 1) in_cycle)) in
-      let upper = arrives_within d tables offers net run m is_link bridge number (cycle + 1) in
-      let sent = subst (λ z. sum_by (sent_octets d tables offers net run m is_link z (cycle + 1)) (net m) ≤ prev.octets) prev_is (sent_within d tables offers net run m is_link cycle prev prev_inside) in
+      let here = counts y by in_cycle in
+      let upper = arrives_within d tables offers net run m is_link (of_stream number) bridge (cycle + 1) in
+      let sent = subst (λ z. sum_by (sent_counts d tables offers net run m is_link (of_stream z) (cycle + 1)) (net m) ≤ prev.octets) prev_is (sent_within d tables offers net run m is_link cycle prev prev_inside) in
       let octets = (same_stream cycle (cycle + 1) prev row prev_inside inside (prev_is ∙ sym is)).octets in
       omega (arith, split, cons, whole, here, upper, sent, octets, taken_came)
     where
       arrives : Received → ℕ
-      arrives = arriving d tables offers net run m is_link number (cycle + 1)
+      arrives = arriving_counts d tables offers net run m is_link (of_stream number) (cycle + 1)
+
+      counts : (x : Received) → x.way ≡ Relayed m number → cycle_of d x.at ≡ cycle + 1 → arrives x ≡ x.octets
+      counts x way in_cycle =
+          cond-true (cycle_of d x.at == cycle + 1) (by_link m (λ stream. of_stream number x.frame stream x.octets) x.way) 0 (eq-eqb (cycle_of d x.at) (cycle + 1) in_cycle)
+          ∙ ap (by_link m (λ stream. of_stream number x.frame stream x.octets)) way
+          ∙ cond-true (m == m) (if number == number then x.octets else 0) 0 (eq-eqb m m refl)
+          ∙ cond-true (number == number) x.octets 0 (eq-eqb number number refl)
 
       earlier : List Policed
       earlier = police_all d tables (within_reservation d) bridge [] before
@@ -195,7 +205,7 @@ module _ (d : Domain) (tables : List (List Row)) (offers : List Offer) (net : Ne
             let q_by = is_queued_by d tables bridge before earlier fb p q.0 q.1 c q.2 in
             let q_in = row_of_queued d tables bridge before earlier fb p q.0 q.1 c q.2 in
             let came_so = came_by_one bridge m number (cycle + 1) e k l row q.0 p.received.way q.1 inside q_in q.3 is at_k at_next there q_by in
-            omega (arith, cond-true (is_queued_of row.no p.verdict && (e == cycle + 1)) p.received.octets 0 t, cond-true (is_by m number p.received.way && (e == cycle + 1)) p.received.octets 0 (and_from (is_by m number p.received.way) (e == cycle + 1) came_so both.1))
+            omega (arith, cond-true (is_queued_of row.no p.verdict && (e == cycle + 1)) p.received.octets 0 t, counts p.received came_so (eqb-true e (cycle + 1) both.1))
         | inr u ↦ omega (arith, cond-false (is_queued_of row.no p.verdict && (cycle_of d p.received.at == cycle + 1)) p.received.octets 0 u)
       ]
 
@@ -237,10 +247,9 @@ module _ (d : Domain) (tables : List (List Row)) (offers : List Offer) (net : Ne
       let y_is : b.x ≡ sent_received d r.m r.sent = ap (λ (z : Policed). z.received) (sym b.is) ∙ sym r.is in
       let y_cycle : cycle_of d b.x.at ≡ cycle + 1 = ap (λ (z : Received). z.at / d.cycle_time) y_is ∙ is_cycle in
       let y_way : b.x.way ≡ Relayed r.m r.sent.stream = ap (λ (z : Received). z.way) y_is in
-      let y_by : is_by r.m r.sent.stream b.x.way ≡ true = ap (is_by r.m r.sent.stream) y_way ∙ and_from (r.m == r.m) (r.sent.stream == r.sent.stream) (eq-eqb r.m r.m refl) (eq-eqb r.sent.stream r.sent.stream refl) in
       let earlier = police_all d tables (within_reservation d) bridge [] b.before in
       let fits = relayed_fits bridge r.m r.sent.stream cycle way.hop l r.is_link row s.0.row b.before b.after b.x late.2 (late.3 ∙ sym stream) (subst (λ z. slice_get z way.hop ≡ Some r.m) (sym one.path) way.at_hop) (subst (λ z. slice_get z (suc way.hop) ≡ Some l) (sym one.path) next.1) there
-      (row_of_queued d tables before (come before) (given before) (facts d tables offers net run before) s.0.p s.0.row r.m s.0.inside s.0.verdict) (sym s.0.stream) b.parts y_by y_cycle in
+      (row_of_queued d tables before (come before) (given before) (facts d tables offers net run before) s.0.p s.0.row r.m s.0.inside s.0.verdict) (sym s.0.stream) b.parts y_way y_cycle in
       let passes : within_reservation d earlier row b.x ≡ true = le-leb (octets_before d row.no (cycle_of d b.x.at) earlier + b.x.octets) row.octets (subst (λ z. octets_before d row.no z earlier + b.x.octets ≤ row.octets) (sym y_cycle) fits) in
       let leads : QueuedInside d bridge r.m (row_of (table_of tables (cycle + 1)) r.sent.stream) row l = record {
         is = ap (row_of (table_of tables (cycle + 1))) stream ∙ late.1;
@@ -311,7 +320,7 @@ module _ (d : Domain) (tables : List (List Row)) (offers : List Offer) (net : Ne
       let relayed : IsRelayed d tables offers net run b p.0.received = record { m = m; is_link = is_link; here = joined_enters d m l joined; sent = sent.0; inside = sent.1; is = sym p.2; early = sent.5.in_run } in
       let on = goes_on b p.0 p.1 relayed in
       let c = cycle_of d p.0.received.at in
-      let q = by_link (table_of tables c) b c m sent.0.stream p.0.received.way on.0 on.1 (ap (λ (z : Received). z.way) p.2) (is_queued_by d tables b (come b) (given b) f p.0 on.0 on.1 p.1 on.2) in
+      let q = queued_by_link (table_of tables c) b c m sent.0.stream p.0.received.way on.0 on.1 (ap (λ (z : Received). z.way) p.2) (is_queued_by d tables b (come b) (given b) f p.0 on.0 on.1 p.1 on.2) in
       let found = find_member (λ (z : Row). z.no == sent.0.stream) (table_of tables c) on.0 q.is in
       let number : on.0.no ≡ row.no = eqb-true on.0.no sent.0.stream found.1 ∙ sent.3 ∙ prior.number in
       let same : Some on.1 ≡ Some l = sym (next_place (cycle_of d x.at) c row on.0 hop m on.1 origin.member found.0 number here.1 q.follows) ∙ at in

@@ -6,6 +6,7 @@ mod compiled;
 mod cost;
 mod edge;
 mod port;
+mod whole;
 
 pub use books::book_says_the_shift;
 pub use compiled::{
@@ -14,3 +15,4 @@ pub use compiled::{
 pub use cost::wire_within_cost;
 pub use edge::{edge_alone, edge_is_covered, gate_is_reservation};
 pub use port::port_is_one_cycle_late;
+pub use whole::gates_mean_the_shift;

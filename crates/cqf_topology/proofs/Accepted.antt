@@ -20,6 +20,7 @@ use Rattle.cqf_topology.specs.declared.faults.DomainFault.TheVariants as fault
 use Rattle.cqf_topology.specs.Fields.{and_then, and_first, refuse, read_at, whole_document, tables_at, number_from}
 use Rattle.cqf_topology.specs.DomainText.{DomainText, IsReadable, IsNumbered, IsDomain, is_among, first_taken, place_of, apart, joined_link, joined, first_long_delay, first_long_gap, names_at, if_some, link_from, link_keys, domain_keys, domain_from, read_text, checked, with_links}
 use Rattle.cqf_topology.specs.JoinedLink.{HasSmallEnds, IsSmallNode}
+use Rattle.cqf_topology.proofs.Distinct.{first_taken-None}
 use Rattle.cqf_topology.proofs.Refusals.{and_then-Ok, refuse-Ok, ok_or-Ok, number-range, names-named, if_some-Ok}
 
 -- what a text says is in its ranges and forms
@@ -254,7 +255,7 @@ checked-accepted t d n same_cycle same_guard short no_delay no_gap few_bridges f
       };
       bridges_named = subst (All (λ name. IsTrue (is_name name))) (sym n.bridges_are) n.readable.bridges_named;
       stations_named = subst (All (λ name. IsTrue (is_name name))) (sym n.stations_are) n.readable.stations_named;
-      distinct = ap (first_taken []) (sym names) ∙ n.distinct;
+      distinct = (first_taken-None [] (d.bridges ++ d.stations) (ap (first_taken []) (sym names) ∙ n.distinct)).1;
     }
   where
     there : joined d.bridges d.stations t.links ≡ Ok d.links

@@ -4,3 +4,4 @@ pub mod SameText
 pub mod Refusals
 pub mod Accepted
 pub mod Nodes
+pub mod Distinct

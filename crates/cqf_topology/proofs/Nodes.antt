@@ -1,22 +1,11 @@
 -- The names of a domain, looked up.
-use Rattle.std.proofs.Common.{◌≡◌, ℕ, List, [], ◌∷◌, true, false, ◌==◌, Option, Some, None, get_or, All, IsTrue, sym, subst, ◌∙◌, arith, refl}
-use Rattle.std.proofs.lemmas.Bool.{true≢false, and_parts}
-use Rattle.std.proofs.lemmas.Bool.Decides.{nat_tests}
+use Rattle.std.proofs.Common.{◌≡◌, ℕ, List, [], true, false, Option, Some, None, get_or, All, IsTrue, sym, subst, ◌∙◌, refl}
+use Rattle.std.proofs.lemmas.Bool.{true≢false}
 use Rattle.std.proofs.lemmas.List.Quantifiers.{position-Some}
 use Rattle.cqf_units.specs.Name.{is_name}
 use Rattle.cqf_model.specs.Domain.{Domain, is_text, node_or, node_named}
 use Rattle.cqf_topology.specs.DomainText.{IsDomain, place_of}
-
--- equal texts are the same
-pub is_text-same : (a b : List ℕ) → is_text a b ≡ true → a ≡ b
-is_text-same [] [] h = refl
-is_text-same [] (y ∷ ys) h = absurd (true≢false (sym h))
-is_text-same (x ∷ xs) [] h = absurd (true≢false (sym h))
-is_text-same (x ∷ xs) (y ∷ ys) h =
-    let parts = and_parts (x == y) (is_text xs ys) h in
-    let heads : (x == y) ≡ true = parts.0 in
-    let first : x ≡ y = grind (arith, nat_tests) in
-    (λ i. first i ∷ is_text-same xs ys parts.1 i)
+use Rattle.cqf_topology.proofs.SameText.{is_text-same}
 
 -- what isn't a name is no name's place
 place_of-other : (text : List ℕ) (names : List (List ℕ)) → All (λ name. IsTrue (is_name name)) names → is_name text ≡ false → place_of text names ≡ None

@@ -1,5 +1,5 @@
 -- The domain that a text means, or the first fault of the text (profile).
-use Rattle.std.specs.Prelude.{ℕ, ◌≡◌, ◌*◌, ◌<◌, ◌≤◌, ℤ, pos, negsuc, List, [], ◌∷◌, ◌++◌, ◌==◌, ◌&&◌, ◌||◌, Bool, true, false, if◌then◌else◌, length, nat_le, nat_lt, position, Option, Some, None, option_and_then, ok_or, Result, Ok, Err, All, IsTrue}
+use Rattle.std.specs.Prelude.{ℕ, ◌≡◌, ◌*◌, ◌<◌, ◌≤◌, ◌≢◌, ℤ, pos, negsuc, List, [], ◌∷◌, ◌++◌, ◌==◌, ◌&&◌, ◌||◌, Bool, true, false, if◌then◌else◌, length, nat_le, nat_lt, position, AllPairs, Option, Some, None, option_and_then, ok_or, Result, Ok, Err, All, IsTrue}
 use Rattle.std.specs.List.{list_any}
 use Rattle.toml.specs.Data.{Data, as_integer, as_array, Members}
 use Rattle.cqf_units.specs.Name.{is_name}
@@ -180,4 +180,4 @@ pub record IsDomain (d : Domain) : Type 0 where
   pub accepted : IsAccepted d
   pub bridges_named : All (λ name. IsTrue (is_name name)) d.bridges
   pub stations_named : All (λ name. IsTrue (is_name name)) d.stations
-  pub distinct : first_taken [] (d.bridges ++ d.stations) ≡ None
+  pub distinct : AllPairs (λ a b. a ≢ b) (d.bridges ++ d.stations)

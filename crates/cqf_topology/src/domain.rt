@@ -2,7 +2,7 @@
 ghost use Rattle.std.specs.Prelude.{◌≡◌, ◌<◌, ◌==◌, ◌&&◌, length, slice_get, position, Some, IfOk};
 ghost use Rattle.cqf_model.specs.Domain.{IsAccepted, node_named, link_between, same_node};
 ghost use Rattle.cqf_topology.specs.Fields.{Gives};
-ghost use Rattle.cqf_topology.specs.DomainText.{IsReadable, IsNumbered, with_links, checked, domain_of_text};
+ghost use Rattle.cqf_topology.specs.DomainText.{IsDomain, IsReadable, IsNumbered, with_links, checked, domain_of_text};
 
 use crate::DomainFault;
 use crate::draft::{Draft, read_draft};
@@ -104,6 +104,7 @@ impl Domain {
     pub fn cycle_time(&self) -> Nanos
         ensures value { result.0 ≡ self.now.cycle_time }
         ensures accepted { IsAccepted self.now }
+        ensures names { IsDomain self.now }
     {
         Nanos(u64::from(self.cycle_time))
     }

@@ -3,7 +3,7 @@
 //! - [`Domain`] is an accepted domain: its cycle time and guard time, its bridges and stations by name and number, and
 //!   its directed links. [`Domain::read`] gives the domain that a text means, or a [`DomainFault`], the first that is
 //!   wrong with it.
-//! - [`Request`] is a request for a stream.
+//! - [`Request`] is a request for a stream, and [`read_streams`] gives those of a text, or a [`StreamsFault`].
 //!
 //! ```text
 //! cycle = 125000
@@ -29,8 +29,10 @@ mod fields;
 mod joined;
 mod names;
 mod streams;
+#[cfg(test)]
+mod tests;
 
 pub use cqf_model::{Link, Node};
 pub use domain::Domain;
 pub use faults::{DomainFault, Key, StreamsFault};
-pub use streams::Request;
+pub use streams::{Request, read_streams};

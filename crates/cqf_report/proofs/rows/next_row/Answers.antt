@@ -1,7 +1,7 @@
-use Rattle.std.proofs.Common.{◌∙◌, ◌<◌, ◌≤◌, sym, Some, rules}
+use Rattle.std.proofs.Common.{◌<◌, ◌≤◌, Some, rules}
 use Rattle.csv.specs.Records.{fields_of}
 use Rattle.cqf_report.specs.Table.{in_four}
-use Rattle.cqf_report.proofs.FieldFacts.{in_four-none, in_four-other, in_four-some}
+use Rattle.cqf_report.proofs.FieldFacts.{in_four-none, in_four-other, in_four-read}
 use Rattle.cqf_report.proofs.TableLemmas.{next-bad, next-refused, next-back, next-good}
 use Rattle.cqf_report.proofs.rows.next_row.Goals as goal
 
@@ -15,7 +15,7 @@ pub returns-in_default-read_row : goal.returns-in_default-read_row
 returns-in_default-read_row g c rows gives other =
     next-bad (in_four (g.F.RowFormat.row_of c.args.format.now)) g.F.RowFormat.instant_of g.R.Read.remaining c.args.number c.args.before.0 (fields_of c.take_record.new.row) rows c.take_record.new.reader
     c.requires (rw c.in-Ok-Row.field-0-is at (c.in-Ok-Row.ensures (Some 4) rows gives))
-    (in_four-some (g.F.RowFormat.row_of c.args.format.now) (fields_of c.take_record.new.row) _ _ _ _ c.in-Some.ensures ∙ sym c.read_row.ensures ∙ c.in_default-read_row.is)
+    (in_four-read (g.F.RowFormat.row_of c.args.format.now) (fields_of c.take_record.new.row) c.in-Some.first.now c.in-Some.second.now c.in-Some.third.now c.in-Some.fourth.now c.read_row.result _ c.in-Some.ensures c.read_row.ensures c.in_default-read_row.is)
 
 pub returns-in-Ok-End : goal.returns-in-Ok-End
 returns-in-Ok-End g c rows gives = rw c.in-Ok-End.field-0-is at (c.in-Ok-End.ensures (Some 4) rows gives)
@@ -30,7 +30,7 @@ returns-then-lt g c rows gives other =
     let back : c.instant.result.0 < c.args.before.0 = search rules in
     next-back (in_four (g.F.RowFormat.row_of c.args.format.now)) g.F.RowFormat.instant_of g.R.Read.remaining c.args.number c.args.before.0 (fields_of c.take_record.new.row) rows c.take_record.new.reader c.in-Some-read_row.row
     c.requires (rw c.in-Ok-Row.field-0-is at (c.in-Ok-Row.ensures (Some 4) rows gives))
-    (in_four-some (g.F.RowFormat.row_of c.args.format.now) (fields_of c.take_record.new.row) _ _ _ _ c.in-Some.ensures ∙ sym c.read_row.ensures ∙ c.in-Some-read_row.is)
+    (in_four-read (g.F.RowFormat.row_of c.args.format.now) (fields_of c.take_record.new.row) c.in-Some.first.now c.in-Some.second.now c.in-Some.third.now c.in-Some.fourth.now c.read_row.result _ c.in-Some.ensures c.read_row.ensures c.in-Some-read_row.is)
     (rw c.instant.ensures at back)
 
 pub returns-else-lt : goal.returns-else-lt
@@ -38,5 +38,5 @@ returns-else-lt g c rows gives =
     let in_order : c.args.before.0 ≤ c.instant.result.0 = search rules in
     next-good (in_four (g.F.RowFormat.row_of c.args.format.now)) g.F.RowFormat.instant_of g.R.Read.remaining c.args.number c.args.before.0 (fields_of c.take_record.new.row) rows c.take_record.new.reader c.in-Some-read_row.row
     c.requires (rw c.in-Ok-Row.field-0-is at (c.in-Ok-Row.ensures (Some 4) rows gives))
-    (in_four-some (g.F.RowFormat.row_of c.args.format.now) (fields_of c.take_record.new.row) _ _ _ _ c.in-Some.ensures ∙ sym c.read_row.ensures ∙ c.in-Some-read_row.is)
+    (in_four-read (g.F.RowFormat.row_of c.args.format.now) (fields_of c.take_record.new.row) c.in-Some.first.now c.in-Some.second.now c.in-Some.third.now c.in-Some.fourth.now c.read_row.result _ c.in-Some.ensures c.read_row.ensures c.in-Some-read_row.is)
     (rw c.instant.ensures at in_order)

@@ -1,0 +1,174 @@
+//! The offers of a run, read from a text.
+
+ghost use Rattle.std.specs.Prelude.{◌≡◌, IfOk, IfErr, Ok};
+ghost use Rattle.cqf_model.specs.Traffic.{AreOffers};
+ghost use Rattle.cqf_report.specs.Table.{IsFaultOf};
+ghost use Rattle.cqf_report.specs.Offers.{bridge_named, name_in, offer_instant, offer_of, offers_of};
+
+use crate::rows::{RowFormat, read_rows};
+use crate::tables::{OfferFault, open_table, read_number, take_header};
+use cqf_model::{Node, Offer};
+use cqf_text::read_decimal;
+use cqf_topology::Domain;
+use cqf_units::{Name, Nanos};
+use csv::ByteRecord;
+use std::alloc::Global;
+
+/// The bridge that a field names.
+fn read_bridge(domain: &Domain, field: &[u8]) -> Option<u8>
+    ensures { result ≡ bridge_named domain.now field.now }
+{
+    let Some(name) = Name::new(field) else {
+        return None;
+    };
+    match domain.find(name.as_str()) {
+        Some(Node::Bridge(bridge)) => Some(bridge),
+        Some(Node::Station(_)) => None,
+        None => None,
+    }
+}
+
+/// The name that a field is.
+fn read_name(field: &[u8]) -> Option<Name>
+    ensures { result ≡ name_in field.now }
+{
+    Name::new(field)
+}
+
+/// The rows of offers to a domain.
+#[derive(Clone, Copy)]
+struct OfferRows<'d> {
+    domain: &'d Domain,
+}
+
+impl RowFormat for OfferRows<'_> {
+    type Row = Offer;
+
+    ghost row_of = { λ rows. offer_of rows.domain.now };
+
+    ghost instant_of = { offer_instant };
+
+    fn read_row(&self, at: &[u8], bridge: &[u8], stream: &[u8], octets: &[u8]) -> Option<Offer> {
+        let Some(at) = read_decimal(at, 0, 999_999_999_999) else {
+            return None;
+        };
+        let Some(bridge) = read_bridge(self.domain, bridge) else {
+            return None;
+        };
+        let Some(stream) = read_name(stream) else {
+            return None;
+        };
+        let Some(octets) = read_number(octets, 64, 1522) else {
+            return None;
+        };
+        Some(Offer {
+            at: Nanos(at),
+            bridge,
+            stream,
+            octets,
+        })
+    }
+
+    fn instant(row: &Offer) -> Nanos
+        ensures { result.0 ≡ offer_instant row.now }
+    {
+        row.at
+    }
+}
+
+/// The offers that the text writes to the domain, in order.
+///
+/// The header is `at,bridge,stream,octets`. An offer's instant is before 1,000,000,000,000 ns, its bridge is one of the
+/// domain's by name, its stream has the form of a name, and its size is 64 to 1,522 octets (IEEE 802.3); no row's
+/// instant is before that of the row before it (profile). What the crate `csv` accepts is accepted: quotes, CR LF, and a
+/// last row without its line end.
+///
+/// # Errors
+/// As of `read_arrivals`: `BadHeader`; then the first fault of the rows in their order, `TooMany` at row 1,000,001,
+/// `BadRow`, `OutOfOrder`; `Memory` where a growth is refused.
+pub fn read_offers(alloc: Global, domain: &Domain, text: &[u8]) -> Result<Vec<Offer>, OfferFault>
+    ensures ok { IfOk result (λ offers. offers_of domain.now text.now ≡ Ok offers.items) }
+    ensures good { IfOk result (λ offers. AreOffers domain.now offers.items) }
+    ensures err { IfErr result (λ fault. IsFaultOf (offers_of domain.now text.now) fault) }
+{
+    let mut reader = open_table(alloc, text);
+    let mut row = ByteRecord::new(alloc);
+    let names = (
+        b"at".as_slice(),
+        b"bridge".as_slice(),
+        b"stream".as_slice(),
+        b"octets".as_slice(),
+    );
+    take_header(&mut reader, &mut row, names)?;
+    read_rows(alloc, &OfferRows { domain }, &mut reader, &mut row)
+}
+
+#[cfg(test)]
+mod tests {
+    use super::*;
+    use crate::TableFault;
+    use std::test::Fail;
+
+    /// Three bridges in a line, and a station behind the last.
+    const LINE: &[u8] =
+        b"cycle = 125000\nguard = 5000\nbridges = [\"a\", \"b\", \"c\"]\nstations = [\"s\"]\n
+[[links]]\nfrom = \"a\"\nto = \"b\"\nrate = 1000\ndelay = 500\n
+[[links]]\nfrom = \"b\"\nto = \"c\"\nrate = 1000\ndelay = 500\n
+[[links]]\nfrom = \"c\"\nto = \"s\"\nrate = 1000\ndelay = 500\n";
+
+    #[test]
+    fn offers_are_read_with_the_numbers_of_their_bridges(rt: HostRuntime) -> Result<(), Fail> {
+        let domain = Domain::read(rt.alloc(), LINE)?;
+        let text = b"at,bridge,stream,octets\n0,a,y,64\n0,b,x,1522\n999999999999,c,x,64\n";
+        let offers = read_offers(rt.alloc(), &domain, text)?;
+        assert_eq!(rt; offers.len(), 3);
+        for (place, at, bridge, stream, octets) in [
+            (0, 0, 0, "y", 64),
+            (1, 0, 1, "x", 1522),
+            (2, 999_999_999_999, 2, "x", 64),
+        ] {
+            assert!(rt; place < offers.len());
+            let offer = &offers[place];
+            assert_eq!(rt; offer.at, Nanos(at));
+            assert_eq!(rt; offer.bridge, bridge);
+            assert_eq!(rt; offer.stream.as_str(), stream);
+            assert_eq!(rt; offer.octets, octets);
+        }
+        Ok(())
+    }
+
+    #[test]
+    fn the_first_fault_of_offers_is_told(rt: HostRuntime) -> Result<(), Fail> {
+        let domain = Domain::read(rt.alloc(), LINE)?;
+        for (text, fault) in [
+            (
+                b"at,bridge,stream,octets\n0,a,x\n".as_slice(),
+                TableFault::BadRow(1),
+            ),
+            (
+                b"at,bridge,stream,octets\n0,a,x,63\n".as_slice(),
+                TableFault::BadRow(1),
+            ),
+            (
+                b"at,bridge,stream,octets\n0,s,x,64\n".as_slice(),
+                TableFault::BadRow(1),
+            ),
+            (
+                b"at,bridge,stream,octets\n0,a,X!,64\n".as_slice(),
+                TableFault::BadRow(1),
+            ),
+            (
+                b"at,bridge,stream,octets\n1000000000000,a,x,64\n".as_slice(),
+                TableFault::BadRow(1),
+            ),
+            (
+                b"at,bridge,stream,octets\n5,a,x,64\n4,a,x,64\n".as_slice(),
+                TableFault::OutOfOrder(2),
+            ),
+            (b"at,octets\n".as_slice(), TableFault::BadHeader),
+        ] {
+            assert!(rt; read_offers(rt.alloc(), &domain, text).err() == Some(fault));
+        }
+        Ok(())
+    }
+}

@@ -1,0 +1,14 @@
+use Rattle.std.proofs.Common.{◌≡◌, drop, map, ok_or}
+use Rattle.toml.specs.Data.{as_table}
+use Rattle.toml.specs.View.{items_view}
+use Rattle.cqf_topology.specs.declared.faults.Key.TheVariants.{Streams}
+use Rattle.cqf_topology.specs.declared.faults.StreamsFault.TheVariants.{BadValue}
+use Rattle.cqf_topology.specs.Fields.{and_then, each_from}
+use Rattle.cqf_topology.specs.StreamsText.{request_from, request_text}
+use Rattle.cqf_topology.proofs.Arrays.{with_front}
+use Rattle.cqf_topology.proofs.streams.read_requests.Given as goal
+
+abbrev pub invariant-loop-value : goal.invariant-loop-value
+invariant-loop-value l =
+    with_front (map request_text l.requests.items) (each_from (λ d. and_then (ok_or (as_table d) (BadValue Streams)) request_from) (items_view (drop l.value-index l.values)))
+    ≡ each_from (λ d. and_then (ok_or (as_table d) (BadValue Streams)) request_from) (items_view l.values)
