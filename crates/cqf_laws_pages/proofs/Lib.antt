@@ -6,3 +6,4 @@ pub mod Continued
 pub mod Batches
 pub mod Gathering
 pub mod Steps
+pub mod ByFrame

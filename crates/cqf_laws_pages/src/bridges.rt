@@ -1,6 +1,6 @@
 //! What a bridge takes in one cycle.
 ghost use Rattle.cqf_laws_pages.specs.BridgeCycle.{BatchIsWholeInItsCycle, BridgeGoesOn, CycleBringsItsBatches, DropsAreOfTheCycle, FramesKeepTheirOrder, QueueGoesOn};
-ghost use Rattle.cqf_laws_pages.specs.Gathered.{FramesAreTakenInOrder};
+ghost use Rattle.cqf_laws_pages.specs.Gathered.{DropsAreByFrame, FramesAreTakenInOrder};
 
 /// What becomes of all that came to a bridge by the end of a cycle is what became of it before the cycle, and then what
 /// becomes of the cycle's frames behind that; and so it is in the queue of each port (profile).
@@ -23,9 +23,11 @@ pub fn frames_keep_their_order()
     ensures { FramesKeepTheirOrder }
 {}
 
-/// The drops of a cycle at a bridge are those among what comes to it in the cycle.
+/// The drops of a cycle at a bridge are those among what comes to it in the cycle, and stand on its page by frame: brought
+/// into that order by a stable sort, the drops among the cycle's verdicts are the page's (profile).
 pub fn drops_are_of_the_cycle()
-    ensures { DropsAreOfTheCycle }
+    ensures among { DropsAreOfTheCycle }
+    ensures sorted { DropsAreByFrame }
 {}
 
 /// The frames of a cycle, gathered by link and then by offer, and brought into order of instant by a stable sort, stand in

@@ -1,5 +1,5 @@
 -- A domain of bridges and stations, its links, and the paths of streams through it.
-use Rattle.std.specs.Prelude.{ℕ, ◌≡◌, ◌≢◌, ◌+◌, ◌-◌, ◌*◌, ◌≤◌, ◌<◌, List, [], ◌∷◌, Bool, true, false, ◌==◌, ◌&&◌, if◌then◌else◌, length, Option, Some, None, All, AllPairs, slice_get, position}
+use Rattle.std.specs.Prelude.{ℕ, ◌≡◌, ◌≢◌, ◌+◌, ◌-◌, ◌*◌, ◌≤◌, ◌<◌, List, [], ◌∷◌, Bool, true, false, ◌==◌, ◌&&◌, if◌then◌else◌, length, Option, Some, None, All, slice_get, position}
 use Rattle.std.specs.Option.{option_map_or}
 use Rattle.cqf_units.specs.Timing.{nanos_of_octet, budget_of, cycle_at}
 use Rattle.cqf_model.specs.declared.topology.Link.{Link}
@@ -28,7 +28,8 @@ pub record IsAcceptedLink (d : Domain) (link : Link) : Type 0 where
   pub delay_short : link.delay < d.guard
   pub gap_short : 12 * nanos_of_octet link.rate ≤ d.guard
 
--- a domain that is accepted (profile)
+-- a domain that is accepted (profile). That names are well formed and stand once, and that no link stands twice, is said
+-- where domains are read: nothing that a network does hangs on it
 pub record IsAccepted (d : Domain) : Type 0 where
   pub cycle_least : 10000 ≤ d.cycle_time
   pub cycle_most : d.cycle_time ≤ 10000000

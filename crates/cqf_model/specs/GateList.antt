@@ -17,7 +17,7 @@ abbrev pub states_in : List Entry → ℕ → ℕ
 states_in [] offset = 0
 states_in (entry ∷ entries) offset = if nat_lt offset entry.1 then entry.0 else states_in entries (offset - entry.1)
 
--- the states in force at an instant: rounds follow one another from instant 0 without end
+-- the states in force at an instant: rounds follow one another from instant 0 without end (profile)
 abbrev pub states_at : List Entry → ℕ → ℕ
 states_at entries t = states_in entries (t % round_of entries)
 

@@ -1,12 +1,11 @@
 -- The history of an administration: calls with the answers that they got, the streams that it accepted, and the table of
 -- each cycle. All of it is said of the whole list of entries, with no running state (profile).
-use Rattle.std.specs.Prelude.{ℕ, ◌≡◌, ◌+◌, ◌-◌, ◌≤◌, ◌<◌, List, [], ◌∷◌, Bool, true, false, not, ◌==◌, ◌&&◌, ◌||◌, if◌then◌else◌, nat_le, nat_lt, filter, length, take, Option, Some, None, is_none, slice_get, slice_index_or, count_by, position}
+use Rattle.std.specs.Prelude.{ℕ, ◌≡◌, ◌+◌, ◌-◌, ◌≤◌, List, [], ◌∷◌, Bool, true, false, not, ◌==◌, ◌&&◌, ◌||◌, if◌then◌else◌, nat_le, nat_lt, filter, length, take, Option, Some, None, is_none, slice_get, slice_index_or, count_by, position}
 use Rattle.std.specs.Option.{option_map_or}
 use Rattle.std.specs.List.{list_any}
 use Rattle.cqf_units.specs.Name.{is_name}
 use Rattle.cqf_units.specs.Timing.{cost_of}
 use Rattle.cqf_units.specs.declared.reservations.Cycle.{Cycle}
-use Rattle.cqf_model.specs.declared.history.Receipt.{Receipt}
 use Rattle.cqf_model.specs.declared.history.Refused.{Refused}
 use Rattle.cqf_model.specs.declared.history.Refused.TheVariants.{BadName, BadOctets, UnknownNode, BrokenPath, LoopingPath, NameHeld, TooManyStreams, BudgetShort, NotHeld, AlreadyWithdrawn}
 use Rattle.cqf_model.specs.declared.history.Reply.{Reply}
@@ -88,8 +87,13 @@ stream_by d entries effect Seals reply = []
 stream_by d entries effect (Admits asked) (RefusedFor refused) = []
 stream_by d entries effect (Admits asked) Sealed = []
 stream_by d entries effect (Admits asked) (Accepted receipt) = record {
-    no = receipt.no; name = asked.name; octets = asked.octets; path = record { items = links_along d asked.path };
-    admitted = record { 0 = effect }; withdrawn = slice_get (withdrawals entries receipt.no) 0 } ∷ []
+  no = receipt.no;
+  name = asked.name;
+  octets = asked.octets;
+  path = record { items = links_along d asked.path };
+  admitted = record { 0 = effect };
+  withdrawn = slice_get (withdrawals entries receipt.no) 0;
+} ∷ []
 
 -- the streams that were accepted, by number
 abbrev pub streams_of : Domain → List Recorded → List Row
@@ -189,7 +193,8 @@ pub record IsLegalHistory (d : Domain) (entries : List Recorded) : Type 0 where
 abbrev pub seal_places : List Recorded → List ℕ
 seal_places entries = each_below (λ place. option_map_or (λ (e : Recorded). if is_seal e.act then place ∷ [] else []) (slice_get entries place) []) (length entries)
 
--- the table of a cycle: the streams that are held in it by the entries before the Seal that closes it, by number
+-- the table of a cycle: the streams that are held in it by the entries before the Seal that closes it, by number. Of the
+-- cycle that the next Seal would close it is the table by all entries; of later cycles there is none to speak of
 abbrev pub table_at : Domain → List Recorded → ℕ → List Row
 table_at d entries cycle = held_in d (take (slice_index_or (seal_places entries) cycle (length entries)) entries) cycle
 

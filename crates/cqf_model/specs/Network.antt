@@ -1,5 +1,6 @@
--- All ports of a domain at once: the legal network.
-use Rattle.std.specs.Prelude.{ℕ, ◌≡◌, ◌+◌, ◌*◌, ◌<◌, ◌≤◌, List, [], ◌∷◌, Bool, false, ◌==◌, if◌then◌else◌, map, filter, Option, slice_get, length, slice_index_or, Contains}
+-- All ports of a domain at once: the legal network. Each port is that of IEEE Std 802.1Q-2018, 8.6.8; what joins them is
+-- the profile's.
+use Rattle.std.specs.Prelude.{ℕ, ◌≡◌, ◌*◌, ◌<◌, ◌≤◌, List, [], ◌∷◌, ◌==◌, if◌then◌else◌, map, slice_get, length, slice_index_or, Contains}
 use Rattle.std.specs.Option.{option_map_or}
 use Rattle.std.specs.List.{flat_map}
 use Rattle.cqf_model.specs.declared.frames.Offer.{Offer}
@@ -22,8 +23,9 @@ pub record QueuedFrame : Type 0 where
 -- with the class that its stream's gate gives it
 abbrev pub queued_frame : Domain → Received → Row → QueuedFrame
 queued_frame d x row = record {
-    arrival = record { at = record { 0 = x.at }; class = gate_class (stream_list d.cycle_time row.octets) x.at; octets = x.octets; frame = x.frame };
-    stream = row.no }
+  arrival = record { at = record { 0 = x.at }; class = gate_class (stream_list d.cycle_time row.octets) x.at; octets = x.octets; frame = x.frame };
+  stream = row.no;
+}
 
 abbrev pub queued_by : Domain → ℕ → Received → Verdict → List QueuedFrame
 queued_by d l x (Queued row link) = if link == l then queued_frame d x row ∷ [] else []

@@ -1,6 +1,7 @@
 -- The meaning of a domain: which offers are covered, and which frame leaves on which link in which cycle. No queue, gate,
--- class, port or instant of sending is in it (profile).
-use Rattle.std.specs.Prelude.{ℕ, ◌≡◌, ◌+◌, ◌*◌, ◌<◌, List, [], ◌∷◌, ◌++◌, Some, slice_get, Contains}
+-- class, port or instant of sending is in it (profile): of a verdict it reads only by which row an offer goes on, or why it
+-- is dropped.
+use Rattle.std.specs.Prelude.{ℕ, ◌≡◌, ◌+◌, ◌*◌, ◌<◌, List, [], Some, slice_get, Contains}
 use Rattle.cqf_model.specs.declared.frames.Offer.{Offer}
 use Rattle.cqf_model.specs.declared.frames.Reason.{Reason}
 use Rattle.cqf_model.specs.declared.topology.Row.{Row}

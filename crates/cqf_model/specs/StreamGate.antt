@@ -1,5 +1,5 @@
--- Stream gates (IEEE Std 802.1Q-2018, 8.6.5.1): which frames of a stream pass, and with which traffic class. The rules of
--- octets and of classes are the profile's.
+-- Stream gates: which frames of a stream pass, and with which traffic class (profile, after the stream gates of IEEE Std
+-- 802.1Q-2018, 8.6.5.1).
 use Rattle.std.specs.Prelude.{ℕ, ◌+◌, ◌-◌, ◌/◌, ◌%◌, List, [], ◌∷◌, Bool, true, false, ◌==◌, ◌&&◌, if◌then◌else◌, nat_lt, nat_le, Option, Some, None, suc, sum_by, slice_get}
 use Rattle.std.specs.Option.{option_map_or}
 use Rattle.cqf_model.specs.declared.gates.StreamEntry.{StreamEntry}

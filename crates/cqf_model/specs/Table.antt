@@ -1,4 +1,4 @@
--- The streams that are held in a cycle.
+-- The streams that are held in a cycle (profile).
 use Rattle.std.specs.Prelude.{ℕ, ◌≡◌, ◌≢◌, ◌+◌, ◌≤◌, ◌<◌, List, [], Bool, true, ◌==◌, ◌&&◌, if◌then◌else◌, nat_le, nat_lt, length, Option, AllPairs, Contains, slice_index_or, sum_by, find}
 use Rattle.std.specs.Option.{option_map_or}
 use Rattle.std.specs.List.{list_any}

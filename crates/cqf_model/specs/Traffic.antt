@@ -1,6 +1,6 @@
--- What comes to a bridge, and what becomes of it there: per-stream filtering and policing (IEEE Std 802.1Q-2018, 8.6.5.1)
--- at the edge and inside.
-use Rattle.std.specs.Prelude.{ℕ, ◌+◌, ◌*◌, ◌<◌, ◌≤◌, All, List, [], ◌∷◌, ◌++◌, Bool, true, false, ◌==◌, ◌&&◌, if◌then◌else◌, nat_le, map, filter, sum_by, length, Option, Some, None, suc, zero}
+-- What comes to a bridge, and what becomes of it there: per-stream filtering and policing at the edge and inside (profile,
+-- after IEEE Std 802.1Q-2018, 8.6.5.1).
+use Rattle.std.specs.Prelude.{ℕ, ◌+◌, ◌<◌, ◌≤◌, All, List, [], ◌∷◌, ◌++◌, Bool, false, ◌==◌, ◌&&◌, if◌then◌else◌, nat_le, map, filter, sum_by, length, Option, Some, None, suc, zero}
 use Rattle.std.specs.List.{enumerate_from}
 use Rattle.cqf_units.specs.Timing.{ending_of}
 use Rattle.cqf_model.specs.declared.frames.Offer.{Offer}

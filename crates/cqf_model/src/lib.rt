@@ -5,8 +5,8 @@
 //! of IEEE Std 802.1Q-2018 or IEEE Std 802.3, or the word 'profile' where the rule is this project's own. `src/` has
 //! the data, with public fields and no logic. The crate that works with a type hands it on to its users.
 //!
-//! Read the modules of `specs/` in this order: `GateList`, `Port`, `StreamGate`, `Domain`, `Traffic`, `Network`,
-//! `Shift`, `Book`, `History`.
+//! Read the modules of `specs/` in this order: `GateList`, `Port`, `StreamGate`, `Domain`, `Table`, `Traffic`, `Network`,
+//! `Shift`, `Book`, `History`, `HistoryBook`. The value of a text stands with the crate that reads or writes it.
 #![tactic(auto)]
 
 mod frames;

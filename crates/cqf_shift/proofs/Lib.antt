@@ -16,4 +16,4 @@ pub mod SentSums
 pub mod Ways
 pub mod Shifts
 pub mod Singles
-pub mod Wholes
+pub mod MainLaws

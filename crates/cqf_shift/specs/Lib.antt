@@ -4,4 +4,4 @@ pub mod OnePort
 pub mod Edge
 pub mod Run
 pub mod Books
-pub mod Whole
+pub mod MainLaw

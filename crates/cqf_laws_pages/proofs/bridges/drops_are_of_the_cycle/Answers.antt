@@ -1,5 +1,9 @@
+use Rattle.cqf_laws_pages.proofs.ByFrame.{sorted_are_drops}
 use Rattle.cqf_laws_pages.proofs.Continued.{drops_of_the_cycle}
 use Rattle.cqf_laws_pages.proofs.bridges.drops_are_of_the_cycle.Goals as goal
 
-pub returns : goal.returns
-returns c = drops_of_the_cycle
+pub returns-clause-among : goal.returns-clause-among
+returns-clause-among c = drops_of_the_cycle
+
+pub returns-clause-sorted : goal.returns-clause-sorted
+returns-clause-sorted c = sorted_are_drops

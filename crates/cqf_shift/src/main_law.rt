@@ -1,5 +1,5 @@
 //! The main law.
-ghost use Rattle.cqf_shift.specs.Whole.{GatesMeanTheShift};
+ghost use Rattle.cqf_shift.specs.MainLaw.{GatesMeanTheShift};
 
 /// The gates mean the shift: for every accepted domain, the tables of a history and whatever is offered, the legal
 /// network sends the covered frames exactly when the shift says, each once, and loses none inside; each offer that isn't

@@ -15,7 +15,7 @@ use Rattle.cqf_model.specs.Traffic.{Way, AtEdge, Network, Received, Policed, Ver
 use Rattle.cqf_model.specs.Network.{IsLost, IsLoss, bridge_of}
 use Rattle.cqf_model.specs.Shift.{InShift}
 use Rattle.cqf_shift.specs.Run.{IsLegalRun}
-use Rattle.cqf_shift.specs.Whole.{GatesMeanTheShift, LeavesInTurn, wire_in_cycle}
+use Rattle.cqf_shift.specs.MainLaw.{GatesMeanTheShift, LeavesInTurn, wire_in_cycle}
 use Rattle.cqf_shift.proofs.Costs.{tested_wire_within_cost}
 use Rattle.cqf_shift.proofs.Cycles.{cycle_from, cycle_upto}
 use Rattle.cqf_shift.proofs.EdgesAmongRelayed.{edge_is_covered}

@@ -14,7 +14,7 @@ use Rattle.cqf_shift.specs.OnePort.{due, cycle_of_place}
 use Rattle.cqf_shift.specs.Run.{IsLegalRun}
 
 -- the frame leaves on the link in the cycle
-pub record Leaves (d : Domain) (net : Network) (frame link cycle : ℕ) : Type 0 where
+pub record LeavesIn (d : Domain) (net : Network) (frame link cycle : ℕ) : Type 0 where
   pub sent : Sent
   pub is_sent : Contains (net link) sent
   pub is_frame : sent.frame ≡ frame
@@ -37,8 +37,8 @@ pub record MeansTheShift (d : Domain) (tables : List (List Row)) (offers : List 
   -- what passes the gates at the edge is what the reservations cover, and each other offer has the same reason
   pub edge : (bridge : ℕ) → (let end = length tables * d.cycle_time in filter comes_at_edge (policed_before d tables offers net bridge end) ≡ judged_before d tables offers bridge end)
   -- the frames leave as the shift says, each once
-  pub only : (frame link cycle : ℕ) → Leaves d net frame link cycle → InShift d tables offers (length tables) frame link cycle
-  pub each : (frame link cycle : ℕ) → InShift d tables offers (length tables) frame link cycle → Leaves d net frame link cycle
+  pub only : (frame link cycle : ℕ) → LeavesIn d net frame link cycle → InShift d tables offers (length tables) frame link cycle
+  pub each : (frame link cycle : ℕ) → InShift d tables offers (length tables) frame link cycle → LeavesIn d net frame link cycle
   pub once : (link : ℕ) (a b : Sent) → Contains (net link) a → Contains (net link) b → a.frame ≡ b.frame → a ≡ b
   -- nothing is lost inside
   pub none_lost : (bridge : ℕ) (policed : Policed) → ¬ IsLost d tables offers net (length tables) bridge policed
