@@ -163,7 +163,7 @@ pub err-of : {V : Type 0} (result : Result V TableFault) (P Q : TableFault → T
 err-of (Ok v) P Q h follows = tt
 err-of (Err fault) P Q h follows = follows fault h
 
-pub ok-of : {V : Type 0} (result : Result V TableFault) (P Q : V → Type 0) → IfOk result P → ((v : V) → P v → Q v) → IfOk result Q
+pub ok-of : {V E : Type 0} (result : Result V E) (P Q : V → Type 0) → IfOk result P → ((v : V) → P v → Q v) → IfOk result Q
 ok-of (Ok v) P Q h follows = follows v h
 ok-of (Err fault) P Q h follows = tt
 

@@ -4,3 +4,4 @@ pub mod Arrivals
 pub mod Written
 pub mod Starts
 pub mod Offers
+pub mod Books

@@ -1,8 +1,11 @@
-//! Tables as comma-separated values: offers and arrivals read, and starts written, by the crate `csv`.
+//! Tables as comma-separated values, read and written by the crate `csv`: offers and arrivals in, starts and books out.
 //!
-//! - [`read_arrivals`] reads the arrivals of a port, [`read_offers`] the offers of a run.
+//! - [`read_offers`] reads the offers of a run, [`read_arrivals`] the arrivals of a port.
 //! - [`TableFault`] says why a table is refused, and at which row.
-//! - [`write_starts`] writes the starts of a port.
+//! - [`write_book`] writes the book of a run, [`write_starts`] the starts of a port.
+//!
+//! `specs/` says what a text holds (`Records`, by what `csv` reads), what its rows mean (`Table`, `Offers`, `Arrivals`),
+//! and which text is written (`Written`, `Starts`, `Books`).
 //!
 //! ```text
 //! read_arrivals(alloc, b"at,class,octets,frame\n10,6,64,1\n")
@@ -13,6 +16,7 @@
 #![tactic(auto)]
 
 mod arrivals;
+mod books;
 mod lines;
 mod offers;
 mod records;
@@ -21,6 +25,7 @@ mod starts;
 mod tables;
 
 pub use arrivals::read_arrivals;
+pub use books::write_book;
 pub use offers::read_offers;
 pub use starts::write_starts;
 pub use tables::{OfferFault, TableFault};

@@ -34,5 +34,6 @@ module _ {X : Type 0} (test : X → Bool) (octets : X → ℕ) where
       let few : number ≤ reserved / 64 = le-div number reserved 64 (omega arith) (omega (arith, enough xs least, fits)) in
       omega (arith, counted xs, few, fits)
 
+-- the law, for a list of frames
 pub wire_within_cost : WireWithinCost
 wire_within_cost frames reserved least fits = tested_wire_within_cost (λ x. true) (λ x. x) frames reserved least fits

@@ -13,6 +13,7 @@ cycle_is n c t from upto =
 pub cycle_from : (n t : ℕ) → t / n * n ≤ t
 cycle_from n t = omega (arith, div-add-mod' t n)
 
+-- and they end where the next one begins
 pub cycle_upto : (n t : ℕ) → 0 < n → t < t / n * n + n
 cycle_upto n t some = omega (arith, div-add-mod' t n, mod-lt t some)
 

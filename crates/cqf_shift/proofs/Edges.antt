@@ -16,6 +16,7 @@ use Rattle.cqf_shift.proofs.GateLists.{gate_place, gate_counts}
 use Rattle.cqf_shift.proofs.Lists.{same_below, none_below}
 
 module _ (d : Domain) (row : Row) (t : ℕ) (some : 0 < d.cycle_time) where
+  -- the cycle time
   abbrev n : ℕ
   n = d.cycle_time
 
@@ -23,15 +24,19 @@ module _ (d : Domain) (row : Row) (t : ℕ) (some : 0 < d.cycle_time) where
   abbrev counted : Call → ℕ
   counted call = if same_interval (stream_list n row.octets) call.0 t then call.1 else 0
 
+  -- what the reservation counts of a frame
   abbrev reserved : Policed → ℕ
   reserved q = if is_queued_of row.no q.verdict && (cycle_of d q.received.at == cycle_of d t) then q.received.octets else 0
 
+  -- the call that a frame is to its gate
   abbrev call_of : Policed → Call
   call_of q = (q.received.at, q.received.octets)
 
+  -- the frames that passed the gate
   abbrev kept : Policed → Bool
   kept q = is_queued_of row.no q.verdict
 
+  -- one frame more, by whether it passed
   one_more : (p : Policed) (earlier : List Policed) (b : Bool) → kept p ≡ b → sum_by counted (map call_of (filter kept earlier)) ≡ sum_by reserved earlier → sum_by counted (map call_of (filter kept (p ∷ earlier))) ≡ sum_by reserved (p ∷ earlier)
   one_more p earlier true e rest =
       let kept_here : filter kept (p ∷ earlier) ≡ p ∷ filter kept earlier = cond-true (kept p) (p ∷ filter kept earlier) (filter kept earlier) e in
@@ -52,6 +57,7 @@ module _ (d : Domain) (row : Row) (t : ℕ) (some : 0 < d.cycle_time) where
   octets_counted [] = refl
   octets_counted (p ∷ earlier) = one_more p earlier (kept p) refl (octets_counted earlier)
 
+-- the gate tests what the reservation has left
 pub gate_is_reservation : GateIsReservation
 gate_is_reservation d earlier row x some =
     at_place (place_at (stream_list n row.octets) x.at) (gate_place n row.octets x.at some) ∙ ap (λ z. nat_le (z + x.octets) row.octets) (octets_counted d row x.at some earlier)
@@ -75,6 +81,7 @@ gate_is_reservation d earlier row x some =
 pub one_test : (d : Domain) → 0 < d.cycle_time → within_gate d ≡ within_reservation d
 one_test d some = λ i. λ earlier row x. gate_is_reservation d earlier row x some i
 
+-- and what the gates decide at a bridge is what the reservation test decides on all that comes
 pub policed_by_reservation : (d : Domain) (tables : List (List Row)) (offers : List Offer) (net : Network) (bridge end : ℕ) → 0 < d.cycle_time → policed_before d tables offers net bridge end ≡ police_all d tables (within_reservation d) bridge [] (received_before d offers net bridge end)
 policed_by_reservation d tables offers net bridge end some = ap (λ (test : Test). police_all d tables test bridge [] (received_before d offers net bridge end)) (one_test d some)
 
@@ -84,6 +91,7 @@ only_offers d offers net bridge end alone =
     same_below (received_at d offers net bridge) (offered_at offers bridge) end (λ t l.
     ap (λ z. z ++ offered_at offers bridge t) (none_below (relayed_at d net bridge t) (length d.links) (λ m k. cond-false (enters d m bridge) (map (sent_received d m) (filter (λ sent. whole_at d m sent == t) (net m))) [] (alone m))))
 
+-- so at such a bridge the gates decide what the reservations do
 pub edge_alone : EdgeAlone
 edge_alone d tables offers net bridge end some alone =
     policed_by_reservation d tables offers net bridge end some ∙ ap (λ z. police_all d tables (within_reservation d) bridge [] z) (only_offers d offers net bridge end alone)

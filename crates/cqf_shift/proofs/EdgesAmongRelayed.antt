@@ -29,10 +29,12 @@ module _ (d : Domain) (tables : List (List Row)) (bridge : ℕ) where
   abbrev pub Leads : Policed → Type 0
   Leads p = (row : Row) (l : ℕ) → p.verdict ≡ Queued row l → is_offered p.received.way ≡ false → (m : ℕ) × (next_link row.path.items m ≡ Some l) × (leaves d l bridge ≡ true) × Contains (table_of tables (cycle_of d p.received.at)) row
 
+  -- the same, by the way it came
   leads_by : (table : List Row) (cycle : ℕ) (way : Way) (row : Row) (l : ℕ) → IsQueuedBy d table bridge cycle way row l → is_offered way ≡ false → (m : ℕ) × (next_link row.path.items m ≡ Some l) × (leaves d l bridge ≡ true) × Contains table row
   leads_by table cycle (AtEdge name) row l q e = absurd (cc)
   leads_by table cycle (Relayed m number) row l q e = (m, q.follows, q.here, queued_row d table bridge cycle (Relayed m number) row l q)
 
+  -- each verdict is so
   leads : (test : Test) (earlier : List Policed) (x : Received) → Leads (police d tables test bridge earlier x)
   leads test earlier x row l is way =
       let c = cycle_of d x.at in
@@ -49,10 +51,12 @@ module _ (d : Domain) (tables : List (List Row)) (bridge : ℕ) where
       elsewhere_same : (b : Bool) → leaves d k bridge ≡ false → edge_verdict_at d bridge b row (Some k) ≡ edge_verdict_at d bridge b row None
       elsewhere_same b e = rw e
 
+  -- the same for the row that was found
   edge_same : (cycle : ℕ) (one two : Row → Bool) (found : Option Row) → ((row : Row) (k : ℕ) → found ≡ Some row → first_link row.path.items ≡ Some k → leaves d k bridge ≡ true → one row ≡ two row) → edge_verdict d bridge cycle one found ≡ edge_verdict d bridge cycle two found
   edge_same cycle one two None same = refl
   edge_same cycle one two (Some row) same = ap (λ v. if is_live row cycle then v else DroppedFor Withdrawn) (at_same (one row) (two row) row (first_link row.path.items) (λ k e here. same row k refl e here))
 
+  -- the same for the verdict
   verdict_same : (table : List Row) (cycle : ℕ) (one two : Row → Bool) (way : Way) → is_offered way ≡ true → ((row : Row) (k : ℕ) → Contains table row → first_link row.path.items ≡ Some k → leaves d k bridge ≡ true → one row ≡ two row) → verdict_by d table bridge cycle one way ≡ verdict_by d table bridge cycle two way
   verdict_same table cycle one two (AtEdge name) way same =
       edge_same cycle one two (row_named table name) (λ row k found. same row k (find_member (λ (r : Row). is_text r.name name) table row found).0)
@@ -152,6 +156,7 @@ offers_received d offers net bridge end =
     each_offer : (t : ℕ) → filter keep (offered_at offers bridge t) ≡ offered_at offers bridge t
     each_offer t = filter_each keep (offered_at offers bridge t) (λ x c. let r = contains_from_map offer_received (filter (is_offered_at bridge t) (enumerate_from 0 offers)) x c in ap keep (sym r.2))
 
+-- the gates decide on offers what the reservations do
 pub edge_is_covered : EdgeIsCovered
 edge_is_covered d tables offers net bridge end some orderly =
     ap (filter comes_at_edge) (policed_by_reservation d tables offers net bridge end some)

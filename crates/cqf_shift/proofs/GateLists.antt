@@ -14,12 +14,14 @@ use Rattle.cqf_shift.proofs.Cycles.{in_round, round_is, parity, cycle_from, cycl
 before_guard : (w g o : ℕ) → o < w → states_in ((128, w) ∷ (0, g) ∷ (64, w) ∷ (0, g) ∷ []) o ≡ 128
 before_guard w g o h = let e : ltb o w ≡ true = lt-ltb o w h in rw e
 
+-- the guard time of an even cycle
 in_guard : (w g o : ℕ) → w ≤ o → o < w + g → states_in ((128, w) ∷ (0, g) ∷ (64, w) ∷ (0, g) ∷ []) o ≡ 0
 in_guard w g o from upto =
     let e : ltb o w ≡ false = le-ltb o w from in
     let f : ltb (o - w) g ≡ true = lt-ltb (o - w) g (omega arith) in
     rw (e, f)
 
+-- an odd cycle
 before_second : (w g o : ℕ) → w + g ≤ o → o < w + g + w → states_in ((128, w) ∷ (0, g) ∷ (64, w) ∷ (0, g) ∷ []) o ≡ 64
 before_second w g o from upto =
     let e : ltb o w ≡ false = le-ltb o w (omega arith) in
@@ -27,6 +29,7 @@ before_second w g o from upto =
     let h : ltb (o - w - g) w ≡ true = lt-ltb (o - w - g) w (omega arith) in
     rw (e, f, h)
 
+-- the guard time of an odd cycle
 in_second : (w g o : ℕ) → w + g + w ≤ o → o < w + g + w + g → states_in ((128, w) ∷ (0, g) ∷ (64, w) ∷ (0, g) ∷ []) o ≡ 0
 in_second w g o from upto =
     let e : ltb o w ≡ false = le-ltb o w (omega arith) in
@@ -60,6 +63,7 @@ states_sending n g c t short inside early =
     odd : (n b r : ℕ) → b ≡ 1 → b * n + r ≡ n + r
     odd n b r e = rw e (omega arith)
 
+-- in the guard time all gates are closed
 pub states_in_guard : (n g c t : ℕ) → g < n → IsIn n c t → guard_from n g c ≤ t → states_at (port_list n g) t ≡ 0
 states_in_guard n g c t short inside late =
     let place = place_in_round n g c t short inside in
@@ -82,12 +86,15 @@ states_in_guard n g c t short inside late =
 no_bit : (class : ℕ) → IsBitSet 0 class → ⊥
 no_bit class set = set (omega (arith, and_le_l 0 (2 ^ class)))
 
+-- 128 opens class 7
 bit_of_128 : (class : ℕ) → IsBitSet 128 class ↔ (class ≡ 7)
 bit_of_128 class = (λ set. elim (cases_eq class 7) [ inl e ↦ e | inr ne ↦ absurd (set (pow_apart 7 class (λ e. ne (sym e)))) ], λ e. subst (λ x. IsBitSet 128 x) (sym e) (λ z. omega (arith, z)))
 
+-- 64 opens class 6
 bit_of_64 : (class : ℕ) → IsBitSet 64 class ↔ (class ≡ 6)
 bit_of_64 class = (λ set. elim (cases_eq class 6) [ inl e ↦ e | inr ne ↦ absurd (set (pow_apart 6 class (λ e. ne (sym e)))) ], λ e. subst (λ x. IsBitSet 64 x) (sym e) (λ z. omega (arith, z)))
 
+-- what a cycle's states open, by its parity
 bit_of : (b class : ℕ) → IsBitSet (if b == 0 then 128 else 64) class ↔ (class ≡ (if b == 0 then 7 else 6))
 bit_of b class = elim (b == 0) as (λ x. IsBitSet (if x then 128 else 64) class ↔ (class ≡ (if x then 7 else 6))) [ true ↦ bit_of_128 class | false ↦ bit_of_64 class ]
 
@@ -102,6 +109,7 @@ port_list_opens n g c t class short inside = elim (cases_lt t (guard_from n g c)
       (λ set. absurd (no_bit class (subst (λ x. IsBitSet x class) s set)), λ both. absurd (omega (arith, both.1)))
 ]
 
+-- a gate is open to an end exactly where that is not after the guard time's first instant
 pub port_list_sends_until : PortListSends
 port_list_sends_until n g c t end class some short inside more = (there, back)
   where
@@ -122,6 +130,7 @@ port_list_sends_until n g c t end class some short inside more = (there, back)
         let s_inside : IsIn n c s = (omega (arith, inside.0), omega (arith, both.1)) in
         (port_list_opens n g c s class short s_inside).1 (both.0, omega (arith, both.1))
 
+-- the round of a reservation's gate is two cycles
 whole : (n : ℕ) → 0 + n + n ≡ n + n
 whole n = omega arith
 
@@ -154,6 +163,7 @@ gate_place n r t some =
         let f : ltb (o - n) n ≡ true = lt-ltb (o - n) n (omega arith) in
         rw (e, f)
 
+-- the gate gives the cycle's class
 pub gate_gives : GateGivesClass
 gate_gives n r t some = elim (parity (t / n)) [
   | inl e ↦ ap (λ x. at_place n r x) (gate_place n r t some ∙ e) ∙ rw e
@@ -163,6 +173,7 @@ gate_gives n r t some = elim (parity (t / n)) [
     at_place : (n r place : ℕ) → ℕ
     at_place n r place = option_map_or (λ (entry : StreamEntry). entry.ipv) (slice_get (stream_list n r) place) 0
 
+-- the gate counts by the cycle: one round and one place are one cycle
 pub gate_counts : GateCountsCycles
 gate_counts n r s t some =
     let places = ap₂ (λ x y. x == y) (gate_place n r s some) (gate_place n r t some) in
@@ -180,6 +191,7 @@ gate_counts n r s t some =
           differ (omega (arith, eqb-true (c / 2) (e / 2) p.0, eqb-true (c % 2) (e % 2) p.1))) ∙ sym (ne_eqb c e differ)
     ]
 
+-- the next cycle sends what this one gives
 pub classes_take_turns : ClassesAlternate
 classes_take_turns c = elim (parity c) [
   | inl e ↦ let f : (c + 1) % 2 ≡ 1 = omega arith in rw (e, f)

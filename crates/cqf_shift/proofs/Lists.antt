@@ -9,9 +9,11 @@ use Rattle.cqf_model.specs.Traffic.{each_below}
 pub contains_here : {X : Type 0} (x : X) (xs : List X) → Contains (x ∷ xs) x
 contains_here x xs = (zero, omega arith, refl)
 
+-- a member stays one behind one more element
 pub contains_later : {X : Type 0} (y : X) (xs : List X) (x : X) → Contains xs x → Contains (y ∷ xs) x
 contains_later y xs x c = (suc c.0, omega (arith, c.1), c.2)
 
+-- a member is the first element or behind it
 pub contains_cases : {X : Type 0} (y : X) (xs : List X) (x : X) → Contains (y ∷ xs) x → (y ≡ x) ⊎ Contains xs x
 contains_cases {X} y xs x c = go c.0 c.1 c.2
   where
@@ -19,6 +21,7 @@ contains_cases {X} y xs x c = go c.0 c.1 c.2
     go zero l e = inl e
     go (suc k) l e = inr (k, omega (arith, l), e)
 
+-- an empty list has no member
 pub contains_none : {X : Type 0} (x : X) → Contains [] x → ⊥
 contains_none x c = omega (arith, c.1)
 
@@ -34,6 +37,7 @@ contains_map f (y ∷ xs) x c = elim (contains_cases y xs x c) [
   | inr h ↦ contains_later (f y) (map f xs) (f x) (contains_map f xs x h)
 ]
 
+-- a member of a mapped list comes of one
 pub contains_from_map : {X Y : Type 0} (f : X → Y) (xs : List X) (y : Y) → Contains (map f xs) y → (x : X) × Contains xs x × (f x ≡ y)
 contains_from_map f [] y c = absurd (contains_none y c)
 contains_from_map f (x ∷ xs) y c = elim (contains_cases (f x) (map f xs) y c) [
@@ -41,6 +45,7 @@ contains_from_map f (x ∷ xs) y c = elim (contains_cases (f x) (map f xs) y c) 
   | inr h ↦ let r = contains_from_map f xs y h in (r.0, contains_later x xs r.0 r.1, r.2)
 ]
 
+-- a member that passes is kept
 pub contains_filter : {X : Type 0} (p : X → Bool) (xs : List X) (x : X) → Contains xs x → p x ≡ true → Contains (filter p xs) x
 contains_filter p [] x c passes = absurd (contains_none x c)
 contains_filter p (y ∷ xs) x c passes = elim (contains_cases y xs x c) [
@@ -51,6 +56,7 @@ contains_filter p (y ∷ xs) x c passes = elim (contains_cases y xs x c) [
   ]
 ]
 
+-- what is kept is a member that passes
 pub contains_from_filter : {X : Type 0} (p : X → Bool) (xs : List X) (x : X) → Contains (filter p xs) x → Contains xs x × (p x ≡ true)
 contains_from_filter p [] x c = absurd (contains_none x c)
 contains_from_filter p (y ∷ xs) x c = elim (cases_Bool (p y)) [
@@ -61,6 +67,7 @@ contains_from_filter p (y ∷ xs) x c = elim (cases_Bool (p y)) [
   | inr f ↦ let r = contains_from_filter p xs x (subst (λ z. Contains z x) (cond-false (p y) (y ∷ filter p xs) (filter p xs) f) c) in (contains_later y xs x r.0, r.1)
 ]
 
+-- a member of one of the lists
 pub contains_flat : {X Y : Type 0} (f : X → List Y) (xs : List X) (x : X) (y : Y) → Contains xs x → Contains (f x) y → Contains (flat_map f xs) y
 contains_flat f [] x y c h = absurd (contains_none x c)
 contains_flat f (z ∷ xs) x y c h = elim (contains_cases z xs x c) [
@@ -68,6 +75,7 @@ contains_flat f (z ∷ xs) x y c h = elim (contains_cases z xs x c) [
   | inr l ↦ Contains-append_right (f z) (flat_map f xs) y (contains_flat f xs x y l h)
 ]
 
+-- and each member is of one of them
 pub contains_from_flat : {X Y : Type 0} (f : X → List Y) (xs : List X) (y : Y) → Contains (flat_map f xs) y → (x : X) × Contains xs x × Contains (f x) y
 contains_from_flat f [] y c = absurd (contains_none y c)
 contains_from_flat f (x ∷ xs) y c = elim (Contains-append_cases (f x) (flat_map f xs) y c) [
@@ -86,6 +94,7 @@ contains_below f (suc n) k x l c = elim (cases_order k n) [
   ]
 ]
 
+-- and each member is of one of them
 pub contains_from_below : {X : Type 0} (f : ℕ → List X) (n : ℕ) (x : X) → Contains (each_below f n) x → (k : ℕ) × (k < n) × Contains (f k) x
 contains_from_below f zero x c = absurd (contains_none x c)
 contains_from_below f (suc n) x c = elim (Contains-append_cases (each_below f n) (f n) x c) [
@@ -98,10 +107,12 @@ pub same_below : {X : Type 0} (f g : ℕ → List X) (n : ℕ) → ((k : ℕ) �
 same_below f g zero same = refl
 same_below f g (suc n) same = ap (λ z. z ++ f n) (same_below f g n (λ k l. same k (omega (arith, l)))) ∙ ap (λ z. each_below g n ++ z) (same n (omega arith))
 
+-- empty lists end to end are empty
 pub none_below : {X : Type 0} (f : ℕ → List X) (n : ℕ) → ((k : ℕ) → k < n → f k ≡ []) → each_below f n ≡ []
 none_below f zero none = refl
 none_below f (suc n) none = ap (λ z. z ++ f n) (none_below f n (λ k l. none k (omega (arith, l)))) ∙ none n (omega arith)
 
+-- a filter goes through lists end to end
 pub filter_below : {X : Type 0} (p : X → Bool) (f : ℕ → List X) (n : ℕ) → filter p (each_below f n) ≡ each_below (λ k. filter p (f k)) n
 filter_below p f zero = refl
 filter_below p f (suc n) = filter-append p (each_below f n) (f n) ∙ ap (λ z. z ++ filter p (f n)) (filter_below p f n)
@@ -111,6 +122,7 @@ pub filter_none : {X : Type 0} (p : X → Bool) (xs : List X) → ((x : X) → C
 filter_none p [] no_one = refl
 filter_none p (x ∷ xs) no_one = cond-false (p x) (x ∷ filter p xs) (filter p xs) (no_one x (contains_here x xs)) ∙ filter_none p xs (λ y c. no_one y (contains_later x xs y c))
 
+-- where each element passes, all are kept
 pub filter_each : {X : Type 0} (p : X → Bool) (xs : List X) → ((x : X) → Contains xs x → p x ≡ true) → filter p xs ≡ xs
 filter_each p [] each = refl
 filter_each p (x ∷ xs) each = cond-true (p x) (x ∷ filter p xs) (filter p xs) (each x (contains_here x xs)) ∙ ap (λ z. x ∷ z) (filter_each p xs (λ y c. each y (contains_later x xs y c)))
@@ -119,6 +131,7 @@ filter_each p (x ∷ xs) each = cond-true (p x) (x ∷ filter p xs) (filter p xs
 pub pairs_none : {X : Type 0} (R : X → X → Type 0) → AllPairs R []
 pairs_none R i j d l inside = absurd (omega (arith, inside))
 
+-- the pairs of two lists end to end are those of each, and those across
 pub pairs_append : {X : Type 0} (R : X → X → Type 0) (xs ys : List X) → AllPairs R xs → AllPairs R ys → ((x y : X) → Contains xs x → Contains ys y → R x y) → AllPairs R (xs ++ ys)
 pairs_append {X} R xs ys first second across i j d l inside = elim (cases_lt j (length xs)) [
   | inl j_in ↦ subst (λ z. R z (get_or (xs ++ ys) j d)) (sym (get_or_append_left xs ys d i (omega (arith, l, j_in)))) (subst (λ z. R (get_or xs i d) z) (sym (get_or_append_left xs ys d j j_in)) (first i j d l j_in))
@@ -131,6 +144,7 @@ pairs_append {X} R xs ys first second across i j d l inside = elim (cases_lt j (
     behind : (j : ℕ) → length xs ≤ j → j < length (xs ++ ys) → j - length xs < length ys
     behind j from upto = omega (arith, from, upto, length-append xs ys)
 
+-- the pairs of many lists end to end
 pub pairs_below : {X : Type 0} (R : X → X → Type 0) (f : ℕ → List X) (n : ℕ) → ((k : ℕ) → k < n → AllPairs R (f k)) → ((j k : ℕ) (x y : X) → j < k → k < n → Contains (f j) x → Contains (f k) y → R x y) → AllPairs R (each_below f n)
 pairs_below R f zero each across = pairs_none R
 pairs_below {X} R f (suc n) each across =

@@ -148,6 +148,7 @@ module _ (d : Domain) (tables : List (List Row)) (offers : List Offer) (net : Ne
           nested true b v = le_of_eq refl
           nested false b v = omega arith
 
+  -- nothing is lost inside
   none_lost : (bridge : ℕ) (p : Policed) → IsLost d tables offers net (length tables) bridge p → ⊥
   none_lost bridge p lost =
       let come = has_come d tables bridge (came d tables offers net run bridge) (policed d tables offers net run bridge) (facts d tables offers net run bridge) p lost.came in
@@ -180,6 +181,7 @@ module _ (d : Domain) (tables : List (List Row)) (offers : List Offer) (net : Ne
       at_edge : (table : List Row) (cycle : ℕ) (fits : Row → Bool) (way : Way) (name : List ℕ) → way ≡ AtEdge name → IsLoss (verdict_by d table bridge cycle fits way) → ⊥
       at_edge table cycle fits way name is lost = edge cycle fits (row_named table name) (subst (λ z. IsLoss (verdict_by d table bridge cycle fits z)) is lost)
 
+  -- each frame leaves in its turn
   in_turn : (link : ℕ) (sent : Sent) → Contains (net link) sent → LeavesInTurn d link (queued d tables offers net run link) sent
   in_turn link sent c =
       let is_link = the_link link sent c in
@@ -187,6 +189,7 @@ module _ (d : Domain) (tables : List (List Row)) (offers : List Offer) (net : Ne
       let due_at = start_due d tables offers net run link is_link s.0.place sent.start.0 s.1 in
       record { place = s.0.place; in_queue = s.0.in_queue; start = due_at; is = sym s.0.is; cycle = place_timed d tables offers net run link is_link s.0.place sent.start.0 s.1 }
 
+  -- so many cycles behind its offer, within one
   latency : (link : ℕ) (sent : Sent) → Contains (net link) sent → (shift : InShift d tables offers (length tables) sent.frame link (cycle_of d sent.start.0)) →
       (shift.x.at + shift.hop * d.cycle_time < whole_at d link sent) × (whole_at d link sent < shift.x.at + (shift.hop + 2) * d.cycle_time)
   latency link sent c shift =
@@ -198,6 +201,7 @@ module _ (d : Domain) (tables : List (List Row)) (offers : List Offer) (net : Ne
           let scaled = ap (λ z. z * n) cycle in
           (omega (arith, scaled, cycle_from n whole, cycle_upto n at some), omega (arith, scaled, cycle_upto n whole some, cycle_from n at))
 
+-- the main law
 pub gates_mean_the_shift : GatesMeanTheShift
 gates_mean_the_shift d tables offers net run = record {
   edge = λ bridge. edge_is_covered d tables offers net bridge (length tables * d.cycle_time) (some_time d tables offers net run) run.orderly;

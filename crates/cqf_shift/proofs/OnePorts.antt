@@ -50,9 +50,11 @@ module _ (n g r : ℕ) (arrivals : List Arrival) (cycles upto : ℕ) (starts : L
   abbrev cyc : ℕ → ℕ
   cyc p = instant_of arrivals p / n
 
+  -- the wire octets of a place
   abbrev wires : ℕ → ℕ
   wires p = wire_of (octets_of arrivals p)
 
+  -- when a place is due
   abbrev due_at : ℕ → ℕ
   due_at p = due n r arrivals p
 
@@ -64,6 +66,7 @@ module _ (n g r : ℕ) (arrivals : List Arrival) (cycles upto : ℕ) (starts : L
   own_wire : (p c : ℕ) → cyc p ≡ c → wire_in n c (get_or arrivals p no_arrival) ≡ wires p
   own_wire p c same = cond-true (cyc p == c) (wires p) 0 (eq-eqb (cyc p) c same)
 
+  -- a place of another cycle adds nothing
   other_wire : (p c : ℕ) → (cyc p ≡ c → ⊥) → wire_in n c (get_or arrivals p no_arrival) ≡ 0
   other_wire p c differ = cond-false (cyc p == c) (wires p) 0 (ne_eqb (cyc p) c differ)
 
@@ -87,9 +90,11 @@ module _ (n g r : ℕ) (arrivals : List Arrival) (cycles upto : ℕ) (starts : L
       let part : (load n (cyc p) (take p arrivals) + wires p) * r ≤ load n (cyc p) arrivals * r = mul-le-mul_right r (own_part p inside) in
       omega (arith, fits, part)
 
+  -- its due instant is in the next cycle
   due_in : (p : ℕ) → p < length arrivals → cyc p < upto → IsIn n (cyc p + 1) (due_at p)
   due_in p inside good = (omega arith, omega (arith, over p inside good))
 
+  -- so the cycle of that instant is the next one
   next : (p : ℕ) → p < length arrivals → cyc p < upto → due_at p / n ≡ cyc p + 1
   next p inside good = let is_in = due_in p inside good in cycle_is n (cyc p + 1) (due_at p) is_in.0 is_in.1
 
@@ -108,6 +113,7 @@ module _ (n g r : ℕ) (arrivals : List Arrival) (cycles upto : ℕ) (starts : L
             absurd (sends_no_own (s / n) (sym class_there.0 ∙ class_here ∙ ap given_class same))
       ]
 
+  -- so it starts no sooner than the next cycle
   starts_from : (p s : ℕ) → Contains starts (p, s) → (cyc p + 1) * n ≤ s
   starts_from p s c = omega (arith, mul-le-mul_right n (starts_later p s c), cycle_from n s)
 
@@ -223,13 +229,16 @@ module _ (n g r : ℕ) (arrivals : List Arrival) (cycles upto : ℕ) (starts : L
       w : (q : ℕ) × Contains starts (q, t)
       w = legal.work_conserving t p in_run idle first eligible
 
+  -- the same by induction on the place
   each_before : (m p : ℕ) → p < m → p < length arrivals → cyc p < upto → cyc p + 1 < cycles → Contains starts (p, due_at p)
   each_before zero p l = absurd (omega (arith, l))
   each_before (suc m) p l = step p (λ q lq. each_before m q (omega (arith, lq, l)))
 
+  -- each place starts when it is due
   each : (p : ℕ) → p < length arrivals → cyc p < upto → cyc p + 1 < cycles → Contains starts (p, due_at p)
   each p = each_before (suc p) p (omega arith)
 
+  -- and nothing starts but what is due
   only : (p s : ℕ) → Contains starts (p, s) → s / n ≤ upto → (cyc p < upto) × (s ≡ due_at p)
   only p s c early =
       let good : cyc p < upto = omega (arith, starts_later p s c, early) in
@@ -242,8 +251,10 @@ module _ (n g r : ℕ) (arrivals : List Arrival) (cycles upto : ℕ) (starts : L
         | inr past ↦ absurd (omega (arith, mul-le-mul_right n (le_trans past from), there, l))
       ]
 
+  -- the four together
   pub port_is_late : AreDue n g r arrivals cycles upto starts
   port_is_late = record { each = each; only = only; next = next; over = over }
 
+-- the law
 pub port_is_one_cycle_late : PortIsOneCycleLate
 port_is_one_cycle_late n g r arrivals cycles upto starts some_guard short some_octet come loads legal = port_is_late n g r arrivals cycles upto starts some_guard short some_octet come loads legal

@@ -75,6 +75,7 @@ joined_leaves d m l bridge joined here = go (slice_get d.links l) joined
     go None e = absurd (cc)
     go (Some link) e = eq-eqb link.from bridge (enters_one d m link.from bridge e here)
 
+-- a link that joins another ends in the bridge that this one leaves
 pub joined_enters : (d : Domain) (m l : ℕ) → joins d m l ≡ true → enters d m (bridge_of d l) ≡ true
 joined_enters d m l joined = go (slice_get d.links l) joined
   where

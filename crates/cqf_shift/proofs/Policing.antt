@@ -45,6 +45,7 @@ module _ (d : Domain) (tables : List (List Row)) (orderly : AreOrderly d tables)
           let bound : octets_before d q.0.no c earlier + x.octets ≤ q.0.octets = leb-true (octets_before d q.0.no c earlier + x.octets) q.0.octets says.1 in
           omega (arith, bound, one.octets, ap₂ (λ a b. octets_before d a b earlier) q.3 in_cycle)
 
+  -- the same for all that comes
   passes_within : (cycle : ℕ) (row : Row) (earlier : List Policed) (xs : List Received) → Contains (table_of tables cycle) row → octets_before d row.no cycle earlier ≤ row.octets →
       octets_before d row.no cycle (earlier ++ police_all d tables (within_reservation d) bridge earlier xs) ≤ row.octets
   passes_within cycle row earlier [] inside so_far = subst (λ z. octets_before d row.no cycle z ≤ row.octets) (sym (append-nil earlier)) so_far
@@ -60,6 +61,7 @@ pub record Polices (d : Domain) (tables : List (List Row)) (bridge : ℕ) (xs : 
   pub behind : (p : Policed) → Contains policed p → IsBehind d tables (within_reservation d) bridge [] xs p
   pub reserved : (cycle : ℕ) (row : Row) → Contains (table_of tables cycle) row → sum_by (taken d row.no cycle) policed ≤ row.octets
 
+-- the facts hold of what the reservation test decides on any frames
 pub polices_all : (d : Domain) (tables : List (List Row)) (bridge : ℕ) (xs : List Received) → AreOrderly d tables → Polices d tables bridge xs (police_all d tables (within_reservation d) bridge [] xs)
 polices_all d tables bridge xs orderly = record {
   in_turn = received_list d tables (within_reservation d) bridge [] xs;
@@ -67,6 +69,7 @@ polices_all d tables bridge xs orderly = record {
   reserved = λ cycle row inside. passes_within d tables orderly bridge cycle row [] xs inside zero-le;
 }
 
+-- so they hold at each bridge
 pub polices : (d : Domain) (tables : List (List Row)) (offers : List Offer) (net : Network) (bridge end : ℕ) → 0 < d.cycle_time → AreOrderly d tables → Polices d tables bridge (received_before d offers net bridge end) (policed_before d tables offers net bridge end)
 polices d tables offers net bridge end some orderly =
     let xs = received_before d offers net bridge end in
@@ -77,6 +80,7 @@ module _ (d : Domain) (tables : List (List Row)) (bridge : ℕ) (xs : List Recei
   pub has_verdict : (x : Received) → Contains xs x → (p : Policed) × Contains policed p × (p.received ≡ x)
   has_verdict x c = contains_from_map (λ (p : Policed). p.received) policed x (subst (λ z. Contains z x) (sym facts.in_turn) c)
 
+  -- and who has a verdict came
   pub has_come : (p : Policed) → Contains policed p → Contains xs p.received
   has_come p c = subst (λ z. Contains z p.received) facts.in_turn (contains_map (λ (q : Policed). q.received) policed p c)
 
@@ -89,5 +93,6 @@ module _ (d : Domain) (tables : List (List Row)) (bridge : ℕ) (xs : List Recei
       subst (λ (q : Policed). q.verdict ≡ Queued row l → IsQueuedBy d (table_of tables (cycle_of d q.received.at)) bridge (cycle_of d q.received.at) q.received.way row l) (sym b.is)
       (λ e. (queued_says d (table_of tables t) bridge t (λ r. within_reservation d earlier r b.x) b.x.way row l e).0) e
 
+  -- the row by which it is queued is of its cycle's table
   pub row_of_queued : (p : Policed) (row : Row) (l : ℕ) → Contains policed p → p.verdict ≡ Queued row l → Contains (table_of tables (cycle_of d p.received.at)) row
   row_of_queued p row l c e = queued_row d (table_of tables (cycle_of d p.received.at)) bridge (cycle_of d p.received.at) p.received.way row l (is_queued_by p row l c e)

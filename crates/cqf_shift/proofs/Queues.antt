@@ -37,6 +37,7 @@ queued_by_verdict d l x (DroppedFor reason) q c = absurd (contains_none q c)
 queued_by_verdict d l x LacksRow q c = absurd (contains_none q c)
 queued_by_verdict d l x ExceedsGate q c = absurd (contains_none q c)
 
+-- a frame queued to this link is queued
 queued_here : (d : Domain) (l : ℕ) (x : Received) (row : Row) → queued_by d l x (Queued row l) ≡ queued_frame d x row ∷ []
 queued_here d l x row = cond-true (l == l) (queued_frame d x row ∷ []) [] (eq-eqb l l refl)
 
@@ -48,12 +49,14 @@ pub record FromQueue (d : Domain) (l : ℕ) (policed : List Policed) (q : Queued
   pub verdict : p.verdict ≡ Queued row l
   pub is : queued_frame d p.received row ≡ q
 
+-- each queued frame comes so
 pub queued_from : (d : Domain) (l : ℕ) (policed : List Policed) (q : QueuedFrame) → Contains (queued_to d l policed) q → FromQueue d l policed q
 queued_from d l policed q c =
     let r = contains_from_flat (λ (p : Policed). queued_by d l p.received p.verdict) policed q c in
     let v = queued_by_verdict d l r.0.received r.0.verdict q r.2 in
     record { p = r.0; inside = r.1; row = v.0; verdict = v.1; is = v.2 }
 
+-- and each frame with that verdict is queued
 pub queued_into : (d : Domain) (l : ℕ) (policed : List Policed) (p : Policed) (row : Row) → Contains policed p → p.verdict ≡ Queued row l → Contains (queued_to d l policed) (queued_frame d p.received row)
 queued_into d l policed p row c e =
     contains_flat (λ (p : Policed). queued_by d l p.received p.verdict) policed p (queued_frame d p.received row) c
@@ -64,14 +67,17 @@ pub on_path : (d : Domain) (table : List Row) (bridge cycle : ℕ) (way : Way) (
 on_path d table bridge cycle (AtEdge name) row l q = (zero, q.first)
 on_path d table bridge cycle (Relayed m number) row l q = let r = next_link_at row.path.items m l q.follows in (suc r.0, r.2)
 
+-- and the link leaves the bridge
 pub leaves_here : (d : Domain) (table : List Row) (bridge cycle : ℕ) (way : Way) (row : Row) (l : ℕ) → IsQueuedBy d table bridge cycle way row l → leaves d l bridge ≡ true
 leaves_here d table bridge cycle (AtEdge name) row l q = q.here
 leaves_here d table bridge cycle (Relayed m number) row l q = q.here
 
+-- a link at a place of a path is on the path
 pub on_path_any : (path : List ℕ) (k l : ℕ) → slice_get path k ≡ Some l → list_any (λ j. j == l) path ≡ true
 on_path_any path k l e = list_any_at (λ j. j == l) path k 0 (slice_get_within path k l e) (eq-eqb (get_or path k 0) l (get_or_from_slice_get path k l 0 e))
 
 module _ (d : Domain) (tables : List (List Row)) (bridge : ℕ) (xs : List Received) (policed : List Policed) (facts : Polices d tables bridge xs policed) (some : 0 < d.cycle_time) (l : ℕ) where
+  -- what the port sees
   abbrev arrivals : List Arrival
   arrivals = arrivals_of (queued_to d l policed)
 

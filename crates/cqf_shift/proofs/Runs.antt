@@ -51,12 +51,14 @@ link_at d m inside = elim (slice_get_cases d.links m).1 [
   | inr r ↦ absurd (omega (arith, r.0, inside))
 ]
 
+-- a link leaves its bridge
 pub leaves_its_bridge : (d : Domain) (m : ℕ) → m < length d.links → leaves d m (bridge_of d m) ≡ true
 leaves_its_bridge d m inside =
     let link = link_at d m inside in
     let from : bridge_of d m ≡ link.0.from = ap (λ z. option_map_or (λ (k : Link). k.from) z 0) link.1 in
     ap (λ z. option_map_or (λ (k : Link). k.from == bridge_of d m) z false) link.1 ∙ eq-eqb link.0.from (bridge_of d m) (sym from)
 
+-- and no other
 pub its_bridge : (d : Domain) (m bridge : ℕ) → leaves d m bridge ≡ true → bridge_of d m ≡ bridge
 its_bridge d m bridge here = go (slice_get d.links m) here
   where
@@ -65,26 +67,33 @@ its_bridge d m bridge here = go (slice_get d.links m) here
     go (Some link) e = eqb-true link.from bridge e
 
 module _ (d : Domain) (tables : List (List Row)) (offers : List Offer) (net : Network) (run : IsLegalRun d tables offers net) where
+  -- the end of the run
   abbrev pub end : ℕ
   end = length tables * d.cycle_time
 
+  -- what comes to a bridge
   abbrev pub came : ℕ → List Received
   came bridge = received_before d offers net bridge end
 
+  -- what becomes of it
   abbrev pub policed : ℕ → List Policed
   policed bridge = policed_before d tables offers net bridge end
 
+  -- a cycle takes some time
   pub some_time : 0 < d.cycle_time
   some_time = omega (arith, run.accepted.cycle_least)
 
+  -- the facts about what becomes of it
   pub facts : (bridge : ℕ) → Polices d tables bridge (came bridge) (policed bridge)
   facts bridge = polices d tables offers net bridge end some_time run.orderly
 
+  -- an octet takes some time on each link
   pub octet_time_some : (m : ℕ) → m < length d.links → 0 < octet_time_of d m
   octet_time_some m inside =
       let link = link_at d m inside in
       subst (λ z. 0 < option_map_or (λ (k : Link). nanos_of_octet k.rate) z 0) (sym link.1) (octet_takes link.0.rate)
 
+  -- a link's delay is within the guard time
   delay_within : (m : ℕ) → m < length d.links → delay_of d m < d.guard
   delay_within m inside =
       let link = link_at d m inside in
@@ -108,6 +117,7 @@ module _ (d : Domain) (tables : List (List Row)) (offers : List Offer) (net : Ne
     pub is : offer_received (place, offer) ≡ x
     pub early : offer.at.0 < end
 
+  -- what a link brings at an instant
   relayed_by : (bridge t m : ℕ) (x : Received) → t < end → m < length d.links → Contains (relayed_at d net bridge t m) x → IsRelayed bridge x
   relayed_by bridge t m x early is_link c = elim (cases_Bool (enters d m bridge)) [
     | inl e ↦
@@ -117,6 +127,7 @@ module _ (d : Domain) (tables : List (List Row)) (offers : List Offer) (net : Ne
     | inr e ↦ absurd (contains_none x (subst (λ z. Contains z x) (cond-false (enters d m bridge) (map (sent_received d m) (filter (λ sent. whole_at d m sent == t) (net m))) [] e) c))
   ]
 
+  -- what is offered at an instant
   offered_by : (bridge t : ℕ) (x : Received) → t < end → Contains (offered_at offers bridge t) x → IsOfferedHere bridge x
   offered_by bridge t x early c =
       let r = contains_from_map offer_received (filter (is_offered_at bridge t) (enumerate_from 0 offers)) x c in
@@ -124,6 +135,7 @@ module _ (d : Domain) (tables : List (List Row)) (offers : List Offer) (net : Ne
       let parts = and_parts (r.0.1.bridge == bridge) (r.0.1.at.0 == t) f.1 in
       record { place = r.0.0; offer = r.0.1; inside = f.0; here = eqb-true r.0.1.bridge bridge parts.0; is = r.2; early = omega (arith, eqb-true r.0.1.at.0 t parts.1, early) }
 
+  -- each frame came in one of the two ways
   pub came_by : (bridge : ℕ) (x : Received) → Contains (came bridge) x → IsRelayed bridge x ⊎ IsOfferedHere bridge x
   came_by bridge x c =
       let t = contains_from_below (received_at d offers net bridge) end x c in
@@ -132,6 +144,7 @@ module _ (d : Domain) (tables : List (List Row)) (offers : List Offer) (net : Ne
         | inr o ↦ inr (offered_by bridge t.0 x t.1 o)
       ]
 
+  -- and what a link sends comes to the bridge in which it ends
   pub relayed_comes : (bridge m : ℕ) (sent : Sent) → m < length d.links → enters d m bridge ≡ true → Contains (net m) sent → whole_at d m sent < end → Contains (came bridge) (sent_received d m sent)
   relayed_comes bridge m sent is_link here inside early =
       let t = whole_at d m sent in
@@ -161,6 +174,7 @@ module _ (d : Domain) (tables : List (List Row)) (offers : List Offer) (net : Ne
         | inr e ↦ absurd (contains_none x (subst (λ z. Contains z x) (cond-false (enters d m bridge) (map (sent_received d m) (filter (λ sent. whole_at d m sent == t) (net m))) [] e) c))
       ]
 
+  -- so all that comes is in order of instant
   pub sorted : (bridge : ℕ) → AllPairs (λ (a b : Received). a.at ≤ b.at) (came bridge)
   sorted bridge =
       pairs_below (λ (a b : Received). a.at ≤ b.at) (received_at d offers net bridge) end
@@ -171,6 +185,7 @@ module _ (d : Domain) (tables : List (List Row)) (offers : List Offer) (net : Ne
   abbrev pub queued : ℕ → List QueuedFrame
   queued m = queued_to d m (policed (bridge_of d m))
 
+  -- its transmissions are legal
   pub sends : (m : ℕ) → m < length d.links → Sends d (compiled_lists d m) end m (queued m) (net m)
   sends m inside = run.legal.sends m inside
 
@@ -189,6 +204,7 @@ module _ (d : Domain) (tables : List (List Row)) (offers : List Offer) (net : Ne
     pub in_queue : place < length (queued m)
     pub is : sent_of (queued m) (place, sent.start.0) ≡ sent
 
+  -- each frame that a link sends was queued so
   pub sent_for : (m : ℕ) (is_link : m < length d.links) (sent : Sent) → Contains (net m) sent → (x : IsSentFor m sent) × Contains (sends m is_link).starts (x.place, sent.start.0)
   sent_for m is_link sent c =
       let s = sends m is_link in
@@ -233,6 +249,7 @@ module _ (d : Domain) (tables : List (List Row)) (offers : List Offer) (net : Ne
         omega (arith, offer.least, ap (λ (z : Received). z.octets) o.is)
   ]
 
+  -- so none of those with a verdict is
   pub least : (bridge : ℕ) → All (λ (p : Policed). 64 ≤ p.received.octets) (policed bridge)
   least bridge = all_from_members (λ (p : Policed). 64 ≤ p.received.octets) (policed bridge) (λ p c. least_before (suc p.received.at) bridge p.received (has_come d tables bridge (came bridge) (policed bridge) (facts bridge) p c) (omega arith))
 
@@ -251,6 +268,7 @@ module _ (d : Domain) (tables : List (List Row)) (offers : List Offer) (net : Ne
     pub whole : cycle_of d (whole_at d m sent) ≡ cycle_of d sent.start.0
     pub in_run : whole_at d m sent < end
 
+  -- each start is timed so
   pub timed : (m : ℕ) (is_link : m < length d.links) (sent : Sent) (place at : ℕ) → Contains (sends m is_link).starts (place, sent.start.0) → place < length (queued m) → instant_of (arrivals_of (queued m)) place ≡ at → octets_of (arrivals_of (queued m)) place ≡ sent.octets → IsTimed m at sent
   timed m is_link sent place at c in_queue is_at is_octets =
       let s = sent.start.0 in
@@ -280,6 +298,7 @@ module _ (d : Domain) (tables : List (List Row)) (offers : List Offer) (net : Ne
       at_octets : (n g r s a b o p : ℕ) → a ≡ b → o ≡ p → s + (o + 20) * r ≤ (a / n + 1) * n + (n - g) → s + (p + 20) * r ≤ (b / n + 1) * n + (n - g)
       at_octets n g r s a b o p ea eo h = subst (λ z. s + (z + 20) * r ≤ (b / n + 1) * n + (n - g)) eo (subst (λ z. s + (o + 20) * r ≤ (z / n + 1) * n + (n - g)) ea h)
 
+  -- the same for each frame that a link sends
   pub sent_timed : (m : ℕ) (is_link : m < length d.links) (sent : Sent) → Contains (net m) sent → (x : IsSentFor m sent) × IsTimed m x.p.received.at sent
   sent_timed m is_link sent c =
       let r = sent_for m is_link sent c in
@@ -295,12 +314,14 @@ module _ (d : Domain) (tables : List (List Row)) (offers : List Offer) (net : Ne
   pub start_in_queue : (m : ℕ) (is_link : m < length d.links) (place s : ℕ) → Contains (sends m is_link).starts (place, s) → place < length (queued m)
   start_in_queue m is_link place s c = omega (arith, ((sends m is_link).legal.first place s c).waits.inside, length-map (queued m) (λ (q : QueuedFrame). q.arrival))
 
+  -- a start is in the cycle after the queued frame's
   pub start_timed : (m : ℕ) (is_link : m < length d.links) (place s : ℕ) → Contains (sends m is_link).starts (place, s) → cycle_of d s ≡ cycle_of d (get_or (queued m) place no_frame).arrival.at.0 + 1
   start_timed m is_link place s c =
       let inside = start_in_queue m is_link place s c in
       let arrival = get_or-map (λ (q : QueuedFrame). q.arrival) (queued m) place no_frame no_arrival inside in
       (timed m is_link (sent_of (queued m) (place, s)) place (get_or (queued m) place no_frame).arrival.at.0 c inside (ap (λ (a : Arrival). a.at.0) arrival) (ap (λ (a : Arrival). a.octets) arrival)).cycle
 
+  -- the same, said of its arrival
   pub place_timed : (m : ℕ) (is_link : m < length d.links) (place s : ℕ) → Contains (sends m is_link).starts (place, s) → cycle_of d s ≡ cycle_of_place d.cycle_time (arrivals_of (queued m)) place + 1
   place_timed m is_link place s c =
       let inside = start_in_queue m is_link place s c in

@@ -49,9 +49,11 @@ module _ (d : Domain) (tables : List (List Row)) (offers : List Offer) (net : Ne
   abbrev pub sent_counts : ℕ → Sent → ℕ
   sent_counts cycle s = if cycle_of d s.start.0 == cycle then w s.frame s.stream s.octets else 0
 
+  -- the same of a frame that is queued to it
   abbrev pub queued_counts : ℕ → QueuedFrame → ℕ
   queued_counts cycle q = if cycle_of d q.arrival.at.0 == cycle then w q.arrival.frame q.stream q.arrival.octets else 0
 
+  -- the same of a frame that comes by it
   abbrev pub arriving_counts : ℕ → Received → ℕ
   arriving_counts cycle x = if cycle_of d x.at == cycle then by_link m (λ stream. w x.frame stream x.octets) x.way else 0
 

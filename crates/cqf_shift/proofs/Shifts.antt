@@ -31,14 +31,17 @@ inside_drops_none r l reason true true e = cc
 inside_drops_none r l reason true false e = cc
 inside_drops_none r l reason false fits e = cc
 
+-- a link that follows gives no reason
 inside_to_drops_none : (d : Domain) (bridge : ℕ) (fits : Bool) (r : Row) (o : Option ℕ) (reason : Reason) → inside_verdict_to d bridge fits r o ≡ DroppedFor reason → ⊥
 inside_to_drops_none d bridge fits r None reason e = cc
 inside_to_drops_none d bridge fits r (Some l) reason e = inside_drops_none r l reason (leaves d l bridge) fits e
 
+-- a row that is found gives none either
 inside_verdict_drops_none : (d : Domain) (bridge m : ℕ) (fits : Row → Bool) (found : Option Row) (reason : Reason) → inside_verdict d bridge m fits found ≡ DroppedFor reason → ⊥
 inside_verdict_drops_none d bridge m fits None reason e = cc
 inside_verdict_drops_none d bridge m fits (Some r) reason e = inside_to_drops_none d bridge (fits r) r (next_link r.path.items m) reason e
 
+-- so a reason is given at the edge alone
 dropped_at_edge : (d : Domain) (table : List Row) (bridge cycle : ℕ) (fits : Row → Bool) (way : Way) (reason : Reason) → verdict_by d table bridge cycle fits way ≡ DroppedFor reason → is_offered way ≡ true
 dropped_at_edge d table bridge cycle fits (AtEdge name) reason e = refl
 dropped_at_edge d table bridge cycle fits (Relayed m number) reason e = absurd (inside_verdict_drops_none d bridge m fits _ reason e)
@@ -57,6 +60,7 @@ drop_of_verdict cycle bridge x LacksRow y c = absurd (contains_none y c)
 drop_of_verdict cycle bridge x ExceedsGate y c = absurd (contains_none y c)
 
 module _ (d : Domain) (tables : List (List Row)) (offers : List Offer) (net : Network) (run : IsLegalRun d tables offers net) where
+  -- the end of the run
   abbrev last : ℕ
   last = end d tables offers net run
 
@@ -85,6 +89,7 @@ module _ (d : Domain) (tables : List (List Row)) (offers : List Offer) (net : Ne
     pub is_frame : sent.frame ≡ frame
     pub is_cycle : cycle_of d sent.start.0 ≡ cycle
 
+  -- the link sends each frame of the shift
   pub shift_is_sent : (frame link cycle : ℕ) → InShift d tables offers (length tables) frame link cycle → IsSentInCycle frame link cycle
   shift_is_sent frame link cycle s =
       let origin = covered_at_edge d tables offers net run s.bridge s.x s.row s.covered.link s.covered.judged in
@@ -116,6 +121,7 @@ module _ (d : Domain) (tables : List (List Row)) (offers : List Offer) (net : Ne
     pub frame : x.frame ≡ place + 1
     pub in_run : cycle_of d x.at < length tables
 
+  -- each offer that isn't covered is dropped at its bridge
   pub uncovered_dropped : (bridge : ℕ) (x : Received) (reason : Reason) → Contains (judged_before d tables offers bridge last) (record { received = x; verdict = DroppedFor reason }) → IsDropped bridge x reason
   uncovered_dropped bridge x reason c =
       let p : Policed = record { received = x; verdict = DroppedFor reason } in

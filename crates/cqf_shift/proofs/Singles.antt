@@ -27,6 +27,7 @@ use Rattle.cqf_shift.proofs.Ways.{covered_at_edge, on_way, same_stream, one_plac
 abbrev pub of_frame : ℕ → Weight
 of_frame frame number stream octets = if number == frame then 1 else 0
 
+-- the same for frames that were offered alone
 abbrev offered_counts : ℕ → Way → ℕ → ℕ
 offered_counts frame (AtEdge name) number = if number == frame then 1 else 0
 offered_counts frame (Relayed m stream) number = 0
@@ -40,9 +41,11 @@ placed_get {X} n (y ∷ xs) k x c = elim (contains_cases (n, y) (enumerate_from 
 ]
 
 module _ (d : Domain) (tables : List (List Row)) (offers : List Offer) (net : Network) (run : IsLegalRun d tables offers net) where
+  -- what becomes of what comes to a bridge
   abbrev given : ℕ → List Policed
   given b = policed d tables offers net run b
 
+  -- the end of the run
   abbrev last : ℕ
   last = end d tables offers net run
 
@@ -59,6 +62,7 @@ module _ (d : Domain) (tables : List (List Row)) (offers : List Offer) (net : Ne
       two_ways : (m stream : ℕ) (name : List ℕ) → Relayed m stream ≡ AtEdge name → ⊥
       two_ways m stream name e = cc
 
+  -- two covered frames of one number are one offer, by one row
   same_offer : (bridge other : ℕ) (x y : Received) (row late : Row) (l k : ℕ) → Contains (judged_before d tables offers bridge last) (record { received = x; verdict = Queued row l }) → Contains (judged_before d tables offers other last) (record { received = y; verdict = Queued late k }) →
       x.frame ≡ y.frame → (x ≡ y) × (row ≡ late)
   same_offer bridge other x y row late l k first second frames =
@@ -97,6 +101,7 @@ module _ (d : Domain) (tables : List (List Row)) (offers : List Offer) (net : Ne
   abbrev CameFrom : Policed → Row → ℕ → Type 0
   CameFrom p row m = ((name : List ℕ) × (p.received.way ≡ AtEdge name) × (slice_get row.path.items 0 ≡ Some m)) ⊎ ((from stream k : ℕ) × (p.received.way ≡ Relayed from stream) × (slice_get row.path.items k ≡ Some from) × (slice_get row.path.items (suc k) ≡ Some m))
 
+  -- each queued frame did one of the two
   came_from : (bridge m : ℕ) (p : Policed) (row : Row) → Contains (given bridge) p → p.verdict ≡ Queued row m → CameFrom p row m
   came_from bridge m p row c v =
       let e = cycle_of d p.received.at in
@@ -164,6 +169,7 @@ module _ (d : Domain) (tables : List (List Row)) (offers : List Offer) (net : Ne
   abbrev port_counts : (m cycle frame : ℕ) → Policed → ℕ
   port_counts m cycle frame p = sum_by (λ (q : QueuedFrame). if cycle_of d q.arrival.at.0 == cycle then of_frame frame q.arrival.frame q.stream q.arrival.octets else 0) (queued_by d m p.received p.verdict)
 
+  -- it is 0, or 1 for a queued frame of this number and cycle
   port_value : (m cycle frame : ℕ) (x : Received) (v : Verdict) → (port_counts m cycle frame (record { received = x; verdict = v }) ≡ 0) ⊎ ((row : Row) × (v ≡ Queued row m) × (cycle_of d x.at ≡ cycle) × (x.frame ≡ frame) × (port_counts m cycle frame (record { received = x; verdict = v }) ≡ 1))
   port_value m cycle frame x (Queued row link) =
       let f = λ (q : QueuedFrame). if cycle_of d q.arrival.at.0 == cycle then of_frame frame q.arrival.frame q.stream q.arrival.octets else 0 in
@@ -278,7 +284,7 @@ module _ (d : Domain) (tables : List (List Row)) (offers : List Offer) (net : Ne
                           let place : q.2 ≡ k = omega (arith, places) in
                           let links : q.0 ≡ from = same_Some q.0 from (sym q.4 ∙ ap (slice_get a.0.path.items) place ∙ subst (λ z. slice_get z k ≡ Some from) same.0 at0) in
                           let way : p.received.way ≡ Relayed l q.1 = q.3 ∙ ap (λ z. Relayed z q.1) (links ∙ is) in
-                          let one = cond-true (p.received.frame == frame) 1 0 (eq-eqb p.received.frame frame a.3) in
+                          let one : ◌≡◌ {A = ℕ} (if p.received.frame == frame then 1 else 0) 1 = cond-true {A = ℕ} (p.received.frame == frame) 1 0 (eq-eqb p.received.frame frame a.3) in
                           let value : arriving_counts d tables offers net run l l_in (of_frame frame) cycle p.received ≡ 1 =
                           cond-true (cycle_of d p.received.at == cycle) (by_link l (λ stream. of_frame frame p.received.frame stream p.received.octets) p.received.way) 0 (eq-eqb (cycle_of d p.received.at) cycle a.2)
                           ∙ ap (by_link l (λ stream. of_frame frame p.received.frame stream p.received.octets)) way
@@ -288,6 +294,7 @@ module _ (d : Domain) (tables : List (List Row)) (offers : List Offer) (net : Ne
                     ]
               ]
 
+  -- so it is at each port once in a cycle
   single : (cycle m : ℕ) (is_link : m < length d.links) (frame : ℕ) → sum_by (queued_counts d tables offers net run m is_link (of_frame frame) cycle) (queued d tables offers net run m) ≤ 1
   single zero m is_link frame = single_step zero m is_link frame (λ before from l e. absurd (omega (arith, e)))
   single (suc cycle) m is_link frame = single_step (suc cycle) m is_link frame (λ before from l e.

@@ -11,6 +11,7 @@ use Rattle.cqf_shift.proofs.Lists.{contains_here, contains_later}
 pub pairs_head : {X : Type 0} (R : X → X → Type 0) (x : X) (xs : List X) (y : X) → AllPairs R (x ∷ xs) → Contains xs y → R x y
 pairs_head R x xs y all c = subst (λ z. R x z) c.2 (all zero (suc c.0) y (omega arith) (omega (arith, c.1)))
 
+-- the pairs of later ones
 pub pairs_tail : {X : Type 0} (R : X → X → Type 0) (x : X) (xs : List X) → AllPairs R (x ∷ xs) → AllPairs R xs
 pairs_tail R x xs all i j d l inside = all (suc i) (suc j) d (omega (arith, l)) (omega (arith, inside))
 
@@ -19,10 +20,12 @@ pub sum_le_members : {X : Type 0} (f g : X → ℕ) (xs : List X) → ((x : X) �
 sum_le_members f g [] each = omega arith
 sum_le_members f g (x ∷ xs) each = omega (arith, sum_by-cons f x xs, sum_by-cons g x xs, each x (contains_here x xs), sum_le_members f g xs (λ y c. each y (contains_later x xs y c)))
 
+-- a sum of nothing but 0
 pub sum_none : {X : Type 0} (f : X → ℕ) (xs : List X) → ((x : X) → Contains xs x → f x ≡ 0) → sum_by f xs ≡ 0
 sum_none f [] each = refl
 sum_none f (x ∷ xs) each = omega (arith, sum_by-cons f x xs, each x (contains_here x xs), sum_none f xs (λ y c. each y (contains_later x xs y c)))
 
+-- each term is within the sum
 pub sum_member : {X : Type 0} (f : X → ℕ) (xs : List X) (x : X) → Contains xs x → f x ≤ sum_by f xs
 sum_member f xs x c = subst (λ z. f z ≤ sum_by f xs) c.2 (get_or-le-sum_by f xs c.0 x c.1)
 
@@ -31,14 +34,17 @@ pub sum_map : {X Y : Type 0} (f : Y → ℕ) (g : X → Y) (xs : List X) → sum
 sum_map f g [] = refl
 sum_map f g (x ∷ xs) = sum_by-cons f (g x) (map g xs) ∙ ap (λ z. f (g x) + z) (sum_map f g xs) ∙ sym (sum_by-cons (λ x. f (g x)) x xs)
 
+-- the sum over lists end to end is the sum of their sums
 pub sum_flat : {X Y : Type 0} (f : Y → ℕ) (g : X → List Y) (xs : List X) → sum_by f (flat_map g xs) ≡ sum_by (λ x. sum_by f (g x)) xs
 sum_flat f g [] = refl
 sum_flat f g (x ∷ xs) = sum_by-append f (g x) (flat_map g xs) ∙ ap (λ z. sum_by f (g x) + z) (sum_flat f g xs) ∙ sym (sum_by-cons (λ x. sum_by f (g x)) x xs)
 
+-- places change no sum
 pub sum_places : {X : Type 0} (f : X → ℕ) (n : ℕ) (xs : List X) → sum_by (λ (x : ℕ × X). f x.1) (enumerate_from n xs) ≡ sum_by f xs
 sum_places f n [] = refl
 sum_places {X} f n (x ∷ xs) = sum_by-cons (λ (x : ℕ × X). f x.1) (n, x) (enumerate_from (n + 1) xs) ∙ ap (λ z. f x + z) (sum_places f (n + 1) xs) ∙ sym (sum_by-cons f x xs)
 
+-- the sum of two terms each
 pub sum_plus : {X : Type 0} (f g : X → ℕ) (xs : List X) → sum_by (λ x. f x + g x) xs ≡ sum_by f xs + sum_by g xs
 sum_plus f g [] = refl
 sum_plus f g (x ∷ xs) = omega (arith, sum_by-cons (λ x. f x + g x) x xs, sum_by-cons f x xs, sum_by-cons g x xs, sum_plus f g xs)

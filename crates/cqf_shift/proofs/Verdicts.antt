@@ -39,21 +39,25 @@ pub record QueuedAtEdge (d : Domain) (bridge cycle : ℕ) (found : Option Row) (
   pub first : first_link row.path.items ≡ Some l
   pub here : leaves d l bridge ≡ true
 
+-- the last two reasons, by the two tests
 edge_choice : (r row : Row) (k l : ℕ) (here fits : Bool) → (if here then (if fits then Queued r k else DroppedFor Octets) else DroppedFor OtherBridge) ≡ Queued row l → (here ≡ true) × (fits ≡ true) × (r ≡ row) × (k ≡ l)
 edge_choice r row k l true true e = (refl, refl, cc, cc)
 edge_choice r row k l true false e = absurd (cc)
 edge_choice r row k l false fits e = absurd (cc)
 
+-- the path's first link leaves the bridge, and the frame passes
 edge_at_queued : (d : Domain) (bridge : ℕ) (fits : Bool) (r : Row) (o : Option ℕ) (row : Row) (l : ℕ) → edge_verdict_at d bridge fits r o ≡ Queued row l → (r ≡ row) × (o ≡ Some l) × (leaves d l bridge ≡ true) × (fits ≡ true)
 edge_at_queued d bridge fits r None row l e = absurd (cc)
 edge_at_queued d bridge fits r (Some k) row l e =
     let c = edge_choice r row k l (leaves d k bridge) fits e in
     (c.2, ap Some c.3, ap (λ z. leaves d z bridge) (sym c.3) ∙ c.0, c.1)
 
+-- the row is live
 live_choice : (v : Verdict) (row : Row) (l : ℕ) (live : Bool) → (if live then v else DroppedFor Withdrawn) ≡ Queued row l → (live ≡ true) × (v ≡ Queued row l)
 live_choice v row l true e = (refl, e)
 live_choice v row l false e = absurd (cc)
 
+-- so says the verdict at the edge
 pub edge_queued : (d : Domain) (bridge cycle : ℕ) (fits : Row → Bool) (found : Option Row) (row : Row) (l : ℕ) → edge_verdict d bridge cycle fits found ≡ Queued row l → QueuedAtEdge d bridge cycle found row l × (fits row ≡ true)
 edge_queued d bridge cycle fits None row l e = absurd (cc)
 edge_queued d bridge cycle fits (Some r) row l e =
@@ -74,17 +78,20 @@ pub record QueuedInside (d : Domain) (bridge m : ℕ) (found : Option Row) (row 
   pub follows : next_link row.path.items m ≡ Some l
   pub here : leaves d l bridge ≡ true
 
+-- the two losses, by the two tests
 inside_choice : (r row : Row) (k l : ℕ) (here fits : Bool) → (if here then (if fits then Queued r k else ExceedsGate) else LacksRow) ≡ Queued row l → (here ≡ true) × (fits ≡ true) × (r ≡ row) × (k ≡ l)
 inside_choice r row k l true true e = (refl, refl, cc, cc)
 inside_choice r row k l true false e = absurd (cc)
 inside_choice r row k l false fits e = absurd (cc)
 
+-- the link that follows leaves the bridge, and the frame passes
 inside_to_queued : (d : Domain) (bridge : ℕ) (fits : Bool) (r : Row) (o : Option ℕ) (row : Row) (l : ℕ) → inside_verdict_to d bridge fits r o ≡ Queued row l → (r ≡ row) × (o ≡ Some l) × (leaves d l bridge ≡ true) × (fits ≡ true)
 inside_to_queued d bridge fits r None row l e = absurd (cc)
 inside_to_queued d bridge fits r (Some k) row l e =
     let c = inside_choice r row k l (leaves d k bridge) fits e in
     (c.2, ap Some c.3, ap (λ z. leaves d z bridge) (sym c.3) ∙ c.0, c.1)
 
+-- so says the verdict inside
 pub inside_queued : (d : Domain) (bridge m : ℕ) (fits : Row → Bool) (found : Option Row) (row : Row) (l : ℕ) → inside_verdict d bridge m fits found ≡ Queued row l → QueuedInside d bridge m found row l × (fits row ≡ true)
 inside_queued d bridge m fits None row l e = absurd (cc)
 inside_queued d bridge m fits (Some r) row l e =
@@ -110,6 +117,7 @@ abbrev pub IsQueuedBy : Domain → List Row → ℕ → ℕ → Way → Row → 
 IsQueuedBy d table bridge cycle (AtEdge name) row l = QueuedAtEdge d bridge cycle (row_named table name) row l
 IsQueuedBy d table bridge cycle (Relayed m number) row l = QueuedInside d bridge m (row_of table number) row l
 
+-- so says each verdict
 pub queued_says : (d : Domain) (table : List Row) (bridge cycle : ℕ) (fits : Row → Bool) (way : Way) (row : Row) (l : ℕ) → verdict_by d table bridge cycle fits way ≡ Queued row l → IsQueuedBy d table bridge cycle way row l × (fits row ≡ true)
 queued_says d table bridge cycle fits (AtEdge name) row l e = edge_queued d bridge cycle fits (row_named table name) row l e
 queued_says d table bridge cycle fits (Relayed m number) row l e = inside_queued d bridge m fits (row_of table number) row l e
@@ -119,6 +127,7 @@ pub queued_row : (d : Domain) (table : List Row) (bridge cycle : ℕ) (way : Way
 queued_row d table bridge cycle (AtEdge name) row l q = (find_member (λ (r : Row). is_text r.name name) table row q.is).0
 queued_row d table bridge cycle (Relayed m number) row l q = (find_member (λ (r : Row). r.no == number) table row q.is).0
 
+-- and it has that number
 pub queued_number : (d : Domain) (table : List Row) (bridge cycle m number : ℕ) (row : Row) (l : ℕ) → IsQueuedBy d table bridge cycle (Relayed m number) row l → row.no ≡ number
 queued_number d table bridge cycle m number row l q = eqb-true row.no number (find_member (λ (r : Row). r.no == number) table row q.is).1
 
@@ -130,6 +139,7 @@ pub record IsBehind (d : Domain) (tables : List (List Row)) (test : Test) (bridg
   pub parts : xs ≡ before ++ (x ∷ after)
   pub is : p ≡ police d tables test bridge (earlier ++ police_all d tables test bridge earlier before) x
 
+-- each verdict of a list is so
 pub behind_those_before : (d : Domain) (tables : List (List Row)) (test : Test) (bridge : ℕ) (earlier : List Policed) (xs : List Received) (p : Policed) → Contains (police_all d tables test bridge earlier xs) p → IsBehind d tables test bridge earlier xs p
 behind_those_before d tables test bridge earlier [] p c = absurd (contains_none p c)
 behind_those_before d tables test bridge earlier (x ∷ xs) p c =

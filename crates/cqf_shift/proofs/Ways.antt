@@ -23,12 +23,15 @@ use Rattle.cqf_shift.proofs.Sums.{sum_map, sum_le_members}
 use Rattle.cqf_shift.proofs.Verdicts.{find_member, find_some, QueuedAtEdge, QueuedInside, IsQueuedBy, inside_passes, queued_number}
 
 module _ (d : Domain) (tables : List (List Row)) (offers : List Offer) (net : Network) (run : IsLegalRun d tables offers net) where
+  -- what comes to a bridge
   abbrev come : ℕ → List Received
   come b = came d tables offers net run b
 
+  -- what becomes of it
   abbrev given : ℕ → List Policed
   given b = policed d tables offers net run b
 
+  -- the end of the run
   abbrev last : ℕ
   last = end d tables offers net run
 
@@ -43,6 +46,7 @@ module _ (d : Domain) (tables : List (List Row)) (offers : List Offer) (net : Ne
     pub first : first_link row.path.items ≡ Some l
     pub here : leaves d l bridge ≡ true
 
+  -- each covered offer is so
   pub covered_at_edge : (bridge : ℕ) (x : Received) (row : Row) (l : ℕ) → Contains (judged_before d tables offers bridge last) (record { received = x; verdict = Queued row l }) → IsAtEdge bridge x row l
   covered_at_edge bridge x row l c =
       let p : Policed = record { received = x; verdict = Queued row l } in
@@ -87,9 +91,11 @@ module _ (d : Domain) (tables : List (List Row)) (offers : List Offer) (net : Ne
       let at = next_link_at row.path.items m l (subst (λ z. next_link z m ≡ Some l) one.path follows) in
       subst (λ z. slice_get row.path.items (suc z) ≡ Some l) (one_place c row at.0 k m inside at.1 at_k) at.2
 
+  -- what a queued frame stands on, where it came by a link
   queued_by_link : (table : List Row) (bridge cycle m number : ℕ) (way : Way) (row : Row) (l : ℕ) → way ≡ Relayed m number → IsQueuedBy d table bridge cycle way row l → QueuedInside d bridge m (row_of table number) row l
   queued_by_link table bridge cycle m number way row l is q = subst (λ z. IsQueuedBy d table bridge cycle z row l) is q
 
+  -- by induction on the instant: a frame that came by a link is a hop behind what the link before was sending
   on_way_before : (t bridge : ℕ) (p : Policed) (row : Row) (l : ℕ) → Contains (given bridge) p → p.verdict ≡ Queued row l → p.received.at < t → IsOnWay p row l
   on_way_before zero bridge p row l c is early = absurd (omega (arith, early))
   on_way_before (suc t) bridge p row l c is early =
@@ -145,6 +151,7 @@ module _ (d : Domain) (tables : List (List Row)) (offers : List Offer) (net : Ne
       the_policed : Received → Verdict → Policed
       the_policed x v = record { received = x; verdict = v }
 
+  -- each queued frame is on its way
   pub on_way : (bridge : ℕ) (p : Policed) (row : Row) (l : ℕ) → Contains (given bridge) p → p.verdict ≡ Queued row l → IsOnWay p row l
   on_way bridge p row l c is = on_way_before (suc p.received.at) bridge p row l c is (omega arith)
 
@@ -285,6 +292,7 @@ module _ (d : Domain) (tables : List (List Row)) (offers : List Offer) (net : Ne
     pub octets : p.received.octets ≡ x.octets
     pub cycle : cycle_of d p.received.at ≡ cycle_of d x.at + hop
 
+  -- by induction on the hop
   pub comes_on : (bridge : ℕ) (x : Received) (row : Row) (first : ℕ) → Contains (judged_before d tables offers bridge last) (record { received = x; verdict = Queued row first }) →
       (hop l : ℕ) → slice_get row.path.items hop ≡ Some l → cycle_of d x.at + hop < length tables → IsQueuedOnWay x row hop l
   comes_on bridge x row first covered zero l at in_run =

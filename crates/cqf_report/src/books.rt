@@ -1,0 +1,261 @@
+//! The book of a run, written as a text.
+
+ghost use Rattle.std.specs.Prelude.{ℕ, ◌≡◌, ◌++◌, ◌∷◌, List, [], IfOk, Some};
+ghost use Rattle.std.specs.String.{string_bytes};
+ghost use Rattle.cqf_report.specs.Written.{ArePlain, HasWritten, IsPlain, line_of};
+ghost use Rattle.cqf_report.specs.Books.{dropped_fields, ends_of, name_of_bridge, name_of_link, name_of_node, name_of_reason, started_fields, text_of_book};
+
+use crate::lines::{open_writer, write_line, written_text};
+use cqf_model::{Book, Dropped, Link, Node, Reason, Started};
+use cqf_topology::Domain;
+use cqf_units::Memory;
+use csv::Writer;
+use itoa::Buffer;
+use std::alloc::Global;
+use std::io::Write;
+
+/// The name of a bridge. A bridge that the domain lacks has none.
+fn bridge_name(domain: &Domain, bridge: u8) -> &str
+    ensures name { result.now ≡ name_of_bridge domain.now bridge }
+    ensures plain { IsPlain result.now }
+{
+    if bridge < domain.bridges() {
+        domain.bridge_name(bridge).as_str()
+    } else {
+        ""
+    }
+}
+
+/// The name of a station. A station that the domain lacks has none.
+fn station_name(domain: &Domain, station: u8) -> &str
+    ensures name { result.now ≡ name_of_node domain.now (Node.Station station) }
+    ensures plain { IsPlain result.now }
+{
+    if station < domain.stations() {
+        domain.station_name(station).as_str()
+    } else {
+        ""
+    }
+}
+
+/// The name of a node.
+fn node_name(domain: &Domain, node: Node) -> &str
+    ensures name { result.now ≡ name_of_node domain.now node }
+    ensures plain { IsPlain result.now }
+{
+    match node {
+        Node::Bridge(bridge) => bridge_name(domain, bridge),
+        Node::Station(station) => station_name(domain, station),
+    }
+}
+
+/// A link by the names of its ends.
+fn ends(alloc: Global, domain: &Domain, link: Link) -> Result<String, Memory>
+    ensures name { IfOk result (λ name. string_bytes name ≡ ends_of domain.now link) }
+    ensures plain { IfOk result (λ name. IsPlain (string_bytes name)) }
+{
+    let from = bridge_name(domain, link.from);
+    let to = node_name(domain, link.to);
+    format!(in alloc; "{from}>{to}")
+}
+
+/// A link by the names of its ends. A link that the domain lacks has none.
+fn link_name(alloc: Global, domain: &Domain, link: u8) -> Result<String, Memory>
+    ensures name { IfOk result (λ name. string_bytes name ≡ name_of_link domain.now link) }
+    ensures plain { IfOk result (λ name. IsPlain (string_bytes name)) }
+{
+    if link < domain.links() {
+        ends(alloc, domain, domain.link(link))
+    } else {
+        Ok(String::new(alloc))
+    }
+}
+
+/// The word for a reason.
+fn reason_name(reason: Reason) -> &'static str
+    ensures name { result.now ≡ name_of_reason reason }
+    ensures plain { IsPlain result.now }
+{
+    match reason {
+        Reason::Unknown => "unknown",
+        Reason::Withdrawn => "withdrawn",
+        Reason::OtherBridge => "other-bridge",
+        Reason::Octets => "octets",
+    }
+}
+
+/// Writes the line of one event.
+fn write_event<'f, W: Write + Drop>(
+    writer: &mut Writer<W>,
+    what: &'f [u8],
+    cycle: &'f [u8],
+    place: &'f [u8],
+    frame: &'f [u8],
+    octets: &'f [u8],
+    detail: &'f [u8],
+) -> Result<(), Memory>
+    requires { ArePlain (what.now ∷ cycle.now ∷ place.now ∷ frame.now ∷ octets.now ∷ detail.now ∷ []) }
+    ensures { IfOk result (λ _. (text : List ℕ) → HasWritten W.contents writer.old text → HasWritten W.contents writer.new (text ++ line_of (what.now ∷ cycle.now ∷ place.now ∷ frame.now ∷ octets.now ∷ detail.now ∷ []))) }
+{
+    write_line(writer, &[what, cycle, place, frame, octets, detail])
+}
+
+/// Writes a transmission's line.
+fn write_started<W: Write + Drop>(
+    alloc: Global,
+    writer: &mut Writer<W>,
+    domain: &Domain,
+    started: &Started,
+) -> Result<(), Memory>
+    ensures { IfOk result (λ _. (text : List ℕ) → HasWritten W.contents writer.old text → HasWritten W.contents writer.new (text ++ line_of (started_fields domain.now started.now))) }
+{
+    let link = link_name(alloc, domain, started.link)?;
+    let mut cycle = Buffer::new();
+    let mut frame = Buffer::new();
+    let mut octets = Buffer::new();
+    let mut first = Buffer::new();
+    write_event(
+        writer,
+        b"start".as_slice(),
+        cycle.format(started.cycle.0).as_bytes(),
+        link.as_bytes(),
+        frame.format(started.frame).as_bytes(),
+        octets.format(started.octets).as_bytes(),
+        first.format(started.start.0).as_bytes(),
+    )
+}
+
+/// Writes a drop's line.
+fn write_dropped<W: Write + Drop>(
+    writer: &mut Writer<W>,
+    domain: &Domain,
+    dropped: &Dropped,
+) -> Result<(), Memory>
+    ensures { IfOk result (λ _. (text : List ℕ) → HasWritten W.contents writer.old text → HasWritten W.contents writer.new (text ++ line_of (dropped_fields domain.now dropped.now))) }
+{
+    let mut cycle = Buffer::new();
+    let mut frame = Buffer::new();
+    let mut octets = Buffer::new();
+    write_event(
+        writer,
+        b"drop".as_slice(),
+        cycle.format(dropped.cycle.0).as_bytes(),
+        bridge_name(domain, dropped.bridge).as_bytes(),
+        frame.format(dropped.frame).as_bytes(),
+        octets.format(dropped.octets).as_bytes(),
+        reason_name(dropped.reason).as_bytes(),
+    )
+}
+
+/// The text of a book: the header `what,cycle,where,frame,octets,detail`; then one line a transmission,
+/// `start,CYCLE,FROM>TO,FRAME,OCTETS,INSTANT`; and then one line a drop, `drop,CYCLE,BRIDGE,FRAME,OCTETS,REASON`, each in
+/// the book's order (profile). The reasons are `unknown`, `withdrawn`, `other-bridge` and `octets`; a link, bridge or
+/// station that the domain lacks has an empty name. The error is want of memory.
+pub fn write_book(alloc: Global, domain: &Domain, book: &Book) -> Result<Vec<u8>, Memory>
+    ensures { IfOk result (λ text. text.items ≡ text_of_book domain.now book.now.starts.items book.now.drops.items) }
+{
+    let mut writer = open_writer(alloc);
+    let names = [
+        b"what".as_slice(),
+        b"cycle".as_slice(),
+        b"where".as_slice(),
+        b"frame".as_slice(),
+        b"octets".as_slice(),
+        b"detail".as_slice(),
+    ];
+    write_line(&mut writer, &names)?;
+    for started in &book.starts {
+        write_started(alloc, &mut writer, domain, started)?;
+    }
+    for dropped in &book.drops {
+        write_dropped(&mut writer, domain, dropped)?;
+    }
+    written_text(writer)
+}
+
+#[cfg(test)]
+mod tests {
+    use super::*;
+    use cqf_units::{Cycle, Nanos};
+    use std::test::Fail;
+
+    /// Three bridges, each but the last with a link to the next and the last one with a link to the station; link 3 leads
+    /// from the first bridge to the last.
+    const FORK: &[u8] =
+        b"cycle = 125000\nguard = 5000\nbridges = [\"a\", \"b\", \"c\"]\nstations = [\"s\"]\n
+[[links]]\nfrom = \"a\"\nto = \"b\"\nrate = 1000\ndelay = 500\n
+[[links]]\nfrom = \"b\"\nto = \"c\"\nrate = 1000\ndelay = 500\n
+[[links]]\nfrom = \"c\"\nto = \"s\"\nrate = 1000\ndelay = 500\n
+[[links]]\nfrom = \"a\"\nto = \"c\"\nrate = 1000\ndelay = 500\n";
+
+    fn started(cycle: u32, link: u8, frame: u32, start: u64) -> Started {
+        Started {
+            cycle: Cycle(cycle),
+            link,
+            frame,
+            octets: 64,
+            start: Nanos(start),
+        }
+    }
+
+    fn dropped(cycle: u32, bridge: u8, frame: u32, reason: Reason) -> Dropped {
+        Dropped {
+            cycle: Cycle(cycle),
+            bridge,
+            frame,
+            octets: 64,
+            reason,
+        }
+    }
+
+    #[test]
+    fn transmissions_are_written_with_the_ends_of_their_links(rt: HostRuntime) -> Result<(), Fail> {
+        let alloc = rt.alloc();
+        let domain = Domain::read(alloc, FORK)?;
+        let starts = vec![in alloc;
+            started(1, 1, 2, 125_000),
+            started(1, 3, 1, 125_000),
+            started(2, 2, 2, 250_000),
+            started(2, 2, 1, 250_672),
+        ]?;
+        let book = Book {
+            starts,
+            drops: Vec::new(alloc),
+        };
+        let text = write_book(alloc, &domain, &book)?;
+        let expected = b"what,cycle,where,frame,octets,detail
+start,1,b>c,2,64,125000
+start,1,a>c,1,64,125000
+start,2,c>s,2,64,250000
+start,2,c>s,1,64,250672
+";
+        assert!(rt; text.as_slice() == expected.as_slice());
+        Ok(())
+    }
+
+    #[test]
+    fn drops_are_written_behind_transmissions_with_their_reasons(
+        rt: HostRuntime,
+    ) -> Result<(), Fail> {
+        let alloc = rt.alloc();
+        let domain = Domain::read(alloc, FORK)?;
+        let starts = vec![in alloc; started(3, 2, 1, 375_000)]?;
+        let drops = vec![in alloc;
+            dropped(0, 1, 2, Reason::OtherBridge),
+            dropped(0, 0, 6, Reason::Octets),
+            dropped(1, 0, 3, Reason::Withdrawn),
+            dropped(4, 0, 4, Reason::Unknown),
+        ]?;
+        let book = Book { starts, drops };
+        let text = write_book(alloc, &domain, &book)?;
+        let expected = b"what,cycle,where,frame,octets,detail
+start,3,c>s,1,64,375000
+drop,0,b,2,64,other-bridge
+drop,0,a,6,64,octets
+drop,1,a,3,64,withdrawn
+drop,4,a,4,64,unknown
+";
+        assert!(rt; text.as_slice() == expected.as_slice());
+        Ok(())
+    }
+}
