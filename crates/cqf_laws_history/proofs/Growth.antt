@@ -8,6 +8,7 @@ use Rattle.std.proofs.lemmas.List.{length-map, map-append, take-append-le, take_
 use Rattle.std.proofs.lemmas.List.Elements.{filter-append}
 use Rattle.std.proofs.lemmas.List.Sums.{sum_by_push}
 use Rattle.std.proofs.lemmas.Option.{same_Some, slice_get-get_or, slice_get_within}
+use Rattle.cqf_units.specs.Name.{is_name}
 use Rattle.cqf_units.specs.declared.reservations.Cycle.{Cycle}
 use Rattle.cqf_model.specs.declared.history.Refused.{Refused}
 use Rattle.cqf_model.specs.declared.history.Reply.{Reply}
@@ -369,6 +370,7 @@ held_sound d entries legal =
     (subst (λ (k : ℕ). AllPairs (λ (a b : Row). is_held (with_end w a) k ≡ true → is_held (with_end w b) k ≡ true → R (with_end w a) (with_end w b)) old) sealed pairs)) in
     record {
       paths = λ row h. path_now d entries row legal (stream row h);
+      named = λ row h. let t = stream_of d entries row (stream row h) in subst (λ (r : Row). is_name r.name ≡ true) t.2 (s.named t.0 t.1);
       least_octets = λ row h. let t = stream_of d entries row (stream row h) in subst (λ (r : Row). 64 ≤ r.octets) t.2 (s.least_octets t.0 t.1);
       most_octets = λ row h. let t = stream_of d entries row (stream row h) in subst (λ (r : Row). r.octets ≤ 60000) t.2 (s.most_octets t.0 t.1);
       below = λ row h.

@@ -39,6 +39,7 @@ refused_at_none refused (Some place) e = absurd cc
 
 -- what a request that isn't refused has
 pub record IsGranted (d : Domain) (rows : List Row) (asked : Asked) : Type 0 where
+  pub named : is_name asked.name ≡ true
   pub least_octets : 64 ≤ asked.octets
   pub most_octets : asked.octets ≤ 60000
   pub whole : least (is_broken_at d asked.path) (length asked.path + 1) ≡ None
@@ -65,6 +66,7 @@ granted d rows asked e =
     let after_many = or_else_none too_many budget_short after_held.1 in
     let in_range = and_parts (nat_le 64 asked.octets) (nat_le asked.octets 60000) (not-false (nat_le 64 asked.octets && nat_le asked.octets 60000) (refused_if_none (not (nat_le 64 asked.octets && nat_le asked.octets 60000)) BadOctets after_octets.0)) in
     record {
+      named = not-false (is_name asked.name) (refused_if_none (not (is_name asked.name)) BadName after_name.0);
       least_octets = leb-true 64 asked.octets in_range.0;
       most_octets = leb-true asked.octets 60000 in_range.1;
       whole = refused_at_none (λ place. BrokenPath place) (least (is_broken_at d asked.path) (length asked.path + 1)) after_broken.0;
@@ -162,6 +164,7 @@ held_before entries n row = is_held (with_end (withdrawn_before entries n) row) 
 pub record Sound (d : Domain) (entries : List Recorded) (n : ℕ) : Type 0 where
   pub numbers : (k : ℕ) (row : Row) → slice_get (admitted_before d entries n) k ≡ Some row → row.no ≡ k
   pub paths : (row : Row) → Contains (admitted_before d entries n) row → IsPath d row.path.items
+  pub named : (row : Row) → Contains (admitted_before d entries n) row → is_name row.name ≡ true
   pub least_octets : (row : Row) → Contains (admitted_before d entries n) row → 64 ≤ row.octets
   pub most_octets : (row : Row) → Contains (admitted_before d entries n) row → row.octets ≤ 60000
   pub ends : (number : ℕ) (x : Cycle) → withdrawn_before entries n number ≡ Some x → number < length (admitted_before d entries n)
@@ -185,6 +188,7 @@ sound_kept d entries n h none ends s =
     record {
       numbers = λ k row e. s.numbers k row (ap (λ (xs : List Row). slice_get xs k) (sym same) ∙ e);
       paths = λ row k. s.paths row (back row k);
+      named = λ row k. s.named row (back row k);
       least_octets = λ row k. s.least_octets row (back row k);
       most_octets = λ row k. s.most_octets row (back row k);
       ends = λ number x e. omega (arith, ends number x e, ap (λ (xs : List Row). length xs) same);
@@ -257,6 +261,7 @@ sound_admitted d entries n asked h is ends g s =
                 ap (λ (r : Row). r.no) (sym is_new) ∙ count ∙ sym last)
           ];
       paths = λ row k. elim (back row k) [ inl m ↦ s.paths row m | inr m ↦ subst (λ (r : Row). IsPath d r.path.items) m path_good ];
+      named = λ row k. elim (back row k) [ inl m ↦ s.named row m | inr m ↦ subst (λ (r : Row). is_name r.name ≡ true) m granted_here.named ];
       least_octets = λ row k. elim (back row k) [ inl m ↦ s.least_octets row m | inr m ↦ subst (λ (r : Row). 64 ≤ r.octets) m granted_here.least_octets ];
       most_octets = λ row k. elim (back row k) [ inl m ↦ s.most_octets row m | inr m ↦ subst (λ (r : Row). r.octets ≤ 60000) m granted_here.most_octets ];
       ends = λ number x e. omega (arith, s.ends number x (sym (ends number) ∙ e), ap (λ (xs : List Row). length xs) same, length-append rows (new ∷ []));
@@ -357,6 +362,7 @@ sound d entries due zero h =
     record {
       numbers = λ k row e. absurd cc;
       paths = λ row k. absurd (contains_nil row k);
+      named = λ row k. absurd (contains_nil row k);
       least_octets = λ row k. absurd (contains_nil row k);
       most_octets = λ row k. absurd (contains_nil row k);
       ends = λ number x e. absurd cc;

@@ -1,6 +1,7 @@
 -- Laws that let an administration keep a running state in place of its whole history: the streams that are held in the
 -- next cycle to be closed, and the number of the next stream.
-use Rattle.std.specs.Prelude.{ℕ, ◌≡◌, ◌≢◌, ◌+◌, ◌-◌, ◌<◌, ◌≤◌, List, [], ◌∷◌, ◌++◌, ◌==◌, if◌then◌else◌, filter, length, map, Some, None, AllPairs, Contains}
+use Rattle.std.specs.Prelude.{ℕ, true, ◌≡◌, ◌≢◌, ◌+◌, ◌-◌, ◌<◌, ◌≤◌, List, [], ◌∷◌, ◌++◌, ◌==◌, if◌then◌else◌, filter, length, map, Some, None, AllPairs, Contains}
+use Rattle.cqf_units.specs.Name.{is_name}
 use Rattle.cqf_model.specs.declared.history.Refused.{Refused}
 use Rattle.cqf_model.specs.declared.history.Reply.{Reply}
 use Rattle.cqf_model.specs.declared.history.Reply.TheVariants.{Sealed, Refused as RefusedFor}
@@ -66,6 +67,7 @@ SealClosesTable =
 -- what they cost of a link is within the link's budget
 pub record AreHeld (d : Domain) (rows : List Row) (next effect : ℕ) : Type 0 where
   pub paths : (row : Row) → Contains rows row → IsPath d row.path.items
+  pub named : (row : Row) → Contains rows row → is_name row.name ≡ true
   pub least_octets : (row : Row) → Contains rows row → 64 ≤ row.octets
   pub most_octets : (row : Row) → Contains rows row → row.octets ≤ 60000
   pub below : (row : Row) → Contains rows row → row.no < next

@@ -5,3 +5,4 @@ pub mod Starts
 pub mod Taking
 pub mod Running
 pub mod Orderly
+pub mod Domains

@@ -1,5 +1,5 @@
 -- The smallest network: one bridge, one station, the link from one to the other, and one stream (profile).
-use Rattle.std.specs.Prelude.{ℕ, List, [], ◌∷◌, None, codes}
+use Rattle.std.specs.Prelude.{◌≡◌, length, ℕ, List, [], ◌∷◌, None, codes}
 use Rattle.cqf_units.specs.declared.timing.Rate.TheVariants.{Mb1000}
 use Rattle.cqf_model.specs.declared.topology.Link.{Link}
 use Rattle.cqf_model.specs.declared.topology.Node.TheVariants.{Station}
@@ -22,3 +22,11 @@ line_row = record { no = 0; name = codes "x"; octets = 1500; path = record { ite
 -- the tables of so many cycles
 abbrev pub line_tables : ℕ → List (List Row)
 line_tables cycles = each_below (λ _. (line_row ∷ []) ∷ []) cycles
+
+-- the domain has the times of the line, one bridge, one station and one link
+pub record HasFormOfLine (d : Domain) : Type 0 where
+  pub cycle : d.cycle_time ≡ 125000
+  pub guard_time : d.guard ≡ 5000
+  pub one_bridge : length d.bridges ≡ 1
+  pub one_station : length d.stations ≡ 1
+  pub one_link : length d.links ≡ 1

@@ -97,3 +97,11 @@ fn an_unknown_stream_is_dropped_and_a_cycle_that_is_not_run_is_in_no_book(
     assert_eq!(rt; book.drops.as_slice(), drops.as_slice());
     Ok(())
 }
+
+#[test]
+fn the_text_of_the_line_is_its_domain(rt: HostRuntime) -> Result<(), Fail> {
+    let domain = domain_of_line(rt.alloc())?;
+    assert_eq!(rt; domain.cycle_time(), Nanos(125_000));
+    assert_eq!(rt; domain.links(), 1);
+    Ok(())
+}

@@ -22,11 +22,6 @@ pub refuse-Ok : {A B E : Type 0} (o : Option A) (fault : A → E) (rest : Result
 refuse-Ok None fault rest y h = (refl, h)
 refuse-Ok (Some x) fault rest y h = absurd (cc)
 
--- what was refused is refused whatever the rest is
-pub refuse-Err : {A B C E : Type 0} (o : Option A) (fault : A → E) (x : B) (rest : Result C E) (e : E) → refuse o fault (Ok x) ≡ Err e → refuse o fault rest ≡ Err e
-refuse-Err None fault x rest e h = absurd (cc)
-refuse-Err (Some y) fault x rest e h = cc
-
 pub ok_or-Ok : {A E : Type 0} (o : Option A) (e : E) (x : A) → ok_or o e ≡ Ok x → o ≡ Some x
 ok_or-Ok None e x h = absurd (cc)
 ok_or-Ok (Some y) e x h = cc

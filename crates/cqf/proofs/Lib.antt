@@ -1,0 +1,5 @@
+pub mod WordLemmas
+pub mod BytesLemmas
+pub mod PortLemmas
+pub mod ArrivalLemmas
+pub mod RunLemmas

@@ -1,0 +1,4 @@
+pub mod Bytes
+pub mod PortJob
+pub mod Run
+pub mod Words

@@ -1,0 +1,89 @@
+//! The program of cyclic queuing and forwarding.
+//!
+//! `cqf port --until N [--rate RATE]` reads a gate list and the arrivals of one output port from standard input, and
+//! writes the frames that the port starts before instant N. Without a word after the program's name the words stand
+//! in the first line of the input:
+//!
+//! ```text
+//! port --until 1000000
+//! 80 120000
+//! 00 5000
+//! 40 120000
+//! 00 5000
+//! %%
+//! at,class,octets,frame
+//! 10,6,64,1
+//! ```
+//!
+//! writes
+//!
+//! ```text
+//! class,frame,start,end
+//! 6,1,125000,125576
+//! ```
+#![tactic(auto)]
+
+ghost use Rattle.std.specs.Prelude.{◌≤◌};
+
+mod inputs;
+mod outputs;
+mod port_job;
+mod runs;
+mod stops;
+mod words;
+
+use runs::{engine, tell};
+use std::alloc::{AllocError, Global};
+use std::env::Env;
+use std::io;
+use std::process::ExitCode;
+use stops::{Stop, USAGE};
+
+/// The words that the process was started with, the program's name first.
+fn arguments<R: Env + AllocGlobal>(rt: &R) -> io::Result<Vec<String>> {
+    let words = std::env::args(rt)?.collect(rt.alloc())?;
+    Ok(words)
+}
+
+/// The words behind the program's name.
+fn texts(alloc: Global, words: &[String]) -> Result<Vec<&str>, AllocError> {
+    words
+        .iter()
+        .skip(1)
+        .map(|word| word.as_str())
+        .collect(alloc)
+}
+
+/// The end where the process's words can't be had: they aren't text, or memory lacks.
+fn no_arguments(alloc: Global, error: &io::Error) -> Stop
+    ensures { result.status ≤ 4 }
+{
+    if error.kind() == io::ErrorKind::OutOfMemory {
+        Stop::memory(alloc)
+    } else {
+        Stop::with_line(alloc, USAGE, "cqf: words\n")
+    }
+}
+
+fn main(rt: HostRuntime) -> ExitCode {
+    let alloc = rt.alloc();
+    let (mut input, mut output, mut faults) = (rt.stdin(), rt.stdout(), rt.stderr());
+    let words = match arguments(&rt) {
+        Ok(words) => words,
+        Err(error) => {
+            let stop = no_arguments(alloc, &error);
+            return ExitCode::from(tell(&stop, &mut output, &mut faults));
+        }
+    };
+    let status = match texts(alloc, words.as_slice()) {
+        Ok(words) => engine(
+            alloc,
+            words.as_slice(),
+            &mut input,
+            &mut output,
+            &mut faults,
+        ),
+        Err(_) => tell(&Stop::memory(alloc), &mut output, &mut faults),
+    };
+    ExitCode::from(status)
+}

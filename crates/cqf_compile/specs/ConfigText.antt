@@ -1,0 +1,45 @@
+-- The configuration of a domain and its streams, as a text (profile).
+use Rattle.std.specs.Prelude.{ℕ, ◌<◌, List, [], ◌∷◌, ◌++◌, All, Contains, codes, length, slice_index_or}
+use Rattle.std.specs.Fmt.{decimal}
+use Rattle.std.specs.List.{flat_map}
+use Rattle.cqf_text.specs.GateListText.{text_of_entries}
+use Rattle.cqf_model.specs.declared.topology.Link.{Link}
+use Rattle.cqf_model.specs.declared.topology.Node.{Node}
+use Rattle.cqf_model.specs.declared.topology.Node.TheVariants.{Bridge, Station}
+use Rattle.cqf_model.specs.declared.topology.Row.{Row}
+use Rattle.cqf_model.specs.Domain.{Domain}
+use Rattle.cqf_model.specs.GateList.{port_list}
+use Rattle.cqf_model.specs.Network.{bridge_of}
+use Rattle.cqf_model.specs.StreamGate.{stream_list}
+use Rattle.cqf_gates.specs.StreamText.{text_of_stream_entries}
+
+-- the paths of the streams go along links of the domain
+abbrev pub AreAlongLinks : Domain → List Row → Type 0
+AreAlongLinks d rows = (row : Row) → Contains rows row → All (λ l. l < length d.links) row.path.items
+
+-- the name of a node
+abbrev pub name_of : Domain → Node → List ℕ
+name_of d (Bridge b) = slice_index_or d.bridges b []
+name_of d (Station s) = slice_index_or d.stations s []
+
+-- a link: a line with its ends, and the gate list of its port
+abbrev pub line_of_link : Domain → Link → List ℕ
+line_of_link d link = codes "link " ++ name_of d (Bridge link.from) ++ codes ">" ++ name_of d link.to
+
+abbrev pub text_of_link : Domain → Link → List ℕ
+text_of_link d link = line_of_link d link ++ 10 ∷ text_of_entries (port_list d.cycle_time d.guard)
+
+-- a stream at the bridge that a link of its path leaves: a line with the stream and the bridge, and the stream's gate
+abbrev pub line_of_hop : Domain → Row → ℕ → List ℕ
+line_of_hop d row l = codes "stream " ++ decimal row.no ++ codes " " ++ row.name ++ codes " bridge " ++ name_of d (Bridge (bridge_of d l))
+
+abbrev pub text_of_hop : Domain → Row → ℕ → List ℕ
+text_of_hop d row l = line_of_hop d row l ++ 10 ∷ text_of_stream_entries (stream_list d.cycle_time row.octets)
+
+-- a stream at each bridge of its path, in order
+abbrev pub text_of_row : Domain → Row → List ℕ
+text_of_row d row = flat_map (text_of_hop d row) row.path.items
+
+-- the configuration: the links by number, and then the streams of a table by number
+abbrev pub config_text : Domain → List Row → List ℕ
+config_text d rows = flat_map (text_of_link d) d.links ++ flat_map (text_of_row d) rows

@@ -1,0 +1,86 @@
+//! The configuration as a text (profile).
+ghost use Rattle.std.specs.Prelude.{◌≡◌, ◌<◌, ◌++◌, ◌∷◌, [], All, IfOk, OnOk, Some, length, option_map, slice_get};
+ghost use Rattle.std.specs.String.{string_bytes};
+ghost use Rattle.cqf_model.specs.Domain.{IsNode};
+ghost use Rattle.cqf_compile.specs.ConfigText.{AreAlongLinks, config_text, line_of_hop, name_of, text_of_link, text_of_row};
+
+use crate::{Plan, gate_of};
+use cqf_gates::{write_stream, write_tx};
+use cqf_model::{Node, Row};
+use cqf_topology::Domain;
+use cqf_units::{Memory, Name};
+use std::alloc::Global;
+
+/// The name of the node.
+fn name_of_node(domain: &Domain, node: Node) -> &Name
+    requires { IsNode domain.now node }
+    ensures { result.now ≡ name_of domain.now node }
+{
+    match node {
+        Node::Bridge(bridge) => domain.bridge_name(bridge),
+        Node::Station(station) => domain.station_name(station),
+    }
+}
+
+/// The link's line, and the gate list of its port.
+fn link_text(alloc: Global, plan: &Plan, link: u8) -> Result<Vec<u8>, Memory>
+    requires { link < length plan.now.links }
+    ensures { IfOk result (λ text. option_map (text_of_link plan.now) (slice_get plan.now.links link) ≡ Some text.items) }
+{
+    let domain = plan.domain();
+    let ends = domain.link(link);
+    let from = name_of_node(domain, Node::Bridge(ends.from));
+    let to = name_of_node(domain, ends.to);
+    let line = format!(in alloc; "link {from}>{to}\n")?;
+    let list = write_tx(alloc, plan.list(link))?;
+    let mut text = Vec::from_slice(alloc, line.as_bytes())?;
+    text.extend_from_slice(list.as_slice())?;
+    Ok(text)
+}
+
+/// The line of the stream at the bridge that the link leaves.
+fn hop_line(alloc: Global, plan: &Plan, row: &Row, link: u8) -> Result<String, Memory>
+    requires { link < length plan.now.links }
+    ensures { IfOk result (λ line. string_bytes line ≡ line_of_hop plan.now row.now link ++ 10 ∷ []) }
+{
+    let domain = plan.domain();
+    let (number, name) = (row.no, &row.name);
+    let bridge = name_of_node(domain, Node::Bridge(domain.link(link).from));
+    let line = format!(in alloc; "stream {number} {name} bridge {bridge}\n")?;
+    Ok(line)
+}
+
+/// The stream and its gate at each bridge of its path.
+fn row_text(alloc: Global, plan: &Plan, row: &Row) -> Result<Vec<u8>, Memory>
+    requires { All (λ l. l < length plan.now.links) row.now.path.items }
+    ensures { IfOk result (λ text. text.items ≡ text_of_row plan.now row.now) }
+{
+    let gate = write_stream(alloc, &gate_of(plan.domain(), row))?;
+    let mut text = Vec::new(alloc);
+    for link in row.path.as_slice() {
+        let line = hop_line(alloc, plan, row, *link)?;
+        text.extend_from_slice(line.as_bytes())?;
+        text.extend_from_slice(gate.as_slice())?;
+    }
+    Ok(text)
+}
+
+/// The configuration of the plan and its streams, which are those of a table, by number. For each link by number it has a
+/// line `link FROM>TO`, and then the gate list of the link's port. Then, for each stream and each bridge of its path in
+/// order, it has a line `stream NO NAME bridge BRIDGE`, and then the stream's gate (profile). The path of each stream goes
+/// along links of the plan's domain.
+pub fn write_config(alloc: Global, plan: &Plan, rows: &[Row]) -> Result<Vec<u8>, Memory>
+    requires { AreAlongLinks plan.now rows.now }
+    ensures { IfOk result (λ text. text.items ≡ config_text plan.now rows.now) }
+{
+    let mut text = Vec::new(alloc);
+    for link in 0..plan.domain().links() {
+        let port = link_text(alloc, plan, link)?;
+        text.extend_from_slice(port.as_slice())?;
+    }
+    for row in rows {
+        let stream = row_text(alloc, plan, row)?;
+        text.extend_from_slice(stream.as_slice())?;
+    }
+    Ok(text)
+}

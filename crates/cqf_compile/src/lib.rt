@@ -1,0 +1,30 @@
+//! The compiler: what a domain and its streams are configured as.
+//!
+//! - [`compile`] makes a [`Plan`] of a domain: the gate list of the port of each link.
+//! - [`gate_of`] gives the gate of a stream, which is the same at each bridge of its path.
+//! - [`write_config`] writes both as one text.
+//!
+//! In even cycles a stream's gate gives its frames class 6 while the ports send class 7, and in odd cycles the other way
+//! round: so each frame waits for the cycle after the one that it came in (IEEE 802.1Q, Annex T).
+//!
+//! ```text
+//! link a>s
+//! 80 120000
+//! 00 5000
+//! 40 120000
+//! 00 5000
+//! stream 0 x bridge a
+//! open 6 125000 1500
+//! open 7 125000 1500
+//! ```
+#![tactic(auto)]
+
+mod config;
+mod gates;
+mod plan;
+#[cfg(test)]
+mod tests;
+
+pub use config::write_config;
+pub use gates::gate_of;
+pub use plan::{Plan, compile};

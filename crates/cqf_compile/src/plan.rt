@@ -1,0 +1,64 @@
+//! The gate lists of a domain.
+ghost use Rattle.std.specs.Prelude.{◌≡◌, ◌<◌, IfOk, length};
+ghost use Rattle.cqf_model.specs.Domain.{IsAccepted};
+ghost use Rattle.cqf_model.specs.Network.{compiled_lists};
+
+use crate::gates::port_list_of;
+use cqf_gates::TxList;
+use cqf_topology::Domain;
+use cqf_units::Memory;
+use std::alloc::Global;
+use std::marker::Model;
+
+/// A domain with the gate list of the port of each of its links. To those who hold it, it is its domain, since that
+/// determines the lists (profile).
+#[derive(Debug, Drop)]
+pub struct Plan {
+    domain: Domain,
+    /// One for each link, by number.
+    lists: Vec<TxList>,
+}
+
+impl Model for Plan {
+    ghost use Rattle.cqf_model.specs.Domain.{Domain as DomainValue};
+    ghost use Rattle.cqf_compile.specs.Plan.{IsPlan};
+
+    ghost Value = { DomainValue };
+
+    ghost view = { λ plan. plan.domain };
+
+    ghost invariant = { λ plan. IsPlan plan.domain plan.lists.items };
+}
+
+impl Plan {
+    /// The domain that the plan was compiled from. It is accepted.
+    pub fn domain(&self) -> &Domain
+        ensures value { result.now ≡ self.now }
+        ensures accepted { IsAccepted self.now }
+    {
+        &self.domain
+    }
+
+    /// The gate list of the link's port: class 7 is open in even cycles, class 6 in odd ones, and no class is in the
+    /// guard time, which ends each cycle (IEEE 802.1Q, Annex T; the guard time and the classes: profile).
+    pub fn list(&self, link: u8) -> &TxList
+        requires { link < length self.now.links }
+        ensures { result.now ≡ compiled_lists self.now link }
+    {
+        &self.lists[usize::from(link)]
+    }
+}
+
+/// The plan of a domain. It keeps a copy of the domain.
+pub fn compile(alloc: Global, domain: &Domain) -> Result<Plan, Memory>
+    ensures { IfOk result (λ plan. plan ≡ domain.now) }
+{
+    let mut lists = Vec::new(alloc);
+    for _link in 0..domain.links() {
+        lists.push(port_list_of(domain))?;
+    }
+    Ok(Plan {
+        domain: domain.try_copy(alloc)?,
+        lists,
+    })
+}
