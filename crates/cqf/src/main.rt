@@ -30,6 +30,8 @@ mod outputs;
 mod port_job;
 mod runs;
 mod stops;
+#[cfg(test)]
+mod tests;
 mod words;
 
 use runs::{engine, tell};
