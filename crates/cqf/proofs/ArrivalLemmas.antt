@@ -6,9 +6,9 @@ use Rattle.std.specs.Option.{option_and_then}
 use Rattle.std.proofs.lemmas.List.Elements.{All-cons, All-nil}
 use Rattle.cqf_text.specs.Decimal.{decimal_in, decimal_value, within}
 use Rattle.cqf_model.specs.declared.ports.Arrival.{Arrival}
-use Rattle.cqf_report.specs.Arrivals.{arrival_header, arrival_of, arrival_with, arrivals_of, instant_of}
+use Rattle.cqf_report.specs.Arrivals.{arrival_header, arrival_of, arrival_with, arrivals_of, arrival_instant}
 use Rattle.cqf_report.specs.Records.{Fields, records_of}
-use Rattle.cqf_report.specs.Table.{is_header, most_rows, row_then, rows_from, rows_under, with_row}
+use Rattle.cqf_report.specs.Table.{in_four, is_header, most_rows, row_then, rows_from, rows_under, with_row}
 use Rattle.cqf_report.specs.declared.tables.TableFault.{TableFault}
 use Rattle.cqf_report.specs.declared.tables.TableFault.TheVariants.{BadHeader, BadRow, OutOfOrder, TooMany}
 use Rattle.cqf.specs.PortJob.{AreOfferable}
@@ -39,7 +39,7 @@ arrival_with-fine (Some at) (Some class) (Some octets) (Some frame) arrival p q 
     let same : made ≡ arrival = cc in
     subst IsFine same (record { class = q class refl; early = p at refl })
 
-arrival_of-fine : (fields : Fields) (arrival : Arrival) → arrival_of fields ≡ Some arrival → IsFine arrival
+arrival_of-fine : (fields : Fields) (arrival : Arrival) → in_four arrival_of fields ≡ Some arrival → IsFine arrival
 arrival_of-fine (at ∷ class ∷ octets ∷ frame ∷ []) arrival h =
     arrival_with-fine (decimal_in 0 100000000 at) (decimal_in 0 7 class) _ _ arrival (decimal_in-most 0 100000000 at) (decimal_in-most 0 7 class) h
 arrival_of-fine [] arrival h = cc
@@ -84,7 +84,7 @@ row-fine before number arrival others arrivals false test fine more h =
     let not_before : before ≤ arrival.at.0 = grind (arith, common_steps) in
     subst (λ (xs : List Arrival). AreFrom before xs) read.2 (AreFrom-cons before arrival read.0 not_before fine (more read.0 read.1))
 
-row_then-fine : (before number : ℕ) (row : Option Arrival) (others : ℕ → Result (List Arrival) TableFault) (arrivals : List Arrival) → ((arrival : Arrival) → row ≡ Some arrival → IsFine arrival) → ((last : ℕ) (rest : List Arrival) → others last ≡ Ok rest → AreFrom last rest) → row_then instant_of number before row others ≡ Ok arrivals → AreFrom before arrivals
+row_then-fine : (before number : ℕ) (row : Option Arrival) (others : ℕ → Result (List Arrival) TableFault) (arrivals : List Arrival) → ((arrival : Arrival) → row ≡ Some arrival → IsFine arrival) → ((last : ℕ) (rest : List Arrival) → others last ≡ Ok rest → AreFrom last rest) → row_then arrival_instant number before row others ≡ Ok arrivals → AreFrom before arrivals
 row_then-fine before number None others arrivals fine more h = absurd (no_ok (BadRow number) arrivals h)
 row_then-fine before number (Some arrival) others arrivals fine more h =
     row-fine before number arrival (others arrival.at.0) arrivals (nat_lt arrival.at.0 before) refl (fine arrival refl) (more arrival.at.0) h
@@ -93,18 +93,18 @@ unless-fine : (before : ℕ) (read : Result (List Arrival) TableFault) (arrivals
 unless-fine before read arrivals true fine h = absurd (no_ok TooMany arrivals h)
 unless-fine before read arrivals false fine h = fine h
 
-rows_from-fine : (number before : ℕ) (rows : List Fields) (arrivals : List Arrival) → rows_from arrival_of instant_of number before rows ≡ Ok arrivals → AreFrom before arrivals
+rows_from-fine : (number before : ℕ) (rows : List Fields) (arrivals : List Arrival) → rows_from (in_four arrival_of) arrival_instant number before rows ≡ Ok arrivals → AreFrom before arrivals
 rows_from-fine number before [] arrivals h = let none : [] ≡ arrivals = cc in subst (λ (xs : List Arrival). AreFrom before xs) none (AreFrom-nil before)
 rows_from-fine number before (fields ∷ rows) arrivals h =
     unless-fine before _ arrivals (nat_lt most_rows number)
-    (row_then-fine before number (arrival_of fields) (λ last. rows_from arrival_of instant_of (number + 1) last rows) arrivals
+    (row_then-fine before number (in_four arrival_of fields) (λ last. rows_from (in_four arrival_of) arrival_instant (number + 1) last rows) arrivals
     (arrival_of-fine fields) (λ last rest e. rows_from-fine (number + 1) last rows rest e)) h
 
-named-fine : (named : Bool) (rows : List Fields) (arrivals : List Arrival) → (if named then rows_from arrival_of instant_of 1 0 rows else Err BadHeader) ≡ Ok arrivals → AreFrom 0 arrivals
+named-fine : (named : Bool) (rows : List Fields) (arrivals : List Arrival) → (if named then rows_from (in_four arrival_of) arrival_instant 1 0 rows else Err BadHeader) ≡ Ok arrivals → AreFrom 0 arrivals
 named-fine true rows arrivals h = rows_from-fine 1 0 rows arrivals h
 named-fine false rows arrivals h = absurd (no_ok BadHeader arrivals h)
 
-rows_under-fine : (rows : List Fields) (arrivals : List Arrival) → rows_under arrival_header arrival_of instant_of rows ≡ Ok arrivals → AreFrom 0 arrivals
+rows_under-fine : (rows : List Fields) (arrivals : List Arrival) → rows_under arrival_header (in_four arrival_of) arrival_instant rows ≡ Ok arrivals → AreFrom 0 arrivals
 rows_under-fine [] arrivals h = absurd (no_ok BadHeader arrivals h)
 rows_under-fine (first ∷ rows) arrivals h = named-fine (is_header arrival_header first) rows arrivals h
 
