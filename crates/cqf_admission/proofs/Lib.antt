@@ -1,0 +1,4 @@
+pub mod HeldLemmas
+pub mod PathLemmas
+pub mod GrantLemmas
+pub mod RunLemmas

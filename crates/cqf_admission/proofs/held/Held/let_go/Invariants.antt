@@ -1,0 +1,11 @@
+-- The rows from the place on have been looked through.
+use Rattle.cqf_model.specs.declared.topology.Row.{Row}
+use Rattle.cqf_model.specs.Table.{is_held}
+use Rattle.cqf_admission.proofs.HeldLemmas.{AreSwept}
+use Rattle.cqf_admission.proofs.held.Held.let_go.Given as goal
+
+abbrev pub invariant-loop-place : goal.invariant-loop-place
+invariant-loop-place l = AreSwept (λ (row : Row). is_held row l.cycle.0) l.initial.self-inside.rows.items l.place l.self-inside.rows.items l.self-inside.names.keys
+
+abbrev pub decreases-loop-place : goal.decreases-loop-place
+decreases-loop-place l = l.place

@@ -1,0 +1,12 @@
+-- What a request asks for.
+use Rattle.std.specs.Prelude.{map, string_bytes}
+use Rattle.cqf_topology.specs.declared.streams.Request.{Request}
+use Rattle.cqf_topology.specs.StreamsText.{RequestText}
+use Rattle.cqf_model.specs.History.{Asked}
+
+abbrev pub asked_of : Request → Asked
+asked_of request = record { name = string_bytes request.name; octets = request.octets; path = map string_bytes request.path.items }
+
+-- what a request's text asks for
+abbrev pub asked_by : RequestText → Asked
+asked_by text = record { name = text.name; octets = text.octets; path = text.path }

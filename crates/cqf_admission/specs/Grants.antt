@@ -1,0 +1,43 @@
+-- What looking a request over gives.
+use Rattle.std.specs.Prelude.{ℕ, ◌≡◌, ◌≤◌, ◌<◌, true, length, slice_get, List, Option, Some, None, Result, Ok, Err, Contains}
+use Rattle.cqf_units.specs.Name.{is_name}
+use Rattle.cqf_units.specs.declared.reservations.Cycle.{Cycle}
+use Rattle.cqf_model.specs.declared.history.Refused.{Refused}
+use Rattle.cqf_model.specs.declared.history.Refused.TheVariants.{BudgetShort}
+use Rattle.cqf_model.specs.declared.history.Reply.TheVariants.{Refused as RefusedFor}
+use Rattle.cqf_model.specs.declared.topology.Row.{Row}
+use Rattle.cqf_model.specs.Domain.{Domain, budget}
+use Rattle.cqf_model.specs.History.{Asked, left_on, refusal_of, refused_at, short_link, withdraw_reply}
+use Rattle.cqf_model.specs.Table.{link_cost, row_named}
+use Rattle.cqf_laws_history.specs.StateLaws.{granted_row}
+
+-- the streams are within the limits of a reservation, and within each link's budget
+pub record CanBeAsked (d : Domain) (rows : List Row) : Type 0 where
+  pub octets : (row : Row) → Contains rows row → row.octets ≤ 60000
+  pub loads : (l : ℕ) → link_cost rows l ≤ budget d l
+
+-- the first link that has too little left for a cost
+abbrev pub short_refusal : Domain → List Row → ℕ → List ℕ → Option Refused
+short_refusal d rows cost links = refused_at (λ l. BudgetShort l (left_on d rows l)) (short_link d rows cost links)
+
+-- a look at a request gives its row, or the first reason against it
+abbrev pub Grants : Domain → List Row → Asked → ℕ → Cycle → Result Row Refused → Type 0
+Grants d rows asked number effect (Ok row) = (refusal_of d rows asked ≡ None) × (row ≡ granted_row d number effect.0 asked)
+Grants d rows asked number effect (Err refused) = refusal_of d rows asked ≡ Some refused
+
+-- each of the streams has a name
+abbrev pub HaveNames : List Row → Type 0
+HaveNames rows = (row : Row) → Contains rows row → is_name row.name ≡ true
+
+-- a look for the stream of a name that isn't withdrawn gives its place and number, or why there is none
+pub record IsOpenAt (rows : List Row) (name : List ℕ) (place number : ℕ) : Type 0 where
+  pub row : Row
+  pub inside : place < length rows
+  pub is : slice_get rows place ≡ Some row
+  pub named : row_named rows name ≡ Some row
+  pub open_end : row.withdrawn ≡ None
+  pub numbered : row.no ≡ number
+
+abbrev pub FindsOpen : List Row → List ℕ → Result (ℕ × ℕ) Refused → Type 0
+FindsOpen rows name (Ok found) = IsOpenAt rows name found.0 found.1
+FindsOpen rows name (Err refused) = (effect : ℕ) → withdraw_reply effect (row_named rows name) ≡ RefusedFor refused

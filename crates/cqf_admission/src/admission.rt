@@ -1,0 +1,236 @@
+//! The admission of streams.
+ghost use Rattle.std.specs.Prelude.{◌≡◌, ◌≤◌, ◌<◌, [], map, length, string_bytes, IfOk};
+ghost use Rattle.cqf_model.specs.Domain.{budget};
+ghost use Rattle.cqf_model.specs.History.{Admits, Withdraws, IsLegalHistory, held_in, seals};
+ghost use Rattle.cqf_model.specs.Table.{link_cost};
+ghost use Rattle.cqf_admission.specs.Asking.{asked_of};
+ghost use Rattle.cqf_admission.specs.Admission.{Answers, Closes, recorded_of};
+
+use crate::entries::{Call, Entry, SealFault, copied_entries};
+use crate::held::Held;
+use crate::refusals::{find_open, grant, taken_of};
+use crate::rows::copied_rows;
+use crate::table::Table;
+use cqf_laws_history::state_follows_history;
+use cqf_model::{Receipt, Refused, Reply};
+use cqf_topology::{Domain, Request};
+use cqf_units::{Cycle, Memory, Octets};
+use std::alloc::Global;
+use std::marker::Model;
+
+/// An admission controller over a domain, with its history of calls (profile).
+#[derive(Debug, Drop)]
+pub struct Admission {
+    alloc: Global,
+    domain: Domain,
+    history: Vec<Entry>,
+    held: Held,
+    next: u32,
+    sealed: u32,
+}
+
+impl Model for Admission {
+    ghost use Rattle.std.specs.Prelude.{map};
+    ghost use Rattle.cqf_admission.specs.Admission.{Administration, IsRunning, recorded_of};
+
+    ghost Value = { Administration };
+
+    ghost view = { λ a. record { domain = a.domain; entries = map recorded_of a.history.items } };
+
+    ghost invariant = { λ a. IsRunning a.domain (map recorded_of a.history.items) a.held.rows a.next a.sealed };
+}
+
+/// How many entries of a history may be other than Seals, and how many may be Seals (profile).
+const MOST_CALLS: usize = 100_000;
+
+const MOST_SEALS: u32 = 100_000;
+
+impl Admission {
+    /// An admission for a domain, with an empty history.
+    pub fn new(alloc: Global, domain: &Domain) -> Result<Admission, Memory>
+        ensures domain { IfOk result (λ a. a.domain ≡ domain.now) }
+        ensures begins { IfOk result (λ a. a.entries ≡ []) }
+    {
+        Ok(Admission {
+            alloc,
+            domain: domain.try_copy(alloc)?,
+            history: Vec::new(alloc),
+            held: Held::new(alloc),
+            next: 0,
+            sealed: 0,
+        })
+    }
+
+    /// The domain whose links are shared out.
+    pub fn domain(&self) -> &Domain
+        ensures { result.now ≡ self.now.domain }
+    {
+        &self.domain
+    }
+
+    /// All entries, in order.
+    pub fn history(&self) -> &[Entry]
+        ensures entries { map recorded_of result.now ≡ self.now.entries }
+        ensures legal { IsLegalHistory self.now.domain self.now.entries }
+    {
+        self.history.as_slice()
+    }
+
+    /// The next cycle to be closed to changes: the number of Seals so far. A call has its effect from this cycle on.
+    pub fn next_cycle(&self) -> Cycle
+        ensures { result.0 ≡ seals self.now.entries }
+    {
+        Cycle(self.sealed)
+    }
+
+    /// Asks for a stream. Where it is granted, the receipt has its number and the cycle from which it is live; it is held,
+    /// with its costs and its name, from then on.
+    ///
+    /// Refused with `HistoryFull`, before all else, where 100,000 entries aren't Seals; with `Memory` where a growth is
+    /// refused; then with the first reason that is due, in this order: `BadName`, `BadOctets`, `UnknownNode`,
+    /// `BrokenPath`, `LoopingPath`, `NameHeld`, `TooManyStreams` (1,024 are held), `BudgetShort`. `HistoryFull` and `Memory`
+    /// change nothing; each other call enters the history with its answer (profile).
+    pub fn admit(&mut self, seat: u16, request: &Request) -> Result<Receipt, Refused>
+        ensures { Answers self.old self.new seat (Admits (asked_of request.now)) result }
+    {
+        if self.history.len() - self.sealed as usize >= MOST_CALLS {
+            return Err(Refused::HistoryFull);
+        }
+        let Ok(asked) = request.try_copy(self.alloc) else {
+            return Err(Refused::Memory);
+        };
+        if self.history.reserve(1).is_err() {
+            return Err(Refused::Memory);
+        }
+        if self.held.reserve().is_err() {
+            return Err(Refused::Memory);
+        }
+        state_follows_history();
+        let effect = Cycle(self.sealed);
+        let receipt = Receipt {
+            no: self.next,
+            effect,
+        };
+        match grant(&self.domain, &self.held, request, self.next, effect) {
+            Ok(row) => {
+                self.next += 1;
+                self.held.push(row);
+                let entry = Entry {
+                    seat,
+                    call: Call::Admit(asked),
+                    reply: Reply::Accepted(receipt),
+                };
+                self.history.push(entry).unwrap();
+                Ok(receipt)
+            }
+            Err(refused) => {
+                let entry = Entry {
+                    seat,
+                    call: Call::Admit(asked),
+                    reply: Reply::Refused(refused),
+                };
+                self.history.push(entry).unwrap();
+                Err(refused)
+            }
+        }
+    }
+
+    /// Withdraws the stream of a name. The receipt has its number and the first cycle in which it is live no more. It is
+    /// held on for as many cycles as its path has bridges.
+    ///
+    /// Refused with `HistoryFull` and `Memory` as [`Admission::admit`], then with `NotHeld` where no held stream has the
+    /// name, and `AlreadyWithdrawn` (profile).
+    pub fn withdraw(&mut self, seat: u16, name: &str) -> Result<Receipt, Refused>
+        ensures { Answers self.old self.new seat (Withdraws name.now) result }
+    {
+        if self.history.len() - self.sealed as usize >= MOST_CALLS {
+            return Err(Refused::HistoryFull);
+        }
+        let Ok(asked) = String::from_str(self.alloc, name) else {
+            return Err(Refused::Memory);
+        };
+        if self.history.reserve(1).is_err() {
+            return Err(Refused::Memory);
+        }
+        state_follows_history();
+        let effect = Cycle(self.sealed);
+        match find_open(&self.held, name) {
+            Ok(found) => {
+                let receipt = Receipt {
+                    no: found.1,
+                    effect,
+                };
+                self.held.end(found.0, effect);
+                let entry = Entry {
+                    seat,
+                    call: Call::Withdraw(asked),
+                    reply: Reply::Accepted(receipt),
+                };
+                self.history.push(entry).unwrap();
+                Ok(receipt)
+            }
+            Err(refused) => {
+                let entry = Entry {
+                    seat,
+                    call: Call::Withdraw(asked),
+                    reply: Reply::Refused(refused),
+                };
+                self.history.push(entry).unwrap();
+                Err(refused)
+            }
+        }
+    }
+
+    /// Closes the next cycle to changes, and gives its table: the streams that are held in it, by number.
+    ///
+    /// Refused with `CyclesSpent` after 100,000 Seals, and with `Memory`; neither changes anything (profile).
+    pub fn seal(&mut self, seat: u16) -> Result<Table, SealFault>
+        ensures { Closes self.old self.new seat result }
+    {
+        if self.sealed >= MOST_SEALS {
+            return Err(SealFault::CyclesSpent);
+        }
+        let Ok(rows) = copied_rows(self.alloc, self.held.rows()) else {
+            return Err(SealFault::Memory);
+        };
+        if self.history.reserve(1).is_err() {
+            return Err(SealFault::Memory);
+        }
+        state_follows_history();
+        let cycle = Cycle(self.sealed);
+        self.sealed += 1;
+        self.held.let_go(Cycle(self.sealed));
+        let entry = Entry {
+            seat,
+            call: Call::Seal,
+            reply: Reply::Sealed,
+        };
+        self.history.push(entry).unwrap();
+        Ok(Table::new(cycle, rows))
+    }
+
+    /// What the streams that are held in the next cycle cost of a link, in octets a cycle: never more than its budget
+    /// (profile).
+    pub fn held_on(&self, link: u8) -> Octets
+        requires { link < length self.now.domain.links }
+        ensures held { result.0 ≡ link_cost (held_in self.now.domain self.now.entries (seals self.now.entries)) link }
+        ensures within { result.0 ≤ budget self.now.domain link }
+    {
+        state_follows_history();
+        Octets(taken_of(&self.domain, self.held.rows(), link))
+    }
+
+    /// The same admission again, unless memory runs out.
+    pub fn try_copy(&self, alloc: Global) -> Result<Admission, Memory>
+        ensures { IfOk result (λ copy. copy ≡ self.now) }
+    {
+        Ok(Admission {
+            alloc,
+            domain: self.domain.try_copy(alloc)?,
+            history: copied_entries(alloc, self.history.as_slice())?,
+            held: self.held.try_copy(alloc)?,
+            next: self.next,
+            sealed: self.sealed,
+        })
+    }
+}

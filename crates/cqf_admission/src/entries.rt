@@ -1,0 +1,83 @@
+//! The entries of a history.
+ghost use Rattle.std.specs.Prelude.{◌≡◌, map, IfOk};
+ghost use Rattle.cqf_admission.specs.Admission.{act_of, recorded_of};
+
+use cqf_model::Reply;
+use cqf_topology::Request;
+use cqf_units::Memory;
+use std::alloc::Global;
+use thiserror::Error;
+
+/// What an administrator calls for beside Seals.
+#[derive(Debug, Drop)]
+pub enum Command {
+    /// To admit a stream.
+    Admit(Request),
+    /// To withdraw the stream of a name.
+    Withdraw(String),
+}
+
+/// What was called for.
+#[derive(Debug, Drop)]
+pub enum Call {
+    /// To admit a stream.
+    Admit(Request),
+    /// To withdraw the stream of a name.
+    Withdraw(String),
+    /// To close the next cycle to changes.
+    Seal,
+}
+
+/// An entry of a history.
+#[derive(Debug, Drop)]
+pub struct Entry {
+    /// Whose call it was.
+    pub seat: u16,
+    pub call: Call,
+    /// The answer that it got.
+    pub reply: Reply,
+}
+
+/// Why a cycle isn't closed (profile). Nothing is changed.
+#[derive(Clone, Copy, Debug, PartialEq, Eq, Error)]
+pub enum SealFault {
+    /// 100,000 cycles were closed.
+    #[error("CyclesSpent")]
+    CyclesSpent,
+    /// A growth was refused.
+    #[error("Memory")]
+    Memory,
+}
+
+/// The same call again, unless memory runs out.
+fn copied_call(alloc: Global, call: &Call) -> Result<Call, Memory>
+    ensures { IfOk result (λ copy. act_of copy ≡ act_of call.now) }
+{
+    match call {
+        Call::Admit(request) => Ok(Call::Admit(request.try_copy(alloc)?)),
+        Call::Withdraw(name) => Ok(Call::Withdraw(String::from_str(alloc, name.as_str())?)),
+        Call::Seal => Ok(Call::Seal),
+    }
+}
+
+/// The same entry again, unless memory runs out.
+fn copied_entry(alloc: Global, entry: &Entry) -> Result<Entry, Memory>
+    ensures { IfOk result (λ copy. recorded_of copy ≡ recorded_of entry.now) }
+{
+    Ok(Entry {
+        seat: entry.seat,
+        call: copied_call(alloc, &entry.call)?,
+        reply: entry.reply,
+    })
+}
+
+/// The same entries again, unless memory runs out.
+pub(crate) fn copied_entries(alloc: Global, entries: &[Entry]) -> Result<Vec<Entry>, Memory>
+    ensures { IfOk result (λ copies. map recorded_of copies.items ≡ map recorded_of entries.now) }
+{
+    let mut copies = Vec::with_capacity(alloc, entries.len())?;
+    for entry in entries {
+        copies.push(copied_entry(alloc, entry)?)?;
+    }
+    Ok(copies)
+}
