@@ -3,3 +3,4 @@ pub mod BytesLemmas
 pub mod PortLemmas
 pub mod ArrivalLemmas
 pub mod RunLemmas
+pub mod OfferLemmas

@@ -5,23 +5,27 @@ use Rattle.std.specs.List.{slice_split, before_first, after_first}
 use Rattle.std.specs.Str.{IsUtf8}
 use Rattle.cqf_text.specs.Lines.{is_line_feed}
 use Rattle.cqf.specs.Bytes.{line_of, HasWritten}
+use Rattle.cqf.specs.LineJob.{IsLineOutput, line_input}
 use Rattle.cqf.specs.PortJob.{IsPortOutput, IsRefused, port_input}
 use Rattle.cqf.specs.Words.{AskForHelp, Mean}
 use Rattle.cqf.specs.declared.stops.Stop.{Stop}
 use Rattle.cqf.specs.declared.words.Job.{Job}
-use Rattle.cqf.specs.declared.words.Job.TheVariants.{Port}
+use Rattle.cqf.specs.declared.words.Job.TheVariants.{Port, Line}
 
 -- the job's numbers are within their limits
 abbrev pub IsWithin : Job → Type 0
 IsWithin (Port until rate) = until ≤ 100000000
+IsWithin (Line cycles) = cycles ≤ 100000
 
 -- the output of a job for its input
 abbrev pub IsOutput : Job → List ℕ → List ℕ → Type 0
 IsOutput (Port until rate) input output = IsPortOutput until rate input output
+IsOutput (Line cycles) input output = IsLineOutput cycles input output
 
 -- the input of a job is refused, with the line of its first fault
 abbrev pub IsRefusal : Job → List ℕ → Stop → Type 0
 IsRefusal (Port until rate) input stop = IsRefused (port_input input) stop
+IsRefusal (Line cycles) input stop = IsRefused (line_input input) stop
 
 abbrev pub is_space : ℕ → Bool
 is_space byte = byte == 32

@@ -26,6 +26,7 @@
 ghost use Rattle.std.specs.Prelude.{◌≤◌};
 
 mod inputs;
+mod line_job;
 mod outputs;
 mod port_job;
 mod runs;

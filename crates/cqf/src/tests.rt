@@ -218,3 +218,31 @@ fn a_writer_that_fails_is_told(rt: HostRuntime) {
     assert_eq!(rt; status, FAULT);
     assert!(rt; faults.as_slice() == b"cqf: output fault\n".as_slice());
 }
+
+#[test]
+fn the_reservation_of_a_cycle_is_not_passed(rt: HostRuntime) {
+    let words = ["line", "--cycles", "2"];
+    let input = "at,bridge,stream,octets\n0,a,x,1000\n10,a,x,600\n20,a,x,500\n";
+    let book = "what,cycle,where,frame,octets,detail\n\
+        start,1,a>s,1,1000,125000\nstart,1,a>s,3,500,133160\ndrop,0,a,2,600,octets\n";
+    assert!(rt; run(rt.alloc(), words.as_slice(), input).wrote(book));
+}
+
+#[test]
+fn an_offer_at_the_end_of_a_cycle_leaves_in_the_next(rt: HostRuntime) {
+    let words = ["line", "--cycles", "3"];
+    let input = "at,bridge,stream,octets\n124999,a,x,64\n125000,a,x,64\n";
+    let book = "what,cycle,where,frame,octets,detail\n\
+        start,1,a>s,1,64,125000\nstart,2,a>s,2,64,250000\n";
+    assert!(rt; run(rt.alloc(), words.as_slice(), input).wrote(book));
+}
+
+#[test]
+fn the_first_fault_of_the_offers_is_told(rt: HostRuntime) {
+    let alloc = rt.alloc();
+    let words = ["line", "--cycles", "3"];
+    assert!(rt; run(alloc, words.as_slice(), "%%\n").told(REFUSED, "cqf: parts\n"));
+    assert!(rt; run(alloc, words.as_slice(), "").told(REFUSED, "cqf: offers: BadHeader\n"));
+    let input = "at,bridge,stream,octets\n0,a,x,63\n";
+    assert!(rt; run(alloc, words.as_slice(), input).told(REFUSED, "cqf: offers: BadRow 1\n"));
+}

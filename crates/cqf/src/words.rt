@@ -5,7 +5,7 @@ ghost use Rattle.cqf_units.specs.declared.timing.Rate.{Rate};
 ghost use Rattle.clap.specs.declared.builder.command.Command.TheViews.{out-Command};
 ghost use Rattle.clap.specs.Words.{app_of, first_of, found_of, kind_of, rows_of, rule_of, subcommand_rows_of};
 ghost use Rattle.cqf.specs.declared.words.Job.{Job};
-ghost use Rattle.cqf.specs.Words.{cqf_app, port_app, number_rule, rate_rule, rate_text, IsJob, IsJobOf, IsNumberIn, Mean, EndsBy, EndsWords};
+ghost use Rattle.cqf.specs.Words.{cqf_app, port_app, line_app, number_rule, rate_rule, rate_text, IsJob, IsJobOf, IsNumberIn, Mean, EndsBy, EndsWords};
 
 use crate::stops::{DONE, NO_MEMORY, Stop, USAGE};
 use clap::error::ErrorKind;
@@ -18,6 +18,8 @@ use std::alloc::{AllocError, Global};
 pub enum Job {
     /// The starts of one port before an instant.
     Port { until: u64, rate: Rate },
+    /// The book of one bridge with one stream.
+    Line { cycles: u32 },
 }
 
 /// The option `--until N`.
@@ -47,6 +49,20 @@ fn rate_option<'a>(alloc: Global) -> Arg<'a>
         .help("the link's rate in Mb/s: 10, 100 or 1000")
 }
 
+/// The option `--cycles N`.
+fn cycles_option<'a>(alloc: Global) -> Arg<'a>
+    ensures rule { rule_of result ≡ number_rule (codes "cycles") 1 100000 }
+    ensures own { result.global ≡ false }
+{
+    Arg::new(alloc, "cycles")
+        .long("cycles")
+        .action(ArgAction::Set)
+        .required(true)
+        .value_name("N")
+        .help("the number of cycles, 1 to 100000")
+        .value_parser(value_parser!(u64).range(1..100_001))
+}
+
 /// `port --until N [--rate RATE]`.
 fn port_command<'a>(alloc: Global) -> Result<Command<'a>, AllocError>
     ensures app { IfOk result (λ command. app_of command ≡ port_app) }
@@ -58,17 +74,29 @@ fn port_command<'a>(alloc: Global) -> Result<Command<'a>, AllocError>
         .arg(rate_option(alloc))
 }
 
+/// `line --cycles N`.
+fn line_command<'a>(alloc: Global) -> Result<Command<'a>, AllocError>
+    ensures app { IfOk result (λ command. app_of command ≡ line_app) }
+    ensures local { IfOk result (λ command. (out-Command command).has_globals ≡ false) }
+{
+    Command::new(alloc, "line")
+        .about("the book of one bridge with one stream")
+        .arg(cycles_option(alloc))
+}
+
 /// The program's commands.
 fn commands<'a>(alloc: Global) -> Result<Command<'a>, AllocError>
     ensures app { IfOk result (λ command. app_of command ≡ cqf_app) }
     ensures local { IfOk result (λ command. (out-Command command).has_globals ≡ false) }
 {
     let port = port_command(alloc)?;
+    let line = line_command(alloc)?;
     Command::new(alloc, "cqf")
         .about("cyclic queuing and forwarding")
         .no_binary_name(true)
         .subcommand_required(true)
-        .subcommand(port)
+        .subcommand(port)?
+        .subcommand(line)
 }
 
 /// The text of an error of clap's, or what there is of it where memory lacks.
@@ -132,6 +160,19 @@ fn port_job(values: &ArgMatches<'_>) -> Option<Job>
     Some(Job::Port { until, rate })
 }
 
+/// The job of the command `line` with its values.
+fn line_job(values: &ArgMatches<'_>) -> Option<Job>
+    ensures { MatchOption result ((job : Job) → ¬ IsJobOf job (codes "line") (rows_of (found_of values.now)))
+        (λ job. IsJobOf job (codes "line") (rows_of (found_of values.now))) }
+{
+    let Some(cycles) = number_in(text_of(values, "cycles"), 1, 100_000) else {
+        return None;
+    };
+    Some(Job::Line {
+        cycles: cycles as u32,
+    })
+}
+
 /// The job of the command that was named.
 fn job_of(matches: &ArgMatches<'_>) -> Option<Job>
     ensures { MatchOption result ((job : Job) → ¬ IsJob job (subcommand_rows_of matches.now))
@@ -140,6 +181,7 @@ fn job_of(matches: &ArgMatches<'_>) -> Option<Job>
     let (name, values) = matches.subcommand()?;
     match name {
         "port" => port_job(values),
+        "line" => line_job(values),
         _ => None,
     }
 }
