@@ -1,6 +1,5 @@
 -- What was read before the end of the input.
 use Rattle.std.proofs.Common.{◌≡◌, ◌⊎◌, ◌≤◌, ◌+◌, ◌++◌, ℕ, List, [], Option, length, arith, inl, inr, codes, length-append, refl, sym, ap, take, drop, Bool, true, Some, None, ◌∙◌, ◌-◌, subst, take-append-drop, append_assoc}
-use Rattle.std.specs.Prelude.{IfSome}
 use Rattle.std.specs.Io.KnownBytes.{Appends, Consumes, Keeps}
 use Rattle.std.proofs.KnownBytes.{Appends-nil, Appends-trans, Consumes-trans}
 use Rattle.std.proofs.lemmas.Grind.{common_steps}

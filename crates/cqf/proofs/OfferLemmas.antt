@@ -1,5 +1,5 @@
 -- How many rows a table may have.
-use Rattle.std.proofs.Common.{◌≡◌, ◌≤◌, ◌<◌, ◌+◌, ◌-◌, sym, ℕ, Bool, true, false, List, [], ◌∷◌, Option, Some, None, Result, Ok, Err, length, arith, ap, subst, nat_lt, if◌then◌else◌, refl}
+use Rattle.std.proofs.Common.{◌≡◌, ◌≤◌, ◌+◌, ◌-◌, sym, ℕ, Bool, true, false, List, [], ◌∷◌, Option, Some, None, Result, Ok, Err, length, arith, ap, nat_lt, if◌then◌else◌, refl}
 use Rattle.std.proofs.lemmas.Grind.{common_steps}
 use Rattle.cqf_report.specs.Records.{Fields}
 use Rattle.cqf_report.specs.Table.{is_header, most_rows, row_then, rows_from, rows_under, with_row}

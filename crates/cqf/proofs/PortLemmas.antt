@@ -1,5 +1,5 @@
 -- Arrivals in order of instant, offered to a port that hasn't run.
-use Rattle.std.proofs.Common.{◌≡◌, ◌<◌, ◌≤◌, ◌^◌, ℕ, List, [], ◌∷◌, length, take, get_or, ◌∙◌, arith, ap, All, AllPairs, slice_index_or, length-take-le}
+use Rattle.std.proofs.Common.{◌≡◌, ◌<◌, ◌≤◌, ◌^◌, ℕ, List, length, take, ◌∙◌, arith, ap, All, AllPairs, slice_index_or, length-take-le}
 use Rattle.std.proofs.lemmas.List.{get_or-map, get_or-take, length-map}
 use Rattle.std.proofs.lemmas.List.Elements.{Contains-get_or}
 use Rattle.cqf_model.specs.declared.ports.Arrival.{Arrival}

@@ -1,11 +1,10 @@
 -- From what each step of a run says to what the run comes to.
-use Rattle.std.proofs.Common.{◌≡◌, ◌≢◌, ◌⊎◌, ◌<◌, ◌≤◌, ◌++◌, ◌∙◌, ℕ, List, [], ◌∷◌, Option, Some, None, length, arith, codes, inl, inr, sym, ap, subst, refl}
+use Rattle.std.proofs.Common.{◌≡◌, ◌≢◌, ◌⊎◌, ◌≤◌, ◌++◌, ◌∙◌, ℕ, List, [], ◌∷◌, Option, Some, None, length, arith, codes, inl, inr, sym, ap, subst, refl}
 use Rattle.std.specs.Prelude.{IfSome}
 use Rattle.std.specs.Str.{IsUtf8}
 use Rattle.std.specs.Io.KnownBytes.{Consumes, IsAtEnd}
 use Rattle.std.proofs.lemmas.List.{append-nil}
 use Rattle.cqf.specs.Bytes.{line_of, EndsInput, EndsWith}
-use Rattle.cqf.specs.PortJob.{IsRefused}
 use Rattle.cqf.specs.Words.{EndsWords, Mean}
 use Rattle.cqf.specs.Run.{first_line, input_of, words_of, Ends, HandsOver, IsDone, Tells, IsOutput, IsRefusal, IsStopped}
 use Rattle.cqf.specs.declared.stops.Stop.{Stop}

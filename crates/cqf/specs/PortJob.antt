@@ -1,5 +1,5 @@
 -- What the command `port` gives for its input (profile): the starts before an instant, or the line of its first fault.
-use Rattle.std.specs.Prelude.{ℕ, ◌≡◌, ◌≢◌, ◌⊎◌, ◌++◌, List, [], ◌∷◌, map, Result, Ok, Err, codes, decimal, ◌<◌, ◌≤◌, ◌^◌, All, AllPairs}
+use Rattle.std.specs.Prelude.{ℕ, ◌≡◌, ◌⊎◌, ◌++◌, List, [], ◌∷◌, map, Result, Ok, Err, codes, decimal, ◌<◌, ◌≤◌, ◌^◌, All, AllPairs}
 use Rattle.cqf_units.specs.Timing.{nanos_of_octet}
 use Rattle.cqf_units.specs.declared.timing.Rate.{Rate}
 use Rattle.cqf_model.specs.GateList.{Entry}

@@ -1,5 +1,4 @@
-use Rattle.std.proofs.Common.{◌≡◌, length, false}
-use Rattle.cqf.specs.Bytes.{HasWritten}
+use Rattle.std.proofs.Common.{length}
 use Rattle.cqf.proofs.BytesLemmas.{WrittenSoFar}
 use Rattle.cqf.proofs.outputs.write_out.Given as goal
 

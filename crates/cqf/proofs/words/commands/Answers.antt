@@ -1,7 +1,7 @@
-use Rattle.std.proofs.Common.{◌≡◌, ◌∙◌, rules, codes, ap, ap₂}
+use Rattle.std.proofs.Common.{◌≡◌, ◌∙◌, rules, ap, ap₂}
 use Rattle.std.proofs.lemmas.Result.{IfOk-weaker}
 use Rattle.clap.specs.Words.{App, app_of, with_subcommand}
-use Rattle.cqf.specs.Words.{named_app, port_app, line_app}
+use Rattle.cqf.specs.Words.{named_app, port_app}
 use Rattle.cqf.proofs.words.commands.Goals as goal
 
 -- the settings, and then the two commands
