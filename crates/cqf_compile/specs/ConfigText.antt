@@ -1,5 +1,5 @@
 -- The configuration of a domain and its streams, as a text (profile).
-use Rattle.std.specs.Prelude.{ℕ, ◌<◌, List, [], ◌∷◌, ◌++◌, All, Contains, codes, length, slice_index_or}
+use Rattle.std.specs.Prelude.{ℕ, List, [], ◌∷◌, ◌++◌, codes, slice_index_or}
 use Rattle.std.specs.Fmt.{decimal}
 use Rattle.std.specs.List.{flat_map}
 use Rattle.cqf_text.specs.GateListText.{text_of_entries}
@@ -12,10 +12,6 @@ use Rattle.cqf_model.specs.GateList.{port_list}
 use Rattle.cqf_model.specs.Network.{bridge_of}
 use Rattle.cqf_model.specs.StreamGate.{stream_list}
 use Rattle.cqf_gates.specs.StreamText.{text_of_stream_entries}
-
--- the paths of the streams go along links of the domain
-abbrev pub AreAlongLinks : Domain → List Row → Type 0
-AreAlongLinks d rows = (row : Row) → Contains rows row → All (λ l. l < length d.links) row.path.items
 
 -- the name of a node
 abbrev pub name_of : Domain → Node → List ℕ

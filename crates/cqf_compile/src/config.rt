@@ -2,10 +2,13 @@
 ghost use Rattle.std.specs.Prelude.{◌≡◌, ◌<◌, ◌++◌, ◌∷◌, [], All, IfOk, OnOk, Some, length, option_map, slice_get};
 ghost use Rattle.std.specs.String.{string_bytes};
 ghost use Rattle.cqf_model.specs.Domain.{IsNode};
-ghost use Rattle.cqf_compile.specs.ConfigText.{AreAlongLinks, config_text, line_of_hop, name_of, text_of_link, text_of_row};
+ghost use Rattle.cqf_compile.specs.ConfigText.{config_text, line_of_hop, name_of, text_of_link, text_of_row};
+ghost use Rattle.cqf_compile.specs.Tables.{AreAlongLinks, TablesGoAlongLinks};
 
 use crate::{Plan, gate_of};
+use cqf_admission::Table;
 use cqf_gates::{write_stream, write_tx};
+use cqf_laws_history::state_follows_history;
 use cqf_model::{Node, Row};
 use cqf_topology::Domain;
 use cqf_units::{Memory, Name};
@@ -65,14 +68,15 @@ fn row_text(alloc: Global, plan: &Plan, row: &Row) -> Result<Vec<u8>, Memory>
     Ok(text)
 }
 
-/// The configuration of the plan and its streams, which are those of a table, by number. For each link by number it has a
-/// line `link FROM>TO`, and then the gate list of the link's port. Then, for each stream and each bridge of its path in
-/// order, it has a line `stream NO NAME bridge BRIDGE`, and then the stream's gate (profile). The path of each stream goes
-/// along links of the plan's domain.
-pub fn write_config(alloc: Global, plan: &Plan, rows: &[Row]) -> Result<Vec<u8>, Memory>
-    requires { AreAlongLinks plan.now rows.now }
-    ensures { IfOk result (λ text. text.items ≡ config_text plan.now rows.now) }
+/// The configuration of the plan and the streams of a table. For each link by number it has a line `link FROM>TO`, and
+/// then the gate list of the link's port. Then, for each row of the table by number and each bridge of its path in order,
+/// it has a line `stream NO NAME bridge BRIDGE`, and then the stream's gate (profile). The paths of the table go along
+/// links of the plan's domain.
+pub fn write_config(alloc: Global, plan: &Plan, table: &Table) -> Result<Vec<u8>, Memory>
+    requires { AreAlongLinks plan.now table.now.rows }
+    ensures { IfOk result (λ text. text.items ≡ config_text plan.now table.now.rows) }
 {
+    let rows = table.rows();
     let mut text = Vec::new(alloc);
     for link in 0..plan.domain().links() {
         let port = link_text(alloc, plan, link)?;
@@ -83,4 +87,12 @@ pub fn write_config(alloc: Global, plan: &Plan, rows: &[Row]) -> Result<Vec<u8>,
         text.extend_from_slice(stream.as_slice())?;
     }
     Ok(text)
+}
+
+/// The table of a Seal can be written: the paths in it go along links of its domain, since admission refuses others. A
+/// proof uses this by a call.
+pub fn tables_go_along_links()
+    ensures { TablesGoAlongLinks }
+{
+    state_follows_history();
 }

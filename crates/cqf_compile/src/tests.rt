@@ -1,11 +1,13 @@
-//! A domain compiled, and its configuration written.
-ghost use Rattle.std.specs.Prelude.{◌≡◌, IfOk};
+//! Domains compiled, and their configurations written.
+ghost use Rattle.std.specs.Prelude.{IfOk};
+ghost use Rattle.cqf_compile.specs.Tables.{AreAlongLinks};
 
-use crate::{Plan, compile, gate_of, write_config};
+use crate::{compile, gate_of, tables_go_along_links, write_config};
 use arrayvec::ArrayVec;
+use cqf_admission::{Admission, Table};
 use cqf_gates::StreamEntry;
 use cqf_model::Row;
-use cqf_topology::Domain;
+use cqf_topology::{Domain, Request};
 use cqf_units::{Cycle, Name};
 use std::alloc::Global;
 use std::test::Fail;
@@ -42,30 +44,45 @@ rate = 1000
 delay = 500
 "#;
 
-/// The plan of a domain text.
-fn plan_of(alloc: Global, text: &str) -> Result<Plan, Fail> {
-    let domain = Domain::read(alloc, text.as_bytes())?;
-    Ok(compile(alloc, &domain)?)
+/// A request for the stream `x` of 1,500 octets a cycle, through these nodes.
+fn request_x(alloc: Global, path: &[&str]) -> Result<Request, Fail> {
+    let mut nodes = Vec::new(alloc);
+    for node in path {
+        nodes.push(String::from_str(alloc, node)?)?;
+    }
+    Ok(Request {
+        name: String::from_str(alloc, "x")?,
+        octets: 1500,
+        path: nodes,
+    })
 }
 
-/// The stream `x` of 1,500 octets a cycle, through these links.
-fn stream_x(no: u32, path: ArrayVec<u8, 16>) -> Result<Row, Fail>
-    ensures { IfOk result (λ row. row.path ≡ path) }
+/// The table of cycle 0 with the stream that is requested.
+fn table_with(alloc: Global, domain: &Domain, request: &Request) -> Result<Table, Fail>
+    ensures { IfOk result (λ table. AreAlongLinks domain.now table.rows) }
 {
-    Ok(Row {
-        no,
-        name: Name::new(b"x").ok_or("a name was refused")?,
-        octets: 1500,
-        path,
-        admitted: Cycle(0),
-        withdrawn: None,
-    })
+    let mut admission = Admission::new(alloc, domain)?;
+    admission.admit(0, request)?;
+    let _legal = admission.history();
+    let table = admission.seal(0)?;
+    tables_go_along_links();
+    Ok(table)
+}
+
+/// The configuration of a domain text with the stream `x` through these nodes.
+fn configuration(alloc: Global, text: &str, path: &[&str]) -> Result<Vec<u8>, Fail> {
+    let domain = Domain::read(alloc, text.as_bytes())?;
+    let request = request_x(alloc, path)?;
+    let table = table_with(alloc, &domain, &request)?;
+    let plan = compile(alloc, &domain)?;
+    Ok(write_config(alloc, &plan, &table)?)
 }
 
 #[test]
 fn each_port_opens_class_7_and_then_class_6(rt: HostRuntime) -> Result<(), Fail> {
-    let plan = plan_of(rt.alloc(), ONE_LINK)?;
-    assert_eq!(rt; plan.domain().guard().0, 5000);
+    let domain = Domain::read(rt.alloc(), ONE_LINK.as_bytes())?;
+    let plan = compile(rt.alloc(), &domain)?;
+    assert_eq!(rt; plan.domain().guard(), domain.guard());
     assert_eq!(rt; plan.domain().links(), 1);
     let entries = [(0x80, 120_000), (0x00, 5000), (0x40, 120_000), (0x00, 5000)];
     assert!(rt; plan.list(0).entries() == entries.as_slice());
@@ -74,43 +91,41 @@ fn each_port_opens_class_7_and_then_class_6(rt: HostRuntime) -> Result<(), Fail>
 
 #[test]
 fn a_stream_has_class_6_and_then_class_7(rt: HostRuntime) -> Result<(), Fail> {
-    let plan = plan_of(rt.alloc(), ONE_LINK)?;
-    let row = stream_x(0, ArrayVec::new())?;
+    let domain = Domain::read(rt.alloc(), ONE_LINK.as_bytes())?;
+    let row = Row {
+        no: 0,
+        name: Name::new(b"x").ok_or("a name was refused")?,
+        octets: 1500,
+        path: ArrayVec::new(),
+        admitted: Cycle(0),
+        withdrawn: None,
+    };
     let entry = |ipv: u8| StreamEntry {
         ipv,
         interval: 125_000,
         octet_max: Some(1500),
     };
-    let gate = gate_of(plan.domain(), &row);
-    assert!(rt; gate.entries() == [entry(6), entry(7)].as_slice());
+    assert!(rt; gate_of(&domain, &row).entries() == [entry(6), entry(7)].as_slice());
     Ok(())
 }
 
 #[test]
 fn one_link_and_its_stream_are_written(rt: HostRuntime) -> Result<(), Fail> {
-    let plan = plan_of(rt.alloc(), ONE_LINK)?;
-    assert_eq!(rt; plan.domain().links(), 1);
-    let mut path = ArrayVec::new();
-    path.push(0);
-    let text = write_config(rt.alloc(), &plan, &[stream_x(0, path)?])?;
-    let expected =
-        b"link a>s\n80 120000\n00 5000\n40 120000\n00 5000\nstream 0 x bridge a\nopen 6 125000 1500\nopen 7 125000 1500\n";
-    assert!(rt; text.as_slice() == expected.as_slice());
+    let text = configuration(rt.alloc(), ONE_LINK, &["a", "s"])?;
+    let link = "link a>s\n80 120000\n00 5000\n40 120000\n00 5000\n";
+    let stream = "stream 0 x bridge a\nopen 6 125000 1500\nopen 7 125000 1500\n";
+    let expected = format!(in rt.alloc(); "{link}{stream}")?;
+    assert!(rt; text.as_slice() == expected.as_bytes());
     Ok(())
 }
 
 #[test]
 fn links_stand_by_number_and_bridges_along_the_path(rt: HostRuntime) -> Result<(), Fail> {
-    let plan = plan_of(rt.alloc(), TWO_BRIDGES)?;
-    assert_eq!(rt; plan.domain().links(), 2);
-    let mut path = ArrayVec::new();
-    path.push(1);
-    path.push(0);
-    let text = write_config(rt.alloc(), &plan, &[stream_x(7, path)?])?;
-    let links =
-        "link b>s\n80 120000\n00 5000\n40 120000\n00 5000\nlink a>b\n80 120000\n00 5000\n40 120000\n00 5000\n";
-    let stream =
-        "stream 7 x bridge a\nopen 6 125000 1500\nopen 7 125000 1500\nstream 7 x bridge b\nopen 6 125000 1500\nopen 7 125000 1500\n";
+    let text = configuration(rt.alloc(), TWO_BRIDGES, &["a", "b", "s"])?;
+    let list = "80 120000\n00 5000\n40 120000\n00 5000\n";
+    let gate = "open 6 125000 1500\nopen 7 125000 1500\n";
+    let links = format!(in rt.alloc(); "link b>s\n{list}link a>b\n{list}")?;
+    let stream = format!(in rt.alloc(); "stream 0 x bridge a\n{gate}stream 0 x bridge b\n{gate}")?;
     let expected = format!(in rt.alloc(); "{links}{stream}")?;
     assert!(rt; text.as_slice() == expected.as_bytes());
     Ok(())

@@ -1,0 +1,3 @@
+pub mod TrafficLaws
+pub mod TableLaws
+pub mod TimingLaws
