@@ -1,8 +1,10 @@
 //! The program of cyclic queuing and forwarding.
 //!
-//! `cqf port --until N [--rate RATE]` reads a gate list and the arrivals of one output port from standard input, and
-//! writes the frames that the port starts before instant N. Without a word after the program's name the words stand
-//! in the first line of the input:
+//! - `cqf port --until N [--rate RATE]` reads a gate list and the arrivals of one output port from standard input, and
+//!   writes the frames that the port starts before instant N.
+//! - `cqf line --cycles N` reads offers, and writes the book of the smallest network over N cycles.
+//!
+//! Without a word after the program's name the words stand in the first line of the input:
 //!
 //! ```text
 //! port --until 1000000
