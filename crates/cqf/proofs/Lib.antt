@@ -4,3 +4,4 @@ pub mod PortLemmas
 pub mod ArrivalLemmas
 pub mod RunLemmas
 pub mod OfferLemmas
+pub mod CompileLemmas

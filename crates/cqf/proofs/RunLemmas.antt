@@ -9,7 +9,7 @@ use Rattle.cqf.specs.Words.{EndsWords, Mean}
 use Rattle.cqf.specs.Run.{first_line, input_of, words_of, Ends, HandsOver, IsDone, Tells, IsOutput, IsRefusal, IsStopped}
 use Rattle.cqf.specs.declared.stops.Stop.{Stop}
 use Rattle.cqf.specs.declared.words.Job.{Job}
-use Rattle.cqf.specs.declared.words.Job.TheVariants.{Port, Line}
+use Rattle.cqf.specs.declared.words.Job.TheVariants.{Compile, Line, Port}
 
 -- a reader at its end gave all that it had
 pub IfSome-read : (known after : Option (List ℕ)) (bytes : List ℕ) (P : List ℕ → Type 0) → Consumes known after bytes → IsAtEnd after → P bytes → IfSome known P
@@ -75,10 +75,12 @@ IsStopped-by_input words (Some bytes) after stop e means = IsStopped-read words 
 refusal_statuses : (job : Job) (input : List ℕ) (stop : Stop) → IsRefusal job input stop → (stop.status ≡ 1) ⊎ (stop.status ≡ 3)
 refusal_statuses (Port until rate) input stop h = h.statuses
 refusal_statuses (Line cycles) input stop h = h.statuses
+refusal_statuses Compile input stop h = h.statuses
 
 refusal_memory : (job : Job) (input : List ℕ) (stop : Stop) → IsRefusal job input stop → stop.status ≡ 3 → stop.text.items ≡ []
 refusal_memory (Port until rate) input stop h = h.memory
 refusal_memory (Line cycles) input stop h = h.memory
+refusal_memory Compile input stop h = h.memory
 
 -- an input that is refused stops it
 pub IsStopped-by_refusal : (words : List (List ℕ)) (bytes : List ℕ) (job : Job) (stop : Stop) → length bytes ≤ 67108864 → (words ≡ [] → IsUtf8 (first_line bytes)) → Mean (words_of words bytes) job → IsRefusal job (input_of words bytes) stop → IsStopped words bytes stop

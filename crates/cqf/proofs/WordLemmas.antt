@@ -7,7 +7,7 @@ use Rattle.clap.specs.declared.error.kind.ErrorKind.{ErrorKind}
 use Rattle.clap.specs.declared.error.kind.ErrorKind.TheVariants.{DisplayHelp, DisplayVersion, InvalidValue, OutOfMemory}
 use Rattle.cqf_units.specs.declared.timing.Rate.{Rate}
 use Rattle.cqf.specs.declared.words.Job.{Job}
-use Rattle.cqf.specs.declared.words.Job.TheVariants.{Port, Line}
+use Rattle.cqf.specs.declared.words.Job.TheVariants.{Compile, Line, Port}
 use Rattle.cqf.specs.declared.stops.Stop.{Stop}
 use Rattle.cqf.specs.Words.{cqf_app, rate_text, IsJob, IsJobOf, IsNumberIn, Mean, AskForHelp, EndsBy, EndsWords}
 
@@ -15,21 +15,30 @@ use Rattle.cqf.specs.Words.{cqf_app, rate_text, IsJob, IsJobOf, IsNumberIn, Mean
 other_commands : codes "line" ≡ codes "port" → ⊥
 other_commands e = let first : 108 ≡ 112 = ap (λ (name : Text). slice_index name 0) e in omega (arith, first)
 
+port_is_other : codes "port" ≡ codes "compile" → ⊥
+port_is_other e = let first : 112 ≡ 99 = ap (λ (name : Text). slice_index name 0) e in omega (arith, first)
+
+line_is_other : codes "line" ≡ codes "compile" → ⊥
+line_is_other e = let first : 108 ≡ 99 = ap (λ (name : Text). slice_index name 0) e in omega (arith, first)
+
 -- with no number there is no job of `port`
 pub no_port-until : (rows : List Row) (text : Option Text) → text ≡ first_of (codes "until") rows → ((n : ℕ) → ¬ IsNumberIn 1 100000000 n text) → (job : Job) → ¬ IsJobOf job (codes "port") rows
 no_port-until rows text same none (Port until rate) job =
     let P : Option Text → Type 0 = λ t. IsNumberIn 1 100000000 until t in
     none until (subst P (sym same) job.1)
 no_port-until rows text same none (Line cycles) job = other_commands (sym job.0)
+no_port-until rows text same none Compile job = port_is_other job
 
 -- nor with no rate
 pub no_port-rate : (rows : List Row) (text : Option Text) → text ≡ first_of (codes "rate") rows → ((rate : Rate) → ¬ (text ≡ Some (rate_text rate))) → (job : Job) → ¬ IsJobOf job (codes "port") rows
 no_port-rate rows text same none (Port until rate) job = none rate (same ∙ job.2)
 no_port-rate rows text same none (Line cycles) job = other_commands (sym job.0)
+no_port-rate rows text same none Compile job = port_is_other job
 
 -- with no number there is no job of `line`
 pub no_line : (rows : List Row) (text : Option Text) → text ≡ first_of (codes "cycles") rows → ((n : ℕ) → ¬ IsNumberIn 1 100000 n text) → (job : Job) → ¬ IsJobOf job (codes "line") rows
 no_line rows text same none (Port until rate) job = other_commands job.0
+no_line rows text same none Compile job = line_is_other job
 no_line rows text same none (Line cycles) job =
     let P : Option Text → Type 0 = λ t. IsNumberIn 1 100000 cycles t in
     none cycles (subst P (sym same) job.1)

@@ -1,6 +1,6 @@
 -- What the command `line` gives for its input (profile): the book of the smallest network, or the line of the input's
 -- first fault.
-use Rattle.std.specs.Prelude.{ℕ, ◌≡◌, ◌++◌, List, [], ◌∷◌, Result, Ok, Err, codes}
+use Rattle.std.specs.Prelude.{ℕ, ◌≡◌, List, Result, Ok}
 use Rattle.cqf_model.specs.Book.{IsOneThreadBook}
 use Rattle.cqf_model.specs.declared.frames.Dropped.{Dropped}
 use Rattle.cqf_model.specs.declared.frames.Offer.{Offer}
@@ -9,22 +9,13 @@ use Rattle.cqf_text.specs.Parts.{parts_of}
 use Rattle.cqf_line.specs.Line.{line_domain, line_tables}
 use Rattle.cqf_report.specs.Books.{text_of_book}
 use Rattle.cqf_report.specs.Offers.{offers_of}
-use Rattle.cqf_report.specs.declared.tables.TableFault.{TableFault}
-use Rattle.cqf.specs.Bytes.{line_of}
-use Rattle.cqf.specs.PortJob.{or_line, parts_line, table_fault_text, then_value}
-
--- the line of a fault of the offers
-abbrev pub offers_line : TableFault → List ℕ
-offers_line fault = line_of (codes "cqf: offers: " ++ table_fault_text fault)
-
--- the one part of an input that has one
-abbrev pub one_part : List (List ℕ) → Result (List ℕ) (List ℕ)
-one_part (part ∷ []) = Ok part
-one_part _ = Err parts_line
+use Rattle.cqf_topology.specs.Fields.{and_then}
+use Rattle.cqf.specs.FaultLines.{offers_line}
+use Rattle.cqf.specs.Input.{one_part, or_line}
 
 -- the offers of an input, or the line of the first fault: of the parts, then of the offers
 abbrev pub line_input : List ℕ → Result (List Offer) (List ℕ)
-line_input input = then_value (one_part (parts_of input)) (λ part. or_line offers_line (offers_of line_domain part))
+line_input input = and_then (one_part (parts_of input)) (λ part. or_line offers_line (offers_of line_domain part))
 
 -- the text is that of the one-thread book of these offers
 pub record IsBookText (cycles : ℕ) (offers : List Offer) (text : List ℕ) : Type 0 where

@@ -1,31 +1,36 @@
 -- What a run of the program comes to, for the words that it is given and the bytes that its reader has (profile).
-use Rattle.std.specs.Prelude.{ℕ, ◌≡◌, ◌≢◌, ◌⊎◌, ◌≤◌, ◌<◌, ◌==◌, Bool, List, [], ◌∷◌, Option, codes, length, IfSome}
+use Rattle.std.specs.Prelude.{ℕ, ◌≡◌, ◌≢◌, ◌⊎◌, ◌≤◌, ◌<◌, ◌==◌, Bool, List, [], ◌∷◌, Option, Ok, ⊤, codes, length, IfSome}
 use Rattle.std.specs.Io.KnownBytes.{Appends, Keeps}
 use Rattle.std.specs.List.{slice_split, before_first, after_first}
 use Rattle.std.specs.Str.{IsUtf8}
 use Rattle.cqf_text.specs.Lines.{is_line_feed}
 use Rattle.cqf.specs.Bytes.{line_of, HasWritten}
+use Rattle.cqf.specs.CompileJob.{compiled_input}
+use Rattle.cqf.specs.Input.{IsRefused}
 use Rattle.cqf.specs.LineJob.{IsLineOutput, line_input}
-use Rattle.cqf.specs.PortJob.{IsPortOutput, IsRefused, port_input}
+use Rattle.cqf.specs.PortJob.{IsPortOutput, port_input}
 use Rattle.cqf.specs.Words.{AskForHelp, Mean}
 use Rattle.cqf.specs.declared.stops.Stop.{Stop}
 use Rattle.cqf.specs.declared.words.Job.{Job}
-use Rattle.cqf.specs.declared.words.Job.TheVariants.{Port, Line}
+use Rattle.cqf.specs.declared.words.Job.TheVariants.{Compile, Line, Port}
 
 -- the job's numbers are within their limits
 abbrev pub IsWithin : Job → Type 0
 IsWithin (Port until rate) = until ≤ 100000000
 IsWithin (Line cycles) = cycles ≤ 100000
+IsWithin Compile = ⊤
 
 -- the output of a job for its input
 abbrev pub IsOutput : Job → List ℕ → List ℕ → Type 0
 IsOutput (Port until rate) input output = IsPortOutput until rate input output
 IsOutput (Line cycles) input output = IsLineOutput cycles input output
+IsOutput Compile input output = compiled_input input ≡ Ok output
 
 -- the input of a job is refused, with the line of its first fault
 abbrev pub IsRefusal : Job → List ℕ → Stop → Type 0
 IsRefusal (Port until rate) input stop = IsRefused (port_input input) stop
 IsRefusal (Line cycles) input stop = IsRefused (line_input input) stop
+IsRefusal Compile input stop = IsRefused (compiled_input input) stop
 
 abbrev pub is_space : ℕ → Bool
 is_space byte = byte == 32

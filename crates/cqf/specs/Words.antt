@@ -10,7 +10,7 @@ use Rattle.clap.specs.declared.error.kind.ErrorKind.TheVariants.{DisplayHelp, Di
 use Rattle.cqf_units.specs.declared.timing.Rate.{Rate}
 use Rattle.cqf_units.specs.declared.timing.Rate.TheVariants.{Mb10, Mb100, Mb1000}
 use Rattle.cqf.specs.declared.words.Job.{Job}
-use Rattle.cqf.specs.declared.words.Job.TheVariants.{Port, Line}
+use Rattle.cqf.specs.declared.words.Job.TheVariants.{Compile, Line, Port}
 use Rattle.cqf.specs.declared.stops.Stop.{Stop}
 
 -- an option `--NAME N` that has to be given, where N is from least to most
@@ -40,13 +40,17 @@ port_app = with_rule (with_rule (new_app (codes "port")) (number_rule (codes "un
 abbrev pub line_app : App
 line_app = with_rule (new_app (codes "line")) (number_rule (codes "cycles") 1 100000)
 
+-- `compile`
+abbrev pub compile_app : App
+compile_app = new_app (codes "compile")
+
 -- the program's name, and settings: the words come without the program's name, and one of the commands has to be given
 abbrev pub named_app : App
 named_app = on_top (λ s. record s { no_binary_name = true; subcommand_required = true }) (new_app (codes "cqf"))
 
 -- the program's commands
 abbrev pub cqf_app : App
-cqf_app = with_subcommand (with_subcommand named_app port_app.top) line_app.top
+cqf_app = with_subcommand (with_subcommand (with_subcommand named_app port_app.top) line_app.top) compile_app.top
 
 -- the text of a value writes a number from least to most: digits, and a plus may stand first
 abbrev pub IsNumberIn : ℕ → ℕ → ℕ → Option Text → Type 0
@@ -67,6 +71,7 @@ IsJobOf (Port until rate) name rows = (name ≡ codes "port")
     × (first_of (codes "rate") rows ≡ Some (rate_text rate))
 IsJobOf (Line cycles) name rows = (name ≡ codes "line")
     × IsNumberIn 1 100000 cycles (first_of (codes "cycles") rows)
+IsJobOf Compile name rows = name ≡ codes "compile"
 
 -- the job of the command that the words name, if they name one
 abbrev pub IsJob : Job → Option (Text × List Row) → Type 0

@@ -4,48 +4,18 @@ ghost use Rattle.cqf_model.specs.Traffic.{AreOffers};
 ghost use Rattle.cqf_line.specs.Line.{line_domain};
 ghost use Rattle.cqf_report.specs.Offers.{offers_of};
 ghost use Rattle.cqf_report.specs.Table.{IsFaultOf};
-ghost use Rattle.cqf_text.specs.Parts.{parts_of};
-ghost use Rattle.cqf.specs.Bytes.{EndsWith};
-ghost use Rattle.cqf.specs.PortJob.{IsRefused};
-ghost use Rattle.cqf.specs.LineJob.{offers_line, one_part, line_input, IsBookText, IsLineOutput};
+ghost use Rattle.cqf.specs.Input.{IsRefused};
+ghost use Rattle.cqf.specs.LineJob.{line_input, IsBookText, IsLineOutput};
 
-use crate::stops::{REFUSED, Stop};
+use crate::fault_lines::offers_stop;
+use crate::input_parts::only_part;
+use crate::stops::Stop;
 use cqf_line::{domain_of_line, line_book};
 use cqf_model::Offer;
 use cqf_report::{TableFault, read_offers, write_book};
-use cqf_text::parts;
 use cqf_topology::Domain;
 use cqf_units::Memory;
 use std::alloc::Global;
-
-/// The end where the offers are refused.
-fn offers_stop(alloc: Global, fault: TableFault) -> Stop
-    ensures refused { fault ≢ TableFault.Memory → EndsWith 1 (offers_line fault) result }
-    ensures memory { fault ≡ TableFault.Memory → EndsWith 3 [] result }
-{
-    let line = match fault {
-        TableFault::BadHeader => format!(in alloc; "cqf: offers: BadHeader\n"),
-        TableFault::TooMany => format!(in alloc; "cqf: offers: TooMany\n"),
-        TableFault::BadRow(row) => format!(in alloc; "cqf: offers: BadRow {row}\n"),
-        TableFault::OutOfOrder(row) => format!(in alloc; "cqf: offers: OutOfOrder {row}\n"),
-        TableFault::Memory => return Stop::memory(alloc),
-    };
-    Stop::with_text(alloc, REFUSED, line)
-}
-
-/// The one part of the input.
-fn only_part(alloc: Global, input: &[u8]) -> Result<&[u8], Stop>
-    ensures ok { IfOk result (λ part. one_part (parts_of input.now) ≡ Ok part.now) }
-    ensures err { IfErr result (IsRefused (one_part (parts_of input.now))) }
-{
-    let Ok(found) = parts(alloc, input) else {
-        return Err(Stop::memory(alloc));
-    };
-    match found.as_slice() {
-        [part] => Ok(*part),
-        _ => Err(Stop::with_line(alloc, REFUSED, "cqf: parts\n")),
-    }
-}
 
 /// The offers of a part.
 fn offers_in(alloc: Global, domain: &Domain, text: &[u8]) -> Result<Vec<Offer>, TableFault>

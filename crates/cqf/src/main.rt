@@ -3,6 +3,7 @@
 //! - `cqf port --until N [--rate RATE]` reads a gate list and the arrivals of one output port from standard input, and
 //!   writes the frames that the port starts before instant N.
 //! - `cqf line --cycles N` reads offers, and writes the book of the smallest network over N cycles.
+//! - `cqf compile` reads a domain and its streams, and writes the gate list of each port and the gates of each stream.
 //!
 //! Without a word after the program's name the words stand in the first line of the input:
 //!
@@ -27,6 +28,9 @@
 
 ghost use Rattle.std.specs.Prelude.{◌≤◌};
 
+mod compile_job;
+mod fault_lines;
+mod input_parts;
 mod inputs;
 mod line_job;
 mod outputs;

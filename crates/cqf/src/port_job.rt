@@ -4,72 +4,17 @@ ghost use Rattle.cqf_model.specs.declared.ports.Arrival.{Arrival};
 ghost use Rattle.cqf_gates.specs.TxText.{list_of_text};
 ghost use Rattle.cqf_report.specs.Arrivals.{arrivals_of};
 ghost use Rattle.cqf_port.specs.PortState.{rules_of, start_of};
-ghost use Rattle.cqf.specs.Bytes.{EndsWith};
-ghost use Rattle.cqf.specs.PortJob.{list_fault_text, list_line, arrivals_line, or_line, two_parts, port_input, AreOfferable, AreStartsOf, IsStartsText, IsPortOutput, IsRefused};
-ghost use Rattle.cqf_text.specs.Parts.{parts_of};
+ghost use Rattle.cqf.specs.Input.{IsRefused};
+ghost use Rattle.cqf.specs.PortJob.{port_input, AreOfferable, AreStartsOf, IsStartsText, IsPortOutput};
 
-use crate::stops::{REFUSED, Stop};
-use cqf_gates::{ListFault, TextFault, TxList, read_tx};
+use crate::fault_lines::{arrivals_stop, list_stop};
+use crate::input_parts::split_input;
+use crate::stops::Stop;
+use cqf_gates::{TxList, read_tx};
 use cqf_port::{Arrival, Port, PortFault, Start};
-use cqf_report::{TableFault, read_arrivals, write_starts};
-use cqf_text::parts;
+use cqf_report::{read_arrivals, write_starts};
 use cqf_units::{Memory, Nanos, Rate};
 use std::alloc::{AllocError, Global};
-
-/// The name of a fault of a gate list.
-fn list_fault_name(fault: ListFault) -> &'static str
-    ensures { result.now ≡ list_fault_text fault }
-{
-    match fault {
-        ListFault::Empty => "Empty",
-        ListFault::TooMany => "TooMany",
-        ListFault::ZeroInterval => "ZeroInterval",
-        ListFault::BadIpv => "BadIpv",
-    }
-}
-
-/// The end where the gate list is refused.
-fn list_stop(alloc: Global, fault: TextFault) -> Stop
-    ensures { EndsWith 1 (list_line fault) result }
-{
-    let line = match fault {
-        TextFault::BadLine(line) => format!(in alloc; "cqf: list: BadLine {line}\n"),
-        TextFault::List(fault) => {
-            let name = list_fault_name(fault);
-            format!(in alloc; "cqf: list: {name}\n")
-        }
-    };
-    Stop::with_text(alloc, REFUSED, line)
-}
-
-/// The end where the arrivals are refused.
-fn arrivals_stop(alloc: Global, fault: TableFault) -> Stop
-    ensures refused { fault ≢ TableFault.Memory → EndsWith 1 (arrivals_line fault) result }
-    ensures memory { fault ≡ TableFault.Memory → EndsWith 3 [] result }
-{
-    let line = match fault {
-        TableFault::BadHeader => format!(in alloc; "cqf: arrivals: BadHeader\n"),
-        TableFault::TooMany => format!(in alloc; "cqf: arrivals: TooMany\n"),
-        TableFault::BadRow(row) => format!(in alloc; "cqf: arrivals: BadRow {row}\n"),
-        TableFault::OutOfOrder(row) => format!(in alloc; "cqf: arrivals: OutOfOrder {row}\n"),
-        TableFault::Memory => return Stop::memory(alloc),
-    };
-    Stop::with_text(alloc, REFUSED, line)
-}
-
-/// The two parts of the input.
-fn split_input(alloc: Global, input: &[u8]) -> Result<(&[u8], &[u8]), Stop>
-    ensures ok { IfOk result (λ found. two_parts (parts_of input.now) ≡ Ok (found.0.now, found.1.now)) }
-    ensures err { IfErr result (IsRefused (two_parts (parts_of input.now))) }
-{
-    let Ok(found) = parts(alloc, input) else {
-        return Err(Stop::memory(alloc));
-    };
-    match found.as_slice() {
-        [list, arrivals] => Ok((*list, *arrivals)),
-        _ => Err(Stop::with_line(alloc, REFUSED, "cqf: parts\n")),
-    }
-}
 
 /// The gate list and the arrivals of the input.
 fn read_port(alloc: Global, input: &[u8]) -> Result<(TxList, Vec<Arrival>), Stop>

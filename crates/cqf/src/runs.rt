@@ -4,6 +4,7 @@ ghost use Rattle.std.specs.List.{slice_split, before_first, after_first};
 ghost use Rattle.cqf_text.specs.Lines.{is_line_feed};
 ghost use Rattle.cqf.specs.Run.{IsWithin, IsOutput, IsRefusal, Ends, HandsOver, IsDone, IsStopped, Tells, is_space, first_line, behind_first_line};
 
+use crate::compile_job::compile_output;
 use crate::inputs::read_input;
 use crate::line_job::line_output;
 use crate::outputs::write_out;
@@ -24,6 +25,7 @@ pub fn answer(alloc: Global, job: &Job, input: &[u8]) -> Result<Vec<u8>, Stop>
     match *job {
         Job::Port { until, rate } => port_output(alloc, until, rate, input),
         Job::Line { cycles } => line_output(alloc, cycles, input),
+        Job::Compile => compile_output(alloc, input),
     }
 }
 

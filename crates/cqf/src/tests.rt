@@ -246,3 +246,254 @@ fn the_first_fault_of_the_offers_is_told(rt: HostRuntime) {
     let input = "at,bridge,stream,octets\n0,a,x,63\n";
     assert!(rt; run(alloc, words.as_slice(), input).told(REFUSED, "cqf: offers: BadRow 1\n"));
 }
+
+/// The domain of a line of three bridges to a station, with a budget of 15,000 octets a cycle on each link.
+const LINE_OF_THREE: &str = r#"
+cycle = 125000
+guard = 5000
+bridges = ["a", "b", "c"]
+stations = ["s"]
+
+[[links]]
+from = "a"
+to = "b"
+rate = 1000
+delay = 500
+
+[[links]]
+from = "b"
+to = "c"
+rate = 1000
+delay = 500
+
+[[links]]
+from = "c"
+to = "s"
+rate = 1000
+delay = 500
+"#;
+
+/// The domain of one bridge and one station.
+const ONE_LINK: &str = r#"
+cycle = 125000
+guard = 5000
+bridges = ["a"]
+stations = ["s"]
+
+[[links]]
+from = "a"
+to = "s"
+rate = 1000
+delay = 500
+"#;
+
+/// The streams' text of the streams `x1`, `x2`, .. of 1,500 octets a cycle along the line of three.
+fn streams_along(alloc: Global, count: usize) -> Result<String, Fail> {
+    let mut text = String::new(alloc);
+    for number in 1..=count {
+        let stream = format!(in alloc;
+            "[[streams]]\nname = \"x{number}\"\noctets = 1500\npath = [\"a\", \"b\", \"c\", \"s\"]\n"
+        )?;
+        text.push_str(stream.as_str())?;
+    }
+    Ok(text)
+}
+
+/// The input of a domain and streams.
+fn plant(alloc: Global, domain: &str, streams: &str) -> Result<String, Fail> {
+    Ok(format!(in alloc; "{domain}\n%%\n{streams}")?)
+}
+
+/// Whether `compile` of this domain and these streams ends with status 1 and this line.
+fn is_refused(alloc: Global, domain: &str, streams: &str, line: &str) -> Result<bool, Fail> {
+    let input = plant(alloc, domain, streams)?;
+    Ok(run(alloc, &["compile"], input.as_str()).told(REFUSED, line))
+}
+
+#[test]
+fn one_link_and_its_stream_are_compiled(rt: HostRuntime) -> Result<(), Fail> {
+    let stream = "[[streams]]\nname = \"x\"\noctets = 1500\npath = [\"a\", \"s\"]\n";
+    let input = plant(rt.alloc(), ONE_LINK, stream)?;
+    let configuration = "link a>s\n80 120000\n00 5000\n40 120000\n00 5000\n\
+        stream 0 x bridge a\nopen 6 125000 1500\nopen 7 125000 1500\n";
+    assert!(rt; run(rt.alloc(), &["compile"], input.as_str()).wrote(configuration));
+    Ok(())
+}
+
+#[test]
+fn an_eighth_stream_finds_the_budget_spent(rt: HostRuntime) -> Result<(), Fail> {
+    let alloc = rt.alloc();
+    let streams = streams_along(alloc, 8)?;
+    let line = "cqf: stream 8: BudgetShort 0 1280\n";
+    assert!(rt; is_refused(alloc, LINE_OF_THREE, streams.as_str(), line)?);
+    Ok(())
+}
+
+#[test]
+fn a_domain_alone_is_no_input_of_compile(rt: HostRuntime) {
+    assert!(rt; run(rt.alloc(), &["compile"], ONE_LINK).told(REFUSED, "cqf: parts\n"));
+}
+
+/// A domain text of the bridge `a` and the station `s` with these times and this rate and delay of its link.
+fn domain_text(alloc: Global, guard: u32, rate: u32, delay: u32) -> Result<String, Fail> {
+    Ok(format!(in alloc;
+        "cycle = 125000\nguard = {guard}\nbridges = [\"a\"]\nstations = [\"s\"]\n\
+        [[links]]\nfrom = \"a\"\nto = \"s\"\nrate = {rate}\ndelay = {delay}\n"
+    )?)
+}
+
+#[test]
+fn the_first_fault_of_the_domain_is_told(rt: HostRuntime) -> Result<(), Fail> {
+    for (domain, line) in [
+        ("cycle =", "cqf: domain: NotToml\n"),
+        (
+            "cycle = 125000\nbridges = [\"a\"]\nstations = []\nlinks = []",
+            "cqf: domain: Missing guard\n",
+        ),
+        (
+            "cycle = 125000\nguard = 5000\nbridges = [\"A\"]\nstations = []\nlinks = []",
+            "cqf: domain: BadValue bridges\n",
+        ),
+        (
+            "cycle = 125000\nguard = 5000\nbridges = [\"a\"]\nstations = [\"a\"]\nlinks = []",
+            "cqf: domain: NameTaken a\n",
+        ),
+        (
+            "cycle = 125000\nguard = 5000\nbridges = [\"a\"]\nstations = []\n\
+            links = [{ from = \"a\", to = \"q\", rate = 10, delay = 0 }]",
+            "cqf: domain: UnknownName q\n",
+        ),
+        (
+            "cycle = 125000\nguard = 5000\nbridges = [\"a\", \"b\"]\nstations = []\n\
+            links = [{ from = \"a\", to = \"b\", rate = 10, delay = 0 }, { from = \"a\", to = \"b\", rate = 10, delay = 0 }]",
+            "cqf: domain: LinkTwice 1\n",
+        ),
+    ] {
+        assert!(rt; is_refused(rt.alloc(), domain, "streams = []", line)?);
+    }
+    Ok(())
+}
+
+#[test]
+fn times_of_a_domain_that_do_not_fit_are_told(rt: HostRuntime) -> Result<(), Fail> {
+    for (guard, rate, delay, line) in [
+        (125_000, 1000, 500, "cqf: domain: GuardTooLong\n"),
+        (5000, 1000, 5000, "cqf: domain: DelayTooLong 0\n"),
+        (9599, 10, 500, "cqf: domain: GapTooLong 0\n"),
+    ] {
+        let domain = domain_text(rt.alloc(), guard, rate, delay)?;
+        assert!(rt; is_refused(rt.alloc(), domain.as_str(), "streams = []", line)?);
+    }
+    Ok(())
+}
+
+#[test]
+fn thirty_three_bridges_are_too_many(rt: HostRuntime) -> Result<(), Fail> {
+    let alloc = rt.alloc();
+    let mut bridges = String::from_str(alloc, "\"a\"")?;
+    for number in 1..33 {
+        let bridge = format!(in alloc; ", \"a{number}\"")?;
+        bridges.push_str(bridge.as_str())?;
+    }
+    let domain = format!(in alloc;
+        "cycle = 125000\nguard = 5000\nbridges = [{bridges}]\nstations = []\nlinks = []"
+    )?;
+    assert!(rt;
+        is_refused(
+            alloc,
+            domain.as_str(),
+            "streams = []",
+            "cqf: domain: TooMany\n"
+        )?
+    );
+    Ok(())
+}
+
+#[test]
+fn the_first_fault_of_the_streams_is_told(rt: HostRuntime) -> Result<(), Fail> {
+    for (streams, line) in [
+        ("streams =", "cqf: streams: NotToml\n"),
+        ("", "cqf: streams: Missing streams\n"),
+        (
+            "[[streams]]\nname = \"x\"\npath = []",
+            "cqf: streams: Missing octets\n",
+        ),
+        ("streams = 5", "cqf: streams: BadValue streams\n"),
+        (
+            "[[streams]]\nname = \"x\"\noctets = -1\npath = []",
+            "cqf: streams: BadValue octets\n",
+        ),
+    ] {
+        assert!(rt; is_refused(rt.alloc(), ONE_LINK, streams, line)?);
+    }
+    Ok(())
+}
+
+#[test]
+fn the_first_stream_that_is_not_admitted_is_told(rt: HostRuntime) -> Result<(), Fail> {
+    for (streams, line) in [
+        (
+            "streams = [{ name = \"X!\", octets = 10, path = [\"a\", \"b\", \"c\", \"s\"] }]",
+            "cqf: stream 1: BadName\n",
+        ),
+        (
+            "streams = [{ name = \"x\", octets = 63, path = [\"a\", \"b\", \"c\", \"s\"] }]",
+            "cqf: stream 1: BadOctets\n",
+        ),
+        (
+            "streams = [{ name = \"x\", octets = 64, path = [\"a\", \"q\", \"s\"] }]",
+            "cqf: stream 1: UnknownNode 1\n",
+        ),
+        (
+            "streams = [{ name = \"x\", octets = 64, path = [] }]",
+            "cqf: stream 1: BrokenPath 0\n",
+        ),
+        (
+            "streams = [{ name = \"x\", octets = 60000, path = [\"a\", \"b\", \"c\", \"s\"] }]",
+            "cqf: stream 1: BudgetShort 0 15000\n",
+        ),
+        (
+            "streams = [{ name = \"x\", octets = 64, path = [\"c\", \"s\"] }, { name = \"x\", octets = 64, path = [\"b\", \"c\", \"s\"] }]",
+            "cqf: stream 2: NameHeld\n",
+        ),
+    ] {
+        assert!(rt; is_refused(rt.alloc(), LINE_OF_THREE, streams, line)?);
+    }
+    Ok(())
+}
+
+#[test]
+fn a_path_that_loops_is_told(rt: HostRuntime) -> Result<(), Fail> {
+    let domain =
+        "cycle = 125000\nguard = 5000\nbridges = [\"a\", \"b\", \"c\"]\nstations = [\"s\"]\n\
+        links = [{ from = \"a\", to = \"b\", rate = 1000, delay = 500 }, { from = \"b\", to = \"c\", rate = 1000, delay = 500 }, \
+        { from = \"c\", to = \"s\", rate = 1000, delay = 500 }, { from = \"c\", to = \"a\", rate = 1000, delay = 500 }, \
+        { from = \"a\", to = \"c\", rate = 1000, delay = 500 }]";
+    let streams =
+        "streams = [{ name = \"x\", octets = 64, path = [\"a\", \"b\", \"c\", \"a\", \"c\", \"s\"] }]";
+    assert!(rt;
+        is_refused(
+            rt.alloc(),
+            domain,
+            streams,
+            "cqf: stream 1: LoopingPath 3\n"
+        )?
+    );
+    Ok(())
+}
+
+#[test]
+fn compile_leaves_a_reader_that_never_ends(rt: HostRuntime) {
+    let mut output = Vec::new(rt.alloc());
+    let mut faults = Vec::new(rt.alloc());
+    let words = ["compile"];
+    let status = engine(
+        rt.alloc(),
+        words.as_slice(),
+        &mut Endless,
+        &mut output,
+        &mut faults,
+    );
+    assert_eq!(rt; status, REFUSED);
+    assert!(rt; faults.as_slice() == b"cqf: input too long\n".as_slice());
+}

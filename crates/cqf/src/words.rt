@@ -5,7 +5,7 @@ ghost use Rattle.cqf_units.specs.declared.timing.Rate.{Rate};
 ghost use Rattle.clap.specs.declared.builder.command.Command.TheViews.{out-Command};
 ghost use Rattle.clap.specs.Words.{app_of, first_of, found_of, kind_of, rows_of, rule_of, subcommand_rows_of};
 ghost use Rattle.cqf.specs.declared.words.Job.{Job};
-ghost use Rattle.cqf.specs.Words.{cqf_app, port_app, line_app, number_rule, rate_rule, rate_text, IsJob, IsJobOf, IsNumberIn, Mean, EndsBy, EndsWords};
+ghost use Rattle.cqf.specs.Words.{cqf_app, compile_app, line_app, port_app, number_rule, rate_rule, rate_text, IsJob, IsJobOf, IsNumberIn, Mean, EndsBy, EndsWords};
 
 use crate::stops::{DONE, NO_MEMORY, Stop, USAGE};
 use clap::error::ErrorKind;
@@ -20,6 +20,8 @@ pub enum Job {
     Port { until: u64, rate: Rate },
     /// The book of one bridge with one stream.
     Line { cycles: u32 },
+    /// The configuration of a domain and its streams.
+    Compile,
 }
 
 /// The option `--until N`.
@@ -84,6 +86,16 @@ fn line_command<'a>(alloc: Global) -> Result<Command<'a>, AllocError>
         .arg(cycles_option(alloc))
 }
 
+/// `compile`.
+fn compile_command<'a>(alloc: Global) -> Command<'a>
+    ensures app { app_of result ≡ compile_app }
+    ensures local { (out-Command result).has_globals ≡ false }
+{
+    Command::new(alloc, "compile").about(
+        "the gate lists and stream gates of a domain and its streams",
+    )
+}
+
 /// The program's commands.
 fn commands<'a>(alloc: Global) -> Result<Command<'a>, AllocError>
     ensures app { IfOk result (λ command. app_of command ≡ cqf_app) }
@@ -96,7 +108,8 @@ fn commands<'a>(alloc: Global) -> Result<Command<'a>, AllocError>
         .no_binary_name(true)
         .subcommand_required(true)
         .subcommand(port)?
-        .subcommand(line)
+        .subcommand(line)?
+        .subcommand(compile_command(alloc))
 }
 
 /// The text of an error of clap's, or what there is of it where memory lacks.
@@ -182,6 +195,7 @@ fn job_of(matches: &ArgMatches<'_>) -> Option<Job>
     match name {
         "port" => port_job(values),
         "line" => line_job(values),
+        "compile" => Some(Job::Compile),
         _ => None,
     }
 }

@@ -5,3 +5,4 @@ pub mod Written
 pub mod Starts
 pub mod Offers
 pub mod Books
+pub mod Refusals

@@ -3,9 +3,10 @@
 //! - [`read_offers`] reads the offers of a run, [`read_arrivals`] the arrivals of a port.
 //! - [`TableFault`] says why a table is refused, and at which row.
 //! - [`write_book`] writes the book of a run, [`write_starts`] the starts of a port.
+//! - [`refusal_text`] is a refusal of an admission as texts have it.
 //!
 //! `specs/` says what a text holds (`Records`, by what `csv` reads), what its rows mean (`Table`, `Offers`, `Arrivals`),
-//! and which text is written (`Written`, `Starts`, `Books`).
+//! and which text is written (`Written`, `Starts`, `Books`, `Refusals`).
 //!
 //! ```text
 //! read_arrivals(alloc, b"at,class,octets,frame\n10,6,64,1\n")
@@ -20,6 +21,7 @@ mod books;
 mod lines;
 mod offers;
 mod records;
+mod refusals;
 mod rows;
 mod starts;
 mod tables;
@@ -27,5 +29,6 @@ mod tables;
 pub use arrivals::read_arrivals;
 pub use books::write_book;
 pub use offers::read_offers;
+pub use refusals::refusal_text;
 pub use starts::write_starts;
 pub use tables::{OfferFault, TableFault};

@@ -1,0 +1,134 @@
+//! The command `compile`: the configuration of a domain and its streams.
+ghost use Rattle.std.specs.Prelude.{◌≡◌, ◌+◌, [], ◌∷◌, List, Ok, IfOk, IfErr, map};
+ghost use Rattle.cqf_admission.specs.Asking.{asked_of};
+ghost use Rattle.cqf_compile.specs.ConfigText.{config_text};
+ghost use Rattle.cqf_compile.specs.Tables.{AreAlongLinks};
+ghost use Rattle.cqf_model.specs.History.{Asked, held_in};
+ghost use Rattle.cqf.specs.Bytes.{EndsWith};
+ghost use Rattle.cqf.specs.CompileJob.{admitted_from, compile_input, compiled_input, configuration_of, AreAllHeld, HoldsAll};
+ghost use Rattle.cqf.specs.Input.{IsRefused};
+
+use crate::fault_lines::{domain_stop, stream_stop, streams_stop};
+use crate::input_parts::split_input;
+use crate::stops::Stop;
+use cqf_admission::{Admission, Refused, SealFault, Table};
+use cqf_compile::{compile, tables_go_along_links, write_config};
+use cqf_laws_history::state_follows_history;
+use cqf_topology::{Domain, Request, read_streams};
+use cqf_units::Memory;
+use std::alloc::Global;
+
+/// The administrator that the streams of `compile` are admitted by.
+const SEAT: u16 = 0;
+
+/// The domain and the streams of the input.
+fn read_compile(alloc: Global, input: &[u8]) -> Result<(Domain, Vec<Request>), Stop>
+    ensures ok { IfOk result (λ found. compile_input input.now ≡ Ok (found.0, map asked_of found.1.items)) }
+    ensures err { IfErr result (IsRefused (compile_input input.now)) }
+{
+    let (domain_text, streams_text) = split_input(alloc, input)?;
+    let domain = match Domain::read(alloc, domain_text) {
+        Ok(domain) => domain,
+        Err(fault) => return Err(domain_stop(alloc, &fault)),
+    };
+    match read_streams(alloc, streams_text) {
+        Ok(requests) => Ok((domain, requests)),
+        Err(fault) => Err(streams_stop(alloc, fault)),
+    }
+}
+
+/// Admits the stream at a place, from 1, where each call so far admitted one.
+fn admit_one(
+    alloc: Global,
+    admission: &mut Admission,
+    place: usize,
+    request: &Request,
+) -> Result<(), Stop>
+    requires { AreAllHeld admission.old.domain admission.old.entries }
+    ensures domain { admission.new.domain ≡ admission.old.domain }
+    ensures held { IfOk result (λ _. AreAllHeld admission.new.domain admission.new.entries) }
+    ensures ok { IfOk result (λ _. (more : List Asked) → admitted_from admission.old.domain admission.old.entries place (asked_of request.now ∷ more) ≡ admitted_from admission.old.domain admission.new.entries (place + 1) more) }
+    ensures err { IfErr result (λ stop. (more : List Asked) → IsRefused (admitted_from admission.old.domain admission.old.entries place (asked_of request.now ∷ more)) stop) }
+{
+    state_follows_history();
+    match admission.admit(SEAT, request) {
+        Ok(_) => Ok(()),
+        Err(Refused::HistoryFull) => unreachable!(),
+        Err(refused) => Err(stream_stop(alloc, place, refused)),
+    }
+}
+
+/// Admits the streams in turn.
+fn admit_all(alloc: Global, admission: &mut Admission, requests: &[Request]) -> Result<(), Stop>
+    requires { admission.old.entries ≡ [] }
+    ensures domain { admission.new.domain ≡ admission.old.domain }
+    ensures held { IfOk result (λ _. AreAllHeld admission.new.domain admission.new.entries) }
+    ensures ok { IfOk result (λ _. admitted_from admission.old.domain [] 1 (map asked_of requests.now) ≡ Ok admission.new.entries) }
+    ensures err { IfErr result (IsRefused (admitted_from admission.old.domain [] 1 (map asked_of requests.now))) }
+{
+    let _legal = admission.history();
+    for (place, request) in requests.iter().enumerate() {
+        admit_one(alloc, admission, place + 1, request)?;
+    }
+    Ok(())
+}
+
+/// Closes cycle 0 to changes, and gives its table.
+fn close_first(alloc: Global, admission: &mut Admission) -> Result<Table, Stop>
+    requires { AreAllHeld admission.old.domain admission.old.entries }
+    ensures rows { IfOk result (λ table. table.rows ≡ held_in admission.old.domain admission.old.entries 0) }
+    ensures along { IfOk result (λ table. AreAlongLinks admission.old.domain table.rows) }
+    ensures memory { IfErr result (EndsWith 3 []) }
+{
+    state_follows_history();
+    tables_go_along_links();
+    match admission.seal(SEAT) {
+        Ok(table) => Ok(table),
+        Err(SealFault::CyclesSpent) => unreachable!(),
+        Err(SealFault::Memory) => Err(Stop::memory(alloc)),
+    }
+}
+
+/// The table of cycle 0, with all streams.
+fn first_table(alloc: Global, domain: &Domain, requests: &[Request]) -> Result<Table, Stop>
+    ensures rows { IfOk result (HoldsAll domain.now (map asked_of requests.now)) }
+    ensures along { IfOk result (λ table. AreAlongLinks domain.now table.rows) }
+    ensures err { IfErr result (IsRefused (admitted_from domain.now [] 1 (map asked_of requests.now))) }
+{
+    let Ok(mut admission) = Admission::new(alloc, domain) else {
+        return Err(Stop::memory(alloc));
+    };
+    admit_all(alloc, &mut admission, requests)?;
+    close_first(alloc, &mut admission)
+}
+
+/// The text of the domain's configuration with the streams of a table.
+fn table_text(alloc: Global, domain: &Domain, table: &Table) -> Result<Vec<u8>, Memory>
+    requires { AreAlongLinks domain.now table.now.rows }
+    ensures { IfOk result (λ text. text.items ≡ config_text domain.now table.now.rows) }
+{
+    let plan = compile(alloc, domain)?;
+    write_config(alloc, &plan, table)
+}
+
+/// The configuration of a domain with these streams.
+fn config_of(alloc: Global, domain: &Domain, requests: &[Request]) -> Result<Vec<u8>, Stop>
+    ensures ok { IfOk result (λ text. configuration_of domain.now (map asked_of requests.now) ≡ Ok text.items) }
+    ensures err { IfErr result (IsRefused (configuration_of domain.now (map asked_of requests.now))) }
+{
+    let table = first_table(alloc, domain, requests)?;
+    match table_text(alloc, domain, &table) {
+        Ok(text) => Ok(text),
+        Err(_) => Err(Stop::memory(alloc)),
+    }
+}
+
+/// The output of `compile`: the configuration. `Err` with status 1 and the line of the first fault of the input: of its
+/// parts, of the domain, of the streams, or of the first stream that isn't admitted; and with status 3 for want of memory.
+pub fn compile_output(alloc: Global, input: &[u8]) -> Result<Vec<u8>, Stop>
+    ensures ok { IfOk result (λ output. compiled_input input.now ≡ Ok output.items) }
+    ensures err { IfErr result (IsRefused (compiled_input input.now)) }
+{
+    let (domain, requests) = read_compile(alloc, input)?;
+    config_of(alloc, &domain, requests.as_slice())
+}
