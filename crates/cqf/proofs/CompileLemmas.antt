@@ -1,21 +1,19 @@
 -- Streams admitted in turn, each of which is held from cycle 0 on.
-use Rattle.std.proofs.Common.{◌≡◌, ◌≢◌, ◌⊎◌, ◌∙◌, ◌≤◌, ◌<◌, ◌+◌, ◌-◌, ◌++◌, ℕ, Bool, true, false, List, [], ◌∷◌, Option, Some, None, Result, Ok, Err, length, map, drop, get_or, arith, ap, subst, refl, sym, length-append, inl, inr, not, nat_le, ◌&&◌, is_none, position}
+use Rattle.std.proofs.Common.{◌≡◌, ◌≢◌, ◌⊎◌, ◌∙◌, ◌<◌, ◌+◌, ◌++◌, ℕ, Bool, true, false, List, [], ◌∷◌, Option, Some, None, Result, Ok, Err, length, map, arith, ap, subst, refl, sym, length-append, inl, inr, not, nat_le, ◌&&◌, is_none, position}
 use Rattle.std.proofs.lemmas.Grind.{common_steps}
-use Rattle.std.proofs.lemmas.List.{drop_more}
 use Rattle.std.specs.List.{list_any}
 use Rattle.cqf_units.specs.Name.{is_name}
 use Rattle.cqf_units.specs.Timing.{cost_of}
 use Rattle.cqf_model.specs.declared.history.Receipt.{Receipt}
 use Rattle.cqf_model.specs.declared.history.Refused.{Refused}
 use Rattle.cqf_model.specs.declared.history.Refused.TheVariants.{BadName, BadOctets, UnknownNode, BrokenPath, LoopingPath, NameHeld, TooManyStreams, BudgetShort, NotHeld, AlreadyWithdrawn, HistoryFull, Memory}
-use Rattle.cqf_model.specs.declared.history.Reply.{Reply}
 use Rattle.cqf_model.specs.declared.history.Reply.TheVariants.{Accepted, Refused as RefusedFor}
 use Rattle.cqf_model.specs.declared.topology.Row.{Row}
 use Rattle.cqf_model.specs.Domain.{Domain, is_text, node_named}
 use Rattle.cqf_model.specs.History.{Admits, Asked, IsLegalHistory, Recorded, admit_reply, held_in, is_broken_at, is_loop_at, least, left_on, links_along, next_number, or_else, refusal_of, refused_at, refused_if, reply_to, seals, short_link, table_at}
 use Rattle.cqf_topology.specs.declared.streams.Request.{Request}
-use Rattle.cqf_laws_history.specs.StateLaws.{GrantedIsHeld, HistoryGoesOn, IsState, SealClosesTable, SealsAreCounted, granted_row, with_entry}
-use Rattle.cqf_admission.specs.Admission.{Administration, Answers, Closes, is_entered, reply_of}
+use Rattle.cqf_laws_history.specs.StateLaws.{GrantedIsHeld, HistoryGoesOn, SealClosesTable, SealsAreCounted, granted_row, with_entry}
+use Rattle.cqf_admission.specs.Admission.{Administration, Answers, Closes, is_entered}
 use Rattle.cqf_admission.specs.Asking.{asked_by, asked_of}
 use Rattle.cqf_admission.specs.Tables.{CycleTable}
 use Rattle.cqf_text.specs.Parts.{parts_of}

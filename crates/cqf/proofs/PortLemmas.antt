@@ -6,7 +6,16 @@ use Rattle.cqf_model.specs.declared.ports.Arrival.{Arrival}
 use Rattle.cqf_model.specs.Port.{PortRules, Transmission, no_arrival, instant_of}
 use Rattle.cqf_port.specs.PortState.{PortState, IsLate, IsOutOfOrder, start_of}
 use Rattle.cqf_model.specs.declared.ports.Start.{Start}
-use Rattle.cqf.specs.PortJob.{AreStartsOf}
+use Rattle.cqf_report.specs.Arrivals.{AreArrivals}
+use Rattle.cqf.specs.PortJob.{AreOfferable, AreStartsOf}
+
+-- arrivals that are read can be offered
+pub AreOfferable-read : (arrivals : List Arrival) → AreArrivals arrivals → AreOfferable arrivals
+AreOfferable-read arrivals are = record {
+  classes = λ k d inside. omega (arith, (are.each k d inside).class);
+  early = λ k d inside. omega (arith, (are.each k d inside).early);
+  in_order = are.in_order;
+}
 
 -- a port that hasn't run has passed no instant
 pub never_late : (p : PortState) (arrival : Arrival) → p.reached ≡ 0 → ¬ IsLate p arrival

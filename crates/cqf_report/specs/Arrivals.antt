@@ -1,5 +1,5 @@
 -- The arrivals of a port as a text (profile).
-use Rattle.std.specs.Prelude.{ℕ, ◌-◌, ◌^◌, List, [], ◌∷◌, Option, Some, None, Result, codes}
+use Rattle.std.specs.Prelude.{ℕ, ◌≤◌, ◌-◌, ◌^◌, All, AllPairs, List, [], ◌∷◌, Option, Some, None, Result, codes}
 use Rattle.cqf_model.specs.declared.ports.Arrival.{Arrival}
 use Rattle.cqf_text.specs.Decimal.{decimal_in}
 use Rattle.cqf_report.specs.Records.{Fields}
@@ -28,3 +28,14 @@ arrival_instant arrival = arrival.at.0
 -- the arrivals that a text writes, in order, or its first fault
 abbrev pub arrivals_of : List ℕ → Result (List Arrival) TableFault
 arrivals_of text = table_of arrival_header arrival_of arrival_instant text
+
+-- what an arrival that is read is like, and all of them: no one is before one that stands before it
+pub record IsArrival (arrival : Arrival) : Type 0 where
+  pub class : arrival.class ≤ 7
+  pub early : arrival.at.0 ≤ 100000000
+  pub least : 64 ≤ arrival.octets
+  pub most : arrival.octets ≤ 1522
+
+pub record AreArrivals (arrivals : List Arrival) : Type 0 where
+  pub each : All IsArrival arrivals
+  pub in_order : AllPairs (λ (a b : Arrival). a.at.0 ≤ b.at.0) arrivals

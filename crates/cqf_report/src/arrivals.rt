@@ -1,10 +1,10 @@
 //! The arrivals of a port, read from a text.
 
-ghost use Rattle.std.specs.Prelude.{ℕ, ◌≡◌, ◌≤◌, List, Option, Some, IfOk, IfErr, Ok};
+ghost use Rattle.std.specs.Prelude.{ℕ, ◌≡◌, ◌≤◌, List, Option, Some, IfOk, IfErr, Ok, length};
 ghost use Rattle.csv.specs.Records.{fields_of};
 ghost use Rattle.cqf_report.specs.Records.{Fields, StillGives};
 ghost use Rattle.cqf_report.specs.Table.{IsFaultOf, TakesNext, rows_from};
-ghost use Rattle.cqf_report.specs.Arrivals.{arrival_instant, arrival_of, arrivals_of};
+ghost use Rattle.cqf_report.specs.Arrivals.{arrival_instant, arrival_of, arrivals_of, AreArrivals};
 
 use crate::rows::{RowFormat, read_rows};
 use crate::tables::{TableFault, open_table, read_number, take_header};
@@ -61,6 +61,8 @@ impl RowFormat for ArrivalRows {
 /// `TooMany` at row 1,000,001, whatever it holds, `BadRow`, `OutOfOrder`; `Memory` where a growth is refused.
 pub fn read_arrivals(alloc: Global, text: &[u8]) -> Result<Vec<Arrival>, TableFault>
     ensures ok { IfOk result (λ arrivals. arrivals_of text.now ≡ Ok arrivals.items) }
+    ensures good { IfOk result (λ arrivals. AreArrivals arrivals.items) }
+    ensures few { IfOk result (λ arrivals. length arrivals.items ≤ 1000000) }
     ensures err { IfErr result (λ fault. IsFaultOf (arrivals_of text.now) fault) }
 {
     let mut reader = open_table(alloc, text);

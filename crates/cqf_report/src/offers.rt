@@ -1,6 +1,6 @@
 //! The offers of a run, read from a text.
 
-ghost use Rattle.std.specs.Prelude.{◌≡◌, IfOk, IfErr, Ok};
+ghost use Rattle.std.specs.Prelude.{◌≡◌, ◌≤◌, IfOk, IfErr, Ok, length};
 ghost use Rattle.cqf_model.specs.Traffic.{AreOffers};
 ghost use Rattle.cqf_report.specs.Table.{IsFaultOf};
 ghost use Rattle.cqf_report.specs.Offers.{bridge_named, name_in, offer_instant, offer_of, offers_of};
@@ -89,6 +89,7 @@ impl RowFormat for OfferRows<'_> {
 pub fn read_offers(alloc: Global, domain: &Domain, text: &[u8]) -> Result<Vec<Offer>, OfferFault>
     ensures ok { IfOk result (λ offers. offers_of domain.now text.now ≡ Ok offers.items) }
     ensures good { IfOk result (λ offers. AreOffers domain.now offers.items) }
+    ensures few { IfOk result (λ offers. length offers.items ≤ 1000000) }
     ensures err { IfErr result (λ fault. IsFaultOf (offers_of domain.now text.now) fault) }
 {
     let mut reader = open_table(alloc, text);

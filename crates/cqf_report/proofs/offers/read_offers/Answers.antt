@@ -1,9 +1,9 @@
-use Rattle.std.proofs.Common.{refl, List, ℕ, Bor, Some}
+use Rattle.std.proofs.Common.{◌≤◌, refl, length, List, ℕ, Bor, Some}
 use Rattle.cqf_report.specs.Records.{records_of}
 use Rattle.cqf_report.specs.Offers.{offer_header, offer_of, offer_instant}
 use Rattle.cqf_model.specs.Traffic.{AreOffers}
 use Rattle.cqf_report.specs.Table.{in_four}
-use Rattle.cqf_report.proofs.OfferLemmas.{offers-good}
+use Rattle.cqf_report.proofs.OfferLemmas.{offers-few, offers-good}
 use Rattle.cqf_report.proofs.TableLemmas.{ok-of, table-err, table-ok}
 use Rattle.cqf_report.proofs.offers.read_offers.Goals as goal
 
@@ -19,3 +19,6 @@ returns-clause-ok c =
 
 pub returns-clause-good : goal.returns-clause-good
 returns-clause-good c = ok-of c.read_rows.result _ (λ v. AreOffers c.args.domain.now v.items) (returns-clause-ok c) (λ v is. offers-good c.args.domain.now c.args.text.now v.items is)
+
+pub returns-clause-few : goal.returns-clause-few
+returns-clause-few c = ok-of c.read_rows.result _ (λ v. length v.items ≤ 1000000) (returns-clause-ok c) (λ v is. offers-few c.args.domain.now c.args.text.now v.items is)
