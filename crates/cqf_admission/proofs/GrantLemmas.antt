@@ -1,5 +1,5 @@
 -- The reasons against a request, one after the other.
-use Rattle.std.proofs.Common.{◌≡◌, ℕ, ◌+◌, ◌-◌, ◌<◌, ◌≤◌, Bool, true, false, cond, List, Option, Some, None, [], ◌∷◌, ◌++◌, ◌&&◌, ◌||◌, ◌==◌, not, length, position, refl, ap, ◌∙◌, sym, arith, inl, inr, nat_lt, get_or, add-one}
+use Rattle.std.proofs.Common.{◌≡◌, ℕ, ◌+◌, ◌-◌, ◌<◌, ◌≤◌, Bool, true, false, cond, List, Option, Some, None, [], ◌∷◌, ◌&&◌, ◌||◌, ◌==◌, not, length, position, refl, ap, ◌∙◌, sym, arith, inl, inr, nat_lt, get_or, add-one}
 use Rattle.std.specs.Prelude.{All, Contains, is_none, is_some, nat_le, slice_get, zero, suc}
 use Rattle.std.specs.List.{list_any, position_or_len, prefix_len}
 use Rattle.std.proofs.lemmas.Bool.{and_from, and_parts, both_ways, cases_Bool, eqb-true, le-leb, ltb-false, lt-leb, lt-ltb, ltb-true}
@@ -12,7 +12,7 @@ use Rattle.cqf_units.specs.Name.{is_name}
 use Rattle.cqf_units.specs.Timing.{cost_of}
 use Rattle.cqf_units.specs.declared.reservations.Cycle.{Cycle}
 use Rattle.cqf_model.specs.declared.history.Refused.{Refused}
-use Rattle.cqf_model.specs.declared.history.Refused.TheVariants.{BadName, BadOctets, UnknownNode, BrokenPath, LoopingPath, NameHeld, TooManyStreams, BudgetShort, AlreadyWithdrawn}
+use Rattle.cqf_model.specs.declared.history.Refused.TheVariants.{BadName, BadOctets, UnknownNode, BrokenPath, LoopingPath, NameHeld, TooManyStreams, AlreadyWithdrawn}
 use Rattle.cqf_model.specs.declared.history.Reply.TheVariants.{Refused as RefusedFor}
 use Rattle.cqf_model.specs.declared.topology.Link.{Link}
 use Rattle.cqf_model.specs.declared.topology.Node.{Node}

@@ -1,5 +1,5 @@
 -- Places of a path, and its links.
-use Rattle.std.proofs.Common.{◌≡◌, ℕ, ◌+◌, ◌-◌, ◌<◌, ◌≤◌, Bool, true, false, cond, List, Option, Some, None, [], ◌∷◌, ◌++◌, ◌||◌, ◌&&◌, ◌==◌, not, length, position, refl, ap, ◌∙◌, sym, arith, inl, inr, subst, take, length-append}
+use Rattle.std.proofs.Common.{◌≡◌, ℕ, ◌+◌, ◌-◌, ◌<◌, ◌≤◌, Bool, true, false, List, Option, Some, None, [], ◌∷◌, ◌++◌, ◌||◌, ◌&&◌, ◌==◌, not, length, refl, ap, ◌∙◌, sym, arith, inl, inr, subst, take, length-append}
 use Rattle.std.specs.Prelude.{map, if◌then◌else◌, zero, suc, slice_get, nat_le, nat_lt, is_none}
 use Rattle.std.specs.List.{list_any}
 use Rattle.std.proofs.lemmas.Bool.{and_from, both_ways, cases_lt, lt-ltb, or_parts}

@@ -1,6 +1,6 @@
 -- An administration that runs on the held streams in place of its history.
-use Rattle.std.proofs.Common.{◌≡◌, ◌≢◌, ℕ, ◌+◌, ◌-◌, ◌<◌, ◌≤◌, Bool, true, false, cond, List, Option, Some, None, [], ◌∷◌, ◌++◌, ◌&&◌, ◌==◌, not, length, map, position, refl, ap, ◌∙◌, sym, arith, inl, inr, subst, length-append}
-use Rattle.std.specs.Prelude.{Result, Ok, Err, if◌then◌else◌, nat_le, is_none, filter, AllPairs, Contains, slice_get, zero, suc}
+use Rattle.std.proofs.Common.{◌≡◌, ◌≢◌, ℕ, ◌+◌, ◌-◌, ◌<◌, ◌≤◌, Bool, true, false, cond, List, Option, Some, None, [], ◌∷◌, ◌++◌, ◌&&◌, not, length, map, position, refl, ap, ◌∙◌, sym, arith, subst, length-append}
+use Rattle.std.specs.Prelude.{Result, Err, if◌then◌else◌, nat_le, is_none, filter, AllPairs, Contains, slice_get, zero, suc}
 use Rattle.std.specs.List.{list_any}
 use Rattle.std.proofs.lemmas.Bool.{both_ways, eq-eqb, ne_eqb}
 use Rattle.std.proofs.lemmas.List.{map-append}
@@ -10,14 +10,13 @@ use Rattle.cqf_units.specs.Timing.{cost_of}
 use Rattle.cqf_units.specs.declared.reservations.Cycle.{Cycle}
 use Rattle.cqf_model.specs.declared.history.Receipt.{Receipt}
 use Rattle.cqf_model.specs.declared.history.Refused.{Refused}
-use Rattle.cqf_model.specs.declared.history.Refused.TheVariants.{BadName, BadOctets, UnknownNode, BrokenPath, LoopingPath, NameHeld, TooManyStreams, BudgetShort, NotHeld, AlreadyWithdrawn, HistoryFull}
-use Rattle.cqf_model.specs.declared.history.Reply.{Reply}
-use Rattle.cqf_model.specs.declared.history.Reply.TheVariants.{Accepted, Sealed, Refused as RefusedFor}
+use Rattle.cqf_model.specs.declared.history.Refused.TheVariants.{BadName, BadOctets, UnknownNode, BrokenPath, LoopingPath, NameHeld, TooManyStreams, BudgetShort, NotHeld, AlreadyWithdrawn}
+use Rattle.cqf_model.specs.declared.history.Reply.TheVariants.{Sealed, Refused as RefusedFor}
 use Rattle.cqf_model.specs.declared.topology.Row.{Row}
 use Rattle.cqf_model.specs.Domain.{Domain, is_text, node_named}
-use Rattle.cqf_model.specs.History.{Act, Admits, Asked, Recorded, Seals, Withdraws, admit_reply, held_in, is_broken_at, is_loop_at, is_seal, least, left_on, links_along, next_number, or_else, refusal_of, refused_at, refused_if, reply_to, seals, short_link, withdraw_reply, withdraw_row}
+use Rattle.cqf_model.specs.History.{Act, Admits, Asked, Recorded, Seals, Withdraws, admit_reply, is_broken_at, is_loop_at, is_seal, least, left_on, links_along, next_number, or_else, refusal_of, refused_at, refused_if, reply_to, seals, short_link, withdraw_reply, withdraw_row}
 use Rattle.cqf_model.specs.Table.{is_held, row_named}
-use Rattle.cqf_laws_history.specs.StateLaws.{GrantedIsHeld, HeldAreSound, HistoryGoesOn, IsState, RefusedChangesNothing, SealLetsGo, SealsAreCounted, ended_row, granted_row, with_entry}
+use Rattle.cqf_laws_history.specs.StateLaws.{HeldAreSound, HistoryGoesOn, IsState, SealLetsGo, SealsAreCounted, ended_row, with_entry}
 use Rattle.cqf_admission.specs.Admission.{Administration, Answers, IsRunning, calls, is_entered, recorded_of, reply_of}
 use Rattle.cqf_admission.specs.declared.entries.Entry.{Entry}
 use Rattle.cqf_admission.specs.Grants.{CanBeAsked, FindsOpen}

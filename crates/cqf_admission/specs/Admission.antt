@@ -1,6 +1,5 @@
 -- What an administration is to those who call it, and what its calls do (profile).
-use Rattle.std.specs.Prelude.{ℕ, ◌≡◌, ◌+◌, ◌-◌, ◌≤◌, ◌<◌, ◌↔◌, ◌++◌, Bool, true, false, List, [], ◌∷◌, Option, Result, Ok, Err, length, map, string_bytes}
-use Rattle.cqf_topology.specs.declared.streams.Request.{Request}
+use Rattle.std.specs.Prelude.{ℕ, ◌≡◌, ◌+◌, ◌-◌, ◌≤◌, ◌<◌, ◌↔◌, Bool, true, false, List, Result, Ok, Err, length, string_bytes}
 use Rattle.cqf_model.specs.declared.history.Receipt.{Receipt}
 use Rattle.cqf_model.specs.declared.history.Refused.{Refused}
 use Rattle.cqf_model.specs.declared.history.Refused.TheVariants.{BadName, BadOctets, UnknownNode, BrokenPath, LoopingPath, NameHeld, TooManyStreams, BudgetShort, NotHeld, AlreadyWithdrawn, HistoryFull, Memory}
@@ -8,7 +7,7 @@ use Rattle.cqf_model.specs.declared.history.Reply.{Reply}
 use Rattle.cqf_model.specs.declared.history.Reply.TheVariants.{Accepted, Sealed, Refused as RefusedFor}
 use Rattle.cqf_model.specs.declared.topology.Row.{Row}
 use Rattle.cqf_model.specs.Domain.{Domain}
-use Rattle.cqf_model.specs.History.{Act, Admits, Asked, IsLegalHistory, Recorded, Seals, Withdraws, reply_to, seals, table_at}
+use Rattle.cqf_model.specs.History.{Act, Admits, IsLegalHistory, Recorded, Seals, Withdraws, reply_to, seals, table_at}
 use Rattle.cqf_laws_history.specs.StateLaws.{IsState, with_entry}
 use Rattle.cqf_admission.specs.declared.entries.Call.{Call}
 use Rattle.cqf_admission.specs.declared.entries.Call.TheVariants.{Admit, Withdraw, Seal}

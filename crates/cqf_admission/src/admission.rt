@@ -6,7 +6,7 @@ ghost use Rattle.cqf_model.specs.Table.{link_cost};
 ghost use Rattle.cqf_admission.specs.Asking.{asked_of};
 ghost use Rattle.cqf_admission.specs.Admission.{Answers, Closes, recorded_of};
 
-use crate::entries::{Call, Entry, SealFault, copied_entries};
+use crate::entries::{Call, Entry, SealFault, copied_entries, enter};
 use crate::held::Held;
 use crate::refusals::{find_open, grant, taken_of};
 use crate::rows::copied_rows;
@@ -107,6 +107,7 @@ impl Admission {
         }
         state_follows_history();
         let effect = Cycle(self.sealed);
+        let admit = Call::Admit(asked);
         let receipt = Receipt {
             no: self.next,
             effect,
@@ -115,21 +116,11 @@ impl Admission {
             Ok(row) => {
                 self.next += 1;
                 self.held.push(row);
-                let entry = Entry {
-                    seat,
-                    call: Call::Admit(asked),
-                    reply: Reply::Accepted(receipt),
-                };
-                self.history.push(entry).unwrap();
+                enter(&mut self.history, seat, admit, Reply::Accepted(receipt));
                 Ok(receipt)
             }
             Err(refused) => {
-                let entry = Entry {
-                    seat,
-                    call: Call::Admit(asked),
-                    reply: Reply::Refused(refused),
-                };
-                self.history.push(entry).unwrap();
+                enter(&mut self.history, seat, admit, Reply::Refused(refused));
                 Err(refused)
             }
         }
@@ -154,6 +145,7 @@ impl Admission {
         }
         state_follows_history();
         let effect = Cycle(self.sealed);
+        let withdraw = Call::Withdraw(asked);
         match find_open(&self.held, name) {
             Ok(found) => {
                 let receipt = Receipt {
@@ -161,21 +153,11 @@ impl Admission {
                     effect,
                 };
                 self.held.end(found.0, effect);
-                let entry = Entry {
-                    seat,
-                    call: Call::Withdraw(asked),
-                    reply: Reply::Accepted(receipt),
-                };
-                self.history.push(entry).unwrap();
+                enter(&mut self.history, seat, withdraw, Reply::Accepted(receipt));
                 Ok(receipt)
             }
             Err(refused) => {
-                let entry = Entry {
-                    seat,
-                    call: Call::Withdraw(asked),
-                    reply: Reply::Refused(refused),
-                };
-                self.history.push(entry).unwrap();
+                enter(&mut self.history, seat, withdraw, Reply::Refused(refused));
                 Err(refused)
             }
         }
@@ -200,12 +182,7 @@ impl Admission {
         let cycle = Cycle(self.sealed);
         self.sealed += 1;
         self.held.let_go(Cycle(self.sealed));
-        let entry = Entry {
-            seat,
-            call: Call::Seal,
-            reply: Reply::Sealed,
-        };
-        self.history.push(entry).unwrap();
+        enter(&mut self.history, seat, Call::Seal, Reply::Sealed);
         Ok(Table::new(cycle, rows))
     }
 

@@ -1,5 +1,5 @@
 //! The entries of a history.
-ghost use Rattle.std.specs.Prelude.{◌≡◌, map, IfOk};
+ghost use Rattle.std.specs.Prelude.{◌≡◌, ◌<◌, ◌++◌, [], ◌∷◌, map, vec_len, vec_capacity, IfOk};
 ghost use Rattle.cqf_admission.specs.Admission.{act_of, recorded_of};
 
 use cqf_model::Reply;
@@ -47,6 +47,14 @@ pub enum SealFault {
     /// A growth was refused.
     #[error("Memory")]
     Memory,
+}
+
+/// Adds an entry to a history behind the others, where there is room.
+pub(crate) fn enter(history: &mut Vec<Entry>, seat: u16, call: Call, reply: Reply)
+    requires { vec_len history.old < vec_capacity history.old }
+    ensures { history.new.items ≡ history.old.items ++ record { seat = seat; call = call; reply = reply } ∷ [] }
+{
+    history.push(Entry { seat, call, reply }).unwrap();
 }
 
 /// The same call again, unless memory runs out.

@@ -13,6 +13,14 @@ use cqf_model::{Refused, Row};
 use cqf_topology::{Domain, Request};
 use cqf_units::{Cycle, Name, Octets, budget, cost};
 
+/// The octets that a stream may reserve in a cycle (profile).
+const LEAST_OCTETS: u32 = 64;
+
+const MOST_OCTETS: u32 = 60_000;
+
+/// How many streams may be held at once (profile).
+const MOST_STREAMS: usize = 1024;
+
 /// What a link has left of its budget beside some streams, in octets a cycle.
 pub(crate) fn left_of(domain: &Domain, rows: &[Row], link: u8) -> u32
     requires inside { link < length domain.now.links }
@@ -66,14 +74,14 @@ pub(crate) fn grant(
     let Some(name) = Name::new(request.name.as_bytes()) else {
         return Err(Refused::BadName);
     };
-    if request.octets < 64 || request.octets > 60_000 {
+    if request.octets < LEAST_OCTETS || request.octets > MOST_OCTETS {
         return Err(Refused::BadOctets);
     }
     let path = find_path(domain, request.path.as_slice())?;
     if held.place_of(&name).is_some() {
         return Err(Refused::NameHeld);
     }
-    if held.rows().len() >= 1024 {
+    if held.rows().len() >= MOST_STREAMS {
         return Err(Refused::TooManyStreams);
     }
     let octets = cost(Octets(request.octets)).0;

@@ -1,5 +1,5 @@
 //! The table of a cycle.
-ghost use Rattle.std.specs.Prelude.{◌≡◌, ◌==◌, option_map, IfOk, option_copied};
+ghost use Rattle.std.specs.Prelude.{◌≡◌, ◌==◌, ℕ, Bool, option_map, IfOk, option_copied};
 ghost use Rattle.cqf_model.specs.Domain.{is_text};
 ghost use Rattle.cqf_model.specs.Table.{is_live, row_named, row_of};
 
@@ -81,11 +81,17 @@ fn has_name(row: &Row, name: &Name) -> bool
 
 /// A stream's life in cycles.
 pub trait Live {
+    /// In which cycles the stream is live.
+    ghost is_live_in: { Self → ℕ → Bool };
+
     /// Whether the stream is live in the cycle.
-    fn live(&self, cycle: Cycle) -> bool;
+    fn live(&self, cycle: Cycle) -> bool
+        ensures { result ≡ is_live_in self.now cycle.0 };
 }
 
 impl Live for Row {
+    ghost is_live_in = { is_live };
+
     /// Whether the stream is live in the cycle: admitted, and not yet withdrawn (profile).
     fn live(&self, cycle: Cycle) -> bool
         ensures { result ≡ is_live self.now cycle.0 }

@@ -1,6 +1,6 @@
 use crate::{Admission, Live, Receipt, Refused, Reply, SealFault, Table};
 use cqf_topology::{Domain, Request};
-use cqf_units::{Cycle, Name, Octets};
+use cqf_units::{Cycle, Memory, Name, Octets};
 use std::alloc::Global;
 use std::test::Fail;
 
@@ -16,31 +16,78 @@ const RING: &str =
 const WIDE: &str =
     "cycle = 10000000\nguard = 5000\nbridges = [\"a\"]\nstations = [\"s\"]\n[[links]]\nfrom = \"a\"\nto = \"s\"\nrate = 1000\ndelay = 500\n";
 
+/// The path of the line.
+const WHOLE: [&str; 4] = ["a", "b", "c", "s"];
+
 fn admission(alloc: Global, text: &str) -> Result<Admission, Fail> {
     let domain = Domain::read(alloc, text.as_bytes())?;
     Ok(Admission::new(alloc, &domain)?)
 }
 
-fn request(alloc: Global, name: &str, octets: u32, nodes: &[&str]) -> Result<Request, Fail> {
+/// The names of a path.
+fn path_of(alloc: Global, nodes: &[&str]) -> Result<Vec<String>, Memory> {
     let mut path = Vec::new(alloc);
     for node in nodes {
         path.push(String::from_str(alloc, node)?)?;
     }
+    Ok(path)
+}
+
+fn request(alloc: Global, name: &str, octets: u32, nodes: &[&str]) -> Result<Request, Memory> {
     Ok(Request {
         name: String::from_str(alloc, name)?,
         octets,
-        path,
+        path: path_of(alloc, nodes)?,
     })
 }
 
-fn refused_on_the_line(
+/// The answer to a request.
+fn ask(
+    asked: &mut Admission,
     alloc: Global,
     name: &str,
     octets: u32,
     nodes: &[&str],
+) -> Result<Result<Receipt, Refused>, Memory> {
+    let wanted = request(alloc, name, octets, nodes)?;
+    Ok(asked.admit(0, &wanted))
+}
+
+/// Asks for so many streams, which are granted.
+fn ask_often(
+    asked: &mut Admission,
+    alloc: Global,
+    count: u32,
+    octets: u32,
+    nodes: &[&str],
+) -> Result<(), Fail> {
+    for number in 0..count {
+        let name = format!(in alloc; "n{number}")?;
+        ask(asked, alloc, name.as_str(), octets, nodes)??;
+    }
+    Ok(())
+}
+
+/// Closes so many cycles.
+fn seal_often(asked: &mut Admission, count: u32) -> Result<(), SealFault> {
+    for _ in 0..count {
+        asked.seal(0)?;
+    }
+    Ok(())
+}
+
+/// Why a request is refused where nothing is held.
+fn refused_on(
+    alloc: Global,
+    text: &str,
+    name: &str,
+    octets: u32,
+    nodes: &[&str],
 ) -> Result<Option<Refused>, Fail> {
-    let mut asked = admission(alloc, LINE)?;
-    Ok(asked.admit(0, &request(alloc, name, octets, nodes)?).err())
+    let mut asked = admission(alloc, text)?;
+    let answer = ask(&mut asked, alloc, name, octets, nodes);
+    drop(asked);
+    Ok(answer?.err())
 }
 
 /// What is held on the first link, where there is one.
@@ -59,55 +106,107 @@ fn last_reply(asked: &Admission) -> Option<Reply> {
 /// The line, with seven streams of 1,500 octets.
 fn line_of_seven(alloc: Global) -> Result<Admission, Fail> {
     let mut line = admission(alloc, LINE)?;
-    for number in 0..7u32 {
-        let name = format!(in alloc; "n{number}")?;
-        line.admit(
-            0,
-            &request(alloc, name.as_str(), 1500, &["a", "b", "c", "s"])?,
-        )?;
-    }
+    ask_often(&mut line, alloc, 7, 1500, &WHOLE)?;
     Ok(line)
 }
 
-/// The answer to one more request on the line's path.
-fn ask_whole(asked: &mut Admission, alloc: Global, octets: u32) -> Result<Option<Refused>, Fail> {
-    let wanted = request(alloc, "n7", octets, &["a", "b", "c", "s"])?;
-    Ok(asked.admit(1, &wanted).err())
+/// Why a line of seven refuses one request more, and one of fewer octets, and one of fewer still.
+fn ask_more(line: &mut Admission, alloc: Global) -> Result<[Option<Refused>; 3], Memory> {
+    let most = ask(line, alloc, "n7", 1500, &WHOLE)?;
+    let fewer = ask(line, alloc, "n7", 1000, &WHOLE)?;
+    let least = ask(line, alloc, "n7", 980, &WHOLE)?;
+    Ok([most.err(), fewer.err(), least.err()])
 }
 
 #[test]
 fn a_link_takes_as_many_streams_as_its_budget_has_room_for(rt: HostRuntime) -> Result<(), Fail> {
-    let alloc = rt.alloc();
-    let mut line = line_of_seven(alloc)?;
+    let mut line = line_of_seven(rt.alloc())?;
+    let answers = ask_more(&mut line, rt.alloc());
+    let held = held_on_first(&line);
+    drop(line);
     let short = Some(Refused::BudgetShort {
         link: 0,
         left: 1280,
     });
-    assert!(rt; ask_whole(&mut line, alloc, 1500)? == short);
-    assert!(rt; ask_whole(&mut line, alloc, 1000)? == short);
-    assert!(rt; ask_whole(&mut line, alloc, 980)?.is_none());
-    assert!(rt; held_on_first(&line) == Some(Octets(15_000)));
+    assert!(rt; answers? == [short, short, None]);
+    assert!(rt; held == Some(Octets(15_000)));
     Ok(())
+}
+
+/// How many rows the next table has.
+fn count_sealed(asked: &mut Admission) -> Result<usize, SealFault> {
+    Ok(asked.seal(9)?.rows().len())
 }
 
 #[test]
 fn a_table_has_the_streams_that_were_accepted(rt: HostRuntime) -> Result<(), Fail> {
-    let alloc = rt.alloc();
-    let mut line = line_of_seven(alloc)?;
-    let table = line.seal(9)?;
-    assert!(rt; table.rows().len() == 7);
-    assert!(rt; line.next_cycle() == Cycle(1));
+    let mut line = line_of_seven(rt.alloc())?;
+    let rows = count_sealed(&mut line);
+    let next = line.next_cycle();
+    drop(line);
+    assert!(rt; rows? == 7);
+    assert!(rt; next == Cycle(1));
+    Ok(())
+}
+
+/// Fills the line by one stream, and closes five cycles.
+fn fill(line: &mut Admission, alloc: Global) -> Result<(), Fail> {
+    ask(line, alloc, "old", 11_440, &WHOLE)??;
+    seal_often(line, 5)?;
     Ok(())
 }
 
 /// The line, full by one stream, after five Seals.
 fn full_line(alloc: Global) -> Result<Admission, Fail> {
     let mut line = admission(alloc, LINE)?;
-    line.admit(0, &request(alloc, "old", 11_440, &["a", "b", "c", "s"])?)?;
-    for _ in 0..5 {
-        line.seal(0)?;
-    }
+    fill(&mut line, alloc)?;
     Ok(line)
+}
+
+/// Withdraws the stream, and gives the answers of the full line before and after it lets go.
+fn refill(line: &mut Admission, alloc: Global) -> Result<(Option<Refused>, Receipt), Fail> {
+    line.withdraw(0, "old")?;
+    seal_often(line, 2)?;
+    let early = ask(line, alloc, "new", 11_440, &WHOLE)?.err();
+    seal_often(line, 1)?;
+    let late = ask(line, alloc, "new", 11_440, &WHOLE)??;
+    Ok((early, late))
+}
+
+/// The answers of two full lines.
+fn refill_both(
+    line: &mut Admission,
+    other: &mut Admission,
+    alloc: Global,
+) -> Result<[(Option<Refused>, Receipt); 2], Fail> {
+    let first = refill(line, alloc)?;
+    let second = refill(other, alloc)?;
+    Ok([first, second])
+}
+
+/// The answers of a full line, and then those of a copy from before.
+fn refill_and_copy(
+    line: &mut Admission,
+    alloc: Global,
+) -> Result<[(Option<Refused>, Receipt); 2], Fail> {
+    let mut copy = line.try_copy(alloc)?;
+    let answers = refill_both(line, &mut copy, alloc);
+    drop(copy);
+    answers
+}
+
+#[test]
+fn a_withdrawn_stream_lets_go_when_its_last_frame_has_left(rt: HostRuntime) -> Result<(), Fail> {
+    let mut line = full_line(rt.alloc())?;
+    let answers = refill_and_copy(&mut line, rt.alloc());
+    drop(line);
+    let short = Some(Refused::BudgetShort { link: 0, left: 0 });
+    let receipt = Receipt {
+        no: 1,
+        effect: Cycle(8),
+    };
+    assert!(rt; answers? == [(short, receipt), (short, receipt)]);
+    Ok(())
 }
 
 /// Whether the stream is in a table as one that is withdrawn, and was live before.
@@ -118,119 +217,112 @@ fn is_leaving(table: &Table) -> Result<bool, Fail> {
     Ok(named == Some(false) && numbered == Some(true))
 }
 
-/// Withdraws the stream, and gives the answers of the full line before and after it lets go.
-fn refill(line: &mut Admission, alloc: Global) -> Result<(Option<Refused>, Receipt), Fail> {
-    let wanted = request(alloc, "new", 11_440, &["a", "b", "c", "s"])?;
-    line.withdraw(0, "old")?;
-    line.seal(0)?;
-    line.seal(0)?;
-    let early = line.admit(0, &wanted).err();
-    line.seal(0)?;
-    let late = line.admit(0, &wanted)?;
-    Ok((early, late))
+/// A copy of the next table.
+fn sealed_copy(line: &mut Admission, alloc: Global) -> Result<Table, Fail> {
+    let table = line.seal(0)?;
+    Ok(table.try_copy(alloc)?)
 }
 
-#[test]
-fn a_withdrawn_stream_lets_go_when_its_last_frame_has_left(rt: HostRuntime) -> Result<(), Fail> {
-    let alloc = rt.alloc();
-    let mut line = full_line(alloc)?;
-    let mut copy = line.try_copy(alloc)?;
-    let short = Some(Refused::BudgetShort { link: 0, left: 0 });
-    let receipt = Receipt {
-        no: 1,
-        effect: Cycle(8),
-    };
-    assert!(rt; refill(&mut line, alloc)? == (short, receipt));
-    assert!(rt; refill(&mut copy, alloc)? == (short, receipt));
-    Ok(())
+/// Withdraws the stream, and gives from when on, and the second table after that.
+fn leave(line: &mut Admission, alloc: Global) -> Result<(Cycle, Table), Fail> {
+    let receipt = line.withdraw(0, "old")?;
+    seal_often(line, 1)?;
+    let table = sealed_copy(line, alloc)?;
+    Ok((receipt.effect, table))
 }
 
 #[test]
 fn a_withdrawn_stream_stays_in_the_tables(rt: HostRuntime) -> Result<(), Fail> {
-    let alloc = rt.alloc();
-    let mut line = full_line(alloc)?;
-    assert!(rt; line.withdraw(0, "old")?.effect == Cycle(5));
-    line.seal(0)?;
-    let table = line.seal(0)?.try_copy(alloc)?;
+    let mut line = full_line(rt.alloc())?;
+    let left = leave(&mut line, rt.alloc());
+    drop(line);
+    let (effect, table) = left?;
+    assert!(rt; effect == Cycle(5));
     assert!(rt; table.cycle() == Cycle(6));
-    assert!(rt; is_leaving(&table)?);
+    let leaving = is_leaving(&table);
+    drop(table);
+    assert!(rt; leaving?);
     Ok(())
 }
 
 #[test]
 fn a_request_of_bad_form_is_refused(rt: HostRuntime) -> Result<(), Fail> {
-    let alloc = rt.alloc();
-    assert!(rt;
-        refused_on_the_line(alloc, "X!", 10, &["a", "b", "c", "s"])? == Some(Refused::BadName)
-    );
-    assert!(rt;
-        refused_on_the_line(alloc, "x", 63, &["a", "b", "c", "s"])? == Some(Refused::BadOctets)
-    );
-    assert!(rt;
-        refused_on_the_line(alloc, "x", 60_001, &["a", "b", "c", "s"])? == Some(Refused::BadOctets)
-    );
     let short = Refused::BudgetShort {
         link: 0,
         left: 15_000,
     };
-    assert!(rt; refused_on_the_line(alloc, "x", 60_000, &["a", "b", "c", "s"])? == Some(short));
+    for (name, octets, refused) in [
+        ("X!", 10, Refused::BadName),
+        ("x", 63, Refused::BadOctets),
+        ("x", 60_001, Refused::BadOctets),
+        ("x", 60_000, short),
+    ] {
+        assert!(rt; refused_on(rt.alloc(), LINE, name, octets, &WHOLE)? == Some(refused));
+    }
     Ok(())
 }
 
 #[test]
 fn what_is_no_path_is_refused_at_its_place(rt: HostRuntime) -> Result<(), Fail> {
-    let alloc = rt.alloc();
-    assert!(rt;
-        refused_on_the_line(alloc, "x", 64, &["a", "q", "s"])? == Some(Refused::UnknownNode(1))
-    );
-    assert!(rt;
-        refused_on_the_line(alloc, "x", 64, &["a", "c", "s"])? == Some(Refused::BrokenPath(1))
-    );
-    assert!(rt; refused_on_the_line(alloc, "x", 64, &["a", "b"])? == Some(Refused::BrokenPath(1)));
-    assert!(rt; refused_on_the_line(alloc, "x", 64, &[])? == Some(Refused::BrokenPath(0)));
+    let unknown = refused_on(rt.alloc(), LINE, "x", 64, &["a", "q", "s"])?;
+    let broken = refused_on(rt.alloc(), LINE, "x", 64, &["a", "c", "s"])?;
+    let ends_in_bridge = refused_on(rt.alloc(), LINE, "x", 64, &["a", "b"])?;
+    let empty = refused_on(rt.alloc(), LINE, "x", 64, &[])?;
+    assert!(rt; unknown == Some(Refused::UnknownNode(1)));
+    assert!(rt; broken == Some(Refused::BrokenPath(1)));
+    assert!(rt; ends_in_bridge == Some(Refused::BrokenPath(1)));
+    assert!(rt; empty == Some(Refused::BrokenPath(0)));
     Ok(())
 }
 
 #[test]
 fn a_path_that_comes_back_to_a_bridge_is_refused(rt: HostRuntime) -> Result<(), Fail> {
-    let alloc = rt.alloc();
-    let mut ring = admission(alloc, RING)?;
-    let asked = request(alloc, "x", 64, &["a", "b", "c", "a", "c", "s"])?;
-    assert!(rt; ring.admit(0, &asked) == Err(Refused::LoopingPath(3)));
+    let back = ["a", "b", "c", "a", "c", "s"];
+    let refused = refused_on(rt.alloc(), RING, "x", 64, &back)?;
+    assert!(rt; refused == Some(Refused::LoopingPath(3)));
     Ok(())
+}
+
+/// Withdraws a stream, and gives why its name is refused then, to a request and to two withdrawals.
+fn use_names(line: &mut Admission, alloc: Global) -> Result<[Option<Refused>; 3], Fail> {
+    ask(line, alloc, "x", 64, &WHOLE)??;
+    line.withdraw(0, "x")?;
+    let again = ask(line, alloc, "x", 64, &WHOLE)?.err();
+    let twice = line.withdraw(0, "x").err();
+    let other = line.withdraw(0, "q").err();
+    Ok([again, twice, other])
 }
 
 #[test]
 fn a_name_is_held_as_long_as_its_stream(rt: HostRuntime) -> Result<(), Fail> {
-    let alloc = rt.alloc();
-    let mut line = admission(alloc, LINE)?;
-    let asked = request(alloc, "x", 64, &["a", "b", "c", "s"])?;
-    line.admit(0, &asked)?;
-    line.withdraw(0, "x")?;
-    assert!(rt; line.admit(0, &asked) == Err(Refused::NameHeld));
-    assert!(rt; line.withdraw(0, "x") == Err(Refused::AlreadyWithdrawn));
-    assert!(rt; line.withdraw(0, "q") == Err(Refused::NotHeld));
-    assert!(rt; line.history().len() == 5);
-    assert!(rt; last_reply(&line) == Some(Reply::Refused(Refused::NotHeld)));
+    let mut line = admission(rt.alloc(), LINE)?;
+    let answers = use_names(&mut line, rt.alloc());
+    let entries = line.history().len();
+    let last = last_reply(&line);
+    drop(line);
+    let wanted = [
+        Some(Refused::NameHeld),
+        Some(Refused::AlreadyWithdrawn),
+        Some(Refused::NotHeld),
+    ];
+    assert!(rt; answers? == wanted);
+    assert!(rt; entries == 5);
+    assert!(rt; last == Some(Reply::Refused(Refused::NotHeld)));
     Ok(())
 }
 
-/// The wide link, with 1,024 streams of 64 octets.
-fn wide_of_1024(alloc: Global) -> Result<Admission, Fail> {
-    let mut wide = admission(alloc, WIDE)?;
-    for number in 0..1024u32 {
-        let name = format!(in alloc; "n{number}")?;
-        wide.admit(0, &request(alloc, name.as_str(), 64, &["a", "s"])?)?;
-    }
-    Ok(wide)
+/// Fills the wide link with 1,024 streams of 64 octets, and gives why one more is refused.
+fn overfill(wide: &mut Admission, alloc: Global) -> Result<Option<Refused>, Fail> {
+    ask_often(wide, alloc, 1024, 64, &["a", "s"])?;
+    Ok(ask(wide, alloc, "x", 64, &["a", "s"])?.err())
 }
 
 #[test]
 fn no_more_than_1024_streams_are_held(rt: HostRuntime) -> Result<(), Fail> {
-    let alloc = rt.alloc();
-    let mut wide = wide_of_1024(alloc)?;
-    let asked = request(alloc, "x", 64, &["a", "s"])?;
-    assert!(rt; wide.admit(0, &asked) == Err(Refused::TooManyStreams));
+    let mut wide = admission(rt.alloc(), WIDE)?;
+    let refused = overfill(&mut wide, rt.alloc());
+    drop(wide);
+    assert!(rt; refused? == Some(Refused::TooManyStreams));
     Ok(())
 }
 
@@ -241,21 +333,27 @@ fn withdraw_often(line: &mut Admission, count: u32) {
     }
 }
 
-/// Closes so many cycles.
-fn seal_often(line: &mut Admission, count: u32) -> Result<(), SealFault> {
-    for _ in 0..count {
-        line.seal(0)?;
-    }
-    Ok(())
+/// Makes 100,000 calls and one more, and gives why the last two are refused.
+fn spend_calls(line: &mut Admission) -> [Option<Refused>; 2] {
+    withdraw_often(line, 99_999);
+    let last = line.withdraw(0, "q").err();
+    let past = line.withdraw(0, "q").err();
+    [last, past]
+}
+
+/// Makes 100,000 Seals and one more, and gives why that is refused.
+fn spend_cycles(line: &mut Admission) -> Result<Option<SealFault>, SealFault> {
+    seal_often(line, 100_000)?;
+    Ok(line.seal(0).err())
 }
 
 #[test]
 fn a_history_takes_100000_calls_and_as_many_seals(rt: HostRuntime) -> Result<(), Fail> {
     let mut line = admission(rt.alloc(), LINE)?;
-    withdraw_often(&mut line, 99_999);
-    assert!(rt; line.withdraw(0, "q") == Err(Refused::NotHeld));
-    assert!(rt; line.withdraw(0, "q") == Err(Refused::HistoryFull));
-    seal_often(&mut line, 100_000)?;
-    assert!(rt; line.seal(0).err() == Some(SealFault::CyclesSpent));
+    let calls = spend_calls(&mut line);
+    let cycles = spend_cycles(&mut line);
+    drop(line);
+    assert!(rt; calls == [Some(Refused::NotHeld), Some(Refused::HistoryFull)]);
+    assert!(rt; cycles? == Some(SealFault::CyclesSpent));
     Ok(())
 }

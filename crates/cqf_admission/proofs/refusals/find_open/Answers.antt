@@ -1,12 +1,11 @@
-use Rattle.std.proofs.Common.{◌≡◌, ◌∙◌, ap, sym, refl, ℕ, List, Some, None, true, false, length, position, arith}
-use Rattle.std.specs.Prelude.{is_some, slice_get}
+use Rattle.std.proofs.Common.{◌≡◌, ◌∙◌, ap, sym, refl, ℕ, List, Some, false, length, position, arith}
+use Rattle.std.specs.Prelude.{slice_get}
 use Rattle.std.proofs.lemmas.Bool.{both_ways, false_from_ne_true}
 use Rattle.std.proofs.lemmas.Option.{slice_get_read}
 use Rattle.cqf_units.specs.Name.{is_name}
 use Rattle.cqf_model.specs.declared.topology.Row.{Row}
 use Rattle.cqf_model.specs.Domain.{is_text}
 use Rattle.cqf_model.specs.History.{withdraw_reply}
-use Rattle.cqf_model.specs.Table.{row_named}
 use Rattle.cqf_admission.proofs.GrantLemmas.{ended_reply, named_at, none_from, not_a_name, unnamed}
 use Rattle.cqf_admission.proofs.refusals.find_open.Goals as goal
 

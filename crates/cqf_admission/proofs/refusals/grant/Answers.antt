@@ -1,4 +1,4 @@
-use Rattle.std.proofs.Common.{◌≡◌, ◌∙◌, ◌<◌, ◌≤◌, ap, sym, refl, arith, subst, ℕ, List, length, map, true, false, Some, None}
+use Rattle.std.proofs.Common.{◌≡◌, ◌∙◌, ◌<◌, ◌≤◌, ap, sym, refl, arith, subst, ℕ, List, length, map, true, false, None}
 use Rattle.std.specs.Prelude.{All, is_some, string_bytes}
 use Rattle.std.specs.List.{list_any}
 use Rattle.cqf_units.specs.Name.{is_name}
@@ -20,23 +20,23 @@ returns-then-is_some c =
     let named : c.in-Some.name ≡ asked.name = c.in-Some.ensures.value ∙ c.as_bytes.ensures.value in
     let form : is_name asked.name ≡ true = ap is_name (sym c.as_bytes.ensures.value) ∙ c.in-Some.ensures.form.0 refl in
     let whole : path_refusal d asked.path ≡ None = ap (λ xs. path_refusal d (map string_bytes xs)) (sym c.as_slice.ensures.value) ∙ c.in_ok-path.ensures.0 in
-    let later = refusal_later d rows asked form c.if-request-lt64.false c.if-request-gt60000.false whole in
+    let later = refusal_later d rows asked form c.if-request-lt-LEAST_OCTETS.false c.if-request-gt-MOST_OCTETS.false whole in
     let found : list_any (λ (row : Row). is_text row.name asked.name) rows ≡ true =
     ap (λ (n : List ℕ). list_any (λ (row : Row). is_text row.name n) rows) (sym named) ∙ sym (position_any (λ (row : Row). is_text row.name c.in-Some.name) rows) ∙ ap is_some (sym c.place_of.ensures) ∙ sym c.is_some.ensures ∙ c.if-is_some.true in
     later ∙ refusal_held d rows asked found
 
-pub returns-then-rows-ge1024 : goal.returns-then-rows-ge1024
-returns-then-rows-ge1024 c =
+pub returns-then-rows-ge-MOST_STREAMS : goal.returns-then-rows-ge-MOST_STREAMS
+returns-then-rows-ge-MOST_STREAMS c =
     let d = c.args.domain.now in
     let rows = c.args.held.now.rows in
     let asked = asked_of c.args.request.now in
     let named : c.in-Some.name ≡ asked.name = c.in-Some.ensures.value ∙ c.as_bytes.ensures.value in
     let form : is_name asked.name ≡ true = ap is_name (sym c.as_bytes.ensures.value) ∙ c.in-Some.ensures.form.0 refl in
     let whole : path_refusal d asked.path ≡ None = ap (λ xs. path_refusal d (map string_bytes xs)) (sym c.as_slice.ensures.value) ∙ c.in_ok-path.ensures.0 in
-    let later = refusal_later d rows asked form c.if-request-lt64.false c.if-request-gt60000.false whole in
+    let later = refusal_later d rows asked form c.if-request-lt-LEAST_OCTETS.false c.if-request-gt-MOST_OCTETS.false whole in
     let found : list_any (λ (row : Row). is_text row.name asked.name) rows ≡ false =
     ap (λ (n : List ℕ). list_any (λ (row : Row). is_text row.name n) rows) (sym named) ∙ sym (position_any (λ (row : Row). is_text row.name c.in-Some.name) rows) ∙ ap is_some (sym c.place_of.ensures) ∙ sym c.is_some.ensures ∙ c.if-is_some.false in
-    let many : 1024 ≤ length rows = omega (arith, c.if-rows-ge1024.true, ap (λ (xs : List Row). length xs) c.rows.ensures) in
+    let many : 1024 ≤ length rows = omega (arith, c.if-rows-ge-MOST_STREAMS.true, ap (λ (xs : List Row). length xs) c.rows.ensures) in
     later ∙ refusal_many d rows asked found many
 
 pub short_of-requires-clause-inside : goal.short_of-requires-clause-inside
@@ -54,11 +54,11 @@ returns-in-Some-short_of c =
     let named : c.in-Some.name ≡ asked.name = c.in-Some.ensures.value ∙ c.as_bytes.ensures.value in
     let form : is_name asked.name ≡ true = ap is_name (sym c.as_bytes.ensures.value) ∙ c.in-Some.ensures.form.0 refl in
     let whole : path_refusal d asked.path ≡ None = ap (λ xs. path_refusal d (map string_bytes xs)) (sym c.as_slice.ensures.value) ∙ c.in_ok-path.ensures.0 in
-    let later = refusal_later d rows asked form c.if-request-lt64.false c.if-request-gt60000.false whole in
+    let later = refusal_later d rows asked form c.if-request-lt-LEAST_OCTETS.false c.if-request-gt-MOST_OCTETS.false whole in
     let found : list_any (λ (row : Row). is_text row.name asked.name) rows ≡ false =
     ap (λ (n : List ℕ). list_any (λ (row : Row). is_text row.name n) rows) (sym named) ∙ sym (position_any (λ (row : Row). is_text row.name c.in-Some.name) rows) ∙ ap is_some (sym c.place_of.ensures) ∙ sym c.is_some.ensures ∙ c.if-is_some.false in
     let linked : c.in_ok-path.path.items ≡ links_along d asked.path = c.in_ok-path.ensures.1 ∙ ap (λ xs. links_along d (map string_bytes xs)) c.as_slice.ensures.value in
-    let few : length rows < 1024 = omega (arith, c.if-rows-ge1024.false, ap (λ (xs : List Row). length xs) c.rows.ensures) in
+    let few : length rows < 1024 = omega (arith, c.if-rows-ge-MOST_STREAMS.false, ap (λ (xs : List Row). length xs) c.rows.ensures) in
     let asked_same : short_refusal d rows (cost_of asked.octets) (links_along d asked.path) ≡ c.short_of.result =
     sym (c.short_of.ensures
     ∙ ap (λ (xs : List Row). short_refusal d xs c.cost-octets.result.0 c.as_slice-2.result.now) c.rows-2.ensures
@@ -74,11 +74,11 @@ returns c =
     let named : c.in-Some.name ≡ asked.name = c.in-Some.ensures.value ∙ c.as_bytes.ensures.value in
     let form : is_name asked.name ≡ true = ap is_name (sym c.as_bytes.ensures.value) ∙ c.in-Some.ensures.form.0 refl in
     let whole : path_refusal d asked.path ≡ None = ap (λ xs. path_refusal d (map string_bytes xs)) (sym c.as_slice.ensures.value) ∙ c.in_ok-path.ensures.0 in
-    let later = refusal_later d rows asked form c.if-request-lt64.false c.if-request-gt60000.false whole in
+    let later = refusal_later d rows asked form c.if-request-lt-LEAST_OCTETS.false c.if-request-gt-MOST_OCTETS.false whole in
     let found : list_any (λ (row : Row). is_text row.name asked.name) rows ≡ false =
     ap (λ (n : List ℕ). list_any (λ (row : Row). is_text row.name n) rows) (sym named) ∙ sym (position_any (λ (row : Row). is_text row.name c.in-Some.name) rows) ∙ ap is_some (sym c.place_of.ensures) ∙ sym c.is_some.ensures ∙ c.if-is_some.false in
     let linked : c.in_ok-path.path.items ≡ links_along d asked.path = c.in_ok-path.ensures.1 ∙ ap (λ xs. links_along d (map string_bytes xs)) c.as_slice.ensures.value in
-    let few : length rows < 1024 = omega (arith, c.if-rows-ge1024.false, ap (λ (xs : List Row). length xs) c.rows.ensures) in
+    let few : length rows < 1024 = omega (arith, c.if-rows-ge-MOST_STREAMS.false, ap (λ (xs : List Row). length xs) c.rows.ensures) in
     let asked_same : short_refusal d rows (cost_of asked.octets) (links_along d asked.path) ≡ c.short_of.result =
     sym (c.short_of.ensures
     ∙ ap (λ (xs : List Row). short_refusal d xs c.cost-octets.result.0 c.as_slice-2.result.now) c.rows-2.ensures

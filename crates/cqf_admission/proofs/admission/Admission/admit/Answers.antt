@@ -1,5 +1,5 @@
 use Rattle.std.proofs.Common.{◌≡◌, ◌∙◌, ◌-◌, ◌+◌, ◌<◌, ap, sym, refl, arith, subst, ℕ, List, length, map, ◌++◌, ◌∷◌, [], Some, None}
-use Rattle.std.specs.Prelude.{Result, Err, Ok}
+use Rattle.std.specs.Prelude.{Result, Err}
 use Rattle.std.proofs.lemmas.List.{length-map}
 use Rattle.cqf_model.specs.declared.history.Receipt.{Receipt}
 use Rattle.cqf_model.specs.declared.history.Refused.{Refused}
@@ -7,7 +7,7 @@ use Rattle.cqf_model.specs.declared.history.Reply.{Reply}
 use Rattle.cqf_model.specs.declared.history.Reply.TheVariants.{Accepted, Refused as RefusedFor}
 use Rattle.cqf_model.specs.declared.topology.Row.{Row}
 use Rattle.cqf_model.specs.History.{Admits, Asked, Recorded, refusal_of, seals}
-use Rattle.cqf_laws_history.specs.StateLaws.{IsState, granted_row, with_entry}
+use Rattle.cqf_laws_history.specs.StateLaws.{granted_row, with_entry}
 use Rattle.cqf_admission.specs.Admission.{Administration, Answers, IsRunning, recorded_of}
 use Rattle.cqf_admission.specs.Asking.{asked_by, asked_of}
 use Rattle.cqf_admission.specs.Grants.{CanBeAsked}
@@ -33,9 +33,8 @@ invariant_of-self-in-Ok-grant c =
     let refusal : refusal_of d rows asked ≡ None = ap (λ (rs : List Row). refusal_of d rs asked) (sym c.reserve-2.ensures.same) ∙ c.in-Ok-grant.ensures.0 in
     let reply = request_reply d entries rows c.self.inside.next c.self.inside.sealed asked None c.self.invariant refusal in
     let answer : Reply = Accepted (record { no = c.self.inside.next; effect = record { 0 = c.self.inside.sealed } }) in
-    let pushed = rw c.unwrap.ensures at c.push-in-Ok-grant.ensures.items in
-    let items : map recorded_of c.push-in-Ok-grant.new.self.items ≡ with_entry entries c.args.seat (Admits asked) answer =
-    pushed_entries c.reserve.new.self.items c.push-in-Ok-grant.new.self.items (record { seat = c.args.seat; call = Admit c.in-Ok.asked; reply = answer }) pushed
+    let items : map recorded_of c.enter.new.history.items ≡ with_entry entries c.args.seat (Admits asked) answer =
+    pushed_entries c.reserve.new.self.items c.enter.new.history.items (record { seat = c.args.seat; call = Admit c.in-Ok.asked; reply = answer }) c.enter.ensures
     ∙ ap (λ (es : List Entry). with_entry (map recorded_of es) c.args.seat (Admits (asked_of c.in-Ok.asked)) answer) c.reserve.ensures.items
     ∙ ap (λ (a : Asked). with_entry entries c.args.seat (Admits a) answer) asked_copy in
     let state = c.state_follows_history.ensures.granted d entries rows c.self.inside.next c.args.seat asked c.self.invariant.legal c.self.invariant.state refusal in
@@ -45,7 +44,7 @@ invariant_of-self-in-Ok-grant c =
     ∙ ap (λ (rs : List Row). rs ++ c.in-Ok-grant.row ∷ []) c.reserve-2.ensures.same
     ∙ ap (λ (r : Row). rows ++ r ∷ []) c.in-Ok-grant.ensures.1
     ∙ ap (λ (k : ℕ). rows ++ granted_row d c.self.inside.next k asked ∷ []) c.self.invariant.counted in
-    subst (λ (rs : List Row). IsRunning d (map recorded_of c.push-in-Ok-grant.new.self.items) rs (c.self.inside.next + 1) c.self.inside.sealed) (sym grown)
+    subst (λ (rs : List Row). IsRunning d (map recorded_of c.enter.new.history.items) rs (c.self.inside.next + 1) c.self.inside.sealed) (sym grown)
     (subst (λ (es : List Recorded). IsRunning d es (rows ++ granted_row d c.self.inside.next (seals entries) asked ∷ []) (c.self.inside.next + 1) c.self.inside.sealed) (ap (with_entry entries c.args.seat (Admits asked)) reply ∙ sym items) after)
 
 pub invariant_of-self-in-Err : goal.invariant_of-self-in-Err
@@ -58,14 +57,13 @@ invariant_of-self-in-Err c =
     let asked_copy : asked_of c.in-Ok.asked ≡ asked = ap asked_by c.in-Ok.ensures in
     let refusal : refusal_of d rows asked ≡ Some c.in-Err.refused = ap (λ (rs : List Row). refusal_of d rs asked) (sym c.reserve-2.ensures.same) ∙ c.in-Err.ensures in
     let reply = request_reply d entries rows c.self.inside.next c.self.inside.sealed asked (Some c.in-Err.refused) c.self.invariant refusal in
-    let pushed = rw c.unwrap-in-Err.ensures at c.push-in-Err.ensures.items in
-    let items : map recorded_of c.push-in-Err.new.self.items ≡ with_entry entries c.args.seat (Admits asked) (RefusedFor c.in-Err.refused) =
-    pushed_entries c.reserve.new.self.items c.push-in-Err.new.self.items (record { seat = c.args.seat; call = Admit c.in-Ok.asked; reply = RefusedFor c.in-Err.refused }) pushed
+    let items : map recorded_of c.enter-in-Err.new.history.items ≡ with_entry entries c.args.seat (Admits asked) (RefusedFor c.in-Err.refused) =
+    pushed_entries c.reserve.new.self.items c.enter-in-Err.new.history.items (record { seat = c.args.seat; call = Admit c.in-Ok.asked; reply = RefusedFor c.in-Err.refused }) c.enter-in-Err.ensures
     ∙ ap (λ (es : List Entry). with_entry (map recorded_of es) c.args.seat (Admits (asked_of c.in-Ok.asked)) (RefusedFor c.in-Err.refused)) c.reserve.ensures.items
     ∙ ap (λ (a : Asked). with_entry entries c.args.seat (Admits a) (RefusedFor c.in-Err.refused)) asked_copy in
     let state = c.state_follows_history.ensures.refused d entries rows c.self.inside.next c.args.seat (Admits asked) c.in-Err.refused c.self.invariant.state reply in
     let after = run_on c.state_follows_history.ensures.goes_on c.state_follows_history.ensures.counted d entries rows rows c.self.inside.next c.self.inside.next c.self.inside.sealed c.args.seat (Admits asked) refl c.self.invariant few (omega arith) state in
-    subst (λ (rs : List Row). IsRunning d (map recorded_of c.push-in-Err.new.self.items) rs c.self.inside.next c.self.inside.sealed) (sym c.reserve-2.ensures.same)
+    subst (λ (rs : List Row). IsRunning d (map recorded_of c.enter-in-Err.new.history.items) rs c.self.inside.next c.self.inside.sealed) (sym c.reserve-2.ensures.same)
     (subst (λ (es : List Recorded). IsRunning d es rows c.self.inside.next c.self.inside.sealed) (ap (with_entry entries c.args.seat (Admits asked)) reply ∙ sym items) after)
 
 pub returns-in-Err : goal.returns-in-Err
@@ -78,13 +76,12 @@ returns-in-Err c =
     let asked_copy : asked_of c.in-Ok.asked ≡ asked = ap asked_by c.in-Ok.ensures in
     let refusal : refusal_of d rows asked ≡ Some c.in-Err.refused = ap (λ (rs : List Row). refusal_of d rs asked) (sym c.reserve-2.ensures.same) ∙ c.in-Err.ensures in
     let reply = request_reply d entries rows c.self.inside.next c.self.inside.sealed asked (Some c.in-Err.refused) c.self.invariant refusal in
-    let pushed = rw c.unwrap-in-Err.ensures at c.push-in-Err.ensures.items in
-    let items : map recorded_of c.push-in-Err.new.self.items ≡ with_entry entries c.args.seat (Admits asked) (RefusedFor c.in-Err.refused) =
-    pushed_entries c.reserve.new.self.items c.push-in-Err.new.self.items (record { seat = c.args.seat; call = Admit c.in-Ok.asked; reply = RefusedFor c.in-Err.refused }) pushed
+    let items : map recorded_of c.enter-in-Err.new.history.items ≡ with_entry entries c.args.seat (Admits asked) (RefusedFor c.in-Err.refused) =
+    pushed_entries c.reserve.new.self.items c.enter-in-Err.new.history.items (record { seat = c.args.seat; call = Admit c.in-Ok.asked; reply = RefusedFor c.in-Err.refused }) c.enter-in-Err.ensures
     ∙ ap (λ (es : List Entry). with_entry (map recorded_of es) c.args.seat (Admits (asked_of c.in-Ok.asked)) (RefusedFor c.in-Err.refused)) c.reserve.ensures.items
     ∙ ap (λ (a : Asked). with_entry entries c.args.seat (Admits a) (RefusedFor c.in-Err.refused)) asked_copy in
     let old : Administration = record { domain = d; entries = entries } in
-    let new : Administration = record { domain = d; entries = map recorded_of c.push-in-Err.new.self.items } in
+    let new : Administration = record { domain = d; entries = map recorded_of c.enter-in-Err.new.history.items } in
     let result : Result Receipt Refused = Err c.in-Err.refused in
     subst (λ (a : Administration). Answers a new c.args.seat (Admits asked) result) c.self.view_is
     (answers_entered old new c.args.seat (Admits asked) result (refusal_is_entered d rows asked c.in-Err.refused refusal) (omega (arith, few, c.self.invariant.counted)) refl (sym reply) items)

@@ -1,4 +1,4 @@
-use Rattle.std.proofs.Common.{◌≡◌, ◌≤◌, ◌∙◌, ap, sym, arith, subst, List, map}
+use Rattle.std.proofs.Common.{ap, sym, arith, subst, List, map}
 use Rattle.cqf_model.specs.declared.topology.Row.{Row}
 use Rattle.cqf_model.specs.Domain.{budget}
 use Rattle.cqf_model.specs.Table.{link_cost}

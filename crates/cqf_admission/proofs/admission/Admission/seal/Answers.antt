@@ -1,22 +1,16 @@
-use Rattle.std.proofs.Common.{◌≡◌, ◌∙◌, ◌-◌, ◌+◌, ◌<◌, ap, sym, refl, arith, subst, ℕ, List, length, map, ◌++◌, ◌∷◌, [], Some, None}
-use Rattle.std.specs.Prelude.{Result, Err, Ok, filter}
-use Rattle.std.proofs.lemmas.List.{length-map}
-use Rattle.cqf_units.specs.declared.reservations.Cycle.{Cycle}
-use Rattle.cqf_model.specs.declared.history.Receipt.{Receipt}
-use Rattle.cqf_model.specs.declared.history.Refused.{Refused}
-use Rattle.cqf_model.specs.declared.history.Reply.{Reply}
-use Rattle.cqf_model.specs.declared.history.Reply.TheVariants.{Accepted, Sealed, Refused as RefusedFor}
+use Rattle.std.proofs.Common.{◌≡◌, ◌∙◌, ◌+◌, ap, sym, refl, arith, subst, List, map}
+use Rattle.std.specs.Prelude.{Result, Ok, filter}
+use Rattle.cqf_model.specs.declared.history.Reply.TheVariants.{Sealed}
 use Rattle.cqf_model.specs.declared.topology.Row.{Row}
-use Rattle.cqf_model.specs.History.{Act, Recorded, Seals, Withdraws, reply_to, seals, table_at, withdraw_reply, withdraw_row}
-use Rattle.cqf_model.specs.Table.{is_held, row_named}
-use Rattle.cqf_laws_history.specs.StateLaws.{IsState, ended_row, with_entry}
-use Rattle.cqf_admission.specs.Admission.{Administration, Answers, Closes, IsRunning, recorded_of}
-use Rattle.cqf_admission.specs.Rows.{ended_at}
+use Rattle.cqf_model.specs.History.{Recorded, Seals, seals, table_at}
+use Rattle.cqf_model.specs.Table.{is_held}
+use Rattle.cqf_laws_history.specs.StateLaws.{with_entry}
+use Rattle.cqf_admission.specs.Admission.{Administration, Closes, IsRunning, recorded_of}
 use Rattle.cqf_admission.specs.Tables.{CycleTable}
-use Rattle.cqf_admission.specs.declared.entries.Call.TheVariants.{Seal, Withdraw}
+use Rattle.cqf_admission.specs.declared.entries.Call.TheVariants.{Seal}
 use Rattle.cqf_admission.specs.declared.entries.Entry.{Entry}
 use Rattle.cqf_admission.specs.declared.entries.SealFault.{SealFault}
-use Rattle.cqf_admission.proofs.RunLemmas.{answers_entered, ended_at_number, pushed_entries, run_on, run_sealed, withdrawal_is_entered, withdrawal_reply}
+use Rattle.cqf_admission.proofs.RunLemmas.{pushed_entries, run_sealed}
 use Rattle.cqf_admission.proofs.admission.Admission.seal.Goals as goal
 
 pub invariant_of-self-2 : goal.invariant_of-self-2
@@ -24,12 +18,11 @@ invariant_of-self-2 c =
     let d = c.self.inside.domain in
     let entries = map recorded_of c.self.inside.history.items in
     let rows = c.self.inside.held.rows in
-    let pushed = rw c.unwrap.ensures at c.push.ensures.items in
-    let items : map recorded_of c.push.new.self.items ≡ with_entry entries c.args.seat Seals Sealed =
-    pushed_entries c.reserve.new.self.items c.push.new.self.items (record { seat = c.args.seat; call = Seal; reply = Sealed }) pushed
+    let items : map recorded_of c.enter.new.history.items ≡ with_entry entries c.args.seat Seals Sealed =
+    pushed_entries c.reserve.new.self.items c.enter.new.history.items (record { seat = c.args.seat; call = Seal; reply = Sealed }) c.enter.ensures
     ∙ ap (λ (es : List Entry). with_entry (map recorded_of es) c.args.seat Seals Sealed) c.reserve.ensures.items in
     let after = run_sealed c.state_follows_history.ensures.goes_on c.state_follows_history.ensures.counted c.state_follows_history.ensures.lets_go d entries rows c.self.inside.next c.self.inside.sealed c.args.seat c.self.invariant (omega arith) in
-    subst (λ (rs : List Row). IsRunning d (map recorded_of c.push.new.self.items) rs c.self.inside.next (c.self.inside.sealed + 1)) (sym c.let_go.ensures)
+    subst (λ (rs : List Row). IsRunning d (map recorded_of c.enter.new.history.items) rs c.self.inside.next (c.self.inside.sealed + 1)) (sym c.let_go.ensures)
     (subst (λ (es : List Recorded). IsRunning d es (filter (λ (row : Row). is_held row (c.self.inside.sealed + 1)) rows) c.self.inside.next (c.self.inside.sealed + 1)) (sym items) after)
 
 pub returns : goal.returns
@@ -37,15 +30,14 @@ returns c =
     let d = c.self.inside.domain in
     let entries = map recorded_of c.self.inside.history.items in
     let rows = c.self.inside.held.rows in
-    let pushed = rw c.unwrap.ensures at c.push.ensures.items in
-    let items : map recorded_of c.push.new.self.items ≡ with_entry entries c.args.seat Seals Sealed =
-    pushed_entries c.reserve.new.self.items c.push.new.self.items (record { seat = c.args.seat; call = Seal; reply = Sealed }) pushed
+    let items : map recorded_of c.enter.new.history.items ≡ with_entry entries c.args.seat Seals Sealed =
+    pushed_entries c.reserve.new.self.items c.enter.new.history.items (record { seat = c.args.seat; call = Seal; reply = Sealed }) c.enter.ensures
     ∙ ap (λ (es : List Entry). with_entry (map recorded_of es) c.args.seat Seals Sealed) c.reserve.ensures.items in
     let old : Administration = record { domain = d; entries = entries } in
-    let new : Administration = record { domain = d; entries = map recorded_of c.push.new.self.items } in
+    let new : Administration = record { domain = d; entries = map recorded_of c.enter.new.history.items } in
     let result : Result CycleTable SealFault = Ok c.new.result in
     let closed = c.state_follows_history.ensures.closes d entries rows c.self.inside.next c.args.seat c.self.invariant.state in
-    let table : c.new.result.rows ≡ table_at d (map recorded_of c.push.new.self.items) (seals entries) =
+    let table : c.new.result.rows ≡ table_at d (map recorded_of c.enter.new.history.items) (seals entries) =
     c.new.ensures.rows ∙ c.in-Ok.ensures ∙ c.rows.ensures ∙ sym closed ∙ ap (λ (es : List Recorded). table_at d es (seals entries)) (sym items) in
     subst (λ (a : Administration). Closes a new c.args.seat result) c.self.view_is
     (omega (arith, c.if-self-ge-MOST_SEALS.false, c.self.invariant.counted), refl, items, c.new.ensures.cycle ∙ c.self.invariant.counted, table)

@@ -1,22 +1,17 @@
-use Rattle.std.proofs.Common.{◌≡◌, ◌∙◌, ◌-◌, ◌+◌, ◌<◌, ap, sym, refl, arith, subst, ℕ, List, length, map, ◌++◌, ◌∷◌, [], Some, None}
-use Rattle.std.specs.Prelude.{Result, Err, Ok, string_bytes}
+use Rattle.std.proofs.Common.{◌≡◌, ◌∙◌, ◌-◌, ◌<◌, ap, sym, refl, arith, subst, ℕ, List, length, map, None}
+use Rattle.std.specs.Prelude.{Result, Err, string_bytes}
 use Rattle.std.proofs.lemmas.List.{length-map}
-use Rattle.cqf_units.specs.declared.reservations.Cycle.{Cycle}
 use Rattle.cqf_model.specs.declared.history.Receipt.{Receipt}
 use Rattle.cqf_model.specs.declared.history.Refused.{Refused}
 use Rattle.cqf_model.specs.declared.history.Reply.{Reply}
-use Rattle.cqf_model.specs.declared.history.Reply.TheVariants.{Accepted, Sealed, Refused as RefusedFor}
+use Rattle.cqf_model.specs.declared.history.Reply.TheVariants.{Accepted, Refused as RefusedFor}
 use Rattle.cqf_model.specs.declared.topology.Row.{Row}
-use Rattle.cqf_model.specs.History.{Act, Recorded, Seals, Withdraws, reply_to, seals, table_at, withdraw_reply, withdraw_row}
-use Rattle.cqf_model.specs.Table.{is_held, row_named}
-use Rattle.cqf_laws_history.specs.StateLaws.{IsState, ended_row, with_entry}
-use Rattle.cqf_admission.specs.Admission.{Administration, Answers, Closes, IsRunning, recorded_of}
-use Rattle.cqf_admission.specs.Rows.{ended_at}
-use Rattle.cqf_admission.specs.Tables.{CycleTable}
-use Rattle.cqf_admission.specs.declared.entries.Call.TheVariants.{Seal, Withdraw}
+use Rattle.cqf_model.specs.History.{Recorded, Withdraws, reply_to, seals, withdraw_reply, withdraw_row}
+use Rattle.cqf_laws_history.specs.StateLaws.{ended_row, with_entry}
+use Rattle.cqf_admission.specs.Admission.{Administration, Answers, IsRunning, recorded_of}
+use Rattle.cqf_admission.specs.declared.entries.Call.TheVariants.{Withdraw}
 use Rattle.cqf_admission.specs.declared.entries.Entry.{Entry}
-use Rattle.cqf_admission.specs.declared.entries.SealFault.{SealFault}
-use Rattle.cqf_admission.proofs.RunLemmas.{answers_entered, ended_at_number, pushed_entries, run_on, run_sealed, withdrawal_is_entered, withdrawal_reply}
+use Rattle.cqf_admission.proofs.RunLemmas.{answers_entered, ended_at_number, pushed_entries, run_on, withdrawal_is_entered, withdrawal_reply}
 use Rattle.cqf_admission.proofs.admission.Admission.withdraw.Goals as goal
 
 pub find_open-requires : goal.find_open-requires
@@ -39,9 +34,8 @@ invariant_of-self-in-Ok-find_open c =
     ∙ ap (withdraw_reply effect) open_row.named
     ∙ ap (withdraw_row effect row.no) open_row.open_end
     ∙ ap (λ (n : ℕ). withdraw_row effect n None) open_row.numbered in
-    let pushed = rw c.unwrap.ensures at c.push.ensures.items in
-    let items : map recorded_of c.push.new.self.items ≡ with_entry entries c.args.seat (Withdraws name) answer =
-    pushed_entries c.reserve.new.self.items c.push.new.self.items (record { seat = c.args.seat; call = Withdraw c.in-Ok.asked; reply = answer }) pushed
+    let items : map recorded_of c.enter.new.history.items ≡ with_entry entries c.args.seat (Withdraws name) answer =
+    pushed_entries c.reserve.new.self.items c.enter.new.history.items (record { seat = c.args.seat; call = Withdraw c.in-Ok.asked; reply = answer }) c.enter.ensures
     ∙ ap (λ (es : List Entry). with_entry (map recorded_of es) c.args.seat (Withdraws (string_bytes c.in-Ok.asked)) answer) c.reserve.ensures.items
     ∙ ap (λ (n : List ℕ). with_entry entries c.args.seat (Withdraws n) answer) c.in-Ok.ensures.ok in
     let held = c.state_follows_history.ensures.held d entries rows c.self.inside.next c.self.invariant.legal c.self.invariant.state in
@@ -49,7 +43,7 @@ invariant_of-self-in-Ok-find_open c =
     let after = run_on c.state_follows_history.ensures.goes_on c.state_follows_history.ensures.counted d entries rows (map (ended_row row.no (seals entries)) rows) c.self.inside.next c.self.inside.next effect c.args.seat (Withdraws name) refl c.self.invariant few (omega arith) state in
     let ended_rows : c.end.new.self.rows ≡ map (ended_row row.no (seals entries)) rows =
     c.end.ensures ∙ ended_at_number rows c.in-Ok-find_open.found.0 effect row open_row.is held.numbers ∙ ap (λ (k : ℕ). map (ended_row row.no k) rows) c.self.invariant.counted in
-    subst (λ (rs : List Row). IsRunning d (map recorded_of c.push.new.self.items) rs c.self.inside.next effect) (sym ended_rows)
+    subst (λ (rs : List Row). IsRunning d (map recorded_of c.enter.new.history.items) rs c.self.inside.next effect) (sym ended_rows)
     (subst (λ (es : List Recorded). IsRunning d es (map (ended_row row.no (seals entries)) rows) c.self.inside.next effect) (ap (with_entry entries c.args.seat (Withdraws name)) reply ∙ sym items) after)
 
 pub invariant_of-self-in-Err : goal.invariant_of-self-in-Err
@@ -61,9 +55,8 @@ invariant_of-self-in-Err c =
     let few : length entries - c.self.inside.sealed < 100000 = omega (arith, c.if-len-self-ge-MOST_CALLS.false, c.len.ensures, length-map c.self.inside.history.items recorded_of) in
     let answer : Reply = RefusedFor c.in-Err.refused in
     let reply : reply_to d entries (Withdraws name) ≡ answer = withdrawal_reply d entries rows c.self.inside.next c.self.inside.sealed name c.self.invariant ∙ c.in-Err.ensures c.self.inside.sealed in
-    let pushed = rw c.unwrap-in-Err.ensures at c.push-in-Err.ensures.items in
-    let items : map recorded_of c.push-in-Err.new.self.items ≡ with_entry entries c.args.seat (Withdraws name) answer =
-    pushed_entries c.reserve.new.self.items c.push-in-Err.new.self.items (record { seat = c.args.seat; call = Withdraw c.in-Ok.asked; reply = answer }) pushed
+    let items : map recorded_of c.enter-in-Err.new.history.items ≡ with_entry entries c.args.seat (Withdraws name) answer =
+    pushed_entries c.reserve.new.self.items c.enter-in-Err.new.history.items (record { seat = c.args.seat; call = Withdraw c.in-Ok.asked; reply = answer }) c.enter-in-Err.ensures
     ∙ ap (λ (es : List Entry). with_entry (map recorded_of es) c.args.seat (Withdraws (string_bytes c.in-Ok.asked)) answer) c.reserve.ensures.items
     ∙ ap (λ (n : List ℕ). with_entry entries c.args.seat (Withdraws n) answer) c.in-Ok.ensures.ok in
     let state = c.state_follows_history.ensures.refused d entries rows c.self.inside.next c.args.seat (Withdraws name) c.in-Err.refused c.self.invariant.state reply in
@@ -79,13 +72,12 @@ returns-in-Err c =
     let few : length entries - c.self.inside.sealed < 100000 = omega (arith, c.if-len-self-ge-MOST_CALLS.false, c.len.ensures, length-map c.self.inside.history.items recorded_of) in
     let answer : Reply = RefusedFor c.in-Err.refused in
     let reply : reply_to d entries (Withdraws name) ≡ answer = withdrawal_reply d entries rows c.self.inside.next c.self.inside.sealed name c.self.invariant ∙ c.in-Err.ensures c.self.inside.sealed in
-    let pushed = rw c.unwrap-in-Err.ensures at c.push-in-Err.ensures.items in
-    let items : map recorded_of c.push-in-Err.new.self.items ≡ with_entry entries c.args.seat (Withdraws name) answer =
-    pushed_entries c.reserve.new.self.items c.push-in-Err.new.self.items (record { seat = c.args.seat; call = Withdraw c.in-Ok.asked; reply = answer }) pushed
+    let items : map recorded_of c.enter-in-Err.new.history.items ≡ with_entry entries c.args.seat (Withdraws name) answer =
+    pushed_entries c.reserve.new.self.items c.enter-in-Err.new.history.items (record { seat = c.args.seat; call = Withdraw c.in-Ok.asked; reply = answer }) c.enter-in-Err.ensures
     ∙ ap (λ (es : List Entry). with_entry (map recorded_of es) c.args.seat (Withdraws (string_bytes c.in-Ok.asked)) answer) c.reserve.ensures.items
     ∙ ap (λ (n : List ℕ). with_entry entries c.args.seat (Withdraws n) answer) c.in-Ok.ensures.ok in
     let old : Administration = record { domain = d; entries = entries } in
-    let new : Administration = record { domain = d; entries = map recorded_of c.push-in-Err.new.self.items } in
+    let new : Administration = record { domain = d; entries = map recorded_of c.enter-in-Err.new.history.items } in
     let result : Result Receipt Refused = Err c.in-Err.refused in
     subst (λ (a : Administration). Answers a new c.args.seat (Withdraws name) result) c.self.view_is
     (answers_entered old new c.args.seat (Withdraws name) result (withdrawal_is_entered rows name c.in-Err.refused c.in-Err.ensures) (omega (arith, few, c.self.invariant.counted)) refl (sym reply) items)

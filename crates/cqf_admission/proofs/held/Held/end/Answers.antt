@@ -1,4 +1,4 @@
-use Rattle.std.proofs.Common.{◌≡◌, ℕ, ◌<◌, ◌∙◌, ap, sym, arith, List, length}
+use Rattle.std.proofs.Common.{ℕ, ◌<◌, ◌∙◌, ap, sym, arith, List, length}
 use Rattle.std.specs.Prelude.{map}
 use Rattle.cqf_model.specs.declared.topology.Row.{Row}
 use Rattle.cqf_admission.specs.Rows.{HeldRows, ended_at}
