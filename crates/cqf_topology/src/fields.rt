@@ -1,5 +1,6 @@
 //! The tables and values of a TOML document.
 ghost use Rattle.std.specs.Prelude.{◌≡◌, is_none, option_map, option_and_then, ok_or};
+ghost use Rattle.std.specs.Result.{result_map_both};
 ghost use Rattle.toml.specs.View.{view, table_view, items_view};
 ghost use Rattle.toml.specs.Data.{as_table, as_array};
 ghost use Rattle.cqf_topology.specs.Fields.{Gives, value_at, first_absent, first_absent_within, first_missing, document_of, whole_document, read_at, number_from, name_from, are_tables};
@@ -148,7 +149,7 @@ pub(crate) fn name_at(table: &Table, key: Key) -> Result<Name, StreamsFault>
 
 /// The elements of an array at a key.
 pub(crate) fn array_at<'a>(table: &'a Table, key: Key) -> Result<&'a [Value], StreamsFault>
-    ensures { Gives StreamsFault.Memory (λ values. items_view values.now) result (read_at key as_array (table_view table.now)) }
+    ensures { result_map_both (λ values. items_view values.now) (λ fault. fault) result ≡ read_at key as_array (table_view table.now) }
 {
     match entry(table, key).and_then(Value::as_array) {
         Some(values) => Ok(values.as_slice()),
