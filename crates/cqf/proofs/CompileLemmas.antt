@@ -23,22 +23,24 @@ use Rattle.cqf_topology.specs.Fields.{and_then, refuse}
 use Rattle.cqf.specs.Bytes.{EndsWith}
 use Rattle.cqf.specs.CompileJob.{AreAllHeld, admitted_from, compile_input, with_asked}
 use Rattle.cqf.specs.FaultLines.{domain_line, stream_line, streams_line}
-use Rattle.cqf.specs.Input.{IsRefused, or_line, two_parts}
+use Rattle.cqf.specs.InputParts.{IsRefused, or_line, two_parts}
 use Rattle.cqf.specs.declared.stops.Stop.{Stop}
 
--- none of two refusals is due
+-- where the first of two refusals that is due is none, neither is
 or_else-none : (a b : Option Refused) → or_else a b ≡ None → (a ≡ None) × (b ≡ None)
 or_else-none None b h = (refl, h)
 or_else-none (Some x) b h = cc
 
+-- a refusal that hangs on a test isn't due where the test fails
 refused_if-none : (test : Bool) (refused : Refused) → refused_if test refused ≡ None → test ≡ false
 refused_if-none true refused h = cc
 refused_if-none false refused h = refl
 
+-- a bound that isn't reached
 below-bound : (bound n : ℕ) → nat_le bound n ≡ false → n < bound
 below-bound bound n h = grind (arith, common_steps)
 
--- nor is the seventh of eight
+-- the seventh of eight refusals isn't due where none of them is
 seventh-none : (a b c d e f g h : Option Refused) → or_else a (or_else b (or_else c (or_else d (or_else e (or_else f (or_else g h)))))) ≡ None → g ≡ None
 seventh-none a b c d e f g h all =
     let behind_a = (or_else-none a _ all).1 in
@@ -125,6 +127,7 @@ entered_unless AlreadyWithdrawn full memory = refl
 entered_unless HistoryFull full memory = absurd (full refl)
 entered_unless Memory full memory = absurd (memory refl)
 
+-- a refusal is want of memory, or it isn't
 is_memory : (refused : Refused) → (refused ≡ Memory) ⊎ (refused ≢ Memory)
 is_memory Memory = inl refl
 is_memory BadName = inr (λ h. cc)
@@ -171,6 +174,7 @@ asked_texts : (requests : List Request) → map asked_by (map request_text reque
 asked_texts [] = refl
 asked_texts (request ∷ requests) = ap (λ rest. asked_of request ∷ rest) (asked_texts requests)
 
+-- the domain and the streams that are read are the input's
 pub compile_input-is : (input domain_text streams_text : List ℕ) (domain : Domain) (requests : List Request) → two_parts (parts_of input) ≡ Ok (domain_text, streams_text) → domain_of_text domain_text ≡ Ok domain → streams_of_text streams_text ≡ Ok (map request_text requests) → compile_input input ≡ Ok (domain, map asked_of requests)
 compile_input-is input domain_text streams_text domain requests parts domain_is streams_are =
     ap (λ found. and_then found (λ texts. and_then (or_line domain_line (domain_of_text texts.0)) (λ d. and_then (or_line streams_line (streams_of_text texts.1)) (λ read. Ok (d, map asked_by read))))) parts

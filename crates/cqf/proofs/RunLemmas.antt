@@ -6,7 +6,7 @@ use Rattle.std.specs.Io.KnownBytes.{Consumes, IsAtEnd}
 use Rattle.std.proofs.lemmas.List.{append-nil}
 use Rattle.cqf.specs.Bytes.{line_of, EndsInput, EndsWith}
 use Rattle.cqf.specs.Words.{EndsWords, Mean}
-use Rattle.cqf.specs.Run.{first_line, input_of, words_of, Ends, HandsOver, IsDone, Tells, IsOutput, IsRefusal, IsStopped}
+use Rattle.cqf.specs.Run.{first_line, input_of, words_of, Ends, HandsOver, HasTold, IsDone, IsInputFault, IsOutputFault, Tells, IsOutput, IsRefusal, IsStopped}
 use Rattle.cqf.specs.declared.stops.Stop.{Stop}
 use Rattle.cqf.specs.declared.words.Job.{Job}
 use Rattle.cqf.specs.declared.words.Job.TheVariants.{Compile, Line, Port}
@@ -29,7 +29,7 @@ IsStopped-given [] bytes stop some e = absurd (some refl)
 IsStopped-given (word ∷ words) bytes stop some e = record {
   help = e.help;
   refused = λ one. absurd (elim e.statuses [ inl zero_is ↦ omega arith | inr other ↦ elim other [ inl two ↦ omega arith | inr three ↦ omega arith ] ]);
-  misused = λ two. record { short = λ none. absurd (some none); cause = inr (e.no_job (λ three. omega arith)) };
+  misused = λ two. record { short = λ none. absurd (some none); cause = inr ((λ none. absurd (some none)), e.mistake two, e.no_job (λ three. omega arith)) };
   memory = e.memory;
   fault = λ four. absurd (elim e.statuses [ inl zero_is ↦ omega arith | inr other ↦ elim other [ inl two ↦ omega arith | inr three ↦ omega arith ] ]);
 }
@@ -38,11 +38,11 @@ pub IsStopped-by_words : (words : List (List ℕ)) (known : Option (List ℕ)) (
 IsStopped-by_words words known stop some e = IfSome-any known _ (λ bytes. IsStopped-given words bytes stop some e)
 
 -- words of the first line that mean no job stop it too
-pub IsStopped-by_line : (bytes : List ℕ) (stop : Stop) → length bytes ≤ 67108864 → EndsWords (words_of [] bytes) stop → IsStopped [] bytes stop
-IsStopped-by_line bytes stop short e = record {
+pub IsStopped-by_line : (bytes : List ℕ) (stop : Stop) → length bytes ≤ 67108864 → IsUtf8 (first_line bytes) → EndsWords (words_of [] bytes) stop → IsStopped [] bytes stop
+IsStopped-by_line bytes stop short text e = record {
   help = e.help;
   refused = λ one. absurd (elim e.statuses [ inl zero_is ↦ omega arith | inr other ↦ elim other [ inl two ↦ omega arith | inr three ↦ omega arith ] ]);
-  misused = λ two. record { short = λ none. short; cause = inr (e.no_job (λ three. omega arith)) };
+  misused = λ two. record { short = λ none. short; cause = inr ((λ none. text), e.mistake two, e.no_job (λ three. omega arith)) };
   memory = e.memory;
   fault = λ four. absurd (elim e.statuses [ inl zero_is ↦ omega arith | inr other ↦ elim other [ inl two ↦ omega arith | inr three ↦ omega arith ] ]);
 }
@@ -134,7 +134,20 @@ Ends-ran words known before after faults_before faults_after output status ran h
       quiet = λ some not_four. absurd (elim h.statuses [ inl zero_is ↦ some zero_is | inr four ↦ not_four four ]);
       refused = λ one. absurd (not_one one);
       misused = λ two. absurd (not_two two);
+      memory = λ three. absurd (elim h.statuses [ inl zero_is ↦ omega arith | inr four ↦ omega arith ]);
+      fault = λ four. IfSome-map known _ _ (λ bytes is_done. inr (output, inl is_done, h.front, h.fault four)) ran;
     }
+
+-- a stop that ends with status 4 is an input fault, or help that couldn't be written
+fault_of_stop : (words : List (List ℕ)) (bytes : List ℕ) (before after faults_before faults_after : Option (List ℕ)) (stop : Stop) (status : ℕ) → status ≡ 4 → IsStopped words bytes stop → Tells stop before after faults_before faults_after status → IsInputFault before after faults_before faults_after ⊎ IsOutputFault words bytes before after faults_before faults_after
+fault_of_stop words bytes before after faults_before faults_after stop status four s t = elim t.statuses [
+  | inl same ↦
+      let is : stop.status ≡ 4 = sym same ∙ four in
+      inl (t.quiet (λ none. omega arith), subst (λ text. HasTold faults_before faults_after text) (s.fault is) (t.line (λ none. omega arith) (λ three. omega arith)))
+  | inr fails ↦
+      let told = t.fault fails.0 four in
+      inr (stop.text.items, inr (s.help fails.0), told.0, told.1)
+]
 
 -- a run that is stopped ends as it was stopped
 pub Ends-stopped : (words : List (List ℕ)) (known before after faults_before faults_after : Option (List ℕ)) (stop : Stop) (status : ℕ) → stop.status ≤ 4 → IfSome known (λ bytes. IsStopped words bytes stop) → Tells stop before after faults_before faults_after status → Ends words known before after faults_before faults_after status
@@ -153,4 +166,6 @@ Ends-stopped words known before after faults_before faults_after stop status few
       misused = λ two.
           let is : stop.status ≡ 2 = sym (same (λ four. omega arith)) ∙ two in
           IfSome-map known _ _ (λ bytes s. (stop, s.misused is, t.line (λ none. omega arith) (λ three. omega arith))) stopped;
+      memory = λ three. t.memory_line (sym (same (λ four. omega arith)) ∙ three);
+      fault = λ four. IfSome-map known _ _ (λ bytes s. fault_of_stop words bytes before after faults_before faults_after stop status four s t) stopped;
     }

@@ -60,6 +60,11 @@ asked words kind (inr among) known shown =
     let P : ErrorKind → Type 0 = λ k. IsAmong k (fault_of cqf_app words) in
     elim shown [ inl h ↦ inl (subst P h among) | inr v ↦ inr (subst P v among) ]
 
+-- an error that isn't for memory is one of the words' faults
+among_faults : (words : List Text) (kind : ErrorKind) → (kind ≡ OutOfMemory) ⊎ IsAmong kind (fault_of cqf_app words) → kind ≢ OutOfMemory → IsAmong kind (fault_of cqf_app words)
+among_faults words kind (inl none) known = absurd (known none)
+among_faults words kind (inr among) known = among
+
 not_three : (stop : Stop) → stop.status ≡ 0 → stop.status ≢ 3
 not_three stop zero three = omega arith
 
@@ -68,6 +73,7 @@ EndsWords-by_fault words kind stop h e = record {
   statuses = e.statuses;
   no_job = λ known job. no_job-by_fault words kind h (e.known known) job;
   help = λ zero. asked words kind h (e.known (not_three stop zero)) (e.help zero);
+  mistake = λ two. inl (kind, among_faults words kind h (e.known (λ three. omega arith)), e.mistake two);
   memory = e.memory;
 }
 
@@ -82,20 +88,21 @@ EndsWords-by_error app words error stop same fails e =
     EndsWords-by_fault words (kind_of error) stop (subst P same (fails (ap is_simple_and_free same ∙ simple))) e
 
 -- where clap takes the words, and no job is read of them, they mean none
-pub EndsWords-by_rate : (words : List Text) (stop : Stop) → EndsBy InvalidValue stop → ((job : Job) → ¬ IsJob job (subcommand_of cqf_app words)) → EndsWords words stop
-EndsWords-by_rate words stop e none = record {
+pub EndsWords-by_rate : (words : List Text) (stop : Stop) → EndsBy InvalidValue stop → fault_of cqf_app words ≡ [] → ((job : Job) → ¬ IsJob job (subcommand_of cqf_app words)) → EndsWords words stop
+EndsWords-by_rate words stop e taken none = record {
   statuses = e.statuses;
   no_job = λ known job m. none job m.read;
   help = λ zero. elim (e.help zero) [ inl h ↦ (cc) | inr h ↦ (cc) ];
+  mistake = λ two. inr (taken, none);
   memory = e.memory;
 }
 
 -- the rows of the command's matches, for a command that is the program's
-pub EndsWords-by_matches : (app : App) (words : List Text) (matches : ArgMatches) (stop : Stop) → app ≡ cqf_app → HasMatchesOf app words matches → EndsBy InvalidValue stop → ((job : Job) → ¬ IsJob job (subcommand_rows_of matches)) → EndsWords words stop
-EndsWords-by_matches app words matches stop same has e none =
+pub EndsWords-by_matches : (app : App) (words : List Text) (matches : ArgMatches) (stop : Stop) → app ≡ cqf_app → (is_simple_and_free app ≡ true → fault_of app words ≡ []) → HasMatchesOf app words matches → EndsBy InvalidValue stop → ((job : Job) → ¬ IsJob job (subcommand_rows_of matches)) → EndsWords words stop
+EndsWords-by_matches app words matches stop same taken has e none =
     let rows : subcommand_rows_of matches ≡ subcommand_of cqf_app words = (has (ap is_simple same ∙ refl)).1 ∙ ap (λ (a : App). subcommand_of a words) same in
     let P : Option (Text × List Row) → Type 0 = λ r. (job : Job) → ¬ IsJob job r in
-    EndsWords-by_rate words stop e (subst P rows none)
+    EndsWords-by_rate words stop e (ap (λ (a : App). fault_of a words) (sym same) ∙ taken (ap is_simple_and_free same ∙ simple)) (subst P rows none)
 
 -- and the job that is read of them is what the words mean
 pub Mean-by_matches : (app : App) (words : List Text) (matches : ArgMatches) (job : Job) → app ≡ cqf_app → (is_simple_and_free app ≡ true → fault_of app words ≡ []) → HasMatchesOf app words matches → IsJob job (subcommand_rows_of matches) → Mean words job

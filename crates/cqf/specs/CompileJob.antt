@@ -12,7 +12,7 @@ use Rattle.cqf_admission.specs.Asking.{asked_by}
 use Rattle.cqf_admission.specs.Tables.{CycleTable}
 use Rattle.cqf_compile.specs.ConfigText.{config_text}
 use Rattle.cqf.specs.FaultLines.{domain_line, stream_line, streams_line}
-use Rattle.cqf.specs.Input.{or_line, two_parts}
+use Rattle.cqf.specs.InputParts.{or_line, two_parts}
 
 -- the history with a stream asked for by seat 0, and the answer that is due
 abbrev pub with_asked : Domain → List Recorded → Asked → List Recorded
@@ -39,7 +39,7 @@ configuration_of d streams = and_then (admitted_from d [] 1 streams) (λ entries
 abbrev pub compiled_input : List ℕ → Result (List ℕ) (List ℕ)
 compiled_input input = and_then (compile_input input) (λ found. configuration_of found.0 found.1)
 
--- what a history is like of which each call admitted a stream: each is held, and there are no more than may be
+-- a history of admissions alone, each of them granted: no Seal, one held stream for each entry, and at most 1,024
 pub record AreAllHeld (d : Domain) (entries : List Recorded) : Type 0 where
   pub legal : IsLegalHistory d entries
   pub no_seal : seals entries ≡ 0

@@ -1,7 +1,7 @@
 pub mod Bytes
 pub mod CompileJob
 pub mod FaultLines
-pub mod Input
+pub mod InputParts
 pub mod LineJob
 pub mod PortJob
 pub mod Run

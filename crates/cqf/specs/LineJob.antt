@@ -11,7 +11,7 @@ use Rattle.cqf_report.specs.Books.{text_of_book}
 use Rattle.cqf_report.specs.Offers.{offers_of}
 use Rattle.cqf_topology.specs.Fields.{and_then}
 use Rattle.cqf.specs.FaultLines.{offers_line}
-use Rattle.cqf.specs.Input.{one_part, or_line}
+use Rattle.cqf.specs.InputParts.{one_part, or_line}
 
 -- the offers of an input, or the line of the first fault: of the parts, then of the offers
 abbrev pub line_input : List ℕ → Result (List Offer) (List ℕ)

@@ -13,7 +13,7 @@ use Rattle.cqf_report.specs.Arrivals.{arrivals_of}
 use Rattle.cqf_report.specs.Starts.{text_of_starts}
 use Rattle.cqf_topology.specs.Fields.{and_then}
 use Rattle.cqf.specs.FaultLines.{arrivals_line, list_line}
-use Rattle.cqf.specs.Input.{or_line, two_parts}
+use Rattle.cqf.specs.InputParts.{or_line, two_parts}
 
 -- the gate list and the arrivals of an input, or the line of the first fault: of the parts, then of the list, then of
 -- the arrivals

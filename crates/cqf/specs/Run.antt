@@ -6,15 +6,15 @@ use Rattle.std.specs.Str.{IsUtf8}
 use Rattle.cqf_text.specs.Lines.{is_line_feed}
 use Rattle.cqf.specs.Bytes.{line_of, HasWritten}
 use Rattle.cqf.specs.CompileJob.{compiled_input}
-use Rattle.cqf.specs.Input.{IsRefused}
+use Rattle.cqf.specs.InputParts.{IsRefused}
 use Rattle.cqf.specs.LineJob.{IsLineOutput, line_input}
 use Rattle.cqf.specs.PortJob.{IsPortOutput, port_input}
-use Rattle.cqf.specs.Words.{AskForHelp, Mean}
+use Rattle.cqf.specs.Words.{AreMistaken, AskForHelp, Mean}
 use Rattle.cqf.specs.declared.stops.Stop.{Stop}
 use Rattle.cqf.specs.declared.words.Job.{Job}
 use Rattle.cqf.specs.declared.words.Job.TheVariants.{Compile, Line, Port}
 
--- the job's numbers are within their limits
+-- the job's numbers aren't above their limits
 abbrev pub IsWithin : Job → Type 0
 IsWithin (Port until rate) = until ≤ 100000000
 IsWithin (Line cycles) = cycles ≤ 100000
@@ -71,11 +71,11 @@ pub record IsRefusedRun (words : List (List ℕ)) (bytes : List ℕ) (stop : Sto
   pub length_first : (IsTooLong bytes × (stop.text.items ≡ line_of (codes "cqf: input too long")) × (words ≢ [] → (job : Job) × Mean words job))
       ⊎ ((length bytes ≤ 67108864) × (words ≡ [] → IsUtf8 (first_line bytes)) × ((job : Job) × Mean (words_of words bytes) job × IsRefusal job (input_of words bytes) stop))
 
--- the words mean no job: they aren't text, or clap refuses them
+-- the words mean no job: those of the first line aren't text; or they are a mistake
 pub record IsMisuse (words : List (List ℕ)) (bytes : List ℕ) (stop : Stop) : Type 0 where
   pub short : words ≡ [] → length bytes ≤ 67108864
   pub cause : ((words ≡ []) × ¬ IsUtf8 (first_line bytes) × (stop.text.items ≡ line_of (codes "cqf: words")))
-      ⊎ ((job : Job) → ¬ Mean (words_of words bytes) job)
+      ⊎ ((words ≡ [] → IsUtf8 (first_line bytes)) × AreMistaken (words_of words bytes) × ((job : Job) → ¬ Mean (words_of words bytes) job))
 
 -- how a run ends before it is done
 pub record IsStopped (words : List (List ℕ)) (bytes : List ℕ) (stop : Stop) : Type 0 where
@@ -85,15 +85,17 @@ pub record IsStopped (words : List (List ℕ)) (bytes : List ℕ) (stop : Stop) 
   pub memory : stop.status ≡ 3 → stop.text.items ≡ []
   pub fault : stop.status ≡ 4 → stop.text.items ≡ line_of (codes "cqf: input fault")
 
--- a front of the text was written
+-- a front of the text was written: all of it, unless a write failed, which a writer alone can know
 abbrev pub HasTold : Option (List ℕ) → Option (List ℕ) → List ℕ → Type 0
 HasTold before after text = (whole : Bool) × HasWritten before after text whole
 
--- the text was handed over: all of it was written, and nothing on the writer of faults; or a write failed
+-- the text was handed over: all of it was written, and nothing on the writer of faults; or a front of it, and the writer
+-- of faults got the line that tells so
 pub record HandsOver (text : List ℕ) (before after faults_before faults_after : Option (List ℕ)) (status : ℕ) : Type 0 where
   pub statuses : (status ≡ 0) ⊎ (status ≡ 4)
   pub done : status ≡ 0 → Appends before after text × Keeps faults_before faults_after
   pub front : HasTold before after text
+  pub fault : status ≡ 4 → HasTold faults_before faults_after (line_of (codes "cqf: output fault"))
 
 -- the stop was told: help on the output, and other texts on the writer of faults
 pub record Tells (stop : Stop) (before after faults_before faults_after : Option (List ℕ)) (status : ℕ) : Type 0 where
@@ -102,14 +104,30 @@ pub record Tells (stop : Stop) (before after faults_before faults_after : Option
   pub quiet : stop.status ≢ 0 → Keeps before after
   pub line : stop.status ≢ 0 → stop.status ≢ 3 → HasTold faults_before faults_after stop.text.items
   pub memory_line : stop.status ≡ 3 → HasTold faults_before faults_after (line_of (codes "cqf: out of memory"))
+  pub fault : stop.status ≡ 0 → status ≡ 4 → HasTold before after stop.text.items × HasTold faults_before faults_after (line_of (codes "cqf: output fault"))
+
+-- what the run has for its output: the job's, or the help that was asked for
+abbrev pub IsToldOutput : List (List ℕ) → List ℕ → List ℕ → Type 0
+IsToldOutput words bytes output = IsDone words bytes output ⊎ AskForHelp (words_of words bytes)
+
+-- a read failed: nothing is on the output, and the line that tells so is on the writer of faults
+abbrev pub IsInputFault : Option (List ℕ) → Option (List ℕ) → Option (List ℕ) → Option (List ℕ) → Type 0
+IsInputFault before after faults_before faults_after = Keeps before after × HasTold faults_before faults_after (line_of (codes "cqf: input fault"))
+
+-- a write failed: a front of the output was written, and the line that tells so is on the writer of faults
+abbrev pub IsOutputFault : List (List ℕ) → List ℕ → Option (List ℕ) → Option (List ℕ) → Option (List ℕ) → Option (List ℕ) → Type 0
+IsOutputFault words bytes before after faults_before faults_after =
+    (output : List ℕ) × IsToldOutput words bytes output × HasTold before after output × HasTold faults_before faults_after (line_of (codes "cqf: output fault"))
 
 -- what the engine leaves, by its status. With status 0 it wrote the run's output and nothing else, or the help that was
--- asked for. With status 1 and 2 it wrote nothing on its output, and on the writer of faults the text of the first cause,
--- or a front of it where a write of it failed. With status 3 it wrote nothing on its output
+-- asked for. With status 1, 2 and 3 it wrote nothing on its output, and on the writer of faults a front of the text of the
+-- first cause. With status 4 a read or a write failed
 pub record Ends (words : List (List ℕ)) (known before after faults_before faults_after : Option (List ℕ)) (status : ℕ) : Type 0 where
   pub statuses : status ≤ 4
-  pub done : status ≡ 0 → IfSome known (λ bytes. (output : List ℕ) × (IsDone words bytes output ⊎ AskForHelp (words_of words bytes)) × Appends before after output)
+  pub done : status ≡ 0 → IfSome known (λ bytes. (output : List ℕ) × IsToldOutput words bytes output × Appends before after output)
   pub clean : status ≡ 0 → Keeps faults_before faults_after
   pub quiet : status ≢ 0 → status ≢ 4 → Keeps before after
   pub refused : status ≡ 1 → IfSome known (λ bytes. (stop : Stop) × IsRefusedRun words bytes stop × HasTold faults_before faults_after stop.text.items)
   pub misused : status ≡ 2 → IfSome known (λ bytes. (stop : Stop) × IsMisuse words bytes stop × HasTold faults_before faults_after stop.text.items)
+  pub memory : status ≡ 3 → HasTold faults_before faults_after (line_of (codes "cqf: out of memory"))
+  pub fault : status ≡ 4 → IfSome known (λ bytes. IsInputFault before after faults_before faults_after ⊎ IsOutputFault words bytes before after faults_before faults_after)

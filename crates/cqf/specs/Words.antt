@@ -87,18 +87,29 @@ pub record Mean (words : List Text) (job : Job) : Type 0 where
 abbrev pub AskForHelp : List Text → Type 0
 AskForHelp words = IsAmong DisplayHelp (fault_of cqf_app words) ⊎ IsAmong DisplayVersion (fault_of cqf_app words)
 
+-- a kind of error that shows no help
+abbrev pub ShowsNoHelp : ErrorKind → Type 0
+ShowsNoHelp kind = (kind ≢ DisplayHelp) × (kind ≢ DisplayVersion)
+
+-- the words are a mistake: clap refuses them, and not for a request for help; or it takes them, and no job is read of them
+abbrev pub AreMistaken : List Text → Type 0
+AreMistaken words = ((kind : ErrorKind) × IsAmong kind (fault_of cqf_app words) × ShowsNoHelp kind)
+    ⊎ ((fault_of cqf_app words ≡ []) × ((job : Job) → ¬ IsJob job (subcommand_of cqf_app words)))
+
 -- how an error of clap's ends: a request for help with status 0, a mistake with status 2. Without memory the status is
 -- 3, and there is no text
 pub record EndsBy (kind : ErrorKind) (stop : Stop) : Type 0 where
   pub statuses : (stop.status ≡ 0) ⊎ ((stop.status ≡ 2) ⊎ (stop.status ≡ 3))
   pub help : stop.status ≡ 0 → (kind ≡ DisplayHelp) ⊎ (kind ≡ DisplayVersion)
+  pub mistake : stop.status ≡ 2 → ShowsNoHelp kind
   pub known : stop.status ≢ 3 → kind ≢ OutOfMemory
   pub memory : stop.status ≡ 3 → stop.text.items ≡ []
 
--- how words that mean no job end: with status 2, or with status 0 where they ask for help. Without memory the status
--- is 3, and there is no text
+-- how words that mean no job end: with status 2 where they are a mistake, or with status 0 where they ask for help.
+-- Without memory the status is 3, and there is no text
 pub record EndsWords (words : List Text) (stop : Stop) : Type 0 where
   pub statuses : (stop.status ≡ 0) ⊎ ((stop.status ≡ 2) ⊎ (stop.status ≡ 3))
   pub no_job : stop.status ≢ 3 → (job : Job) → ¬ Mean words job
   pub help : stop.status ≡ 0 → AskForHelp words
+  pub mistake : stop.status ≡ 2 → AreMistaken words
   pub memory : stop.status ≡ 3 → stop.text.items ≡ []

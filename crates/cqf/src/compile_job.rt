@@ -6,10 +6,10 @@ ghost use Rattle.cqf_compile.specs.Tables.{AreAlongLinks};
 ghost use Rattle.cqf_model.specs.History.{Asked, held_in};
 ghost use Rattle.cqf.specs.Bytes.{EndsWith};
 ghost use Rattle.cqf.specs.CompileJob.{admitted_from, compile_input, compiled_input, configuration_of, AreAllHeld, HoldsAll};
-ghost use Rattle.cqf.specs.Input.{IsRefused};
+ghost use Rattle.cqf.specs.InputParts.{IsRefused};
 
 use crate::fault_lines::{domain_stop, stream_stop, streams_stop};
-use crate::input_parts::split_input;
+use crate::input_parts::two_parts;
 use crate::stops::Stop;
 use cqf_admission::{Admission, Refused, SealFault, Table};
 use cqf_compile::{compile, tables_go_along_links, write_config};
@@ -26,7 +26,7 @@ fn read_compile(alloc: Global, input: &[u8]) -> Result<(Domain, Vec<Request>), S
     ensures ok { IfOk result (λ found. compile_input input.now ≡ Ok (found.0, map asked_of found.1.items)) }
     ensures err { IfErr result (IsRefused (compile_input input.now)) }
 {
-    let (domain_text, streams_text) = split_input(alloc, input)?;
+    let (domain_text, streams_text) = two_parts(alloc, input)?;
     let domain = match Domain::read(alloc, domain_text) {
         Ok(domain) => domain,
         Err(fault) => return Err(domain_stop(alloc, &fault)),
@@ -58,7 +58,7 @@ fn admit_one(
     }
 }
 
-/// Admits the streams in turn.
+/// Admits the streams in turn, where no call was made before.
 fn admit_all(alloc: Global, admission: &mut Admission, requests: &[Request]) -> Result<(), Stop>
     requires { admission.old.entries ≡ [] }
     ensures domain { admission.new.domain ≡ admission.old.domain }
@@ -66,6 +66,7 @@ fn admit_all(alloc: Global, admission: &mut Admission, requests: &[Request]) -> 
     ensures ok { IfOk result (λ _. admitted_from admission.old.domain [] 1 (map asked_of requests.now) ≡ Ok admission.new.entries) }
     ensures err { IfErr result (IsRefused (admitted_from admission.old.domain [] 1 (map asked_of requests.now))) }
 {
+    // the history is legal: a fact for the loop
     let _legal = admission.history();
     for (place, request) in requests.iter().enumerate() {
         admit_one(alloc, admission, place + 1, request)?;
@@ -74,7 +75,7 @@ fn admit_all(alloc: Global, admission: &mut Admission, requests: &[Request]) -> 
 }
 
 /// Closes cycle 0 to changes, and gives its table.
-fn close_first(alloc: Global, admission: &mut Admission) -> Result<Table, Stop>
+fn close_cycle_0(alloc: Global, admission: &mut Admission) -> Result<Table, Stop>
     requires { AreAllHeld admission.old.domain admission.old.entries }
     ensures rows { IfOk result (λ table. table.rows ≡ held_in admission.old.domain admission.old.entries 0) }
     ensures along { IfOk result (λ table. AreAlongLinks admission.old.domain table.rows) }
@@ -90,8 +91,8 @@ fn close_first(alloc: Global, admission: &mut Admission) -> Result<Table, Stop>
 }
 
 /// The table of cycle 0, with all streams.
-fn first_table(alloc: Global, domain: &Domain, requests: &[Request]) -> Result<Table, Stop>
-    ensures rows { IfOk result (HoldsAll domain.now (map asked_of requests.now)) }
+fn table_of_cycle_0(alloc: Global, domain: &Domain, requests: &[Request]) -> Result<Table, Stop>
+    ensures held { IfOk result (HoldsAll domain.now (map asked_of requests.now)) }
     ensures along { IfOk result (λ table. AreAlongLinks domain.now table.rows) }
     ensures err { IfErr result (IsRefused (admitted_from domain.now [] 1 (map asked_of requests.now))) }
 {
@@ -99,11 +100,11 @@ fn first_table(alloc: Global, domain: &Domain, requests: &[Request]) -> Result<T
         return Err(Stop::memory(alloc));
     };
     admit_all(alloc, &mut admission, requests)?;
-    close_first(alloc, &mut admission)
+    close_cycle_0(alloc, &mut admission)
 }
 
 /// The text of the domain's configuration with the streams of a table.
-fn table_text(alloc: Global, domain: &Domain, table: &Table) -> Result<Vec<u8>, Memory>
+fn text_of_table(alloc: Global, domain: &Domain, table: &Table) -> Result<Vec<u8>, Memory>
     requires { AreAlongLinks domain.now table.now.rows }
     ensures { IfOk result (λ text. text.items ≡ config_text domain.now table.now.rows) }
 {
@@ -116,8 +117,8 @@ fn config_of(alloc: Global, domain: &Domain, requests: &[Request]) -> Result<Vec
     ensures ok { IfOk result (λ text. configuration_of domain.now (map asked_of requests.now) ≡ Ok text.items) }
     ensures err { IfErr result (IsRefused (configuration_of domain.now (map asked_of requests.now))) }
 {
-    let table = first_table(alloc, domain, requests)?;
-    match table_text(alloc, domain, &table) {
+    let table = table_of_cycle_0(alloc, domain, requests)?;
+    match text_of_table(alloc, domain, &table) {
         Ok(text) => Ok(text),
         Err(_) => Err(Stop::memory(alloc)),
     }

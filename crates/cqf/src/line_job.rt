@@ -4,11 +4,11 @@ ghost use Rattle.cqf_model.specs.Traffic.{AreOffers};
 ghost use Rattle.cqf_line.specs.Line.{line_domain};
 ghost use Rattle.cqf_report.specs.Offers.{offers_of};
 ghost use Rattle.cqf_report.specs.Table.{IsFaultOf};
-ghost use Rattle.cqf.specs.Input.{IsRefused};
+ghost use Rattle.cqf.specs.InputParts.{IsRefused};
 ghost use Rattle.cqf.specs.LineJob.{line_input, IsBookText, IsLineOutput};
 
 use crate::fault_lines::offers_stop;
-use crate::input_parts::only_part;
+use crate::input_parts::one_part;
 use crate::stops::Stop;
 use cqf_line::{domain_of_line, line_book};
 use cqf_model::Offer;
@@ -36,7 +36,7 @@ fn read_line(alloc: Global, domain: &Domain, input: &[u8]) -> Result<Vec<Offer>,
     ensures few { IfOk result (λ offers. length offers.items ≤ 1000000) }
     ensures err { IfErr result (IsRefused (line_input input.now)) }
 {
-    let text = only_part(alloc, input)?;
+    let text = one_part(alloc, input)?;
     match offers_in(alloc, domain, text) {
         Ok(offers) => Ok(offers),
         Err(fault) => Err(offers_stop(alloc, fault)),

@@ -4,11 +4,11 @@ ghost use Rattle.cqf_model.specs.declared.ports.Arrival.{Arrival};
 ghost use Rattle.cqf_gates.specs.TxText.{list_of_text};
 ghost use Rattle.cqf_report.specs.Arrivals.{arrivals_of};
 ghost use Rattle.cqf_port.specs.PortState.{rules_of, start_of};
-ghost use Rattle.cqf.specs.Input.{IsRefused};
+ghost use Rattle.cqf.specs.InputParts.{IsRefused};
 ghost use Rattle.cqf.specs.PortJob.{port_input, AreOfferable, AreStartsOf, IsStartsText, IsPortOutput};
 
 use crate::fault_lines::{arrivals_stop, list_stop};
-use crate::input_parts::split_input;
+use crate::input_parts::two_parts;
 use crate::stops::Stop;
 use cqf_gates::{TxList, read_tx};
 use cqf_port::{Arrival, Port, PortFault, Start};
@@ -22,7 +22,7 @@ fn read_port(alloc: Global, input: &[u8]) -> Result<(TxList, Vec<Arrival>), Stop
     ensures order { IfOk result (λ found. AreOfferable found.1.items) }
     ensures err { IfErr result (IsRefused (port_input input.now)) }
 {
-    let (list_text, arrivals_text) = split_input(alloc, input)?;
+    let (list_text, arrivals_text) = two_parts(alloc, input)?;
     let list = match read_tx(list_text) {
         Ok(list) => list,
         Err(fault) => return Err(list_stop(alloc, fault)),

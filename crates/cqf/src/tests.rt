@@ -172,6 +172,7 @@ fn first_words_that_are_no_text_are_misuse(rt: HostRuntime) {
         &mut faults,
     );
     assert_eq!(rt; status, USAGE);
+    assert!(rt; output.is_empty());
     assert!(rt; faults.as_slice() == b"cqf: words\n".as_slice());
 }
 
@@ -187,6 +188,7 @@ fn a_reader_that_fails_is_told(rt: HostRuntime) {
         &mut faults,
     );
     assert_eq!(rt; status, FAULT);
+    assert!(rt; output.is_empty());
     assert!(rt; faults.as_slice() == b"cqf: input fault\n".as_slice());
 }
 
@@ -194,14 +196,16 @@ fn a_reader_that_fails_is_told(rt: HostRuntime) {
 fn a_reader_that_never_ends_is_left(rt: HostRuntime) {
     let mut output = Vec::new(rt.alloc());
     let mut faults = Vec::new(rt.alloc());
+    let words = ["compile"];
     let status = engine(
         rt.alloc(),
-        UNTIL.as_slice(),
+        words.as_slice(),
         &mut Endless,
         &mut output,
         &mut faults,
     );
     assert_eq!(rt; status, REFUSED);
+    assert!(rt; output.is_empty());
     assert!(rt; faults.as_slice() == b"cqf: input too long\n".as_slice());
 }
 
@@ -483,17 +487,18 @@ fn a_path_that_loops_is_told(rt: HostRuntime) -> Result<(), Fail> {
 }
 
 #[test]
-fn compile_leaves_a_reader_that_never_ends(rt: HostRuntime) {
-    let mut output = Vec::new(rt.alloc());
-    let mut faults = Vec::new(rt.alloc());
-    let words = ["compile"];
-    let status = engine(
-        rt.alloc(),
-        words.as_slice(),
-        &mut Endless,
-        &mut output,
-        &mut faults,
+fn both_parts_are_read_before_a_stream_is_admitted(rt: HostRuntime) -> Result<(), Fail> {
+    let alloc = rt.alloc();
+    let short = "[[streams]]\nname = \"x\"\noctets = 63\npath = [\"a\", \"s\"]\n";
+    let streams = format!(in alloc; "{short}[[streams]]\nname = \"y\"\noctets = 64\n")?;
+    assert!(rt; is_refused(alloc, "cycle =", "streams =", "cqf: domain: NotToml\n")?);
+    assert!(rt;
+        is_refused(
+            alloc,
+            ONE_LINK,
+            streams.as_str(),
+            "cqf: streams: Missing path\n"
+        )?
     );
-    assert_eq!(rt; status, REFUSED);
-    assert!(rt; faults.as_slice() == b"cqf: input too long\n".as_slice());
+    Ok(())
 }

@@ -12,7 +12,7 @@ or_line line (Err fault) = Err (line fault)
 abbrev pub parts_line : List ℕ
 parts_line = line_of (codes "cqf: parts")
 
--- the one part of an input that has one, and the two of one that has two
+-- the one part of an input that has one, and the two of one that has two; else the line that tells so
 abbrev pub one_part : List (List ℕ) → Result (List ℕ) (List ℕ)
 one_part (part ∷ []) = Ok part
 one_part _ = Err parts_line
@@ -21,7 +21,7 @@ abbrev pub two_parts : List (List ℕ) → Result (List ℕ × List ℕ) (List �
 two_parts (first ∷ second ∷ []) = Ok (first, second)
 two_parts _ = Err parts_line
 
--- what was found is refused with status 1 and its line, or memory for it lacks
+-- what was found is refused with status 1 and its line, or the run lacks memory
 pub record IsRefused {A : Type 0} (found : Result A (List ℕ)) (stop : Stop) : Type 0 where
   pub statuses : (stop.status ≡ 1) ⊎ (stop.status ≡ 3)
   pub line : stop.status ≡ 1 → found ≡ Err stop.text.items

@@ -1,5 +1,5 @@
 use Rattle.cqf.proofs.CompileLemmas.{first_rows}
-use Rattle.cqf.proofs.compile_job.close_first.Goals as goal
+use Rattle.cqf.proofs.compile_job.close_cycle_0.Goals as goal
 
 pub returns-in-Ok-clause-rows : goal.returns-in-Ok-clause-rows
 returns-in-Ok-clause-rows c = first_rows c.args.admission.now c.seal.new.self c.in-Ok.table c.state_follows_history.ensures.closes c.requires c.in-Ok.ensures
