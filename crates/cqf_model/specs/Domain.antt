@@ -89,13 +89,14 @@ pub record IsPath (d : Domain) (path : List ℕ) : Type 0 where
   pub no_bridge_twice : (j k m l bridge : ℕ) → j < k → slice_get path j ≡ Some m → slice_get path k ≡ Some l → leaves d m bridge ≡ true → leaves d l bridge ≡ false
   pub ends : (m bridge : ℕ) → slice_get path (length path - 1) ≡ Some m → enters d m bridge ≡ false
 
--- the node of a name, bridges before stations
+-- whether two texts are the same
 abbrev pub is_text : List ℕ → List ℕ → Bool
 is_text [] [] = true
 is_text [] (y ∷ ys) = false
 is_text (x ∷ xs) [] = false
 is_text (x ∷ xs) (y ∷ ys) = (x == y) && is_text xs ys
 
+-- the node of a name: a bridge of that name, or else a station
 abbrev pub node_or : Option ℕ → Option ℕ → Option Node
 node_or (Some b) s = Some (Bridge b)
 node_or None (Some s) = Some (Station s)
@@ -104,12 +105,13 @@ node_or None None = None
 abbrev pub node_named : Domain → List ℕ → Option Node
 node_named d name = node_or (position (λ other. is_text other name) d.bridges) (position (λ other. is_text other name) d.stations)
 
--- the link from a bridge to a node
+-- whether two nodes are the same
 abbrev pub same_node : Node → Node → Bool
 same_node (Bridge a) (Bridge b) = a == b
 same_node (Bridge a) (Station b) = false
 same_node (Station a) (Bridge b) = false
 same_node (Station a) (Station b) = a == b
 
+-- the link from a bridge to a node
 abbrev pub link_between : Domain → ℕ → Node → Option ℕ
 link_between d from to = position (λ (link : Link). (link.from == from) && same_node link.to to) d.links

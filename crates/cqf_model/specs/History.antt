@@ -35,12 +35,13 @@ pub record Recorded : Type 0 where
   pub act : Act
   pub reply : Reply
 
--- the number of Seals among the entries: the effect cycle of a call behind them
+-- whether a call closes a cycle to changes
 abbrev pub is_seal : Act → Bool
 is_seal (Admits asked) = false
 is_seal (Withdraws name) = false
 is_seal Seals = true
 
+-- the number of Seals among the entries: the effect cycle of a call behind them
 abbrev pub seals : List Recorded → ℕ
 seals entries = count_by (λ (e : Recorded). is_seal e.act) entries
 
@@ -103,13 +104,14 @@ streams_of d entries = each_below (λ place. option_map_or (λ (e : Recorded). s
 abbrev pub held_in : Domain → List Recorded → ℕ → List Row
 held_in d entries cycle = filter (λ (row : Row). is_held row cycle) (streams_of d entries)
 
--- where a path is broken: it is empty or begins with no bridge; no link goes from the node before to this one; its last
--- node is a bridge; or a 17th bridge stands before this place
+-- whether there is a node, and it is a bridge
 abbrev pub is_bridge : Option Node → Bool
 is_bridge None = false
 is_bridge (Some (Bridge b)) = true
 is_bridge (Some (Station s)) = false
 
+-- where a path is broken: it is empty or begins with no bridge; no link goes from the node before to this one; its last
+-- node is a bridge; or a 17th bridge stands before this place
 abbrev pub is_broken_at : Domain → List (List ℕ) → ℕ → Bool
 is_broken_at d path place =
     ((place == 0) && not (is_bridge (node_at d path 0)))
@@ -117,12 +119,13 @@ is_broken_at d path place =
     || ((place + 1 == length path) && is_bridge (node_at d path place))
     || ((place == 17) && nat_lt place (length path))
 
--- whether the node at a place stood earlier
+-- whether both nodes are there and the same
 abbrev pub is_same : Option Node → Option Node → Bool
 is_same None b = false
 is_same (Some a) None = false
 is_same (Some a) (Some b) = same_node a b
 
+-- whether the node at a place stood earlier
 abbrev pub is_loop_at : Domain → List (List ℕ) → ℕ → Bool
 is_loop_at d path place = list_any (λ name. is_same (node_named d name) (node_at d path place)) (take place path)
 

@@ -37,8 +37,9 @@ pub record SameStream (early late : Row) : Type 0 where
   pub octets : early.octets ≡ late.octets
   pub path : early.path.items ≡ late.path.items
 
--- what the tables of a history have: numbers name streams, a live stream stays until its last frame has left its last
--- bridge, and what the streams of a table cost of a link is within the link's budget
+-- what the tables of a history have: numbers and names name streams, and no two of a table have the same; a live stream
+-- stays until its last frame has left its last bridge; and what the streams of a table cost of a link is within the link's
+-- budget
 pub record AreOrderly (d : Domain) (tables : List (List Row)) : Type 0 where
   pub paths : (cycle : ℕ) (row : Row) → Contains (table_of tables cycle) row → IsPath d row.path.items
   pub numbers : (cycle : ℕ) → AllPairs (λ (a b : Row). a.no ≢ b.no) (table_of tables cycle)

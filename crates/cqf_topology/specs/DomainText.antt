@@ -110,7 +110,8 @@ first_twice earlier [] = None
 first_twice earlier (link ∷ links) =
     if list_any (same_ends link) earlier then Some (length earlier) else first_twice (earlier ++ link ∷ []) links
 
--- the number of the first link that is too long: its delay isn't within the guard time; the gap behind a frame isn't
+-- the number of the first link whose delay isn't below the guard time, and of the first whose gap behind a frame is above
+-- it
 abbrev pub first_long_delay : ℕ → List Link → Option ℕ
 first_long_delay guard links = position (λ (link : Link). nat_le guard link.delay) links
 
