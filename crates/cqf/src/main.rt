@@ -26,7 +26,8 @@
 //! ```
 #![tactic(auto)]
 
-ghost use Rattle.std.specs.Prelude.{◌≤◌};
+ghost use Rattle.std.specs.Prelude.{codes};
+ghost use Rattle.cqf.specs.Bytes.{EndsWith, line_of};
 
 mod compile_job;
 mod fault_lines;
@@ -65,7 +66,7 @@ fn texts(alloc: Global, words: &[String]) -> Result<Vec<&str>, AllocError> {
 
 /// The end where the process's words can't be had: they aren't text, or memory lacks.
 fn no_arguments(alloc: Global, error: &io::Error) -> Stop
-    ensures { result.status ≤ 4 }
+    ensures { EndsWith 2 (line_of (codes "cqf: words")) result }
 {
     if error.kind() == io::ErrorKind::OutOfMemory {
         Stop::memory(alloc)
