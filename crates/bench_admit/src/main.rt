@@ -55,10 +55,12 @@ fn request_of(alloc: Global, stream: u32) -> Result<Request, AllocError> {
     path.push(format!(in alloc; "b{second}")?)?;
     path.push(format!(in alloc; "b{last}")?)?;
     path.push(format!(in alloc; "s{last}")?)?;
+    let mut paths = Vec::new(alloc);
+    paths.push(path)?;
     Ok(Request {
         name: name_of(alloc, stream)?,
         octets: 64,
-        path,
+        paths,
     })
 }
 

@@ -27,27 +27,14 @@
 #![tactic(auto)]
 
 ghost use Rattle.std.specs.Prelude.{codes};
-ghost use Rattle.cqf.specs.Bytes.{EndsWith, line_of};
+ghost use Rattle.cqf_stop.specs.Stops.{EndsWith, line_of};
 
-mod compile_job;
-mod fault_lines;
-mod input_parts;
-mod inputs;
-mod line_job;
-mod outputs;
-mod port_job;
-mod runs;
-mod stops;
-#[cfg(test)]
-mod tests;
-mod words;
-
-use runs::{engine, tell};
+use cqf_engine::{engine, tell};
+use cqf_stop::{Stop, USAGE};
 use std::alloc::{AllocError, Global};
 use std::env::Env;
 use std::io;
 use std::process::ExitCode;
-use stops::{Stop, USAGE};
 
 /// The words that the process was started with, the program's name first.
 fn arguments<R: Env + AllocGlobal>(rt: &R) -> io::Result<Vec<String>> {

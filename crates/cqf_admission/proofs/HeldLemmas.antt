@@ -1,14 +1,17 @@
 -- Held streams by name and by number.
-use Rattle.std.proofs.Common.{◌≡◌, ℕ, ◌+◌, ◌-◌, ◌<◌, ◌≤◌, Bool, true, false, cond, List, Some, None, [], ◌∷◌, ◌++◌, ◌==◌, ◌&&◌, ◌||◌, nat_eq, get_or, length, position, refl, ap, ◌∙◌, sym, arith, drop, take}
+use Rattle.std.proofs.Common.{◌≡◌, ℕ, ◌+◌, ◌-◌, ◌<◌, ◌≤◌, Bool, true, false, cond, List, Some, None, [], ◌∷◌, ◌++◌, ◌==◌, ◌&&◌, nat_eq, get_or, length, position, refl, ap, ◌∙◌, sym, arith, drop, take, subst, length-append}
 use Rattle.std.specs.Prelude.{map, filter, slice_set, zero, suc, not, nat_lt, remove}
 use Rattle.std.specs.List.{list_any, prefix_len}
 use Rattle.std.specs.Cmp.Lexicographic.{pointwise}
 use Rattle.std.proofs.lemmas.Bool.Decides.{nat_tests}
-use Rattle.std.proofs.lemmas.List.{length-map, take-map, drop-map, map-append}
+use Rattle.std.proofs.lemmas.List.{length-map, length-take-le, take-map, drop-map, map-append}
+use Rattle.std.proofs.lemmas.List.Edits.{length-remove}
 use Rattle.cqf_units.specs.declared.reservations.Cycle.{Cycle}
 use Rattle.cqf_model.specs.declared.topology.Row.{Row}
 use Rattle.cqf_model.specs.Domain.{is_text}
-use Rattle.cqf_admission.specs.Rows.{ended, ended_at}
+use Rattle.cqf_units.specs.Timing.{cost_of}
+use Rattle.cqf_lists.proofs.Any.{list_any-map}
+use Rattle.cqf_admission.specs.Rows.{HaveColumns, ended, ended_at, mask_of}
 
 nat_eq-sym : (x y : ℕ) → nat_eq x y ≡ (y == x)
 nat_eq-sym x y = grind (arith, nat_tests)
@@ -35,10 +38,6 @@ pub place_of_name : (name : List ℕ) (rows : List Row) → position (pointwise 
 place_of_name name rows =
     position-map (pointwise nat_eq name) (λ (row : Row). row.name) rows ∙ (λ i. position (λ (row : Row). pointwise-is_text name row.name i) rows)
 
-pub list_any-map : {X Y : Type 0} (p : Y → Bool) (f : X → Y) (xs : List X) → list_any p (map f xs) ≡ list_any (λ x. p (f x)) xs
-list_any-map p f [] = refl
-list_any-map p f (x ∷ xs) = ap (λ (b : Bool). p (f x) || b) (list_any-map p f xs)
-
 -- a name stands among the names where its row stands among the rows
 pub name_among : (name : List ℕ) (rows : List Row) → list_any (pointwise nat_eq name) (map (λ (row : Row). row.name) rows) ≡ list_any (λ (row : Row). is_text row.name name) rows
 name_among name rows =
@@ -50,11 +49,24 @@ set-ended [] place row cycle h e = absurd (omega (arith, h))
 set-ended (x ∷ rows) zero row cycle h e = ap (λ (r : Row). ended r cycle ∷ rows) e
 set-ended (x ∷ rows) (suc place) row cycle h e = ap (λ (rs : List Row). x ∷ rs) (set-ended rows place row cycle (omega (arith, h)) e)
 
--- it keeps its name
-pub names-ended_at : (rows : List Row) (place : ℕ) (cycle : Cycle) → map (λ (row : Row). row.name) (ended_at rows place cycle) ≡ map (λ (row : Row). row.name) rows
-names-ended_at [] place cycle = refl
-names-ended_at (x ∷ rows) zero cycle = refl
-names-ended_at (x ∷ rows) (suc place) cycle = ap (λ (ns : List (List ℕ)). x.name ∷ ns) (names-ended_at rows place cycle)
+-- what an end doesn't change of a row stays as it was
+map-ended_at : {X : Type 0} (f : Row → X) → ((row : Row) (cycle : Cycle) → f (ended row cycle) ≡ f row) → (rows : List Row) (place : ℕ) (cycle : Cycle) → map f (ended_at rows place cycle) ≡ map f rows
+map-ended_at f same [] place cycle = refl
+map-ended_at {X} f same (x ∷ rows) zero cycle = ap (λ (y : X). y ∷ map f rows) (same x cycle)
+map-ended_at {X} f same (x ∷ rows) (suc place) cycle = ap (λ (ys : List X). f x ∷ ys) (map-ended_at f same rows place cycle)
+
+length-ended_at : (rows : List Row) (place : ℕ) (cycle : Cycle) → length (ended_at rows place cycle) ≡ length rows
+length-ended_at [] place cycle = refl
+length-ended_at (x ∷ rows) zero cycle = refl
+length-ended_at (x ∷ rows) (suc place) cycle = ap suc (length-ended_at rows place cycle)
+
+pub columns_ended : (names : List (List ℕ)) (rows : List Row) (costs masks : List ℕ) (place : ℕ) (cycle : Cycle) (after : List Row) → HaveColumns names rows costs masks → after ≡ ended_at rows place cycle → HaveColumns names after costs masks
+columns_ended names rows costs masks place cycle after h e = subst (λ (rs : List Row). HaveColumns names rs costs masks) (sym e) (record {
+  are_names = h.are_names ∙ sym (map-ended_at (λ (row : Row). row.name) (λ row c. refl) rows place cycle);
+  are_costs = h.are_costs ∙ sym (map-ended_at (λ (row : Row). cost_of row.octets) (λ row c. refl) rows place cycle);
+  are_masks = h.are_masks ∙ sym (map-ended_at mask_of (λ row c. refl) rows place cycle);
+  few = omega (arith, h.few, length-ended_at rows place cycle);
+})
 
 -- a list whose end, from a place on, has been filtered
 abbrev pub kept_from : (Row → Bool) → List Row → ℕ → List Row
@@ -70,33 +82,57 @@ gone_here p [] place d h e = absurd (omega (arith, h))
 gone_here p (x ∷ rows) zero d h e = sym (ap (λ (b : Bool). cond b (x ∷ filter p rows) (filter p rows)) e)
 gone_here p (x ∷ rows) (suc place) d h e = ap (λ (rs : List Row). x ∷ rs) (gone_here p rows place d (omega (arith, h)) e)
 
--- the names without that of a row are those of the rows without it
-pub names-remove : (rows : List Row) (place : ℕ) → remove (map (λ (row : Row). row.name) rows) place ≡ map (λ (row : Row). row.name) (remove rows place)
-names-remove rows place =
-    let name : Row → List ℕ = λ (row : Row). row.name in
-    (λ i. take-map name place rows i ++ drop-map name (suc place) rows i) ∙ sym (map-append name (take place rows) (drop (suc place) rows))
+-- a column without what stands at a place is that of the rows without it
+map-remove : {X : Type 0} (f : Row → X) (rows : List Row) (place : ℕ) → remove (map f rows) place ≡ map f (remove rows place)
+map-remove f rows place =
+    (λ i. take-map f place rows i ++ drop-map f (suc place) rows i) ∙ sym (map-append f (take place rows) (drop (suc place) rows))
 
--- rows and names of which those from a place on have been looked through
-pub record AreSwept (p : Row → Bool) (all : List Row) (place : ℕ) (rows : List Row) (names : List (List ℕ)) : Type 0 where
+column_less : {X : Type 0} (f : Row → X) (rows after : List Row) (place : ℕ) (xs xs_after : List X) → after ≡ remove rows place → xs ≡ map f rows → xs_after ≡ remove xs place → xs_after ≡ map f after
+column_less {X} f rows after place xs xs_after rows_less are without =
+    without ∙ ap (λ (ys : List X). remove ys place) are ∙ map-remove f rows place ∙ ap (map f) (sym rows_less)
+
+-- rows of which those from a place on have been looked through, with their columns
+pub record AreSwept (p : Row → Bool) (all : List Row) (place : ℕ) (names : List (List ℕ)) (rows : List Row) (costs masks : List ℕ) : Type 0 where
   pub inside : place ≤ length all
   pub kept : rows ≡ kept_from p all place
-  pub named : names ≡ map (λ (row : Row). row.name) rows
+  pub columns : HaveColumns names rows costs masks
 
 one_less : (place : ℕ) → 0 < place → place ≡ suc (place - 1)
 one_less place h = omega (arith, h)
 
-pub swept_held : (p : Row → Bool) (all : List Row) (place : ℕ) (rows : List Row) (names : List (List ℕ)) (row : Row) → 0 < place → AreSwept p all place rows names → row ≡ get_or rows (place - 1) row → p row ≡ true → AreSwept p all (place - 1) rows names
-swept_held p all place rows names row some s is held =
-    let kept : rows ≡ kept_from p all (suc (place - 1)) = s.kept ∙ ap (kept_from p all) (one_less place some) in
-    let here : p (get_or (kept_from p all (suc (place - 1))) (place - 1) row) ≡ true = ap (λ (rs : List Row). p (get_or rs (place - 1) row)) (sym kept) ∙ ap p (sym is) ∙ held in
-    record { inside = omega (arith, s.inside); kept = kept ∙ kept_here p all (place - 1) row (omega (arith, some, s.inside)) here; named = s.named }
+length-kept_from : (p : Row → Bool) (rows : List Row) (place : ℕ) → place ≤ length rows → place ≤ length (kept_from p rows place)
+length-kept_from p rows place h = omega (arith, length-append (take place rows) (filter p (drop place rows)), length-take-le place rows h)
 
-pub swept_gone : (p : Row → Bool) (all : List Row) (place : ℕ) (rows after : List Row) (names names_after : List (List ℕ)) (row : Row) → 0 < place → AreSwept p all place rows names → row ≡ get_or rows (place - 1) row → p row ≡ false → after ≡ remove rows (place - 1) → names_after ≡ remove names (place - 1) → AreSwept p all (place - 1) after names_after
-swept_gone p all place rows after names names_after row some s is gone rows_less names_less =
-    let kept : rows ≡ kept_from p all (suc (place - 1)) = s.kept ∙ ap (kept_from p all) (one_less place some) in
-    let here : p (get_or (kept_from p all (suc (place - 1))) (place - 1) row) ≡ false = ap (λ (rs : List Row). p (get_or rs (place - 1) row)) (sym kept) ∙ ap p (sym is) ∙ gone in
-    record {
-      inside = omega (arith, s.inside);
-      kept = rows_less ∙ ap (λ (rs : List Row). remove rs (place - 1)) kept ∙ gone_here p all (place - 1) row (omega (arith, some, s.inside)) here;
-      named = names_less ∙ ap (λ (ns : List (List ℕ)). remove ns (place - 1)) s.named ∙ names-remove rows (place - 1) ∙ ap (map (λ (r : Row). r.name)) (sym rows_less);
-    }
+module _ (p : Row → Bool) (all : List Row) (place : ℕ) (names : List (List ℕ)) (rows : List Row) (costs masks : List ℕ) (s : AreSwept p all place names rows costs masks) where
+  -- there are so many rows at least
+  pub swept_inside : place ≤ length rows
+  swept_inside = omega (arith, ap (λ (rs : List Row). length rs) s.kept, length-kept_from p all place s.inside)
+
+  -- and so many in each column
+  pub swept_costs : length costs ≡ length rows
+  swept_costs = ap (λ (xs : List ℕ). length xs) s.columns.are_costs ∙ length-map rows (λ (row : Row). cost_of row.octets)
+
+  pub swept_masks : length masks ≡ length rows
+  swept_masks = ap (λ (xs : List ℕ). length xs) s.columns.are_masks ∙ length-map rows mask_of
+
+  pub swept_held : (row : Row) → 0 < place → row ≡ get_or rows (place - 1) row → p row ≡ true → AreSwept p all (place - 1) names rows costs masks
+  swept_held row some is held =
+      let kept : rows ≡ kept_from p all (suc (place - 1)) = s.kept ∙ ap (kept_from p all) (one_less place some) in
+      let here : p (get_or (kept_from p all (suc (place - 1))) (place - 1) row) ≡ true = ap (λ (rs : List Row). p (get_or rs (place - 1) row)) (sym kept) ∙ ap p (sym is) ∙ held in
+      record { inside = omega (arith, s.inside); kept = kept ∙ kept_here p all (place - 1) row (omega (arith, some, s.inside)) here; columns = s.columns }
+
+  pub swept_gone : (row : Row) (names_after : List (List ℕ)) (after : List Row) (costs_after masks_after : List ℕ) → 0 < place → row ≡ get_or rows (place - 1) row → p row ≡ false → after ≡ remove rows (place - 1) → names_after ≡ remove names (place - 1) → costs_after ≡ remove costs (place - 1) → masks_after ≡ remove masks (place - 1) → AreSwept p all (place - 1) names_after after costs_after masks_after
+  swept_gone row names_after after costs_after masks_after some is gone rows_less names_less costs_less masks_less =
+      let kept : rows ≡ kept_from p all (suc (place - 1)) = s.kept ∙ ap (kept_from p all) (one_less place some) in
+      let here : p (get_or (kept_from p all (suc (place - 1))) (place - 1) row) ≡ false = ap (λ (rs : List Row). p (get_or rs (place - 1) row)) (sym kept) ∙ ap p (sym is) ∙ gone in
+      let inside : place - 1 < length rows = omega (arith, swept_inside, some) in
+      record {
+        inside = omega (arith, s.inside);
+        kept = rows_less ∙ ap (λ (rs : List Row). remove rs (place - 1)) kept ∙ gone_here p all (place - 1) row (omega (arith, some, s.inside)) here;
+        columns = record {
+          are_names = column_less (λ (r : Row). r.name) rows after (place - 1) names names_after rows_less s.columns.are_names names_less;
+          are_costs = column_less (λ (r : Row). cost_of r.octets) rows after (place - 1) costs costs_after rows_less s.columns.are_costs costs_less;
+          are_masks = column_less mask_of rows after (place - 1) masks masks_after rows_less s.columns.are_masks masks_less;
+          few = omega (arith, s.columns.few, ap (λ (rs : List Row). length rs) rows_less, length-remove rows (place - 1) inside);
+        };
+      }

@@ -1,4 +1,9 @@
-pub mod HeldLemmas
-pub mod PathLemmas
-pub mod GrantLemmas
-pub mod RunLemmas
+mod HeldLemmas
+mod BranchLemmas
+mod FaultLemmas
+mod TreeLemmas
+mod ColumnLemmas
+mod TableLemmas
+mod GrantLemmas
+mod RunLemmas
+mod PartLemmas

@@ -1,7 +1,7 @@
 -- An administration that runs on the held streams in place of its history.
 use Rattle.std.proofs.Common.{◌≡◌, ◌≢◌, ℕ, ◌+◌, ◌-◌, ◌<◌, ◌≤◌, Bool, true, false, cond, List, Option, Some, None, [], ◌∷◌, ◌++◌, ◌&&◌, not, length, map, position, refl, ap, ◌∙◌, sym, arith, subst, length-append}
 use Rattle.std.specs.Prelude.{Result, Err, if◌then◌else◌, nat_le, is_none, filter, AllPairs, Contains, slice_get, zero, suc}
-use Rattle.std.specs.List.{list_any}
+use Rattle.std.specs.List.{flat_map, list_any}
 use Rattle.std.proofs.lemmas.Bool.{both_ways, eq-eqb, ne_eqb}
 use Rattle.std.proofs.lemmas.List.{map-append}
 use Rattle.std.proofs.lemmas.Option.{get_or_from_slice_get, same_Some, slice_get_within}
@@ -10,11 +10,12 @@ use Rattle.cqf_units.specs.Timing.{cost_of}
 use Rattle.cqf_units.specs.declared.reservations.Cycle.{Cycle}
 use Rattle.cqf_model.specs.declared.history.Receipt.{Receipt}
 use Rattle.cqf_model.specs.declared.history.Refused.{Refused}
-use Rattle.cqf_model.specs.declared.history.Refused.TheVariants.{BadName, BadOctets, UnknownNode, BrokenPath, LoopingPath, NameHeld, TooManyStreams, BudgetShort, NotHeld, AlreadyWithdrawn}
+use Rattle.cqf_model.specs.declared.history.Refused.TheVariants.{BadName, BadOctets, UnknownNode, BrokenPath, LoopingPath, NotATree, NameHeld, TooManyStreams, BudgetShort, NotHeld, AlreadyWithdrawn}
 use Rattle.cqf_model.specs.declared.history.Reply.TheVariants.{Sealed, Refused as RefusedFor}
 use Rattle.cqf_model.specs.declared.topology.Row.{Row}
 use Rattle.cqf_model.specs.Domain.{Domain, is_text, node_named}
-use Rattle.cqf_model.specs.History.{Act, Admits, Asked, Recorded, Seals, Withdraws, admit_reply, is_broken_at, is_loop_at, is_seal, least, left_on, links_along, next_number, or_else, refusal_of, refused_at, refused_if, reply_to, seals, short_link, withdraw_reply, withdraw_row}
+use Rattle.cqf_lists.specs.Lists.{least, or_else}
+use Rattle.cqf_model.specs.History.{Act, Admits, Asked, Recorded, Seals, Withdraws, admit_reply, broken_place, first_place, held_in, is_loop_at, is_seal, is_stray, left_on, next_number, refusal_of, refused_at, refused_if, reply_to, seals, short_link, tree_of, withdraw_reply, withdraw_row}
 use Rattle.cqf_model.specs.Table.{is_held, row_named}
 use Rattle.cqf_laws_history.specs.StateLaws.{HeldAreSound, HistoryGoesOn, IsState, SealLetsGo, SealsAreCounted, ended_row, with_entry}
 use Rattle.cqf_admission.specs.Admission.{Administration, Answers, IsRunning, calls, is_entered, recorded_of, reply_of}
@@ -40,22 +41,30 @@ at_entered refused (Some k) h other e = subst (λ (r : Refused). is_entered (Err
 
 pub refusal_is_entered : (d : Domain) (rows : List Row) (asked : Asked) (refused : Refused) → refusal_of d rows asked ≡ Some refused → is_entered (Err refused) ≡ true
 refusal_is_entered d rows asked =
-    let short = refused_at (λ l. BudgetShort l (left_on d rows l)) (short_link d rows (cost_of asked.octets) (links_along d asked.path)) in
+    let short = refused_at (λ l. BudgetShort l (left_on d rows l)) (short_link d rows (cost_of asked.octets) (tree_of d asked.paths)) in
     let many = refused_if (nat_le 1024 (length rows)) TooManyStreams in
     let held = refused_if (list_any (λ (row : Row). is_text row.name asked.name) rows) NameHeld in
-    let looping = refused_at (λ place. LoopingPath place) (least (is_loop_at d asked.path) (length asked.path)) in
-    let broken = refused_at (λ place. BrokenPath place) (least (is_broken_at d asked.path) (length asked.path + 1)) in
-    let unknown = refused_at (λ place. UnknownNode place) (position (λ name. is_none (node_named d name)) asked.path) in
+    let stray = refused_at (λ branch. NotATree branch) (least (is_stray asked.paths) (length asked.paths)) in
+    let looping = refused_at (λ place. LoopingPath place) (first_place (is_loop_at d) asked.paths) in
+    let broken = refused_at (λ place. BrokenPath place) (broken_place d asked.paths) in
+    let unknown = refused_at (λ place. UnknownNode place) (position (λ name. is_none (node_named d name)) (flat_map (λ branch. branch) asked.paths)) in
+    let after_many = or_else many short in
+    let after_held = or_else held after_many in
+    let after_stray = or_else stray after_held in
+    let after_looping = or_else looping after_stray in
+    let after_broken = or_else broken after_looping in
+    let after_unknown = or_else unknown after_broken in
     let octets = refused_if (not (nat_le 64 asked.octets && nat_le asked.octets 60000)) BadOctets in
     let name = refused_if (not (is_name asked.name)) BadName in
-    either_entered name (or_else octets (or_else unknown (or_else broken (or_else looping (or_else held (or_else many short)))))) (if_entered (not (is_name asked.name)) BadName refl)
-    (either_entered octets (or_else unknown (or_else broken (or_else looping (or_else held (or_else many short))))) (if_entered (not (nat_le 64 asked.octets && nat_le asked.octets 60000)) BadOctets refl)
-    (either_entered unknown (or_else broken (or_else looping (or_else held (or_else many short)))) (at_entered (λ place. UnknownNode place) (position (λ name. is_none (node_named d name)) asked.path) (λ k. refl))
-    (either_entered broken (or_else looping (or_else held (or_else many short))) (at_entered (λ place. BrokenPath place) (least (is_broken_at d asked.path) (length asked.path + 1)) (λ k. refl))
-    (either_entered looping (or_else held (or_else many short)) (at_entered (λ place. LoopingPath place) (least (is_loop_at d asked.path) (length asked.path)) (λ k. refl))
-    (either_entered held (or_else many short) (if_entered (list_any (λ (row : Row). is_text row.name asked.name) rows) NameHeld refl)
+    either_entered name (or_else octets after_unknown) (if_entered (not (is_name asked.name)) BadName refl)
+    (either_entered octets after_unknown (if_entered (not (nat_le 64 asked.octets && nat_le asked.octets 60000)) BadOctets refl)
+    (either_entered unknown after_broken (at_entered (λ place. UnknownNode place) (position (λ name. is_none (node_named d name)) (flat_map (λ branch. branch) asked.paths)) (λ k. refl))
+    (either_entered broken after_looping (at_entered (λ place. BrokenPath place) (broken_place d asked.paths) (λ k. refl))
+    (either_entered looping after_stray (at_entered (λ place. LoopingPath place) (first_place (is_loop_at d) asked.paths) (λ k. refl))
+    (either_entered stray after_held (at_entered (λ branch. NotATree branch) (least (is_stray asked.paths) (length asked.paths)) (λ k. refl))
+    (either_entered held after_many (if_entered (list_any (λ (row : Row). is_text row.name asked.name) rows) NameHeld refl)
     (either_entered many short (if_entered (nat_le 1024 (length rows)) TooManyStreams refl)
-    (at_entered (λ l. BudgetShort l (left_on d rows l)) (short_link d rows (cost_of asked.octets) (links_along d asked.path)) (λ k. refl))))))))
+    (at_entered (λ l. BudgetShort l (left_on d rows l)) (short_link d rows (cost_of asked.octets) (tree_of d asked.paths)) (λ k. refl)))))))))
 
 -- what held streams give to those who ask for one more
 pub can_be_asked : HeldAreSound → (d : Domain) (entries : List Recorded) (rows : List Row) (next sealed : ℕ) → IsRunning d entries rows next sealed → CanBeAsked d rows
@@ -127,18 +136,18 @@ others_kept number cycle (x ∷ rows) h =
     (λ i. other_kept number cycle x (h x (0, omega arith, refl)) i ∷ others_kept number cycle rows (λ row k. h row (there x rows row k)) i)
 
 -- where numbers differ, the row at a place is ended as the one of its number is
-pub ended_at_number : (rows : List Row) (place cycle : ℕ) (row : Row) → slice_get rows place ≡ Some row → AllPairs (λ (a b : Row). a.no ≢ b.no) rows → ended_at rows place (record { 0 = cycle }) ≡ map (ended_row row.no cycle) rows
+pub ended_at_number : (rows : List Row) (place cycle : ℕ) (row : Row) → slice_get rows place ≡ Some row → AllPairs (λ (a b : Row). a.no < b.no) rows → ended_at rows place (record { 0 = cycle }) ≡ map (ended_row row.no cycle) rows
 ended_at_number [] place cycle row e apart = refl
 ended_at_number (x ∷ rows) zero cycle row e apart =
     let same : x ≡ row = same_Some x row e in
     let here : ended_row row.no cycle x ≡ ended x (record { 0 = cycle }) = ap (λ (b : Bool). if b then ended x (record { 0 = cycle }) else x) (eq-eqb x.no row.no (ap (λ (r : Row). r.no) same)) in
     let others : (y : Row) → Contains rows y → y.no ≢ row.no =
-    λ y k s. apart 0 (suc k.0) y (omega arith) (omega (arith, k.1)) (ap (λ (r : Row). r.no) same ∙ sym s ∙ ap (λ (r : Row). r.no) (sym k.2)) in
+    λ y k s. absurd (omega (arith, apart 0 (suc k.0) y (omega arith) (omega (arith, k.1)), ap (λ (r : Row). r.no) same, s, ap (λ (r : Row). r.no) k.2)) in
     ap (λ (r : Row). r ∷ rows) (sym here) ∙ ap (λ (rs : List Row). ended_row row.no cycle x ∷ rs) (sym (others_kept row.no cycle rows others))
 ended_at_number (x ∷ rows) (suc place) cycle row e apart =
-    let tail : AllPairs (λ (a b : Row). a.no ≢ b.no) rows = λ i j d l m. apart (suc i) (suc j) d (omega (arith, l)) (omega (arith, m)) in
+    let tail : AllPairs (λ (a b : Row). a.no < b.no) rows = λ i j d l m. apart (suc i) (suc j) d (omega (arith, l)) (omega (arith, m)) in
     let inside = slice_get_within rows place row e in
-    let other : x.no ≢ row.no = λ s. apart 0 (suc place) row (omega arith) (omega (arith, inside)) (s ∙ ap (λ (r : Row). r.no) (sym (get_or_from_slice_get rows place row row e))) in
+    let other : x.no ≢ row.no = λ s. absurd (omega (arith, apart 0 (suc place) row (omega arith) (omega (arith, inside)), s, ap (λ (r : Row). r.no) (get_or_from_slice_get rows place row row e))) in
     ap (λ (r : Row). r ∷ ended_at rows place (record { 0 = cycle })) (sym (other_kept row.no cycle x other))
     ∙ ap (λ (rs : List Row). ended_row row.no cycle x ∷ rs) (ended_at_number rows place cycle row e tail)
 
@@ -153,3 +162,7 @@ run_sealed goes_on counted lets_go d entries rows next sealed seat r some =
       counted = omega (arith, count, r.counted);
       few = omega (arith, r.few, length-append entries (record { seat = seat; act = Seals; reply = Sealed } ∷ []));
     }
+
+-- what is held behind the entries that were entered
+pub held_behind : (d : Domain) (entered after : List Recorded) (rows : List Row) (next : ℕ) → IsState d entered rows next → entered ≡ after → held_in d after (seals after) ≡ rows
+held_behind d entered after rows next state same = ap (λ (es : List Recorded). held_in d es (seals es)) (sym same) ∙ state.held

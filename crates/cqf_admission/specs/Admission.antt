@@ -1,26 +1,31 @@
 -- What an administration is to those who call it, and what its calls do (profile).
-use Rattle.std.specs.Prelude.{ℕ, ◌≡◌, ◌+◌, ◌-◌, ◌≤◌, ◌<◌, ◌↔◌, Bool, true, false, List, Result, Ok, Err, length, string_bytes}
+use Rattle.std.specs.Prelude.{ℕ, ◌≡◌, ◌+◌, ◌-◌, ◌≤◌, ◌<◌, ◌↔◌, ◌++◌, [], ◌∷◌, Bool, true, false, List, Result, Ok, Err, filter, length, map, string_bytes}
 use Rattle.cqf_model.specs.declared.history.Receipt.{Receipt}
 use Rattle.cqf_model.specs.declared.history.Refused.{Refused}
-use Rattle.cqf_model.specs.declared.history.Refused.TheVariants.{BadName, BadOctets, UnknownNode, BrokenPath, LoopingPath, NameHeld, TooManyStreams, BudgetShort, NotHeld, AlreadyWithdrawn, HistoryFull, Memory}
+use Rattle.cqf_model.specs.declared.history.Refused.TheVariants.{BadName, BadOctets, UnknownNode, BrokenPath, LoopingPath, NotATree, NameHeld, TooManyStreams, BudgetShort, NotHeld, AlreadyWithdrawn, HistoryFull, Memory}
 use Rattle.cqf_model.specs.declared.history.Reply.{Reply}
 use Rattle.cqf_model.specs.declared.history.Reply.TheVariants.{Accepted, Sealed, Refused as RefusedFor}
 use Rattle.cqf_model.specs.declared.topology.Row.{Row}
 use Rattle.cqf_model.specs.Domain.{Domain}
-use Rattle.cqf_model.specs.History.{Act, Admits, IsLegalHistory, Recorded, Seals, Withdraws, reply_to, seals, table_at}
-use Rattle.cqf_laws_history.specs.StateLaws.{IsState, with_entry}
+use Rattle.cqf_model.specs.History.{Act, Admits, Asked, IsLegalHistory, Recorded, Seals, Withdraws, held_in, reply_to, seals, table_at}
+use Rattle.cqf_model.specs.Table.{is_held}
+use Rattle.cqf_laws_history.specs.StateLaws.{IsState, ended_row, granted_row, with_entry}
 use Rattle.cqf_admission.specs.declared.entries.Call.{Call}
 use Rattle.cqf_admission.specs.declared.entries.Call.TheVariants.{Admit, Withdraw, Seal}
 use Rattle.cqf_admission.specs.declared.entries.Entry.{Entry}
 use Rattle.cqf_admission.specs.declared.entries.SealFault.{SealFault}
 use Rattle.cqf_admission.specs.declared.entries.SealFault.TheVariants as fault
 use Rattle.cqf_admission.specs.Asking.{asked_of}
-use Rattle.cqf_admission.specs.Tables.{CycleTable}
+use Rattle.cqf_admission.specs.Tables.{AreAlongLinks, AreTrees, CycleTable}
 
 -- an administration: its domain, and the entries of its history
 pub record Administration : Type 0 where
   pub domain : Domain
   pub entries : List Recorded
+
+-- the streams that are held in the next cycle to be closed
+abbrev pub held_of : Administration → List Row
+held_of a = held_in a.domain a.entries (seals a.entries)
 
 -- an entry as the definitions have it
 abbrev pub act_of : Call → Act
@@ -50,6 +55,7 @@ is_entered (Err BadOctets) = true
 is_entered (Err (UnknownNode place)) = true
 is_entered (Err (BrokenPath place)) = true
 is_entered (Err (LoopingPath place)) = true
+is_entered (Err (NotATree branch)) = true
 is_entered (Err NameHeld) = true
 is_entered (Err TooManyStreams) = true
 is_entered (Err (BudgetShort link left)) = true
@@ -65,10 +71,29 @@ pub record Answers (old new : Administration) (seat : ℕ) (act : Act) (result :
   pub due : is_entered result ≡ true → reply_of result ≡ reply_to old.domain old.entries act
   pub entered : is_entered result ≡ true → new.entries ≡ with_entry old.entries seat act (reply_of result)
 
+-- what a request leaves held: its stream with the others, where it is granted
+abbrev pub HoldsOneMore : Administration → Administration → Asked → Result Receipt Refused → Type 0
+HoldsOneMore old new asked (Ok receipt) = held_of new ≡ held_of old ++ granted_row old.domain receipt.no receipt.effect.0 asked ∷ []
+HoldsOneMore old new asked (Err refused) = held_of new ≡ held_of old
+
+-- what a withdrawal leaves held: the same streams, of which that of the number ends
+abbrev pub EndsOne : Administration → Administration → Result Receipt Refused → Type 0
+EndsOne old new (Ok receipt) = held_of new ≡ map (ended_row receipt.no receipt.effect.0) (held_of old)
+EndsOne old new (Err refused) = held_of new ≡ held_of old
+
+-- what a Seal leaves held: of the streams in its table those whose last frame hasn't left by the next cycle. The table's
+-- trees are trees of the domain
+pub record LetsGo (old new : Administration) (table : CycleTable) : Type 0 where
+  pub rows : table.rows ≡ held_of old
+  pub held : held_of new ≡ filter (λ (row : Row). is_held row (seals old.entries + 1)) (held_of old)
+  pub trees : AreTrees old.domain table.rows
+  pub links : AreAlongLinks old.domain table.rows
+
 -- what a Seal does: it enters itself, and gives the table of the cycle that it closes; a refused one changes nothing
 abbrev pub Closes : Administration → Administration → ℕ → Result CycleTable SealFault → Type 0
 Closes old new seat (Ok table) =
-    (seals old.entries < 100000) × (new.domain ≡ old.domain) × (new.entries ≡ with_entry old.entries seat Seals Sealed) × (table.cycle ≡ seals old.entries) × (table.rows ≡ table_at old.domain new.entries (seals old.entries))
+    (seals old.entries < 100000) × (new.domain ≡ old.domain) × (new.entries ≡ with_entry old.entries seat Seals Sealed) ×
+    (table.cycle ≡ seals old.entries) × (table.rows ≡ table_at old.domain new.entries (seals old.entries))
 Closes old new seat (Err fault.CyclesSpent) = (100000 ≤ seals old.entries) × (new ≡ old)
 Closes old new seat (Err fault.Memory) = (seals old.entries < 100000) × (new ≡ old)
 

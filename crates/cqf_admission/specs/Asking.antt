@@ -1,12 +1,13 @@
 -- What a request asks for.
-use Rattle.std.specs.Prelude.{map, string_bytes}
+use Rattle.std.specs.Prelude.{string_bytes}
 use Rattle.cqf_topology.specs.declared.streams.Request.{Request}
 use Rattle.cqf_topology.specs.StreamsText.{RequestText}
 use Rattle.cqf_model.specs.History.{Asked}
+use Rattle.cqf_admission.specs.Branches.{branches_of}
 
 abbrev pub asked_of : Request → Asked
-asked_of request = record { name = string_bytes request.name; octets = request.octets; path = map string_bytes request.path.items }
+asked_of request = record { name = string_bytes request.name; octets = request.octets; paths = branches_of request.paths.items }
 
 -- what a request's text asks for
 abbrev pub asked_by : RequestText → Asked
-asked_by text = record { name = text.name; octets = text.octets; path = text.path }
+asked_by text = record { name = text.name; octets = text.octets; paths = text.paths }

@@ -1,12 +1,14 @@
 -- What looking a request over gives.
-use Rattle.std.specs.Prelude.{ℕ, ◌≡◌, ◌≤◌, ◌<◌, true, length, slice_get, List, Option, Some, None, Result, Ok, Err, Contains}
+use Rattle.std.specs.Prelude.{ℕ, ◌≡◌, ◌≤◌, ◌<◌, true, false, length, slice_get, List, Option, Some, None, Result, Ok, Err, Contains}
 use Rattle.cqf_units.specs.Name.{is_name}
 use Rattle.cqf_units.specs.declared.reservations.Cycle.{Cycle}
 use Rattle.cqf_model.specs.declared.history.Refused.{Refused}
 use Rattle.cqf_model.specs.declared.history.Refused.TheVariants.{BudgetShort}
 use Rattle.cqf_model.specs.declared.history.Reply.TheVariants.{Refused as RefusedFor}
+use Rattle.cqf_model.specs.declared.topology.Hop.{Hop}
 use Rattle.cqf_model.specs.declared.topology.Row.{Row}
-use Rattle.cqf_model.specs.Domain.{Domain, budget}
+use Rattle.std.specs.List.{list_any}
+use Rattle.cqf_model.specs.Domain.{Domain, budget, is_text}
 use Rattle.cqf_model.specs.History.{Asked, left_on, refusal_of, refused_at, short_link, withdraw_reply}
 use Rattle.cqf_model.specs.Table.{link_cost, row_named}
 use Rattle.cqf_laws_history.specs.StateLaws.{granted_row}
@@ -17,12 +19,20 @@ pub record CanBeAsked (d : Domain) (rows : List Row) : Type 0 where
   pub loads : (l : ℕ) → link_cost rows l ≤ budget d l
 
 -- the first link that has too little left for a cost
-abbrev pub short_refusal : Domain → List Row → ℕ → List ℕ → Option Refused
-short_refusal d rows cost links = refused_at (λ l. BudgetShort l (left_on d rows l)) (short_link d rows cost links)
+abbrev pub short_refusal : Domain → List Row → ℕ → List Hop → Option Refused
+short_refusal d rows cost tree = refused_at (λ l. BudgetShort l (left_on d rows l)) (short_link d rows cost tree)
+
+-- a request that nothing speaks against, and its row: its name is free, and there is room for a stream more
+pub record IsGranted (d : Domain) (rows : List Row) (asked : Asked) (number : ℕ) (effect : Cycle) (row : Row) : Type 0 where
+  pub none : refusal_of d rows asked ≡ None
+  pub is : row ≡ granted_row d number effect.0 asked
+  pub free : list_any (λ (other : Row). is_text other.name row.name) rows ≡ false
+  pub few : length rows < 1024
+  pub most_octets : row.octets ≤ 60000
 
 -- a look at a request gives its row, or the first reason against it
 abbrev pub Grants : Domain → List Row → Asked → ℕ → Cycle → Result Row Refused → Type 0
-Grants d rows asked number effect (Ok row) = (refusal_of d rows asked ≡ None) × (row ≡ granted_row d number effect.0 asked)
+Grants d rows asked number effect (Ok row) = IsGranted d rows asked number effect row
 Grants d rows asked number effect (Err refused) = refusal_of d rows asked ≡ Some refused
 
 -- each of the streams has a name

@@ -1,6 +1,6 @@
 pub mod Admission
 pub mod Rows
-pub mod Paths
+pub mod Branches
 pub mod Grants
 pub mod Tables
 pub mod Asking

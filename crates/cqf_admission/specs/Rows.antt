@@ -1,13 +1,9 @@
--- The rows of streams that are held.
-use Rattle.std.specs.Prelude.{ℕ, List, [], ◌∷◌, ◌==◌, if◌then◌else◌, Some, zero, suc}
-use Rattle.std.specs.List.{list_any}
+-- The rows of streams that are held, and the columns that are kept beside them.
+use Rattle.std.specs.Prelude.{ℕ, ◌≡◌, ◌≤◌, ◌^◌, List, [], ◌∷◌, if◌then◌else◌, nat_lt, bit_or, fold, length, map, Some, zero, suc}
 use Rattle.cqf_units.specs.Timing.{cost_of}
 use Rattle.cqf_units.specs.declared.reservations.Cycle.{Cycle}
 use Rattle.cqf_model.specs.declared.topology.Row.{Row}
-
--- what a stream costs of a link, in octets a cycle
-abbrev pub cost_on : Row → ℕ → ℕ
-cost_on row l = if list_any (λ k. k == l) row.path.items then cost_of row.octets else 0
+use Rattle.cqf_model.specs.Table.{links_of}
 
 -- the rows of held streams by number, and how many rows more have room
 pub record HeldRows : Type 0 where
@@ -16,9 +12,24 @@ pub record HeldRows : Type 0 where
 
 -- a row with its stream withdrawn from a cycle on, and rows with the one at a place so
 abbrev pub ended : Row → Cycle → Row
-ended row cycle = record { no = row.no; name = row.name; octets = row.octets; path = row.path; admitted = row.admitted; withdrawn = Some cycle }
+ended row cycle = record row { withdrawn = Some cycle }
 
 abbrev pub ended_at : List Row → ℕ → Cycle → List Row
 ended_at [] place cycle = []
 ended_at (row ∷ rows) zero cycle = ended row cycle ∷ rows
 ended_at (row ∷ rows) (suc place) cycle = row ∷ ended_at rows place cycle
+
+-- a mask with the bit of a link more, where it isn't beyond 63
+abbrev pub with_link : ℕ → ℕ → ℕ
+with_link mask link = if nat_lt link 64 then bit_or mask (2 ^ link) else mask
+
+-- the mask of a row: bit l is set where its stream goes by link l
+abbrev pub mask_of : Row → ℕ
+mask_of row = fold with_link 0 (links_of row)
+
+-- beside the rows stand their names, their costs and their masks
+pub record HaveColumns (names : List (List ℕ)) (rows : List Row) (costs masks : List ℕ) : Type 0 where
+  pub are_names : names ≡ map (λ (row : Row). row.name) rows
+  pub are_costs : costs ≡ map (λ (row : Row). cost_of row.octets) rows
+  pub are_masks : masks ≡ map mask_of rows
+  pub few : length rows ≤ 1024

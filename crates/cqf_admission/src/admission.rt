@@ -4,8 +4,9 @@ ghost use Rattle.cqf_model.specs.Domain.{budget};
 ghost use Rattle.cqf_model.specs.History.{Admits, Withdraws, IsLegalHistory, held_in, seals};
 ghost use Rattle.cqf_model.specs.Table.{link_cost};
 ghost use Rattle.cqf_admission.specs.Asking.{asked_of};
-ghost use Rattle.cqf_admission.specs.Admission.{Answers, Closes, recorded_of};
+ghost use Rattle.cqf_admission.specs.Admission.{Answers, Closes, EndsOne, HoldsOneMore, LetsGo, recorded_of};
 
+use crate::branches::count_places;
 use crate::entries::{Call, Entry, SealFault, copied_entries, enter};
 use crate::held::Held;
 use crate::refusals::{find_open, grant, taken_of};
@@ -88,10 +89,12 @@ impl Admission {
     ///
     /// Refused with `HistoryFull`, before all else, where 100,000 entries aren't Seals; with `Memory` where a growth is
     /// refused; then with the first reason that is due, in this order: `BadName`, `BadOctets`, `UnknownNode`,
-    /// `BrokenPath`, `LoopingPath`, `NameHeld`, `TooManyStreams` (1,024 are held), `BudgetShort`. `HistoryFull` and `Memory`
-    /// change nothing; each other call enters the history with its answer (profile).
+    /// `BrokenPath`, `LoopingPath`, `NotATree`, each over all branches before the next, `NameHeld`, `TooManyStreams` (1,024
+    /// are held), `BudgetShort`. `HistoryFull` and `Memory` change nothing; each other call enters the history with its
+    /// answer (profile).
     pub fn admit(&mut self, seat: u16, request: &Request) -> Result<Receipt, Refused>
-        ensures { Answers self.old self.new seat (Admits (asked_of request.now)) result }
+        ensures answers { Answers self.old self.new seat (Admits (asked_of request.now)) result }
+        ensures held { HoldsOneMore self.old self.new (asked_of request.now) result }
     {
         if self.history.len() - self.sealed as usize >= MOST_CALLS {
             return Err(Refused::HistoryFull);
@@ -99,6 +102,9 @@ impl Admission {
         let Ok(asked) = request.try_copy(self.alloc) else {
             return Err(Refused::Memory);
         };
+        if count_places(request.paths.as_slice()).is_none() {
+            return Err(Refused::Memory);
+        }
         if self.history.reserve(1).is_err() {
             return Err(Refused::Memory);
         }
@@ -127,12 +133,13 @@ impl Admission {
     }
 
     /// Withdraws the stream of a name. The receipt has its number and the first cycle in which it is live no more. It is
-    /// held on for as many cycles as its path has bridges.
+    /// held on for as many cycles as its deepest link is deep.
     ///
     /// Refused with `HistoryFull` and `Memory` as [`Admission::admit`], then with `NotHeld` where no held stream has the
     /// name, and `AlreadyWithdrawn` (profile).
     pub fn withdraw(&mut self, seat: u16, name: &str) -> Result<Receipt, Refused>
-        ensures { Answers self.old self.new seat (Withdraws name.now) result }
+        ensures answers { Answers self.old self.new seat (Withdraws name.now) result }
+        ensures held { EndsOne self.old self.new result }
     {
         if self.history.len() - self.sealed as usize >= MOST_CALLS {
             return Err(Refused::HistoryFull);
@@ -167,7 +174,8 @@ impl Admission {
     ///
     /// Refused with `CyclesSpent` after 100,000 Seals, and with `Memory`; neither changes anything (profile).
     pub fn seal(&mut self, seat: u16) -> Result<Table, SealFault>
-        ensures { Closes self.old self.new seat result }
+        ensures closes { Closes self.old self.new seat result }
+        ensures lets_go { IfOk result (λ table. LetsGo self.old self.new table) }
     {
         if self.sealed >= MOST_SEALS {
             return Err(SealFault::CyclesSpent);
@@ -194,7 +202,7 @@ impl Admission {
         ensures within { result.0 ≤ budget self.now.domain link }
     {
         state_follows_history();
-        Octets(taken_of(&self.domain, self.held.rows(), link))
+        Octets(taken_of(&self.domain, &self.held, link))
     }
 
     /// The same admission again, unless memory runs out.

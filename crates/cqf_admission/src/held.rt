@@ -1,35 +1,38 @@
-//! The streams that are held, by number and by name.
-ghost use Rattle.std.specs.Prelude.{◌≡◌, ◌≢◌, ◌<◌, ◌≤◌, ◌^◌, [], ◌∷◌, ◌++◌, length, filter, map, position, slice_get, slice_set, false, OnOk, IfOk};
+//! The streams that are held, by number and by name, with their costs and their links in columns.
+ghost use Rattle.std.specs.Prelude.{◌≡◌, ◌<◌, ◌≤◌, ◌^◌, [], ◌∷◌, ◌++◌, length, filter, position, false, OnOk, IfOk};
 ghost use Rattle.std.specs.List.{list_any};
 ghost use Rattle.cqf_model.specs.Domain.{is_text};
-ghost use Rattle.cqf_model.specs.Table.{is_held};
+ghost use Rattle.cqf_model.specs.Table.{is_held, link_cost};
 ghost use Rattle.cqf_admission.specs.Rows.{ended_at};
 
-use crate::rows::{copied_rows, is_row_held};
+use crate::rows::{copied_rows, mask_of_row};
+use cqf_lanes::masked_sum;
 use cqf_model::Row;
-use cqf_units::{Cycle, Memory, Name};
+use cqf_units::{Cycle, Memory, Name, Octets, cost};
 use indexmap::IndexSet;
 use std::alloc::Global;
 use std::marker::Model;
 
-/// The rows of held streams by number, and their names.
+/// The rows of held streams by number, at most 1,024. Beside them stand their names, what each costs of its links, and a
+/// mask of these links, so that what a link costs is one sum.
 #[derive(Debug, Drop)]
 pub(crate) struct Held {
     names: IndexSet<Name>,
     rows: Vec<Row>,
+    costs: Vec<u32>,
+    masks: Vec<u64>,
 }
 
 impl Model for Held {
-    ghost use Rattle.std.specs.Prelude.{◌≡◌, ◌-◌, map, min, vec_len, vec_capacity};
+    ghost use Rattle.std.specs.Prelude.{◌-◌, min, vec_len, vec_capacity};
     ghost use Rattle.indexmap.specs.IndexSet.{spare};
-    ghost use Rattle.cqf_model.specs.declared.topology.Row.{Row as RowValue};
-    ghost use Rattle.cqf_admission.specs.Rows.{HeldRows};
+    ghost use Rattle.cqf_admission.specs.Rows.{HaveColumns, HeldRows};
 
     ghost Value = { HeldRows };
 
-    ghost view = { λ h. record { rows = h.rows.items; room = min (vec_capacity h.rows - vec_len h.rows) (spare h.names) } };
+    ghost view = { λ h. record { rows = h.rows.items; room = min (min (vec_capacity h.rows - vec_len h.rows) (spare h.names)) (min (vec_capacity h.costs - vec_len h.costs) (vec_capacity h.masks - vec_len h.masks)) } };
 
-    ghost invariant = { λ h. h.names.keys ≡ map (λ (row : RowValue). row.name) h.rows.items };
+    ghost invariant = { λ h. HaveColumns h.names.keys h.rows.items h.costs.items h.masks.items };
 }
 
 impl Held {
@@ -40,6 +43,8 @@ impl Held {
         Held {
             names: IndexSet::new(alloc),
             rows: Vec::new(alloc),
+            costs: Vec::new(alloc),
+            masks: Vec::new(alloc),
         }
     }
 
@@ -58,6 +63,19 @@ impl Held {
         self.names.get_index_of(name)
     }
 
+    /// What the streams cost of a link, in octets a cycle.
+    pub(crate) fn cost_on(&self, link: u8) -> u64
+        requires { link < 64 }
+        ensures { result ≡ link_cost self.now.rows link }
+    {
+        let rows = &self.rows;
+        masked_sum(
+            self.costs.as_slice(),
+            self.masks.as_slice(),
+            u32::from(link),
+        )
+    }
+
     /// Makes room for a row more, unless memory runs out.
     pub(crate) fn reserve(&mut self) -> Result<(), Memory>
         ensures same { self.new.rows ≡ self.old.rows }
@@ -65,17 +83,25 @@ impl Held {
     {
         self.names.reserve(1)?;
         self.rows.reserve(1)?;
+        self.costs.reserve(1)?;
+        self.masks.reserve(1)?;
         Ok(())
     }
 
     /// Adds the row of a name that isn't held, behind the others, where there is room.
     pub(crate) fn push(&mut self, row: Row)
         requires room { 0 < self.old.room }
+        requires few { length self.old.rows < 1024 }
+        requires octets { row.octets ≤ 60000 }
         requires free { list_any (λ other. is_text other.name row.name) self.old.rows ≡ false }
         ensures { self.new.rows ≡ self.old.rows ++ row ∷ [] }
     {
+        let octets = cost(Octets(row.octets)).0;
+        let mask = mask_of_row(&row);
         self.names.insert(row.name.copied()).unwrap();
         self.rows.push(row).unwrap();
+        self.costs.push(octets).unwrap();
+        self.masks.push(mask).unwrap();
     }
 
     /// Ends the stream of the row at this place from a cycle on.
@@ -94,9 +120,11 @@ impl Held {
         let mut place = self.rows.len();
         while place > 0 {
             place -= 1;
-            if !is_row_held(&self.rows[place], cycle) {
+            if !self.rows[place].is_held(cycle) {
                 let _ = self.rows.remove(place);
                 let _ = self.names.shift_remove_index(place);
+                let _ = self.costs.remove(place);
+                let _ = self.masks.remove(place);
             }
         }
     }
@@ -108,6 +136,8 @@ impl Held {
         Ok(Held {
             names: self.names.clone()?,
             rows: copied_rows(alloc, self.rows.as_slice())?,
+            costs: Vec::from_slice(alloc, self.costs.as_slice())?,
+            masks: Vec::from_slice(alloc, self.masks.as_slice())?,
         })
     }
 }

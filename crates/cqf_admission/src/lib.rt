@@ -2,14 +2,14 @@
 //!
 //! - [`Admission`] answers requests and withdrawals, keeps the history of calls, and closes cycles to changes one by one.
 //!   No link is ever over its budget. A withdrawn stream keeps its costs and its name until its last frame has left the
-//!   last bridge of its path.
-//! - [`Table`] has the streams that are held in a cycle that was closed. [`Live`] tells which of them are live.
+//!   last bridge of its deepest branch.
+//! - [`Table`] has the streams that are held in a cycle that was closed; [`Row::live`] tells which of them are live.
 //! - [`Entry`] is what a history has of a call: whose it was, what was called for, and the [`Reply`].
 //!
 //! With a budget of 15,000 octets a cycle on each link:
 //!
 //! ```text
-//! admit(0, 1,500 octets on a, b, c, s)    Ok: number 0, effect 0; the stream costs 1,960 of each link of its path
+//! admit(0, 1,500 octets on a, b, c, s)    Ok: number 0, effect 0; the stream costs 1,960 of each link of its tree
 //! .. six more of that size                Ok: numbers 1 to 6
 //! admit(0, 1,500 octets on a, b, c, s)    BudgetShort: link 0 has 1,280 left
 //! seal(0)                                 the table of cycle 0, with seven rows
@@ -17,16 +17,17 @@
 #![tactic(auto)]
 
 mod admission;
+mod branches;
 mod entries;
 mod held;
-mod paths;
 mod refusals;
 mod rows;
 mod table;
 #[cfg(test)]
 mod tests;
+mod trees;
 
 pub use admission::Admission;
 pub use cqf_model::{Receipt, Refused, Reply, Row};
 pub use entries::{Call, Command, Entry, SealFault};
-pub use table::{Live, Table};
+pub use table::Table;

@@ -1,15 +1,14 @@
 //! Why a request is refused, or the row that it gets.
-ghost use Rattle.std.specs.Prelude.{◌≡◌, ◌<◌, ◌≤◌, length, slice_get, All};
-ghost use Rattle.cqf_model.specs.Domain.{budget};
-ghost use Rattle.cqf_model.specs.History.{left_on, short_link, refused_at};
-ghost use Rattle.cqf_admission.specs.Asking.{asked_of};
-ghost use Rattle.cqf_admission.specs.Grants.{CanBeAsked, FindsOpen, Grants, HaveNames, short_refusal};
+ghost use Rattle.std.specs.Prelude.{◌≡◌, ◌<◌, ◌≤◌, ◌^◌, length, All};
+ghost use Rattle.cqf_model.specs.History.{left_on};
 ghost use Rattle.cqf_model.specs.Table.{link_cost};
+ghost use Rattle.cqf_admission.specs.Asking.{asked_of};
+ghost use Rattle.cqf_admission.specs.Branches.{branches_of, places_of};
+ghost use Rattle.cqf_admission.specs.Grants.{CanBeAsked, FindsOpen, Grants, HaveNames, short_refusal};
 
 use crate::held::Held;
-use crate::paths::find_path;
-use crate::rows::cost_of_rows;
-use cqf_model::{Refused, Row};
+use crate::trees::find_tree;
+use cqf_model::{Hop, Refused, Row};
 use cqf_topology::{Domain, Request};
 use cqf_units::{Cycle, Name, Octets, budget, cost};
 
@@ -21,40 +20,42 @@ const MOST_OCTETS: u32 = 60_000;
 /// How many streams may be held at once (profile).
 const MOST_STREAMS: usize = 1024;
 
-/// What a link has left of its budget beside some streams, in octets a cycle.
-pub(crate) fn left_of(domain: &Domain, rows: &[Row], link: u8) -> u32
+/// What a link has left of its budget beside the held streams, in octets a cycle.
+pub(crate) fn left_of(domain: &Domain, held: &Held, link: u8) -> u32
     requires inside { link < length domain.now.links }
-    requires sound { CanBeAsked domain.now rows.now }
-    ensures { result ≡ left_on domain.now rows.now link }
+    requires sound { CanBeAsked domain.now held.now.rows }
+    ensures { result ≡ left_on domain.now held.now.rows link }
 {
     let rate = domain.link(link).rate;
     let most = budget(domain.cycle_time(), domain.guard(), rate);
-    most.0 - cost_of_rows(rows, link)
+    let taken = held.cost_on(link);
+    most.0 - taken as u32
 }
 
-/// What some streams take of a link's budget, in octets a cycle.
-pub(crate) fn taken_of(domain: &Domain, rows: &[Row], link: u8) -> u32
+/// What the held streams take of a link's budget, in octets a cycle.
+pub(crate) fn taken_of(domain: &Domain, held: &Held, link: u8) -> u32
     requires inside { link < length domain.now.links }
-    requires sound { CanBeAsked domain.now rows.now }
-    ensures { result ≡ link_cost rows.now link }
+    requires sound { CanBeAsked domain.now held.now.rows }
+    ensures { result ≡ link_cost held.now.rows link }
 {
     let rate = domain.link(link).rate;
     let most = budget(domain.cycle_time(), domain.guard(), rate);
-    let taken = cost_of_rows(rows, link);
-    prove!(taken <= most.0);
-    taken
+    let taken = held.cost_on(link);
+    prove!(taken <= u64::from(most.0));
+    taken as u32
 }
 
-/// Why some links have no room for a cost beside some streams: the first that has less left, if one has.
-fn short_of(domain: &Domain, rows: &[Row], octets: u32, links: &[u8]) -> Option<Refused>
-    requires inside { All (λ l. l < length domain.now.links) links.now }
-    requires sound { CanBeAsked domain.now rows.now }
-    ensures { result ≡ short_refusal domain.now rows.now octets links.now }
+/// Why the links of a tree have no room for a cost beside the held streams: the first that has less left, if one has.
+fn short_of(domain: &Domain, held: &Held, octets: u32, tree: &[Hop]) -> Option<Refused>
+    requires inside { All (λ hop. hop.link < length domain.now.links) tree.now }
+    requires sound { CanBeAsked domain.now held.now.rows }
+    ensures { result ≡ short_refusal domain.now held.now.rows octets tree.now }
 {
-    for link in links {
-        let left = left_of(domain, rows, *link);
+    for hop in tree {
+        let link = hop.link;
+        let left = left_of(domain, held, link);
         if left < octets {
-            return Some(Refused::BudgetShort { link: *link, left });
+            return Some(Refused::BudgetShort { link, left });
         }
     }
     None
@@ -68,7 +69,8 @@ pub(crate) fn grant(
     no: u32,
     effect: Cycle,
 ) -> Result<Row, Refused>
-    requires { CanBeAsked domain.now held.now.rows }
+    requires sound { CanBeAsked domain.now held.now.rows }
+    requires places { places_of (branches_of request.now.paths.items) < 2 ^ 64 }
     ensures { Grants domain.now held.now.rows (asked_of request.now) no effect result }
 {
     let Some(name) = Name::new(request.name.as_bytes()) else {
@@ -77,7 +79,7 @@ pub(crate) fn grant(
     if request.octets < LEAST_OCTETS || request.octets > MOST_OCTETS {
         return Err(Refused::BadOctets);
     }
-    let path = find_path(domain, request.path.as_slice())?;
+    let tree = find_tree(domain, request.paths.as_slice())?;
     if held.place_of(&name).is_some() {
         return Err(Refused::NameHeld);
     }
@@ -85,14 +87,14 @@ pub(crate) fn grant(
         return Err(Refused::TooManyStreams);
     }
     let octets = cost(Octets(request.octets)).0;
-    if let Some(refused) = short_of(domain, held.rows(), octets, path.as_slice()) {
+    if let Some(refused) = short_of(domain, held, octets, tree.as_slice()) {
         return Err(refused);
     }
     Ok(Row {
         no,
         name,
         octets: request.octets,
-        path,
+        tree,
         admitted: effect,
         withdrawn: None,
     })

@@ -1,15 +1,17 @@
 //! The table of a cycle.
-ghost use Rattle.std.specs.Prelude.{◌≡◌, ◌==◌, ℕ, Bool, option_map, IfOk, option_copied};
+ghost use Rattle.std.specs.Prelude.{◌≡◌, IfOk, option_copied};
 ghost use Rattle.cqf_model.specs.Domain.{is_text};
-ghost use Rattle.cqf_model.specs.Table.{is_live, row_named, row_of};
+ghost use Rattle.cqf_model.specs.Table.{row_named, row_of};
+ghost use Rattle.cqf_admission.specs.Tables.{AreInOrder, IsRowNamed, IsRowOf};
 
-use crate::rows::{copied_rows, is_row_live};
+use crate::rows::copied_rows;
 use cqf_model::Row;
 use cqf_units::{Cycle, Memory, Name};
 use std::alloc::Global;
 use std::marker::Model;
 
-/// The table of a cycle that is closed to changes: the streams that are held in it, by number.
+/// The table of a cycle that is closed to changes: the streams that are held in it, by number, no two of one number or
+/// name.
 #[derive(Debug, Drop)]
 pub struct Table {
     cycle: Cycle,
@@ -17,16 +19,19 @@ pub struct Table {
 }
 
 impl Model for Table {
-    ghost use Rattle.cqf_admission.specs.Tables.{CycleTable};
+    ghost use Rattle.cqf_admission.specs.Tables.{AreInOrder, CycleTable};
 
     ghost Value = { CycleTable };
 
     ghost view = { λ t. record { cycle = t.cycle.0; rows = t.rows.items } };
+
+    ghost invariant = { λ t. AreInOrder t.rows.items };
 }
 
 impl Table {
     /// The table of a cycle with these rows.
     pub(crate) fn new(cycle: Cycle, rows: Vec<Row>) -> Table
+        requires { AreInOrder rows.items }
         ensures cycle { result.cycle ≡ cycle.0 }
         ensures rows { result.rows ≡ rows.items }
     {
@@ -42,23 +47,26 @@ impl Table {
 
     /// The streams that are held in the cycle, by number.
     pub fn rows(&self) -> &[Row]
-        ensures { result.now ≡ self.now.rows }
+        ensures rows { result.now ≡ self.now.rows }
+        ensures order { AreInOrder self.now.rows }
     {
         self.rows.as_slice()
     }
 
     /// The row of the stream that has the name, where one is held.
     pub fn row_named(&self, name: &Name) -> Option<&Row>
-        ensures { option_copied result ≡ row_named self.now.rows name.now }
+        ensures found { option_copied result ≡ row_named self.now.rows name.now }
+        ensures the_row { IsRowNamed self.now.rows name.now (option_copied result) }
     {
-        self.rows.iter().find(|row| has_name(row, name))
+        row_with_name(self.rows.as_slice(), name)
     }
 
     /// The row of the stream of this number, where it is held.
     pub fn row_of(&self, no: u32) -> Option<&Row>
-        ensures { option_copied result ≡ row_of self.now.rows no }
+        ensures found { option_copied result ≡ row_of self.now.rows no }
+        ensures the_row { IsRowOf self.now.rows no (option_copied result) }
     {
-        self.rows.iter().find(|row| row.no == no)
+        row_with_number(self.rows.as_slice(), no)
     }
 
     /// The same table again, unless memory runs out.
@@ -72,30 +80,23 @@ impl Table {
     }
 }
 
+/// The first of some rows whose stream has the name.
+fn row_with_name<'a>(rows: &'a [Row], name: &Name) -> Option<&'a Row>
+    ensures { option_copied result ≡ row_named rows.now name.now }
+{
+    rows.iter().find(|row| has_name(row, name))
+}
+
+/// The first of some rows whose stream has the number.
+fn row_with_number(rows: &[Row], no: u32) -> Option<&Row>
+    ensures { option_copied result ≡ row_of rows.now no }
+{
+    rows.iter().find(|row| row.no == no)
+}
+
 /// Whether the row's stream has the name.
 fn has_name(row: &Row, name: &Name) -> bool
     ensures { result ≡ is_text row.now.name name.now }
 {
     row.name == *name
-}
-
-/// A stream's life in cycles.
-pub trait Live {
-    /// In which cycles the stream is live.
-    ghost is_live_in: { Self → ℕ → Bool };
-
-    /// Whether the stream is live in the cycle.
-    fn live(&self, cycle: Cycle) -> bool
-        ensures { result ≡ is_live_in self.now cycle.0 };
-}
-
-impl Live for Row {
-    ghost is_live_in = { is_live };
-
-    /// Whether the stream is live in the cycle: admitted, and not yet withdrawn (profile).
-    fn live(&self, cycle: Cycle) -> bool
-        ensures { result ≡ is_live self.now cycle.0 }
-    {
-        is_row_live(self, cycle)
-    }
 }

@@ -1,4 +1,4 @@
-use crate::{Admission, Live, Receipt, Refused, Reply, SealFault, Table};
+use crate::{Admission, Receipt, Refused, Reply, SealFault, Table};
 use cqf_topology::{Domain, Request};
 use cqf_units::{Cycle, Memory, Name, Octets};
 use std::alloc::Global;
@@ -15,6 +15,10 @@ const RING: &str =
 /// One bridge and one station.
 const WIDE: &str =
     "cycle = 10000000\nguard = 5000\nbridges = [\"a\"]\nstations = [\"s\"]\n[[links]]\nfrom = \"a\"\nto = \"s\"\nrate = 1000\ndelay = 500\n";
+
+/// Bridges a, b, c in a line to station s, and station t at bridge b.
+const FORK: &str =
+    "cycle = 125000\nguard = 5000\nbridges = [\"a\", \"b\", \"c\"]\nstations = [\"s\", \"t\"]\n[[links]]\nfrom = \"a\"\nto = \"b\"\nrate = 1000\ndelay = 500\n[[links]]\nfrom = \"b\"\nto = \"c\"\nrate = 1000\ndelay = 500\n[[links]]\nfrom = \"c\"\nto = \"s\"\nrate = 1000\ndelay = 500\n[[links]]\nfrom = \"b\"\nto = \"t\"\nrate = 1000\ndelay = 500\n";
 
 /// The path of the line.
 const WHOLE: [&str; 4] = ["a", "b", "c", "s"];
@@ -33,11 +37,26 @@ fn path_of(alloc: Global, nodes: &[&str]) -> Result<Vec<String>, Memory> {
     Ok(path)
 }
 
+/// A request for a stream of one branch.
 fn request(alloc: Global, name: &str, octets: u32, nodes: &[&str]) -> Result<Request, Memory> {
+    let mut paths = Vec::new(alloc);
+    paths.push(path_of(alloc, nodes)?)?;
     Ok(Request {
         name: String::from_str(alloc, name)?,
         octets,
-        path: path_of(alloc, nodes)?,
+        paths,
+    })
+}
+
+/// A request for the stream x of 1,500 octets and two branches.
+fn request_of_two(alloc: Global, first: &[&str], second: &[&str]) -> Result<Request, Memory> {
+    let mut paths = Vec::new(alloc);
+    paths.push(path_of(alloc, first)?)?;
+    paths.push(path_of(alloc, second)?)?;
+    Ok(Request {
+        name: String::from_str(alloc, "x")?,
+        octets: 1500,
+        paths,
     })
 }
 
@@ -87,6 +106,25 @@ fn refused_on(
     let mut asked = admission(alloc, text)?;
     let answer = ask(&mut asked, alloc, name, octets, nodes);
     drop(asked);
+    Ok(answer?.err())
+}
+
+/// The answer to a request of two branches.
+fn ask_two(
+    asked: &mut Admission,
+    alloc: Global,
+    first: &[&str],
+    second: &[&str],
+) -> Result<Result<Receipt, Refused>, Memory> {
+    let wanted = request_of_two(alloc, first, second)?;
+    Ok(asked.admit(0, &wanted))
+}
+
+/// Why two branches are refused over the ring where nothing is held.
+fn refused_of_two(alloc: Global, first: &[&str], second: &[&str]) -> Result<Option<Refused>, Fail> {
+    let mut ring = admission(alloc, RING)?;
+    let answer = ask_two(&mut ring, alloc, first, second);
+    drop(ring);
     Ok(answer?.err())
 }
 
@@ -355,5 +393,55 @@ fn a_history_takes_100000_calls_and_as_many_seals(rt: HostRuntime) -> Result<(),
     drop(line);
     assert!(rt; calls == [Some(Refused::NotHeld), Some(Refused::HistoryFull)]);
     assert!(rt; cycles? == Some(SealFault::CyclesSpent));
+    Ok(())
+}
+
+/// What is held on the four links of the fork.
+fn held_on_fork(fork: &Admission) -> [u32; 4] {
+    if fork.domain().links() < 4 {
+        return [0; 4];
+    }
+    [
+        fork.held_on(0).0,
+        fork.held_on(1).0,
+        fork.held_on(2).0,
+        fork.held_on(3).0,
+    ]
+}
+
+/// What is held on the fork for a stream to both of its stations: at once, and of a stream withdrawn with effect 5 in
+/// cycles 7 and 8.
+fn hold_fork(fork: &mut Admission, alloc: Global) -> Result<[[u32; 4]; 3], Fail> {
+    ask_two(fork, alloc, &WHOLE, &["a", "b", "t"])??;
+    let granted = held_on_fork(fork);
+    seal_often(fork, 5)?;
+    fork.withdraw(0, "x")?;
+    seal_often(fork, 2)?;
+    let before = held_on_fork(fork);
+    seal_often(fork, 1)?;
+    Ok([granted, before, held_on_fork(fork)])
+}
+
+#[test]
+fn a_shared_link_is_charged_once_until_the_deepest_branch_is_empty(
+    rt: HostRuntime,
+) -> Result<(), Fail> {
+    let mut fork = admission(rt.alloc(), FORK)?;
+    let held = hold_fork(&mut fork, rt.alloc());
+    drop(fork);
+    assert!(rt; held? == [[1960; 4], [1960; 4], [0; 4]]);
+    Ok(())
+}
+
+#[test]
+fn branches_that_make_no_tree_are_refused(rt: HostRuntime) -> Result<(), Fail> {
+    let joins = refused_of_two(rt.alloc(), &WHOLE, &["a", "c", "s"])?;
+    let again = refused_of_two(rt.alloc(), &["a", "c", "s"], &["a", "c", "s"])?;
+    let other = refused_of_two(rt.alloc(), &["a", "c", "s"], &["b", "c", "s"])?;
+    let unknown = refused_of_two(rt.alloc(), &["a", "c", "s"], &["a", "q", "s"])?;
+    assert!(rt; joins == Some(Refused::NotATree(1)));
+    assert!(rt; again == Some(Refused::NotATree(1)));
+    assert!(rt; other == Some(Refused::NotATree(1)));
+    assert!(rt; unknown == Some(Refused::UnknownNode(4)));
     Ok(())
 }

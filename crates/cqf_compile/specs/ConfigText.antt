@@ -2,15 +2,15 @@
 use Rattle.std.specs.Prelude.{ℕ, List, [], ◌∷◌, ◌++◌, codes, slice_index_or}
 use Rattle.std.specs.Fmt.{decimal}
 use Rattle.std.specs.List.{flat_map}
-use Rattle.cqf_text.specs.GateListText.{text_of_entries}
+use Rattle.cqf_gates.specs.GateListText.{text_of_entries}
 use Rattle.cqf_model.specs.declared.topology.Link.{Link}
 use Rattle.cqf_model.specs.declared.topology.Node.{Node}
 use Rattle.cqf_model.specs.declared.topology.Node.TheVariants.{Bridge, Station}
 use Rattle.cqf_model.specs.declared.topology.Row.{Row}
 use Rattle.cqf_model.specs.Domain.{Domain}
 use Rattle.cqf_model.specs.GateList.{port_list}
-use Rattle.cqf_model.specs.Network.{bridge_of}
 use Rattle.cqf_model.specs.StreamGate.{stream_list}
+use Rattle.cqf_model.specs.Table.{bridges_of}
 use Rattle.cqf_gates.specs.StreamText.{text_of_stream_entries}
 
 -- the name of a node
@@ -25,16 +25,16 @@ line_of_link d link = codes "link " ++ name_of d (Bridge link.from) ++ codes ">"
 abbrev pub text_of_link : Domain → Link → List ℕ
 text_of_link d link = line_of_link d link ++ 10 ∷ text_of_entries (port_list d.cycle_time d.guard)
 
--- a stream at the bridge that a link of its path leaves: a line with the stream and the bridge, and the stream's gate
-abbrev pub line_of_hop : Domain → Row → ℕ → List ℕ
-line_of_hop d row l = codes "stream " ++ decimal row.no ++ codes " " ++ row.name ++ codes " bridge " ++ name_of d (Bridge (bridge_of d l))
+-- a stream at a bridge: a line with the stream and the bridge, and the stream's gate
+abbrev pub line_at : Domain → Row → ℕ → List ℕ
+line_at d row bridge = codes "stream " ++ decimal row.no ++ codes " " ++ row.name ++ codes " bridge " ++ name_of d (Bridge bridge)
 
-abbrev pub text_of_hop : Domain → Row → ℕ → List ℕ
-text_of_hop d row l = line_of_hop d row l ++ 10 ∷ text_of_stream_entries (stream_list d.cycle_time row.octets)
+abbrev pub text_at : Domain → Row → ℕ → List ℕ
+text_at d row bridge = line_at d row bridge ++ 10 ∷ text_of_stream_entries (stream_list d.cycle_time row.octets)
 
--- a stream at each bridge of its path, in order
+-- a stream at each bridge of its tree: each once, in the order in which the tree leaves them
 abbrev pub text_of_row : Domain → Row → List ℕ
-text_of_row d row = flat_map (text_of_hop d row) row.path.items
+text_of_row d row = flat_map (text_at d row) (bridges_of d row)
 
 -- the configuration: the links by number, and then the streams of a table by number
 abbrev pub config_text : Domain → List Row → List ℕ

@@ -1,3 +1,2 @@
 pub mod Plan
 pub mod ConfigText
-pub mod Tables

@@ -1,14 +1,16 @@
 //! The configuration as a text (profile).
-ghost use Rattle.std.specs.Prelude.{◌≡◌, ◌<◌, ◌++◌, ◌∷◌, [], All, IfOk, OnOk, Some, length, option_map, slice_get};
+ghost use Rattle.std.specs.Prelude.{◌≡◌, ◌<◌, ◌==◌, ◌++◌, ◌∷◌, [], All, IfOk, OnOk, Some, length, option_map, slice_get};
+ghost use Rattle.std.specs.List.{list_any};
 ghost use Rattle.std.specs.String.{string_bytes};
 ghost use Rattle.cqf_model.specs.Domain.{IsNode};
-ghost use Rattle.cqf_compile.specs.ConfigText.{config_text, line_of_hop, name_of, text_of_link, text_of_row};
-ghost use Rattle.cqf_compile.specs.Tables.{AreAlongLinks, TablesGoAlongLinks};
+ghost use Rattle.cqf_model.specs.Table.{bridges_of, links_of};
+ghost use Rattle.cqf_compile.specs.ConfigText.{config_text, line_at, name_of, text_of_link, text_of_row};
+ghost use Rattle.cqf_admission.specs.Tables.{AreAlongLinks};
 
 use crate::{Plan, gate_of};
+use arrayvec::ArrayVec;
 use cqf_admission::Table;
 use cqf_gates::{write_stream, write_tx};
-use cqf_laws_history::state_follows_history;
 use cqf_model::{Node, Row};
 use cqf_topology::Domain;
 use cqf_units::{Memory, Name};
@@ -41,27 +43,51 @@ fn link_text(alloc: Global, plan: &Plan, link: u8) -> Result<Vec<u8>, Memory>
     Ok(text)
 }
 
-/// The line of the stream at the bridge that the link leaves.
-fn hop_line(alloc: Global, plan: &Plan, row: &Row, link: u8) -> Result<String, Memory>
-    requires { link < length plan.now.links }
-    ensures { IfOk result (λ line. string_bytes line ≡ line_of_hop plan.now row.now link ++ 10 ∷ []) }
+/// The bridges at which the stream has a gate: each once, in the order in which its tree leaves them.
+fn bridges_of(plan: &Plan, row: &Row) -> ArrayVec<u8, 64>
+    requires { All (λ l. l < length plan.now.links) (links_of row.now) }
+    ensures value { result.items ≡ bridges_of plan.now row.now }
+    ensures inside { All (λ bridge. bridge < length plan.now.bridges) result.items }
 {
     let domain = plan.domain();
+    let mut bridges = ArrayVec::new();
+    for hop in row.tree.as_slice() {
+        let bridge = domain.link(hop.link).from;
+        if !is_among(bridges.as_slice(), bridge) {
+            bridges.push(bridge);
+        }
+    }
+    bridges
+}
+
+/// Whether a bridge is among some.
+fn is_among(bridges: &[u8], bridge: u8) -> bool
+    ensures { result ≡ list_any (λ other. other == bridge) bridges.now }
+{
+    bridges.iter().any(|other| *other == bridge)
+}
+
+/// The line of the stream at the bridge.
+fn line_at(alloc: Global, plan: &Plan, row: &Row, bridge: u8) -> Result<String, Memory>
+    requires { bridge < length plan.now.bridges }
+    ensures { IfOk result (λ line. string_bytes line ≡ line_at plan.now row.now bridge ++ 10 ∷ []) }
+{
     let (number, name) = (row.no, &row.name);
-    let bridge = name_of_node(domain, Node::Bridge(domain.link(link).from));
+    let bridge = name_of_node(plan.domain(), Node::Bridge(bridge));
     let line = format!(in alloc; "stream {number} {name} bridge {bridge}\n")?;
     Ok(line)
 }
 
-/// The stream and its gate at each bridge of its path.
+/// The stream and its gate at each bridge of its tree.
 fn row_text(alloc: Global, plan: &Plan, row: &Row) -> Result<Vec<u8>, Memory>
-    requires { All (λ l. l < length plan.now.links) row.now.path.items }
+    requires { All (λ l. l < length plan.now.links) (links_of row.now) }
     ensures { IfOk result (λ text. text.items ≡ text_of_row plan.now row.now) }
 {
     let gate = write_stream(alloc, &gate_of(plan.domain(), row))?;
+    let bridges = bridges_of(plan, row);
     let mut text = Vec::new(alloc);
-    for link in row.path.as_slice() {
-        let line = hop_line(alloc, plan, row, *link)?;
+    for bridge in bridges.as_slice() {
+        let line = line_at(alloc, plan, row, *bridge)?;
         text.extend_from_slice(line.as_bytes())?;
         text.extend_from_slice(gate.as_slice())?;
     }
@@ -69,9 +95,9 @@ fn row_text(alloc: Global, plan: &Plan, row: &Row) -> Result<Vec<u8>, Memory>
 }
 
 /// The configuration of the plan and the streams of a table. For each link by number it has a line `link FROM>TO`, and
-/// then the gate list of the link's port. Then, for each row of the table by number and each bridge of its path in order,
-/// it has a line `stream NO NAME bridge BRIDGE`, and then the stream's gate (profile). The paths of the table go along
-/// links of the plan's domain.
+/// then the gate list of the link's port. Then, for each row of the table by number and each bridge of its tree, once and in
+/// the order in which the tree leaves them, it has a line `stream NO NAME bridge BRIDGE`, and then the stream's gate
+/// (profile). The trees of the table go along links of the plan's domain.
 pub fn write_config(alloc: Global, plan: &Plan, table: &Table) -> Result<Vec<u8>, Memory>
     requires { AreAlongLinks plan.now table.now.rows }
     ensures { IfOk result (λ text. text.items ≡ config_text plan.now table.now.rows) }
@@ -87,12 +113,4 @@ pub fn write_config(alloc: Global, plan: &Plan, table: &Table) -> Result<Vec<u8>
         text.extend_from_slice(stream.as_slice())?;
     }
     Ok(text)
-}
-
-/// The table of a Seal can be written: the paths in it go along links of its domain, since admission refuses others. A
-/// proof uses this by a call.
-pub fn tables_go_along_links()
-    ensures { TablesGoAlongLinks }
-{
-    state_follows_history();
 }

@@ -1,9 +1,8 @@
 //! The compiler: what a domain and its streams are configured as.
 //!
 //! - [`compile`] makes a [`Plan`] of a domain: the gate list of the port of each link.
-//! - [`gate_of`] gives the gate of a stream, which is the same at each bridge of its path.
-//! - [`write_config`] writes both as one text. [`tables_go_along_links`] tells a proof that it takes each table that an
-//!   admission closes.
+//! - [`gate_of`] gives the gate of a stream, which is the same at each bridge of its tree.
+//! - [`write_config`] writes both as one text.
 //!
 //! In even cycles a stream's gate gives its frames class 6 while the ports send class 7, and in odd cycles the other way
 //! round: so each frame waits for the cycle after the one that it came in (IEEE 802.1Q, Annex T).
@@ -12,9 +11,9 @@
 //!
 //! ```text
 //! link a>s
-//! 80 120000
+//! BF 120000
 //! 00 5000
-//! 40 120000
+//! 7F 120000
 //! 00 5000
 //! stream 0 x bridge a
 //! open 6 125000 1500
@@ -28,6 +27,6 @@ mod plan;
 #[cfg(test)]
 mod tests;
 
-pub use config::{tables_go_along_links, write_config};
+pub use config::write_config;
 pub use gates::gate_of;
 pub use plan::{Plan, compile};

@@ -1,5 +1,5 @@
 pub mod Rounds
-pub mod Entries
+pub mod EntryTests
 pub mod OpenSpans
 pub mod Intervals
 pub mod ReadLines

@@ -1,12 +1,15 @@
 -- How long a run of entries keeps a class open.
-use Rattle.std.proofs.Common.{ℕ, ◌≡◌, ◌+◌, ◌-◌, ◌*◌, ◌%◌, ◌<◌, ◌≤◌, zero, suc, List, [], ◌∷◌, length, take, drop, get_or, IsBitSet, inl, inr, ap, ◌∙◌, ltb, true, false, arith}
+use Rattle.std.proofs.Common.{ℕ, ◌≡◌, ◌+◌, ◌-◌, ◌*◌, ◌%◌, ◌^◌, ◌<◌, ◌≤◌, zero, suc, List, [], ◌∷◌, ◌++◌, All, length, take, drop, map, get_or, bit_and, IsBitSet, inl, inr, sym, ap, ◌∙◌, subst, ltb, eqb, not, true, false, arith}
+use Rattle.std.specs.List.{prefix_len}
 use Rattle.std.proofs.lemmas.Bool.Decides.{leb_tells}
-use Rattle.std.proofs.lemmas.List.Sums.{sum_by-cons, sum_by-take-drop, sum_by-take-le}
-use Rattle.std.proofs.lemmas.List.{take_all, get_or-drop}
-use Rattle.std.proofs.lemmas.List.Elements.{All-drop}
+use Rattle.std.proofs.lemmas.List.Sums.{sum_by-cons, sum_by-append, sum_by-take-drop, prefix_len-le-length, prefix_len_passes, prefix_len_stops}
+use Rattle.std.proofs.lemmas.List.{take_all, take-append-drop, get_or-drop, get_or-map, get_or_append_left, get_or-append-add, length-append, length-drop, length-take, length-map}
+use Rattle.std.proofs.lemmas.List.Elements.{All-append, All-drop, All-take, All-from_get_or}
+use Rattle.std.proofs.lemmas.Bool.{true≢false, eq-eqb, eqb-true, not-false}
 use Rattle.cqf_model.specs.GateList.{Entry, round_of, states_in, states_at, IsOpen, IsOpenThrough, InForce}
-use Rattle.cqf_gates.specs.TxList.{IsOpenRun, IsTxList}
-use Rattle.cqf_gates.proofs.Rounds.{states_in-behind, states_in-at, states_at-in_round, in_round}
+use Rattle.cqf_lanes.specs.Kernels.{has_bit, open_run_of}
+use Rattle.cqf_gates.specs.TxList.{IsTxList}
+use Rattle.cqf_gates.proofs.Rounds.{states_in-past, states_in-behind, states_in-at, states_at-in_round, states_at-in_force, in_round}
 
 -- within a run of entries that open the class, the class is open
 pub run_opens : (entries : List Entry) (class run offset : ℕ) → ((k : ℕ) → k < run → IsBitSet (get_or entries k (0, 0)).0 class) → offset < round_of (take run entries) → IsBitSet (states_in entries offset) class
@@ -32,73 +35,157 @@ first_le_run [] (suc run) some = omega arith
 first_le_run (entry ∷ entries) zero some = absurd (omega arith)
 first_le_run (entry ∷ entries) (suc run) some = omega (arith, sum_by-cons (λ (e : Entry). e.1) entry (take run entries))
 
--- from the first instant of an entry on, the class is open as long as a run of entries opens it
-pub open-in_run : (entries : List Entry) (class round place run s : ℕ) → ((k : ℕ) → k < run → IsBitSet (get_or (drop place entries) k (0, 0)).0 class) → round * round_of entries + round_of (take place entries) ≤ s → s < round * round_of entries + round_of (take place entries) + round_of (take run (drop place entries)) → IsOpen entries class s
-open-in_run entries class round place run s opened from to =
-    let offset : ℕ = s - (round * round_of entries + round_of (take place entries)) in
-    let within : offset < round_of (take run (drop place entries)) = omega arith in
-    let short = sum_by-take-le (λ (e : Entry). e.1) (drop place entries) run in
-    let whole = sum_by-take-drop (λ (e : Entry). e.1) entries place in
-    let e : s ≡ round * round_of entries + (round_of (take place entries) + offset) = omega arith in
-    let states : states_at entries s ≡ states_in (drop place entries) offset =
-    ap (states_at entries) e ∙ states_at-in_round entries round _ (omega arith) ∙ states_in-behind place entries offset in
-    rw states (run_opens (drop place entries) class run offset opened within)
+-- in front of further entries a part of a round goes as before
+states_in-front : (front behind : List Entry) (offset : ℕ) → offset < round_of front → states_in (front ++ behind) offset ≡ states_in front offset
+states_in-front [] behind offset within = absurd (omega arith)
+states_in-front (entry ∷ front) behind offset within =
+    elim (leb_tells (suc offset) entry.1) [
+      | inl first ↦
+          let inside : ltb offset entry.1 ≡ true = first.0 in
+          rw inside
+      | inr later ↦
+          let inside : ltb offset entry.1 ≡ false = later.0 in
+          let passed : entry.1 ≤ offset = omega (arith, later.1) in
+          let whole = sum_by-cons (λ (e : Entry). e.1) entry front in
+          rw inside (states_in-front front behind (offset - entry.1) (omega arith))
+    ]
 
--- and closed behind the run, where an entry of the round follows
-pub closed-behind_run : (entries : List Entry) (class round place run : ℕ) → IsTxList entries → run < length (drop place entries) → ¬ IsBitSet (get_or (drop place entries) run (0, 0)).0 class → ¬ IsOpen entries class (round * round_of entries + round_of (take place entries) + round_of (take run (drop place entries)))
-closed-behind_run entries class round place run f inside ended =
-    let rest : List Entry = drop place entries in
-    let lasts : 0 < (get_or rest run (0, 0)).1 = All-drop (λ (entry : Entry). 0 < entry.1) place entries f.lasting run (0, 0) inside in
-    let short = in_round rest run 0 inside lasts in
-    let whole = sum_by-take-drop (λ (e : Entry). e.1) entries place in
-    let e : round * round_of entries + round_of (take place entries) + round_of (take run rest) ≡ round * round_of entries + (round_of (take place entries) + round_of (take run rest)) = omega arith in
-    let again : round_of (take run rest) ≡ round_of (take run rest) + 0 = omega arith in
-    let states : states_at entries (round * round_of entries + round_of (take place entries) + round_of (take run rest)) ≡ (get_or rest run (0, 0)).0 =
-    ap (states_at entries) e ∙ states_at-in_round entries round _ (omega arith) ∙ states_in-behind place entries _ ∙ ap (states_in rest) again ∙ states_in-at rest run 0 lasts in
-    rw states ended
+-- and behind them the further ones are in force
+states_in-append : (front behind : List Entry) (offset : ℕ) → states_in (front ++ behind) (round_of front + offset) ≡ states_in behind offset
+states_in-append [] behind offset = ap (states_in behind) (omega arith)
+states_in-append (entry ∷ front) behind offset =
+    let first = sum_by-cons (λ (e : Entry). e.1) entry front in
+    let e : round_of (entry ∷ front) + offset ≡ entry.1 + (round_of front + offset) = omega (arith, first) in
+    ap (states_in (entry ∷ (front ++ behind))) e ∙ states_in-past entry (front ++ behind) _ ∙ states_in-append front behind offset
 
 -- a round takes some time
 pub round_positive : (entries : List Entry) → IsTxList entries → 0 < round_of entries
 round_positive entries f = omega (arith, f.some, in_round entries 0 0 f.some (f.lasting 0 (0, 0) f.some))
 
--- where each entry opens the class, it is open at every instant
-pub open-always : (entries : List Entry) (class : ℕ) → IsTxList entries → IsOpenRun entries class (length entries) → (s : ℕ) → IsOpen entries class s
-open-always entries class f run s =
-    let whole : take (length entries) entries ≡ entries = take_all (length entries) entries (omega arith) in
-    let within : s % round_of entries < round_of entries = omega (arith, round_positive entries f) in
-    run_opens entries class (length entries) (s % round_of entries) run.opened (rw whole within)
+-- the entries, turned to begin at a place
+abbrev pub turned_to : ℕ → List Entry → List Entry
+turned_to place entries = drop place entries ++ take place entries
 
--- a run up to the end of a round, and one from the beginning of the next, keep the class open together
-open-across : (entries : List Entry) (class round place run leading s : ℕ) → ((k : ℕ) → k < run → IsBitSet (get_or (drop place entries) k (0, 0)).0 class) → ((k : ℕ) → k < leading → IsBitSet (get_or entries k (0, 0)).0 class) → round * round_of entries + round_of (take place entries) + round_of (drop place entries) ≡ (round + 1) * round_of entries → round_of (take run (drop place entries)) ≡ round_of (drop place entries) → round * round_of entries + round_of (take place entries) ≤ s → s < (round + 1) * round_of entries + 0 + round_of (take leading entries) → IsOpen entries class s
-open-across entries class round place run leading s opened next turn all from to =
-    elim (leb_tells (suc s) ((round + 1) * round_of entries)) [
-      | inl before ↦ open-in_run entries class round place run s opened from (omega (arith, before.1))
-      | inr behind ↦ open-in_run entries class (round + 1) 0 leading s next (omega (arith, behind.1)) to
+-- from the first instant of an entry on, the states of a whole round are those of the list turned to begin there
+states_at-turned : (entries : List Entry) (round place offset : ℕ) → offset < round_of entries → states_at entries (round * round_of entries + round_of (take place entries) + offset) ≡ states_in (turned_to place entries) offset
+states_at-turned entries round place offset within =
+    let parts = sum_by-take-drop (λ (e : Entry). e.1) entries place in
+    elim (leb_tells (suc offset) (round_of (drop place entries))) [
+      | inl first ↦
+          let here : offset < round_of (drop place entries) = first.1 in
+          let e : round * round_of entries + round_of (take place entries) + offset ≡ round * round_of entries + (round_of (take place entries) + offset) = omega arith in
+          ap (states_at entries) e ∙ states_at-in_round entries round _ (omega arith) ∙ states_in-behind place entries offset ∙ sym (states_in-front (drop place entries) (take place entries) offset here)
+      | inr later ↦
+          let rest : ℕ = offset - round_of (drop place entries) in
+          let behind : round_of (drop place entries) + rest ≡ offset = omega (arith, later.1) in
+          let short : rest < round_of (take place entries) = omega (arith, later.1) in
+          let e : round * round_of entries + round_of (take place entries) + offset ≡ (round + 1) * round_of entries + rest = omega arith in
+          let front : states_in entries rest ≡ states_in (take place entries) rest =
+          ap (λ xs. states_in xs rest) (sym (take-append-drop place entries)) ∙ states_in-front (take place entries) (drop place entries) rest short in
+          ap (states_at entries) e ∙ states_at-in_round entries (round + 1) rest (omega arith) ∙ front ∙ sym (states_in-append (drop place entries) (take place entries) rest) ∙ ap (states_in (turned_to place entries)) behind
     ]
 
--- an instant in force and the run of entries that opens the class from it on, where an entry of the round follows
-pub open-to_run : (entries : List Entry) (class t place offset run end : ℕ) → IsTxList entries → InForce entries t place offset → IsOpenRun (drop place entries) class run → 0 < run → run < length (drop place entries) → end ≡ t - offset + round_of (take run (drop place entries)) → (t < end) × IsOpenThrough entries class t end × (¬ IsOpen entries class end)
-open-to_run entries class t place offset run end f force opened some followed is =
-    let begun : t - offset ≡ force.round * round_of entries + round_of (take place entries) = omega (arith, force.spans) in
-    let head : get_or (drop place entries) 0 (0, 0) ≡ get_or entries place (0, 0) = get_or-drop place entries 0 (0, 0) ∙ ap (λ k. get_or entries k (0, 0)) (omega arith) in
-    let first : (get_or entries place (0, 0)).1 ≤ round_of (take run (drop place entries)) = rw (← head) (first_le_run (drop place entries) run some) in
-    let e : end ≡ force.round * round_of entries + round_of (take place entries) + round_of (take run (drop place entries)) = omega arith in (
-      omega (arith, force.spans, force.within),
-      λ s from to. open-in_run entries class force.round place run s opened.opened (omega (arith, force.spans)) (omega arith),
-      rw e (closed-behind_run entries class force.round place run f followed (opened.ended followed)),
-    )
+-- the turned list takes as long
+round_of-turned : (entries : List Entry) (place : ℕ) → round_of (turned_to place entries) ≡ round_of entries
+round_of-turned entries place = omega (arith, sum_by-append (λ (e : Entry). e.1) (drop place entries) (take place entries), sum_by-take-drop (λ (e : Entry). e.1) entries place)
 
--- the same where the run goes on into the next round
-pub open-to_next_round : (entries : List Entry) (class t place offset run leading end : ℕ) → IsTxList entries → InForce entries t place offset → IsOpenRun (drop place entries) class run → 0 < run → length (drop place entries) ≤ run → IsOpenRun entries class leading → leading < length entries → end ≡ t - offset + round_of (drop place entries) + round_of (take leading entries) → (t < end) × IsOpenThrough entries class t end × (¬ IsOpen entries class end)
-open-to_next_round entries class t place offset run leading end f force opened some whole next followed is =
-    let begun : t - offset ≡ force.round * round_of entries + round_of (take place entries) = omega (arith, force.spans) in
-    let head : get_or (drop place entries) 0 (0, 0) ≡ get_or entries place (0, 0) = get_or-drop place entries 0 (0, 0) ∙ ap (λ k. get_or entries k (0, 0)) (omega arith) in
-    let first : (get_or entries place (0, 0)).1 ≤ round_of (take run (drop place entries)) = rw (← head) (first_le_run (drop place entries) run some) in
-    let all : round_of (take run (drop place entries)) ≡ round_of (drop place entries) = ap round_of (take_all run (drop place entries) whole) in
-    let parts = sum_by-take-drop (λ (e : Entry). e.1) entries place in
-    let turn : force.round * round_of entries + round_of (take place entries) + round_of (drop place entries) ≡ (force.round + 1) * round_of entries = omega arith in
-    let e : end ≡ (force.round + 1) * round_of entries + 0 + round_of (take leading entries) = omega arith in (
-      omega (arith, force.spans, force.within),
-      λ s from to. open-across entries class force.round place run leading s opened.opened next.opened turn all (omega (arith, force.spans)) (omega arith),
-      rw e (closed-behind_run entries class (force.round + 1) 0 leading f followed (next.ended followed)),
-    )
+-- has as many entries
+pub length-turned : (entries : List Entry) (place : ℕ) → length (turned_to place entries) ≡ length entries
+length-turned entries place = omega (arith, length-append (drop place entries) (take place entries), length-drop place entries, length-take place entries)
+
+-- and begins with the one at the place
+first_of-turned : (entries : List Entry) (place : ℕ) → place < length entries → get_or (turned_to place entries) 0 (0, 0) ≡ get_or entries place (0, 0)
+first_of-turned entries place inside = get_or_append_left (drop place entries) (take place entries) (0, 0) 0 (omega (arith, length-drop place entries)) ∙ get_or-drop place entries 0 (0, 0) ∙ ap (λ k. get_or entries k (0, 0)) (omega arith)
+
+-- states whose bit was tested open the class
+open_from_test : (states class : ℕ) → has_bit states class ≡ true → IsBitSet states class
+open_from_test states class test none = true≢false (sym test ∙ ap not (eq-eqb (bit_and states (2 ^ class)) 0 none))
+
+-- and else close it
+closed_from_test : (states class : ℕ) → has_bit states class ≡ false → ¬ IsBitSet states class
+closed_from_test states class test is_set = is_set (eqb-true (bit_and states (2 ^ class)) 0 (not-false (eqb (bit_and states (2 ^ class)) 0) test))
+
+-- what holds of each of some elements holds of each of the first ones
+All-front : {A : Type 0} (P : A → Type 0) (xs ys : List A) → All P (xs ++ ys) → All P xs
+All-front P xs ys all k d inside = subst P (get_or_append_left xs ys d k inside) (all k d (omega (arith, length-append xs ys)))
+
+-- and of those behind them
+All-behind : {A : Type 0} (P : A → Type 0) (xs ys : List A) → All P (xs ++ ys) → All P ys
+All-behind P xs ys all k d inside = subst P (get_or-append-add xs ys k d) (all (length xs + k) d (omega (arith, length-append xs ys)))
+
+-- the states of an entry, among all states
+state_of : (entries : List Entry) (k : ℕ) → k < length entries → get_or (map (λ (entry : Entry). entry.0) entries) k 0 ≡ (get_or entries k (0, 0)).0
+state_of entries k inside = get_or-map (λ (entry : Entry). entry.0) entries k (0, 0) 0 inside
+
+-- each entry of a run opens the class
+opened_by_run : (entries : List Entry) (class run : ℕ) → run ≡ open_run_of class (map (λ (entry : Entry). entry.0) entries) → (k : ℕ) → k < run → IsBitSet (get_or entries k (0, 0)).0 class
+opened_by_run entries class run is k below =
+    let states : List ℕ = map (λ (entry : Entry). entry.0) entries in
+    let most = prefix_len-le-length (λ gates. has_bit gates class) states in
+    let inside : k < length entries = omega (arith, length-map entries (λ (entry : Entry). entry.0)) in
+    let passes : has_bit (get_or states k 0) class ≡ true = prefix_len_passes (λ gates. has_bit gates class) states k 0 (omega arith) in
+    subst (λ x. IsBitSet x class) (state_of entries k inside) (open_from_test (get_or states k 0) class passes)
+
+-- a run isn't longer than the list
+pub run_inside : (entries : List Entry) (class run : ℕ) → run ≡ open_run_of class (map (λ (entry : Entry). entry.0) entries) → run ≤ length entries
+run_inside entries class run is =
+    let run_is : run ≡ prefix_len (λ gates. has_bit gates class) (map (λ (entry : Entry). entry.0) entries) = is in
+    omega (arith, prefix_len-le-length (λ gates. has_bit gates class) (map (λ (entry : Entry). entry.0) entries), length-map entries (λ (entry : Entry). entry.0))
+
+-- the one behind the run closes it
+closed_behind_run : (entries : List Entry) (class run : ℕ) → run ≡ open_run_of class (map (λ (entry : Entry). entry.0) entries) → run < length entries → ¬ IsBitSet (get_or entries run (0, 0)).0 class
+closed_behind_run entries class run is inside =
+    let states : List ℕ = map (λ (entry : Entry). entry.0) entries in
+    let long = length-map entries (λ (entry : Entry). entry.0) in
+    let run_is : run ≡ prefix_len (λ gates. has_bit gates class) states = is in
+    let stops = prefix_len_stops (λ gates. has_bit gates class) states 0 (omega arith) in
+    let here : has_bit (get_or states run 0) class ≡ false = ap (λ k. has_bit (get_or states k 0) class) run_is ∙ stops in
+    subst (λ x. ¬ IsBitSet x class) (state_of entries run inside) (closed_from_test (get_or states run 0) class here)
+
+module _ (entries : List Entry) (class t place offset run : ℕ) (f : IsTxList entries) (force : InForce entries t place offset) (is : run ≡ open_run_of class (map (λ (entry : Entry). entry.0) (turned_to place entries))) where
+  -- a run of all entries: each opens the class
+  pub all-open : run ≡ length (turned_to place entries) → All (λ (entry : Entry). IsBitSet entry.0 class) entries
+  all-open whole =
+      let opened : All (λ (entry : Entry). IsBitSet entry.0 class) (turned_to place entries) =
+      All-from_get_or (λ (entry : Entry). IsBitSet entry.0 class) (turned_to place entries) (0, 0) (λ k inside. opened_by_run (turned_to place entries) class run is k (omega arith)) in
+      let behind = All-front (λ (entry : Entry). IsBitSet entry.0 class) (drop place entries) (take place entries) opened in
+      let front = All-behind (λ (entry : Entry). IsBitSet entry.0 class) (drop place entries) (take place entries) opened in
+      subst (All (λ (entry : Entry). IsBitSet entry.0 class)) (take-append-drop place entries) (All-append (λ (entry : Entry). IsBitSet entry.0 class) (take place entries) (drop place entries) front behind)
+
+  -- and so it is open at every instant
+  pub open-always : run ≡ length (turned_to place entries) → (s : ℕ) → IsOpen entries class s
+  open-always whole s =
+      let opened = all-open whole in
+      let within : s % round_of entries < round_of entries = omega (arith, round_positive entries f) in
+      run_opens entries class (length entries) (s % round_of entries) (λ k inside. opened k (0, 0) inside) (rw (take_all (length entries) entries (omega arith)) within)
+
+  -- no run: the entry in force closes the class
+  pub closed-now : run ≡ 0 → ¬ IsOpen entries class t
+  closed-now none =
+      let first : ¬ IsBitSet (get_or (turned_to place entries) run (0, 0)).0 class = closed_behind_run (turned_to place entries) class run is (omega (arith, f.some, length-turned entries place)) in
+      let here : get_or (turned_to place entries) run (0, 0) ≡ get_or entries place (0, 0) = ap (λ k. get_or (turned_to place entries) k (0, 0)) none ∙ first_of-turned entries place force.inside in
+      subst (λ x. ¬ IsBitSet x class) (ap (λ (entry : Entry). entry.0) here ∙ sym (states_at-in_force entries t place offset force)) first
+
+  -- a run that ends: the class is open up to its end, and closed there
+  pub open-to_end : (end : ℕ) → 0 < run → run < length (turned_to place entries) → end ≡ t - offset + round_of (take run (turned_to place entries)) → (t < end) × IsOpenThrough entries class t end × (¬ IsOpen entries class end)
+  open-to_end end some followed end_is =
+      let list : List Entry = turned_to place entries in
+      let begun : t - offset ≡ force.round * round_of entries + round_of (take place entries) = omega (arith, force.spans) in
+      let first : (get_or entries place (0, 0)).1 ≤ round_of (take run list) = subst (λ (e : Entry). e.1 ≤ round_of (take run list)) (first_of-turned entries place force.inside) (first_le_run list run some) in
+      let lasts : 0 < (get_or list run (0, 0)).1 = All-append (λ (entry : Entry). 0 < entry.1) (drop place entries) (take place entries) (All-drop (λ (entry : Entry). 0 < entry.1) place entries f.lasting) (All-take (λ (entry : Entry). 0 < entry.1) place entries f.lasting) run (0, 0) followed in
+      let short = in_round list run 0 followed lasts in
+      let whole = round_of-turned entries place in
+      let at : (x : ℕ) → x < round_of entries → states_at entries (t - offset + x) ≡ states_in list x = λ x within. ap (λ b. states_at entries (b + x)) begun ∙ states_at-turned entries force.round place x within in (
+        omega (arith, force.spans, force.within),
+        λ s from to.
+            let since : t - offset + (s - (t - offset)) ≡ s = omega (arith, force.spans) in
+            let states : states_at entries s ≡ states_in list (s - (t - offset)) = ap (states_at entries) (sym since) ∙ at (s - (t - offset)) (omega (arith, force.spans)) in
+            subst (λ x. IsBitSet x class) (sym states) (run_opens list class run (s - (t - offset)) (opened_by_run list class run is) (omega (arith, force.spans))),
+        (let states : states_at entries end ≡ (get_or list run (0, 0)).0 = ap (states_at entries) end_is ∙ at (round_of (take run list)) (omega arith) ∙ ap (states_in list) (let e : round_of (take run list) ≡ round_of (take run list) + 0 = omega arith in e) ∙ states_in-at list run 0 lasts in
+            subst (λ x. ¬ IsBitSet x class) (sym states) (closed_behind_run list class run is followed)),
+      )
+
+-- the run was counted among the states of the turned list
+pub run_of_turned : (list given turned seen : List Entry) (states shown : List ℕ) (place class run : ℕ) → given ≡ list → turned ≡ turned_to place given → seen ≡ turned → states ≡ map (λ (entry : Entry). entry.0) seen → shown ≡ states → run ≡ open_run_of class shown → run ≡ open_run_of class (map (λ (entry : Entry). entry.0) (turned_to place list))
+run_of_turned list given turned seen states shown place class run given_is turned_is seen_is states_are shown_are is =
+    is ∙ ap (open_run_of class) (shown_are ∙ states_are ∙ ap (map (λ (entry : Entry). entry.0)) (seen_is ∙ turned_is ∙ ap (turned_to place) given_is))

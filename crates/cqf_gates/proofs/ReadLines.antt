@@ -4,7 +4,7 @@ use Rattle.std.proofs.lemmas.Bool.Decides.{nat_tests, leb_tells}
 use Rattle.std.proofs.lemmas.List.{take_all, take-append-le, length-take, length-take-le, append-nil}
 use Rattle.cqf_model.specs.GateList.{Entry}
 use Rattle.cqf_text.specs.Lines.{lines_of}
-use Rattle.cqf_text.specs.GateListText.{entry_of_line, entries_of_lines, entries_of_text, with_entry}
+use Rattle.cqf_gates.specs.GateListText.{entry_of_line, entries_of_lines, entries_of_text, with_entry}
 use Rattle.cqf_gates.specs.TxList.{tx_list_of}
 use Rattle.cqf_gates.specs.TxText.{list_of_text, in_text}
 

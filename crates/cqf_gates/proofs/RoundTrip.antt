@@ -14,7 +14,7 @@ use Rattle.cqf_model.specs.GateList.{Entry}
 use Rattle.cqf_text.proofs.DecimalLemmas.{own}
 use Rattle.cqf_text.proofs.LineLemmas.{lines_of-first}
 use Rattle.cqf_text.specs.Decimal.{is_decimal, decimal_in}
-use Rattle.cqf_text.specs.GateListText.{entry_of_line, entries_of_lines, with_entry, hex_digit, line_of_entry, text_of_entries}
+use Rattle.cqf_gates.specs.GateListText.{entry_of_line, entries_of_lines, with_entry, hex_digit, line_of_entry, text_of_entries}
 use Rattle.cqf_text.specs.Lines.{is_line_feed, lines_of}
 use Rattle.cqf_gates.specs.TxList.{IsTxList, tx_list_of}
 use Rattle.cqf_gates.specs.TxText.{list_of_text}

@@ -3,7 +3,7 @@ use Rattle.std.proofs.Common.{ℕ, ◌≡◌, ◌+◌, ◌<◌, List, [], ◌∷
 use Rattle.std.proofs.lemmas.List.{take_more}
 use Rattle.cqf_model.specs.GateList.{Entry}
 use Rattle.cqf_model.specs.declared.gates.StreamEntry.{StreamEntry}
-use Rattle.cqf_text.specs.GateListText.{line_of_entry, text_of_entries}
+use Rattle.cqf_gates.specs.GateListText.{line_of_entry, text_of_entries}
 use Rattle.cqf_gates.specs.StreamText.{line_of_stream_entry, text_of_stream_entries}
 
 -- the text of one more entry

@@ -21,9 +21,3 @@ tx_list_of entries =
 -- the gates have these states at every instant from first up to and without last
 abbrev pub AreSteady : List Entry → ℕ → ℕ → ℕ → Type 0
 AreSteady entries states first last = (t : ℕ) → first ≤ t → t < last → states_at entries t ≡ states
-
--- so many entries, from the first on, open the class, and the next one doesn't
-pub record IsOpenRun (entries : List Entry) (class run : ℕ) : Type 0 where
-  pub inside : run ≤ length entries
-  pub opened : (k : ℕ) → k < run → IsBitSet (slice_index_or entries k (0, 0)).0 class
-  pub ended : run < length entries → ¬ IsBitSet (slice_index_or entries run (0, 0)).0 class

@@ -1,7 +1,7 @@
 -- What the text of a port's gate list is read as (profile).
 use Rattle.std.specs.Prelude.{ℕ, List, Result, Ok, Err}
 use Rattle.cqf_model.specs.GateList.{Entry}
-use Rattle.cqf_text.specs.GateListText.{entries_of_text}
+use Rattle.cqf_gates.specs.GateListText.{entries_of_text}
 use Rattle.cqf_gates.specs.declared.faults.ListFault.{ListFault}
 use Rattle.cqf_gates.specs.declared.faults.TextFault.{TextFault}
 use Rattle.cqf_gates.specs.declared.faults.TextFault.TheVariants.{BadLine, List as BadList}

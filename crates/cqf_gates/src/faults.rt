@@ -1,32 +1,55 @@
 //! Why a gate list is refused.
+ghost use Rattle.std.specs.Prelude.{Some};
+ghost use Rattle.cqf_gates.specs.Faults.{list_fault_text, text_fault_text};
+
+use std::fmt;
+use thiserror::Error;
 
 /// The most entries that a gate list can have (profile).
 pub(crate) const MOST_ENTRIES: usize = 16;
 
-/// Why no gate list can be made of some entries (profile).
-#[derive(Clone, Copy, Debug, PartialEq, Eq, Drop, thiserror::Error)]
+/// Why no gate list can be made of some entries (profile). It prints as its name.
+#[derive(Clone, Copy, Debug, PartialEq, Eq, Drop, Error)]
 pub enum ListFault {
     /// There is no entry.
-    #[error("the gate list has no entry")]
     Empty,
     /// There are more than 16 entries.
-    #[error("the gate list has more than 16 entries")]
     TooMany,
     /// An interval is 0.
-    #[error("an interval of the gate list is 0")]
     ZeroInterval,
     /// An internal priority value is neither 6 nor 7.
-    #[error("an internal priority value of the gate list is neither 6 nor 7")]
     BadIpv,
 }
 
-/// Why a text is no gate list (profile).
-#[derive(Clone, Copy, Debug, PartialEq, Eq, Drop, thiserror::Error)]
+impl fmt::Display for ListFault {
+    ghost output = { λ fault. Some (list_fault_text fault) };
+
+    fn fmt<W: fmt::Write>(&self, f: &mut fmt::Formatter<W>) -> fmt::Result {
+        match self {
+            ListFault::Empty => f.write_str("Empty"),
+            ListFault::TooMany => f.write_str("TooMany"),
+            ListFault::ZeroInterval => f.write_str("ZeroInterval"),
+            ListFault::BadIpv => f.write_str("BadIpv"),
+        }
+    }
+}
+
+/// Why a text is no gate list (profile). It prints as its name and the line, or as the list's fault alone.
+#[derive(Clone, Copy, Debug, PartialEq, Eq, Drop, Error)]
 pub enum TextFault {
     /// The first line that writes no entry, where lines count from 1.
-    #[error("line {0} is no entry of a gate list")]
     BadLine(u64),
     /// Each line writes an entry, and the entries make no list.
-    #[error("{0}")]
     List(ListFault),
+}
+
+impl fmt::Display for TextFault {
+    ghost output = { λ fault. Some (text_fault_text fault) };
+
+    fn fmt<W: fmt::Write>(&self, f: &mut fmt::Formatter<W>) -> fmt::Result {
+        match self {
+            TextFault::BadLine(line) => write!(f, "BadLine {line}"),
+            TextFault::List(fault) => write!(f, "{fault}"),
+        }
+    }
 }

@@ -4,6 +4,7 @@
 //! - [`TxList`] is the list of a port. [`TxList::mask_at`] gives the states of its gates at an instant, and
 //!   [`TxList::open_for`] how long a class stays open from then on.
 //! - [`StreamList`] is the list of a stream gate, and [`StreamGate`] the gate, which counts octets against it.
+//! - [`compiled_list`] and [`gate_of_reservation`] are the lists that a cycle and a reservation are compiled to.
 //! - [`read_tx`], [`write_tx`] and [`write_stream`] read and write lists as texts.
 //!
 //! ```text
@@ -13,11 +14,14 @@
 //! ```
 #![tactic(auto)]
 
+mod compiled;
+mod entries;
 mod faults;
 mod streams;
 mod text;
 mod transmission;
 
+pub use compiled::{compiled_list, gate_of_reservation};
 pub use cqf_model::{OpenFor, StreamEntry};
 pub use faults::{ListFault, TextFault};
 pub use streams::{Passed, StreamGate, StreamList, gate_counts_calls};

@@ -1,13 +1,14 @@
 //! Gate lists as texts (profile).
 ghost use Rattle.std.specs.Prelude.{◌≡◌, ◌<◌, ◌^◌, ◌++◌, ◌∷◌, [], IfOk, OnOk};
 ghost use Rattle.std.specs.String.{string_bytes};
-ghost use Rattle.cqf_text.specs.GateListText.{hex_digit, line_of_entry, text_of_entries};
+ghost use Rattle.cqf_gates.specs.GateListText.{hex_digit, line_of_entry, text_of_entries};
 ghost use Rattle.cqf_gates.specs.StreamText.{line_of_stream_entry, text_of_stream_entries};
 ghost use Rattle.cqf_gates.specs.TxText.{list_of_text};
 
+use crate::entries::read_entry;
 use crate::{StreamEntry, StreamList, TextFault, TxList};
 use arrayvec::ArrayVec;
-use cqf_text::{read_entry, split_line};
+use cqf_text::split_line;
 use cqf_units::Memory;
 use std::alloc::Global;
 

@@ -1,13 +1,13 @@
 //! Transmission gate control lists (IEEE 802.1Q, 8.6.8.4).
-ghost use Rattle.std.specs.Prelude.{◌≡◌, ◌==◌, ◌+◌, ◌*◌, ◌-◌, ◌^◌, ◌<◌, ◌≤◌, ◌↔◌, ℕ, IsTrue, IsBitSet, All, take, length, slice_index_or};
+ghost use Rattle.std.specs.Prelude.{◌≡◌, ◌==◌, ◌+◌, ◌*◌, ◌-◌, ◌^◌, ◌<◌, ◌≤◌, ◌++◌, ℕ, map, take, drop, length, slice_index_or};
 ghost use Rattle.std.specs.List.{list_any};
 ghost use Rattle.cqf_model.specs.GateList.{Entry, InForce, IsOpen, IsOpenFor, round_of, states_at};
 ghost use Rattle.cqf_model.specs.declared.gates.OpenFor.TheVariants.{Always};
-ghost use Rattle.cqf_gates.specs.TxList.{AreSteady, IsTxList, tx_list_of, IsOpenRun};
+ghost use Rattle.cqf_gates.specs.TxList.{AreSteady, IsTxList, tx_list_of};
 
-use crate::faults::MOST_ENTRIES;
 use crate::{ListFault, OpenFor};
 use arrayvec::ArrayVec;
+use cqf_lanes::open_run;
 use cqf_units::Nanos;
 use std::marker::Model;
 
@@ -45,18 +45,6 @@ fn has_zero(entries: &[(u8, u32)]) -> bool
     entries.iter().any(|entry| is_zero(entry))
 }
 
-/// The entries, kept in place.
-fn kept(entries: &[(u8, u32)]) -> ArrayVec<(u8, u32), 16>
-    requires { length entries.now ≤ 16 }
-    ensures { result.items ≡ entries.now }
-{
-    let mut kept = ArrayVec::new();
-    for entry in entries {
-        kept.push(*entry);
-    }
-    kept
-}
-
 /// How long the entries take together, in nanoseconds.
 fn length_of(entries: &[(u8, u32)]) -> u64
     requires { length entries.now ≤ 16 }
@@ -70,25 +58,31 @@ fn length_of(entries: &[(u8, u32)]) -> u64
     nanos
 }
 
-/// Whether the states open the class.
-fn opens(states: u8, class: u8) -> bool
-    requires { class < 8 }
-    ensures { IsTrue result ↔ IsBitSet states class }
+/// The states of the entries.
+fn states_of(entries: &[(u8, u32)]) -> ArrayVec<u8, 16>
+    requires { length entries.now ≤ 16 }
+    ensures { result.items ≡ map (λ (entry : Entry). entry.0) entries.now }
 {
-    states & (1 << class) != 0
+    let mut states = ArrayVec::new();
+    for entry in entries {
+        states.push(entry.0);
+    }
+    states
 }
 
-/// How many entries, from the first on, open the class.
-fn open_run(entries: &[(u8, u32)], class: u8) -> usize
-    requires { class < 8 }
-    ensures run { IsOpenRun entries.now class result }
+/// The entries, turned to begin at a place.
+fn turned(entries: &[(u8, u32)], place: usize) -> ArrayVec<(u8, u32), 16>
+    requires few { length entries.now ≤ 16 }
+    requires inside { place ≤ length entries.now }
+    ensures { result.items ≡ drop place entries.now ++ take place entries.now }
 {
-    for (place, entry) in entries.iter().enumerate() {
-        if !opens(entry.0, class) {
-            return place;
-        }
+    let Ok(mut turned) = ArrayVec::try_from(&entries[place..]) else {
+        unreachable!()
+    };
+    match turned.try_extend_from_slice(&entries[..place]) {
+        Ok(()) => turned,
+        Err(_) => unreachable!(),
     }
-    entries.len()
 }
 
 impl TxList {
@@ -101,23 +95,23 @@ impl TxList {
         if entries.is_empty() {
             return Err(ListFault::Empty);
         }
-        if entries.len() > MOST_ENTRIES {
+        let Ok(kept) = ArrayVec::try_from(entries) else {
             return Err(ListFault::TooMany);
-        }
+        };
         if has_zero(entries) {
             return Err(ListFault::ZeroInterval);
         }
-        Ok(TxList {
-            entries: kept(entries),
-        })
+        Ok(TxList { entries: kept })
     }
 
     /// The list again: it holds no memory, so this can't fail.
     pub fn copied(&self) -> TxList
         ensures { result ≡ self.now }
     {
-        let entries = kept(self.entries());
-        TxList { entries }
+        match ArrayVec::try_from(self.entries()) {
+            Ok(entries) => TxList { entries },
+            Err(_) => unreachable!(),
+        }
     }
 
     /// What the list was made of.
@@ -126,6 +120,16 @@ impl TxList {
         ensures facts { IsTxList self.now }
     {
         self.entries.as_slice()
+    }
+
+    /// How long the list takes before it repeats, in nanoseconds: the standard's cycle time of a gate control list
+    /// (8.6.8.4).
+    pub fn round(&self) -> Nanos
+        ensures value { result.0 ≡ round_of self.now }
+        ensures some { 0 < result.0 }
+        ensures short { result.0 < 2 ^ 36 + 1 }
+    {
+        Nanos(length_of(self.entries()))
     }
 
     /// The place of the entry in force at the instant, and how many nanoseconds it has been in force.
@@ -163,23 +167,17 @@ impl TxList {
         ensures span { IsOpenFor self.now class t.0 result }
         ensures always { result ≡ Always → (s : ℕ) → IsOpen self.now class s }
     {
-        let entries = self.entries();
-        let leading = open_run(entries, class);
-        if leading == entries.len() {
+        let (place, offset) = self.entry_at(t);
+        let turned = turned(self.entries(), place);
+        let run = open_run(states_of(turned.as_slice()).as_slice(), class);
+        if run == turned.len() {
             return OpenFor::Always;
         }
-        let (place, offset) = self.entry_at(t);
-        let rest = &entries[place..];
-        let ahead = open_run(rest, class);
-        if ahead == 0 {
+        if run == 0 {
             return OpenFor::Closed;
         }
         let begun = t.0 - u64::from(offset);
-        if ahead < rest.len() {
-            return OpenFor::Until(Nanos(begun + length_of(&rest[..ahead])));
-        }
-        let round_end = begun + length_of(rest);
-        OpenFor::Until(Nanos(round_end + length_of(&entries[..leading])))
+        OpenFor::Until(Nanos(begun + length_of(&turned.as_slice()[..run])))
     }
 }
 

@@ -14,12 +14,13 @@ use Rattle.cqf_model.specs.declared.history.Refused.{Refused}
 use Rattle.cqf_model.specs.declared.history.Reply.{Reply}
 use Rattle.cqf_model.specs.declared.history.Reply.TheVariants.{Refused as RefusedFor, Sealed}
 use Rattle.cqf_model.specs.declared.topology.Row.{Row}
-use Rattle.cqf_model.specs.Domain.{Domain, IsPath, budget}
+use Rattle.cqf_model.specs.Domain.{Domain, budget}
 use Rattle.cqf_model.specs.History.{Act, Admits, Asked, IsLegalHistory, Recorded, Seals, Withdraws, admit_reply, held_in, is_seal, next_number, refusal_of, reply_to, seal_places, seals, stream_by, streams_of, withdraw_reply, withdraw_row, withdrawal_by}
-use Rattle.cqf_model.specs.Table.{is_held, link_cost, row_named}
-use Rattle.cqf_model.specs.Traffic.{each_below}
+use Rattle.cqf_model.specs.Table.{IsTree, is_held, link_cost, residence, row_named}
+use Rattle.cqf_model.proofs.Residence.{residence_some}
+use Rattle.cqf_lists.specs.Lists.{each_below}
 use Rattle.cqf_laws_history.specs.StateLaws.{AreHeld, GrantedIsHeld, HeldAreSound, HistoryGoesOn, IsState, RefusedChangesNothing, SealClosesTable, SealLetsGo, SealsAreCounted, WithdrawnIsHeldOn, ended_row, granted_row, with_entry}
-use Rattle.cqf_laws_history.proofs.Lists.{contains_from_filter, contains_from_map, contains_here, contains_there, nil_from_none, pairs_kept, slice_get_behind, slice_get_front}
+use Rattle.cqf_lists.proofs.Contained.{contains_from_filter, contains_from_map, contains_here, contains_there, nil_from_none, pairs_kept, slice_get_behind, slice_get_front}
 use Rattle.cqf_laws_history.proofs.Places.{SealAt, admitted_at, admitted_before, seal_at, sealed-suc, sealed_before, sealed_more, streams_front, with_end, withdrawn_at, withdrawn_before}
 use Rattle.cqf_laws_history.proofs.Sound.{AreDue, Sound, held_less, named_is_held, number_below, sound}
 
@@ -137,7 +138,7 @@ refused_changes_nothing d entries rows next seat act refused state answer =
 -- a row whose number wasn't withdrawn is itself
 with_no_end : (w : ℕ → Option Cycle) (row : Row) → row.withdrawn ≡ None → w row.no ≡ None → with_end w row ≡ row
 with_no_end w row none same =
-    ap (λ (o : Option Cycle). let made : Row = record { no = row.no; name = row.name; octets = row.octets; path = row.path; admitted = row.admitted; withdrawn = o } in made) (same ∙ sym none)
+    ap (λ (o : Option Cycle). let made : Row = record { no = row.no; name = row.name; octets = row.octets; tree = row.tree; admitted = row.admitted; withdrawn = o } in made) (same ∙ sym none)
 
 none_unless : (o : Option Cycle) → ((x : Cycle) → o ≡ Some x → ⊥) → o ≡ None
 none_unless None h = refl
@@ -230,10 +231,10 @@ begun_now d entries row legal h =
     let s = stream_of d entries row h in
     omega (arith, (sound_now d entries legal).begun s.0 s.1, ap (λ (r : Row). r.admitted.0) s.2, ap seals (all_is entries))
 
-path_now : (d : Domain) (entries : List Recorded) (row : Row) → IsLegalHistory d entries → Contains (streams_of d entries) row → IsPath d row.path.items
-path_now d entries row legal h =
+tree_now : (d : Domain) (entries : List Recorded) (row : Row) → IsLegalHistory d entries → Contains (streams_of d entries) row → IsTree d row.tree.items
+tree_now d entries row legal h =
     let s = stream_of d entries row h in
-    subst (λ (r : Row). IsPath d r.path.items) s.2 ((sound_now d entries legal).paths s.0 s.1)
+    subst (λ (r : Row). IsTree d r.tree.items) s.2 ((sound_now d entries legal).trees s.0 s.1)
 
 pub seal_lets_go : SealLetsGo
 seal_lets_go d entries rows next seat legal state =
@@ -274,17 +275,17 @@ first_of_none : (front : List Cycle) (x : Cycle) → slice_get front 0 ≡ None 
 first_of_none front x e = ap (λ (xs : List Cycle). slice_get (xs ++ x ∷ []) 0) (nil_from_none front e)
 
 -- a row that is held without an end is held with an end from this cycle on
-held_with_end : (row : Row) (cycle number : ℕ) → 0 < length row.path.items → (row.no ≡ number → row.withdrawn ≡ None) → is_held (ended_row number cycle row) cycle ≡ is_held row cycle
+held_with_end : (row : Row) (cycle number : ℕ) → 0 < residence row → (row.no ≡ number → row.withdrawn ≡ None) → is_held (ended_row number cycle row) cycle ≡ is_held row cycle
 held_with_end row cycle number long open_end = by_number (row.no == number) refl
   where
     by_number : (b : Bool) → (row.no == number) ≡ b → is_held (ended_row number cycle row) cycle ≡ is_held row cycle
-    by_number false t = ap (λ (c : Bool). is_held (if c then (let made : Row = record { no = row.no; name = row.name; octets = row.octets; path = row.path; admitted = row.admitted; withdrawn = Some (record { 0 = cycle }) } in made) else row) cycle) t
+    by_number false t = ap (λ (c : Bool). is_held (if c then (let made : Row = record { no = row.no; name = row.name; octets = row.octets; tree = row.tree; admitted = row.admitted; withdrawn = Some (record { 0 = cycle }) } in made) else row) cycle) t
     by_number true t =
-        let made : Row = record { no = row.no; name = row.name; octets = row.octets; path = row.path; admitted = row.admitted; withdrawn = Some (record { 0 = cycle }) } in
+        let made : Row = record { no = row.no; name = row.name; octets = row.octets; tree = row.tree; admitted = row.admitted; withdrawn = Some (record { 0 = cycle }) } in
         let none : row.withdrawn ≡ None = open_end (eqb-true row.no number t) in
         ap (λ (c : Bool). is_held (if c then made else row) cycle) t
-        ∙ ap (λ (b : Bool). nat_le row.admitted.0 cycle && b) (lt-ltb cycle (cycle + length row.path.items) (omega (arith, long)))
-        ∙ ap (λ (o : Option Cycle). nat_le row.admitted.0 cycle && option_map_or (λ (w : Cycle). nat_lt cycle (w.0 + length row.path.items)) o true) (sym none)
+        ∙ ap (λ (b : Bool). nat_le row.admitted.0 cycle && b) (lt-ltb cycle (cycle + residence row) (omega (arith, long)))
+        ∙ ap (λ (o : Option Cycle). nat_le row.admitted.0 cycle && option_map_or (λ (w : Cycle). nat_lt cycle (w.0 + residence row)) o true) (sym none)
 
 -- a stream is withdrawn as its number is
 end_of : (d : Domain) (entries : List Recorded) (row : Row) → Contains (streams_of d entries) row → row.withdrawn ≡ withdrawn_before entries (length entries) row.no
@@ -294,7 +295,7 @@ end_of d entries row h =
 
 -- a row by its end
 abbrev row_ending : Row → Option Cycle → Row
-row_ending row end = record { no = row.no; name = row.name; octets = row.octets; path = row.path; admitted = row.admitted; withdrawn = end }
+row_ending row end = record { no = row.no; name = row.name; octets = row.octets; tree = row.tree; admitted = row.admitted; withdrawn = end }
 
 -- with one withdrawal more, a row ends where it has that number
 ended_by : (v w : ℕ → Option Cycle) (number cycle : ℕ) → ((other : ℕ) → (number == other) ≡ true → v other ≡ Some (record { 0 = cycle })) → ((other : ℕ) → (number == other) ≡ false → v other ≡ w other) → (row : Row) → with_end v row ≡ ended_row number cycle (with_end w row)
@@ -346,7 +347,7 @@ withdrawn_is_held_on d entries rows next seat name row legal state found open_en
     ∙ map_twice (with_end v) (ended_row row.no c) (with_end w) old (λ s k. ended_by v w row.no c here elsewhere s)
     ∙ ap (map (ended_row row.no c)) (sym before) in
     let kept : (x : Row) → Contains (streams_of d entries) x → is_held (ended_row row.no c x) c ≡ is_held x c =
-    λ x h. held_with_end x c row.no (path_now d entries x legal h).some (λ same.
+    λ x h. held_with_end x c row.no (residence_some d x (tree_now d entries x legal h)) (λ same.
     end_of d entries x h ∙ ap (withdrawn_before entries n) same ∙ sym (end_of d entries row in_streams) ∙ open_end) in
     state_by d all (map (ended_row row.no c) (streams_of d entries)) (map (ended_row row.no c) rows) c next streams (seals_same entries seat (Withdraws name) reply refl)
     (filter_mapped (λ (r : Row). is_held r c) (ended_row row.no c) (streams_of d entries) kept ∙ ap (map (ended_row row.no c)) state.held)
@@ -369,7 +370,7 @@ held_sound d entries legal =
     λ R pairs. subst (AllPairs R) held_is (pairs_kept R (with_end w) (λ (r : Row). is_held r c) old
     (subst (λ (k : ℕ). AllPairs (λ (a b : Row). is_held (with_end w a) k ≡ true → is_held (with_end w b) k ≡ true → R (with_end w a) (with_end w b)) old) sealed pairs)) in
     record {
-      paths = λ row h. path_now d entries row legal (stream row h);
+      trees = λ row h. tree_now d entries row legal (stream row h);
       named = λ row h. let t = stream_of d entries row (stream row h) in subst (λ (r : Row). is_name r.name ≡ true) t.2 (s.named t.0 t.1);
       least_octets = λ row h. let t = stream_of d entries row (stream row h) in subst (λ (r : Row). 64 ≤ r.octets) t.2 (s.least_octets t.0 t.1);
       most_octets = λ row h. let t = stream_of d entries row (stream row h) in subst (λ (r : Row). r.octets ≤ 60000) t.2 (s.most_octets t.0 t.1);
@@ -377,10 +378,10 @@ held_sound d entries legal =
           let t = stream_of d entries row (stream row h) in
           omega (arith, number_below d entries n t.0 s t.1, ap (λ (r : Row). r.no) t.2, ap length streams, length-map old (with_end w));
       begun = λ row h. begun_now d entries row legal (stream row h);
-      numbers = pairs_here (λ (a b : Row). a.no ≢ b.no) (λ i j x l m held_a held_b same.
+      numbers = pairs_here (λ (a b : Row). a.no < b.no) (λ i j x l m held_a held_b.
           let early : (get_or old i x).no ≡ i = s.numbers i (get_or old i x) (slice_get-get_or old i x (omega (arith, l, m))) in
           let late : (get_or old j x).no ≡ j = s.numbers j (get_or old j x) (slice_get-get_or old j x m) in
-          omega (arith, l, early, late, same));
+          omega (arith, l, early, late));
       names = pairs_here (λ (a b : Row). a.name ≢ b.name) s.names;
       loads = λ l.
           let there : link_cost (filter (λ (r : Row). is_held r c) (map (with_end w) old)) l ≤ budget d l =

@@ -1,6 +1,8 @@
-pub mod Lists
-pub mod Paths
+pub mod Branches
+pub mod Trees
 pub mod Places
+pub mod Granted
+pub mod FewLinks
 pub mod Sound
 pub mod Growth
 pub mod Orderly

@@ -10,11 +10,12 @@ use Rattle.cqf_units.specs.declared.reservations.Cycle.{Cycle}
 use Rattle.cqf_model.specs.declared.history.Reply.{Reply}
 use Rattle.cqf_model.specs.declared.history.Reply.TheVariants.{Accepted, Sealed, Refused as RefusedFor}
 use Rattle.cqf_model.specs.declared.topology.Row.{Row}
-use Rattle.cqf_model.specs.Domain.{Domain, IsPath, budget}
+use Rattle.cqf_model.specs.Domain.{Domain, budget}
 use Rattle.cqf_model.specs.History.{Act, Admits, IsLegalHistory, Recorded, Seals, Withdraws, is_seal, seal_places, seals, table_at, tables_of, withdrawal_by}
-use Rattle.cqf_model.specs.Table.{AreOrderly, SameStream, is_held, is_live, link_cost, table_of}
-use Rattle.cqf_model.specs.Traffic.{each_below}
-use Rattle.cqf_laws_history.proofs.Lists.{contains_at, contains_cons, contains_filter, contains_from_filter, contains_from_map, contains_map, contains_nil, each_more, first_stays, get_or-singles, length-singles, nil_from_none, pairs_kept, pairs_nil}
+use Rattle.cqf_model.specs.Table.{AreOrderly, IsTree, SameStream, is_held, is_live, link_cost, residence, table_of}
+use Rattle.cqf_lists.specs.Lists.{each_below}
+use Rattle.cqf_lists.proofs.Contained.{contains_at, contains_cons, contains_filter, contains_from_filter, contains_from_map, contains_map, contains_nil, first_stays, nil_from_none, pairs_kept, pairs_nil}
+use Rattle.cqf_lists.proofs.Below.{each_more, get_or-singles, length-singles}
 use Rattle.cqf_laws_history.proofs.Places.{SealAt, admitted_at, admitted_before, entry_at, seal_at, sealed-suc, sealed_before, sealed_more, streams_front, with_end, withdrawn_at, withdrawn_before}
 use Rattle.cqf_laws_history.proofs.Sound.{Sound, held_before, sound}
 
@@ -149,15 +150,15 @@ module _ (d : Domain) (entries : List Recorded) (cycles : ℕ) (legal : IsLegalH
         | inr g ↦ g
       ]
 
-  -- a live stream is held for as many cycles more as its path has bridges
-  held_on : (cycle later n m : ℕ) (stream : Row) → n ≤ m → m ≤ length entries → SealAt entries cycle n → cycle ≤ later → later ≤ cycle + length stream.path.items → is_live (with_end (withdrawn_before entries n) stream) cycle ≡ true → is_held (with_end (withdrawn_before entries m) stream) later ≡ true
+  -- a live stream is held for as many cycles more as its deepest link has depth
+  held_on : (cycle later n m : ℕ) (stream : Row) → n ≤ m → m ≤ length entries → SealAt entries cycle n → cycle ≤ later → later ≤ cycle + residence stream → is_live (with_end (withdrawn_before entries n) stream) cycle ≡ true → is_held (with_end (withdrawn_before entries m) stream) later ≡ true
   held_on cycle later n m stream le within seal after before live =
       let begun = leb-true stream.admitted.0 cycle (and_parts (nat_le stream.admitted.0 cycle) (option_map_or (λ (w : Cycle). nat_lt cycle w.0) (withdrawn_before entries n stream.no) true) live).0 in
-      and_from (nat_le stream.admitted.0 later) (option_map_or (λ (w : Cycle). nat_lt later (w.0 + length stream.path.items)) (withdrawn_before entries m stream.no) true) (le-leb stream.admitted.0 later (omega (arith, begun, after))) (by_end (withdrawn_before entries m stream.no) refl)
+      and_from (nat_le stream.admitted.0 later) (option_map_or (λ (w : Cycle). nat_lt later (w.0 + residence stream)) (withdrawn_before entries m stream.no) true) (le-leb stream.admitted.0 later (omega (arith, begun, after))) (by_end (withdrawn_before entries m stream.no) refl)
     where
-      by_end : (o : Option Cycle) → withdrawn_before entries m stream.no ≡ o → option_map_or (λ (w : Cycle). nat_lt later (w.0 + length stream.path.items)) o true ≡ true
+      by_end : (o : Option Cycle) → withdrawn_before entries m stream.no ≡ o → option_map_or (λ (w : Cycle). nat_lt later (w.0 + residence stream)) o true ≡ true
       by_end None e = refl
-      by_end (Some x) e = lt-ltb later (x.0 + length stream.path.items) (omega (arith, before, ends_later cycle n m stream x le within seal live e))
+      by_end (Some x) e = lt-ltb later (x.0 + residence stream) (omega (arith, before, ends_later cycle n m stream x le within seal live e))
 
   same_stream : (cycle later : ℕ) (early late : Row) → Contains (table_of (tables_of d entries cycles) cycle) early → Contains (table_of (tables_of d entries cycles) later) late → early.no ≡ late.no → SameStream early late
   same_stream cycle later early late a b same =
@@ -173,10 +174,10 @@ module _ (d : Domain) (entries : List Recorded) (cycles : ℕ) (legal : IsLegalH
       record {
         name = ap (λ (r : Row). r.name) (sym e.is) ∙ ap (λ (r : Row). r.name) one ∙ ap (λ (r : Row). r.name) l.is;
         octets = ap (λ (r : Row). r.octets) (sym e.is) ∙ ap (λ (r : Row). r.octets) one ∙ ap (λ (r : Row). r.octets) l.is;
-        path = ap (λ (r : Row). r.path.items) (sym e.is) ∙ ap (λ (r : Row). r.path.items) one ∙ ap (λ (r : Row). r.path.items) l.is;
+        tree = ap (λ (r : Row). r.tree.items) (sym e.is) ∙ ap (λ (r : Row). r.tree.items) one ∙ ap (λ (r : Row). r.tree.items) l.is;
       }
 
-  stays_on : (cycle later : ℕ) (row : Row) → Contains (table_of (tables_of d entries cycles) cycle) row → is_live row cycle ≡ true → cycle ≤ later → later ≤ cycle + length row.path.items → later < length (tables_of d entries cycles) → (late : Row) × Contains (table_of (tables_of d entries cycles) later) late × (row.no ≡ late.no)
+  stays_on : (cycle later : ℕ) (row : Row) → Contains (table_of (tables_of d entries cycles) cycle) row → is_live row cycle ≡ true → cycle ≤ later → later ≤ cycle + residence row → later < length (tables_of d entries cycles) → (late : Row) × Contains (table_of (tables_of d entries cycles) later) late × (row.no ≡ late.no)
   stays_on cycle later row a live after before run =
       let h = run_cycle cycle row a in
       let k : later < cycles = omega (arith, run, length-singles (table_at d entries) cycles) in
@@ -186,7 +187,7 @@ module _ (d : Domain) (entries : List Recorded) (cycles : ℕ) (legal : IsLegalH
       let in_order = seals_in_order cycle later early.place late.place after early.seal late.seal in
       let w = withdrawn_before entries late.place in
       let alive : is_live (with_end (withdrawn_before entries early.place) r.stream) cycle ≡ true = ap (λ (x : Row). is_live x cycle) r.is ∙ live in
-      let hops : later ≤ cycle + length r.stream.path.items = subst (λ (x : Row). later ≤ cycle + length x.path.items) (sym r.is) before in
+      let hops : later ≤ cycle + residence r.stream = subst (λ (x : Row). later ≤ cycle + residence x) (sym r.is) before in
       let held = held_on cycle later early.place late.place r.stream in_order (omega (arith, late.seal.inside)) early.seal after hops alive in
       let there = contains_map (with_end w) (admitted_before d entries late.place) r.stream (admitted_later early.place late.place in_order r.stream r.admitted_there) in
       let kept = contains_filter (λ (x : Row). is_held x later) (map (with_end w) (admitted_before d entries late.place)) (with_end w r.stream) held there in
@@ -203,18 +204,22 @@ module _ (d : Domain) (entries : List Recorded) (cycles : ℕ) (legal : IsLegalH
             subst (λ (xs : List Row). link_cost xs l ≤ budget d l) (sym none) (omega arith))
       ]
 
+  -- the rows of a table stand by number
+  pub rows_ascend : (cycle : ℕ) → AllPairs (λ (a b : Row). a.no < b.no) (table_of (tables_of d entries cycles) cycle)
+  rows_ascend cycle = pairs_of_table (λ (a b : Row). a.no < b.no) (λ place s i j e l m held_a held_b.
+      let rows = admitted_before d entries place in
+      let early : (get_or rows i e).no ≡ i = s.numbers i (get_or rows i e) (slice_get-get_or rows i e (omega (arith, l, m))) in
+      let late : (get_or rows j e).no ≡ j = s.numbers j (get_or rows j e) (slice_get-get_or rows j e m) in
+      omega (arith, l, early, late)) cycle
+
   pub tables_orderly : AreOrderly d (tables_of d entries cycles)
   tables_orderly =
       record {
-        paths = λ cycle row k.
+        trees = λ cycle row k.
             let h = run_cycle cycle row k in
             let r = row_of_table cycle row h k in
-            subst (λ (x : Row). IsPath d x.path.items) r.is ((closed cycle h).sound_there.paths r.stream r.admitted_there);
-        numbers = pairs_of_table (λ (a b : Row). a.no ≢ b.no) (λ place s i j e l m held_a held_b same.
-            let rows = admitted_before d entries place in
-            let early : (get_or rows i e).no ≡ i = s.numbers i (get_or rows i e) (slice_get-get_or rows i e (omega (arith, l, m))) in
-            let late : (get_or rows j e).no ≡ j = s.numbers j (get_or rows j e) (slice_get-get_or rows j e m) in
-            omega (arith, l, early, late, same));
+            subst (λ (x : Row). IsTree d x.tree.items) r.is ((closed cycle h).sound_there.trees r.stream r.admitted_there);
+        numbers = λ cycle i j e l m same. omega (arith, same, rows_ascend cycle i j e l m);
         names = pairs_of_table (λ (a b : Row). a.name ≢ b.name) (λ place s. s.names);
         one_stream = same_stream;
         stays = stays_on;

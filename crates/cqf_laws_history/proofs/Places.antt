@@ -13,8 +13,9 @@ use Rattle.cqf_model.specs.declared.history.Reply.TheVariants.{Accepted, Sealed,
 use Rattle.cqf_model.specs.declared.topology.Row.{Row}
 use Rattle.cqf_model.specs.Domain.{Domain}
 use Rattle.cqf_model.specs.History.{Act, Admits, Recorded, Seals, Withdraws, is_seal, seal_places, seals, stream_by, streams_of, withdrawal_by, withdrawals}
-use Rattle.cqf_model.specs.Traffic.{each_below}
-use Rattle.cqf_laws_history.proofs.Lists.{each_map, each_same}
+use Rattle.cqf_lists.specs.Lists.{each_below}
+use Rattle.cqf_lists.proofs.Below.{each_map, each_same}
+use Rattle.cqf_lists.proofs.Contained.{slice_get-take}
 
 -- how many Seals stand before a place
 abbrev pub sealed_before : List Recorded → ℕ → ℕ
@@ -37,14 +38,7 @@ admitted_before d entries place = each_below (admitted_at d entries) place
 
 -- a row with the withdrawal of its number
 abbrev pub with_end : (ℕ → Option Cycle) → Row → Row
-with_end ends row = record { no = row.no; name = row.name; octets = row.octets; path = row.path; admitted = row.admitted; withdrawn = ends row.no }
-
--- places below n of the first n entries are those of all
-slice_get-take : {X : Type 0} (xs : List X) (n k : ℕ) → k < n → slice_get (take n xs) k ≡ slice_get xs k
-slice_get-take xs zero k h = absurd (omega (arith, h))
-slice_get-take [] (suc n) k h = refl
-slice_get-take (x ∷ xs) (suc n) zero h = refl
-slice_get-take (x ∷ xs) (suc n) (suc k) h = slice_get-take xs n k (omega (arith, h))
+with_end ends row = record { no = row.no; name = row.name; octets = row.octets; tree = row.tree; admitted = row.admitted; withdrawn = ends row.no }
 
 stream_with_end : (d : Domain) (entries : List Recorded) (effect : ℕ) (act : Act) (reply : Reply) → stream_by d entries effect act reply ≡ map (with_end (λ number. slice_get (withdrawals entries number) 0)) (stream_by d [] effect act reply)
 stream_with_end d entries effect (Withdraws name) reply = refl

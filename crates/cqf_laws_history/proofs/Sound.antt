@@ -1,9 +1,9 @@
 -- What the streams of a legal history have before each of its places.
 use Rattle.std.proofs.Common.{◌≡◌, ◌≢◌, ℕ, ◌+◌, ◌<◌, ◌≤◌, ◌⊎◌, Bool, true, false, cond, List, Option, Some, None, length, sym, refl, ap, ◌∙◌, inl, inr, arith, subst, append-nil, length-append}
-use Rattle.std.specs.Prelude.{[], ◌∷◌, ◌++◌, ◌==◌, ◌&&◌, ◌||◌, if◌then◌else◌, filter, map, nat_le, nat_lt, position, is_none, not, slice_get, take, zero, suc, AllPairs, Contains}
+use Rattle.std.specs.Prelude.{[], ◌∷◌, ◌++◌, ◌==◌, ◌||◌, if◌then◌else◌, filter, find, map, nat_le, nat_lt, slice_get, take, zero, suc, AllPairs, Contains}
 use Rattle.std.specs.Option.{option_map_or}
 use Rattle.std.specs.List.{list_any}
-use Rattle.std.proofs.lemmas.Bool.{cases_Bool, cases_lt, both_ways, and_parts, and_from, or_parts, not-false, leb-true, le-leb, ltb-true, ltb-false, lt-ltb, eqb-true, eq-eqb}
+use Rattle.std.proofs.lemmas.Bool.{cases_Bool, cases_lt, both_ways, and_parts, and_from, or_parts, le-leb, ltb-true, ltb-false, lt-ltb, eqb-true}
 use Rattle.std.proofs.lemmas.List.{length-map, map-append}
 use Rattle.std.proofs.lemmas.List.Elements.{Contains-append_cases, filter-append}
 use Rattle.std.proofs.lemmas.List.Sums.{sum_by-append, sum_by-cons}
@@ -13,73 +13,17 @@ use Rattle.cqf_units.specs.Timing.{cost_of}
 use Rattle.cqf_units.specs.declared.reservations.Cycle.{Cycle}
 use Rattle.cqf_model.specs.declared.history.Reply.{Reply}
 use Rattle.cqf_model.specs.declared.history.Refused.{Refused}
-use Rattle.cqf_model.specs.declared.history.Refused.TheVariants.{BadName, BadOctets, UnknownNode, BrokenPath, LoopingPath, NameHeld, TooManyStreams, BudgetShort}
 use Rattle.cqf_model.specs.declared.topology.Row.{Row}
-use Rattle.cqf_model.specs.Domain.{Domain, IsPath, budget, is_text, node_named}
-use Rattle.cqf_model.specs.History.{Act, Admits, Asked, Recorded, Seals, Withdraws, admit_reply, held_in, is_broken_at, is_loop_at, least, left_on, links_along, or_else, refusal_of, refused_at, refused_if, reply_to, short_link, stream_by, streams_of, withdraw_reply, withdraw_row, withdrawal_by}
-use Rattle.cqf_model.specs.Table.{is_held, link_cost, row_named}
-use Rattle.cqf_model.specs.Traffic.{each_below}
-use Rattle.cqf_laws_history.proofs.Lists.{contains_cons, contains_filter, contains_from_filter, contains_from_map, contains_here, contains_map, contains_nil, contains_there, first_stays, pairs_nil, pairs_push, pairs_weaker, slice_get_behind, slice_get_front}
-use Rattle.cqf_laws_history.proofs.Paths.{least_none, path_from_nodes}
+use Rattle.cqf_model.specs.Domain.{Domain, budget, is_text}
+use Rattle.cqf_lists.specs.Lists.{each_below}
+use Rattle.cqf_model.specs.History.{Act, Admits, Asked, Recorded, Seals, Withdraws, admit_reply, held_in, left_on, refusal_of, reply_to, short_link, stream_by, streams_of, tree_of, withdraw_reply, withdraw_row, withdrawal_by}
+use Rattle.cqf_model.specs.Table.{IsTree, cost_on, crosses, is_held, link_cost, links_of, residence, row_named}
+use Rattle.cqf_lists.proofs.Contained.{contains_cons, contains_filter, contains_from_filter, contains_from_map, contains_here, contains_map, contains_nil, contains_there, first_stays, pairs_nil, pairs_push, pairs_weaker, slice_get_behind, slice_get_front}
+use Rattle.cqf_model.proofs.Texts.{is_text_itself}
+use Rattle.cqf_laws_history.proofs.Granted.{IsGranted, granted, is_tree}
 use Rattle.cqf_laws_history.proofs.Places.{admitted_at, admitted_before, entry_at, sealed_before, sealed_more, streams_front, with_end, withdrawn_at, withdrawn_before}
 
--- ---- refusals
-
-or_else_none : (a b : Option Refused) → or_else a b ≡ None → (a ≡ None) × (b ≡ None)
-or_else_none None b e = (refl, e)
-or_else_none (Some refused) b e = absurd cc
-
-refused_if_none : (b : Bool) (refused : Refused) → refused_if b refused ≡ None → b ≡ false
-refused_if_none true refused e = absurd cc
-refused_if_none false refused e = refl
-
-refused_at_none : (refused : ℕ → Refused) (o : Option ℕ) → refused_at refused o ≡ None → o ≡ None
-refused_at_none refused None e = refl
-refused_at_none refused (Some place) e = absurd cc
-
--- what a request that isn't refused has
-pub record IsGranted (d : Domain) (rows : List Row) (asked : Asked) : Type 0 where
-  pub named : is_name asked.name ≡ true
-  pub least_octets : 64 ≤ asked.octets
-  pub most_octets : asked.octets ≤ 60000
-  pub whole : least (is_broken_at d asked.path) (length asked.path + 1) ≡ None
-  pub simple : least (is_loop_at d asked.path) (length asked.path) ≡ None
-  pub name_free : list_any (λ (row : Row). is_text row.name asked.name) rows ≡ false
-  pub enough : short_link d rows (cost_of asked.octets) (links_along d asked.path) ≡ None
-
-granted : (d : Domain) (rows : List Row) (asked : Asked) → refusal_of d rows asked ≡ None → IsGranted d rows asked
-granted d rows asked e =
-    let budget_short = refused_at (λ l. BudgetShort l (left_on d rows l)) (short_link d rows (cost_of asked.octets) (links_along d asked.path)) in
-    let too_many = refused_if (nat_le 1024 (length rows)) TooManyStreams in
-    let name_held = refused_if (list_any (λ (row : Row). is_text row.name asked.name) rows) NameHeld in
-    let looping = refused_at (λ place. LoopingPath place) (least (is_loop_at d asked.path) (length asked.path)) in
-    let broken = refused_at (λ place. BrokenPath place) (least (is_broken_at d asked.path) (length asked.path + 1)) in
-    let unknown = refused_at (λ place. UnknownNode place) (position (λ name. is_none (node_named d name)) asked.path) in
-    let octets = refused_if (not (nat_le 64 asked.octets && nat_le asked.octets 60000)) BadOctets in
-    let name = refused_if (not (is_name asked.name)) BadName in
-    let after_name = or_else_none name (or_else octets (or_else unknown (or_else broken (or_else looping (or_else name_held (or_else too_many budget_short)))))) e in
-    let after_octets = or_else_none octets (or_else unknown (or_else broken (or_else looping (or_else name_held (or_else too_many budget_short))))) after_name.1 in
-    let after_unknown = or_else_none unknown (or_else broken (or_else looping (or_else name_held (or_else too_many budget_short)))) after_octets.1 in
-    let after_broken = or_else_none broken (or_else looping (or_else name_held (or_else too_many budget_short))) after_unknown.1 in
-    let after_looping = or_else_none looping (or_else name_held (or_else too_many budget_short)) after_broken.1 in
-    let after_held = or_else_none name_held (or_else too_many budget_short) after_looping.1 in
-    let after_many = or_else_none too_many budget_short after_held.1 in
-    let in_range = and_parts (nat_le 64 asked.octets) (nat_le asked.octets 60000) (not-false (nat_le 64 asked.octets && nat_le asked.octets 60000) (refused_if_none (not (nat_le 64 asked.octets && nat_le asked.octets 60000)) BadOctets after_octets.0)) in
-    record {
-      named = not-false (is_name asked.name) (refused_if_none (not (is_name asked.name)) BadName after_name.0);
-      least_octets = leb-true 64 asked.octets in_range.0;
-      most_octets = leb-true asked.octets 60000 in_range.1;
-      whole = refused_at_none (λ place. BrokenPath place) (least (is_broken_at d asked.path) (length asked.path + 1)) after_broken.0;
-      simple = refused_at_none (λ place. LoopingPath place) (least (is_loop_at d asked.path) (length asked.path)) after_looping.0;
-      name_free = refused_if_none (list_any (λ (row : Row). is_text row.name asked.name) rows) NameHeld after_held.0;
-      enough = refused_at_none (λ l. BudgetShort l (left_on d rows l)) (short_link d rows (cost_of asked.octets) (links_along d asked.path)) after_many.1;
-    }
-
 -- ---- names
-
-is_text_itself : (xs : List ℕ) → is_text xs xs ≡ true
-is_text_itself [] = refl
-is_text_itself (x ∷ xs) = and_from (x == x) (is_text xs xs) (eq-eqb x x refl) (is_text_itself xs)
 
 name_apart : (rows : List Row) (name : List ℕ) (row : Row) → list_any (λ (row : Row). is_text row.name name) rows ≡ false → Contains rows row → row.name ≢ name
 name_apart [] name row e h s = absurd (contains_nil row h)
@@ -92,12 +36,8 @@ name_apart (x ∷ rows) name row e h s =
 
 -- ---- costs
 
--- what a stream costs of a link
-abbrev pub cost_on : Row → ℕ → ℕ
-cost_on row l = if list_any (λ k. k == l) row.path.items then cost_of row.octets else 0
-
 link_cost-cons : (y : Row) (ys : List Row) (l : ℕ) → link_cost (y ∷ ys) l ≡ cost_on y l + link_cost ys l
-link_cost-cons y ys l = sum_by-cons (λ (row : Row). if list_any (λ k. k == l) row.path.items then cost_of row.octets else 0) y ys
+link_cost-cons y ys l = sum_by-cons (λ (row : Row). cost_on row l) y ys
 
 cost_cond : (b c : Bool) (y z : Row) (ys zs : List Row) (l : ℕ) → (b ≡ true → c ≡ true) → cost_on y l ≡ cost_on z l → link_cost ys l ≤ link_cost zs l → link_cost (cond b (y ∷ ys) ys) l ≤ link_cost (cond c (z ∷ zs) zs) l
 cost_cond true true y z ys zs l h e r =
@@ -122,13 +62,13 @@ link_cost_one : (b : Bool) (row : Row) (l : ℕ) → link_cost (cond b (row ∷ 
 link_cost_one true row l = omega arith
 link_cost_one false row l = omega arith
 
--- a link of a path that has enough left takes the cost
-room_on : (d : Domain) (rows : List Row) (cost : ℕ) (path : List ℕ) (l : ℕ) → short_link d rows cost path ≡ None → list_any (λ k. k == l) path ≡ true → cost ≤ left_on d rows l
+-- a link of a tree that has enough left takes the cost
+room_on : (d : Domain) (rows : List Row) (cost : ℕ) (links : List ℕ) (l : ℕ) → find (λ l. nat_lt (left_on d rows l) cost) links ≡ None → list_any (λ k. k == l) links ≡ true → cost ≤ left_on d rows l
 room_on d rows cost [] l e t = absurd cc
-room_on d rows cost (x ∷ path) l e t =
-    room_case (nat_lt (left_on d rows x) cost) refl e (x == l) refl t (room_on d rows cost path l)
+room_on d rows cost (x ∷ links) l e t =
+    room_case (nat_lt (left_on d rows x) cost) refl e (x == l) refl t (room_on d rows cost links l)
   where
-    room_case : (short : Bool) → nat_lt (left_on d rows x) cost ≡ short → (if short then Some x else short_link d rows cost path) ≡ None → (here : Bool) → (x == l) ≡ here → (here || list_any (λ k. k == l) path) ≡ true → (short_link d rows cost path ≡ None → list_any (λ k. k == l) path ≡ true → cost ≤ left_on d rows l) → cost ≤ left_on d rows l
+    room_case : (short : Bool) → nat_lt (left_on d rows x) cost ≡ short → (if short then Some x else find (λ l. nat_lt (left_on d rows l) cost) links) ≡ None → (here : Bool) → (x == l) ≡ here → (here || list_any (λ k. k == l) links) ≡ true → (find (λ l. nat_lt (left_on d rows l) cost) links ≡ None → list_any (λ k. k == l) links ≡ true → cost ≤ left_on d rows l) → cost ≤ left_on d rows l
     room_case true s f here i u r = absurd cc
     room_case false s f true i u r = let same : x ≡ l = eqb-true x l i in subst (λ (k : ℕ). cost ≤ left_on d rows k) same (ltb-false (left_on d rows x) cost s)
     room_case false s f false i u r = r f u
@@ -138,15 +78,15 @@ room_on d rows cost (x ∷ path) l e t =
 -- a stream that is held in a cycle was held in the one before, or is held with less withdrawn
 pub held_less : (row : Row) (v w : ℕ → Option Cycle) (c e : ℕ) → c ≤ e → row.admitted.0 ≤ c → (w row.no ≡ None) ⊎ (w row.no ≡ v row.no) → is_held (with_end v row) e ≡ true → is_held (with_end w row) c ≡ true
 held_less row v w c e le begun same h =
-    let parts = and_parts (nat_le row.admitted.0 e) (option_map_or (λ (x : Cycle). nat_lt e (x.0 + length row.path.items)) (v row.no) true) h in
-    and_from (nat_le row.admitted.0 c) (option_map_or (λ (x : Cycle). nat_lt c (x.0 + length row.path.items)) (w row.no) true) (le-leb row.admitted.0 c begun) (elim same [
-      | inl none ↦ ap (λ (o : Option Cycle). option_map_or (λ (x : Cycle). nat_lt c (x.0 + length row.path.items)) o true) none
-      | inr equal ↦ ap (λ (o : Option Cycle). option_map_or (λ (x : Cycle). nat_lt c (x.0 + length row.path.items)) o true) equal ∙ sooner (v row.no) parts.1
+    let parts = and_parts (nat_le row.admitted.0 e) (option_map_or (λ (x : Cycle). nat_lt e (x.0 + residence row)) (v row.no) true) h in
+    and_from (nat_le row.admitted.0 c) (option_map_or (λ (x : Cycle). nat_lt c (x.0 + residence row)) (w row.no) true) (le-leb row.admitted.0 c begun) (elim same [
+      | inl none ↦ ap (λ (o : Option Cycle). option_map_or (λ (x : Cycle). nat_lt c (x.0 + residence row)) o true) none
+      | inr equal ↦ ap (λ (o : Option Cycle). option_map_or (λ (x : Cycle). nat_lt c (x.0 + residence row)) o true) equal ∙ sooner (v row.no) parts.1
     ])
   where
-    sooner : (o : Option Cycle) → option_map_or (λ (x : Cycle). nat_lt e (x.0 + length row.path.items)) o true ≡ true → option_map_or (λ (x : Cycle). nat_lt c (x.0 + length row.path.items)) o true ≡ true
+    sooner : (o : Option Cycle) → option_map_or (λ (x : Cycle). nat_lt e (x.0 + residence row)) o true ≡ true → option_map_or (λ (x : Cycle). nat_lt c (x.0 + residence row)) o true ≡ true
     sooner None t = refl
-    sooner (Some x) t = lt-ltb c (x.0 + length row.path.items) (omega (arith, le, ltb-true e (x.0 + length row.path.items) t))
+    sooner (Some x) t = lt-ltb c (x.0 + residence row) (omega (arith, le, ltb-true e (x.0 + residence row) t))
 
 -- a withdrawal stays the first of its number
 end_stays : (entries : List Recorded) (n number : ℕ) → (withdrawn_before entries n number ≡ None) ⊎ (withdrawn_before entries n number ≡ withdrawn_before entries (suc n) number)
@@ -163,7 +103,7 @@ held_before entries n row = is_held (with_end (withdrawn_before entries n) row) 
 -- what the streams have that a legal history admits before a place
 pub record Sound (d : Domain) (entries : List Recorded) (n : ℕ) : Type 0 where
   pub numbers : (k : ℕ) (row : Row) → slice_get (admitted_before d entries n) k ≡ Some row → row.no ≡ k
-  pub paths : (row : Row) → Contains (admitted_before d entries n) row → IsPath d row.path.items
+  pub trees : (row : Row) → Contains (admitted_before d entries n) row → IsTree d row.tree.items
   pub named : (row : Row) → Contains (admitted_before d entries n) row → is_name row.name ≡ true
   pub least_octets : (row : Row) → Contains (admitted_before d entries n) row → 64 ≤ row.octets
   pub most_octets : (row : Row) → Contains (admitted_before d entries n) row → row.octets ≤ 60000
@@ -187,7 +127,7 @@ sound_kept d entries n h none ends s =
     let apart_later : Row → Row → Type 0 = λ (a b : Row). held_before entries (suc n) a ≡ true → held_before entries (suc n) b ≡ true → a.name ≢ b.name in
     record {
       numbers = λ k row e. s.numbers k row (ap (λ (xs : List Row). slice_get xs k) (sym same) ∙ e);
-      paths = λ row k. s.paths row (back row k);
+      trees = λ row k. s.trees row (back row k);
       named = λ row k. s.named row (back row k);
       least_octets = λ row k. s.least_octets row (back row k);
       most_octets = λ row k. s.most_octets row (back row k);
@@ -209,23 +149,23 @@ pushed_cases rows new row h =
 
 -- the row of a stream that is admitted behind so many Seals
 abbrev new_row : Domain → Asked → ℕ → ℕ → Row
-new_row d asked number effect = record { no = number; name = asked.name; octets = asked.octets; path = record { items = links_along d asked.path }; admitted = record { 0 = effect }; withdrawn = None }
+new_row d asked number effect = record { no = number; name = asked.name; octets = asked.octets; tree = record { items = tree_of d asked.paths }; admitted = record { 0 = effect }; withdrawn = None }
 
 -- a stream more that finds room on each link of its path
-load_more : (d : Domain) (rows : List Row) (new : Row) (p q : Row → Bool) (v w : ℕ → Option Cycle) (l : ℕ) → ((row : Row) → Contains rows row → p (with_end v row) ≡ true → q (with_end w row) ≡ true) → link_cost (filter q (map (with_end w) rows)) l ≤ budget d l → short_link d (filter q (map (with_end w) rows)) (cost_of new.octets) new.path.items ≡ None → link_cost (filter p (map (with_end v) (rows ++ new ∷ []))) l ≤ budget d l
+load_more : (d : Domain) (rows : List Row) (new : Row) (p q : Row → Bool) (v w : ℕ → Option Cycle) (l : ℕ) → ((row : Row) → Contains rows row → p (with_end v row) ≡ true → q (with_end w row) ≡ true) → link_cost (filter q (map (with_end w) rows)) l ≤ budget d l → short_link d (filter q (map (with_end w) rows)) (cost_of new.octets) new.tree.items ≡ None → link_cost (filter p (map (with_end v) (rows ++ new ∷ []))) l ≤ budget d l
 load_more d rows new p q v w l less within room =
     let old = filter p (map (with_end v) rows) in
     let one = filter p (with_end v new ∷ []) in
     let split : link_cost (filter p (map (with_end v) (rows ++ new ∷ []))) l ≡ link_cost old l + link_cost one l =
     ap (λ (xs : List Row). link_cost (filter p xs) l) (map-append (with_end v) rows (new ∷ []))
     ∙ ap (λ (xs : List Row). link_cost xs l) (filter-append p (map (with_end v) rows) (with_end v new ∷ []))
-    ∙ sum_by-append (λ (row : Row). if list_any (λ k. k == l) row.path.items then cost_of row.octets else 0) old one in
+    ∙ sum_by-append (λ (row : Row). cost_on row l) old one in
     let shrunk = cost_less rows p q v w l less in
     let single : link_cost one l ≤ cost_on new l = link_cost_one (p (with_end v new)) (with_end v new) l in
     let fits : cost_on new l + link_cost (filter q (map (with_end w) rows)) l ≤ budget d l =
-    elim (cases_Bool (list_any (λ k. k == l) new.path.items)) [
+    elim (cases_Bool (crosses new l)) [
       | inl t ↦ (let cost : cost_on new l ≡ cost_of new.octets = ap (λ (b : Bool). if b then cost_of new.octets else 0) t in
-          omega (arith, cost, within, room_on d (filter q (map (with_end w) rows)) (cost_of new.octets) new.path.items l room t))
+          omega (arith, cost, within, room_on d (filter q (map (with_end w) rows)) (cost_of new.octets) (links_of new) l room t))
       | inr f ↦ (let cost : cost_on new l ≡ 0 = ap (λ (b : Bool). if b then cost_of new.octets else 0) f in omega (arith, cost, within))
     ] in
     omega (arith, split, shrunk, single, fits)
@@ -247,8 +187,7 @@ sound_admitted d entries n asked h is ends g s =
     let same : admitted_before d entries (suc n) ≡ rows ++ new ∷ [] = ap (λ (xs : List Row). rows ++ xs) is in
     let back : (row : Row) → Contains (admitted_before d entries (suc n)) row → Contains rows row ⊎ (new ≡ row) =
     λ row k. pushed_cases rows new row (subst (λ (xs : List Row). Contains xs row) same k) in
-    let path_good : IsPath d (links_along d asked.path) =
-    path_from_nodes d asked.path (least_none (is_broken_at d asked.path) (length asked.path + 1) granted_here.whole) (least_none (is_loop_at d asked.path) (length asked.path) granted_here.simple) in
+    let tree_good : IsTree d (tree_of d asked.paths) = is_tree d held asked granted_here in
     let apart : Row → Row → Type 0 = λ (a b : Row). held_before entries n a ≡ true → held_before entries n b ≡ true → a.name ≢ b.name in
     let apart_later : Row → Row → Type 0 = λ (a b : Row). held_before entries (suc n) a ≡ true → held_before entries (suc n) b ≡ true → a.name ≢ b.name in
     record {
@@ -260,7 +199,7 @@ sound_admitted d entries n asked h is ends g s =
                 let is_new : new ≡ row = same_Some new row (sym (slice_get_behind rows new [] k last) ∙ there) in
                 ap (λ (r : Row). r.no) (sym is_new) ∙ count ∙ sym last)
           ];
-      paths = λ row k. elim (back row k) [ inl m ↦ s.paths row m | inr m ↦ subst (λ (r : Row). IsPath d r.path.items) m path_good ];
+      trees = λ row k. elim (back row k) [ inl m ↦ s.trees row m | inr m ↦ subst (λ (r : Row). IsTree d r.tree.items) m tree_good ];
       named = λ row k. elim (back row k) [ inl m ↦ s.named row m | inr m ↦ subst (λ (r : Row). is_name r.name ≡ true) m granted_here.named ];
       least_octets = λ row k. elim (back row k) [ inl m ↦ s.least_octets row m | inr m ↦ subst (λ (r : Row). 64 ≤ r.octets) m granted_here.least_octets ];
       most_octets = λ row k. elim (back row k) [ inl m ↦ s.most_octets row m | inr m ↦ subst (λ (r : Row). r.octets ≤ 60000) m granted_here.most_octets ];
@@ -361,7 +300,7 @@ pub sound : (d : Domain) (entries : List Recorded) → AreDue d entries → (n :
 sound d entries due zero h =
     record {
       numbers = λ k row e. absurd cc;
-      paths = λ row k. absurd (contains_nil row k);
+      trees = λ row k. absurd (contains_nil row k);
       named = λ row k. absurd (contains_nil row k);
       least_octets = λ row k. absurd (contains_nil row k);
       most_octets = λ row k. absurd (contains_nil row k);

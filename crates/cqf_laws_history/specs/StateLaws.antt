@@ -6,9 +6,9 @@ use Rattle.cqf_model.specs.declared.history.Refused.{Refused}
 use Rattle.cqf_model.specs.declared.history.Reply.{Reply}
 use Rattle.cqf_model.specs.declared.history.Reply.TheVariants.{Sealed, Refused as RefusedFor}
 use Rattle.cqf_model.specs.declared.topology.Row.{Row}
-use Rattle.cqf_model.specs.Domain.{Domain, IsPath, budget}
-use Rattle.cqf_model.specs.History.{Act, Admits, Asked, IsLegalHistory, Recorded, Seals, Withdraws, held_in, is_seal, links_along, next_number, refusal_of, reply_to, seals, table_at}
-use Rattle.cqf_model.specs.Table.{is_held, link_cost, row_named}
+use Rattle.cqf_model.specs.Domain.{Domain, budget}
+use Rattle.cqf_model.specs.History.{Act, Admits, Asked, IsLegalHistory, Recorded, Seals, Withdraws, held_in, is_seal, next_number, refusal_of, reply_to, seals, table_at, tree_of}
+use Rattle.cqf_model.specs.Table.{IsTree, is_held, link_cost, row_named}
 
 -- the entries with one more behind them
 abbrev pub with_entry : List Recorded → ℕ → Act → Reply → List Recorded
@@ -21,61 +21,77 @@ pub record IsState (d : Domain) (entries : List Recorded) (rows : List Row) (nex
 
 -- the row of a stream that is granted, and a row whose stream is withdrawn where it has this number
 abbrev pub granted_row : Domain → ℕ → ℕ → Asked → Row
-granted_row d number effect asked = record { no = number; name = asked.name; octets = asked.octets; path = record { items = links_along d asked.path }; admitted = record { 0 = effect }; withdrawn = None }
+granted_row d number effect asked = record {
+  no = number;
+  name = asked.name;
+  octets = asked.octets;
+  tree = record { items = tree_of d asked.paths };
+  admitted = record { 0 = effect };
+  withdrawn = None;
+}
 
 abbrev pub ended_row : ℕ → ℕ → Row → Row
 ended_row number effect row =
-    if row.no == number
-    then record { no = row.no; name = row.name; octets = row.octets; path = row.path; admitted = row.admitted; withdrawn = Some (record { 0 = effect }) }
-    else row
+    if row.no == number then record row { withdrawn = Some (record { 0 = effect }) } else row
 
 -- a legal history goes on with the answer that is due, and there is room for so many Seals and so many other calls
 abbrev pub HistoryGoesOn : Type 0
 HistoryGoesOn =
-    (d : Domain) (entries : List Recorded) (seat : ℕ) (act : Act) → IsLegalHistory d entries → seals entries + (if is_seal act then 1 else 0) ≤ 100000 → length entries + 1 - (seals entries + (if is_seal act then 1 else 0)) ≤ 100000 → IsLegalHistory d (with_entry entries seat act (reply_to d entries act))
+    (d : Domain) (entries : List Recorded) (seat : ℕ) (act : Act) → IsLegalHistory d entries → seals entries + (if is_seal act then 1 else 0) ≤ 100000 →
+    length entries + 1 - (seals entries + (if is_seal act then 1 else 0)) ≤ 100000 →
+    IsLegalHistory d (with_entry entries seat act (reply_to d entries act))
 
 -- a Seal is one Seal more, and no other entry is
 abbrev pub SealsAreCounted : Type 0
 SealsAreCounted =
-    (entries : List Recorded) (seat : ℕ) (act : Act) (reply : Reply) → seals (with_entry entries seat act reply) ≡ seals entries + (if is_seal act then 1 else 0)
+    (entries : List Recorded) (seat : ℕ) (act : Act) (reply : Reply) →
+    seals (with_entry entries seat act reply) ≡ seals entries + (if is_seal act then 1 else 0)
 
 -- a request that isn't refused is granted: its stream is held with the others, and takes the next number
 abbrev pub GrantedIsHeld : Type 0
 GrantedIsHeld =
-    (d : Domain) (entries : List Recorded) (rows : List Row) (next seat : ℕ) (asked : Asked) → IsLegalHistory d entries → IsState d entries rows next → refusal_of d rows asked ≡ None → IsState d (with_entry entries seat (Admits asked) (reply_to d entries (Admits asked))) (rows ++ granted_row d next (seals entries) asked ∷ []) (next + 1)
+    (d : Domain) (entries : List Recorded) (rows : List Row) (next seat : ℕ) (asked : Asked) → IsLegalHistory d entries → IsState d entries rows next →
+    refusal_of d rows asked ≡ None →
+    IsState d (with_entry entries seat (Admits asked) (reply_to d entries (Admits asked))) (rows ++ granted_row d next (seals entries) asked ∷ []) (next + 1)
 
 -- a refused call changes nothing
 abbrev pub RefusedChangesNothing : Type 0
 RefusedChangesNothing =
-    (d : Domain) (entries : List Recorded) (rows : List Row) (next seat : ℕ) (act : Act) (refused : Refused) → IsState d entries rows next → reply_to d entries act ≡ RefusedFor refused → IsState d (with_entry entries seat act (reply_to d entries act)) rows next
+    (d : Domain) (entries : List Recorded) (rows : List Row) (next seat : ℕ) (act : Act) (refused : Refused) → IsState d entries rows next →
+    reply_to d entries act ≡ RefusedFor refused → IsState d (with_entry entries seat act (reply_to d entries act)) rows next
 
 -- a stream that is withdrawn is held on
 abbrev pub WithdrawnIsHeldOn : Type 0
 WithdrawnIsHeldOn =
-    (d : Domain) (entries : List Recorded) (rows : List Row) (next seat : ℕ) (name : List ℕ) (row : Row) → IsLegalHistory d entries → IsState d entries rows next → row_named rows name ≡ Some row → row.withdrawn ≡ None → IsState d (with_entry entries seat (Withdraws name) (reply_to d entries (Withdraws name))) (map (ended_row row.no (seals entries)) rows) next
+    (d : Domain) (entries : List Recorded) (rows : List Row) (next seat : ℕ) (name : List ℕ) (row : Row) → IsLegalHistory d entries →
+    IsState d entries rows next → row_named rows name ≡ Some row → row.withdrawn ≡ None →
+    IsState d (with_entry entries seat (Withdraws name) (reply_to d entries (Withdraws name))) (map (ended_row row.no (seals entries)) rows) next
 
 -- a Seal closes the table of the held streams, and lets go of those whose last frame has left by the next cycle
 abbrev pub SealLetsGo : Type 0
 SealLetsGo =
-    (d : Domain) (entries : List Recorded) (rows : List Row) (next seat : ℕ) → IsLegalHistory d entries → IsState d entries rows next → IsState d (with_entry entries seat Seals Sealed) (filter (λ (row : Row). is_held row (seals entries + 1)) rows) next
+    (d : Domain) (entries : List Recorded) (rows : List Row) (next seat : ℕ) → IsLegalHistory d entries → IsState d entries rows next →
+    IsState d (with_entry entries seat Seals Sealed) (filter (λ (row : Row). is_held row (seals entries + 1)) rows) next
 
 abbrev pub SealClosesTable : Type 0
 SealClosesTable =
-    (d : Domain) (entries : List Recorded) (rows : List Row) (next seat : ℕ) → IsState d entries rows next → table_at d (with_entry entries seat Seals Sealed) (seals entries) ≡ rows
+    (d : Domain) (entries : List Recorded) (rows : List Row) (next seat : ℕ) → IsState d entries rows next →
+    table_at d (with_entry entries seat Seals Sealed) (seals entries) ≡ rows
 
--- what held streams have: a path of the domain, a reservation within its limits, and names and numbers of their own; and
--- what they cost of a link is within the link's budget
+-- what held streams have: a tree of the domain, a reservation within its limits, and names and ascending numbers of their
+-- own; and what they cost of a link is within the link's budget
 pub record AreHeld (d : Domain) (rows : List Row) (next effect : ℕ) : Type 0 where
-  pub paths : (row : Row) → Contains rows row → IsPath d row.path.items
+  pub trees : (row : Row) → Contains rows row → IsTree d row.tree.items
   pub named : (row : Row) → Contains rows row → is_name row.name ≡ true
   pub least_octets : (row : Row) → Contains rows row → 64 ≤ row.octets
   pub most_octets : (row : Row) → Contains rows row → row.octets ≤ 60000
   pub below : (row : Row) → Contains rows row → row.no < next
   pub begun : (row : Row) → Contains rows row → row.admitted.0 ≤ effect
-  pub numbers : AllPairs (λ (a b : Row). a.no ≢ b.no) rows
+  pub numbers : AllPairs (λ (a b : Row). a.no < b.no) rows
   pub names : AllPairs (λ (a b : Row). a.name ≢ b.name) rows
   pub loads : (l : ℕ) → link_cost rows l ≤ budget d l
 
 abbrev pub HeldAreSound : Type 0
 HeldAreSound =
-    (d : Domain) (entries : List Recorded) (rows : List Row) (next : ℕ) → IsLegalHistory d entries → IsState d entries rows next → AreHeld d rows next (seals entries)
+    (d : Domain) (entries : List Recorded) (rows : List Row) (next : ℕ) → IsLegalHistory d entries → IsState d entries rows next →
+    AreHeld d rows next (seals entries)

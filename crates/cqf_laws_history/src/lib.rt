@@ -5,6 +5,7 @@
 //! the law by a call of the function.
 //!
 //! - [`tables_are_orderly`]: what the tables of a legal history give to the laws of the network.
+//! - [`granted_is_a_tree`]: what a request has that isn't refused.
 //! - [`state_follows_history`]: how the streams that are held change with each entry, so that an administration needn't
 //!   look through its history.
 //!
@@ -14,7 +15,7 @@
 //! ```
 #![tactic(auto)]
 
-ghost use Rattle.cqf_laws_history.specs.HistoryLaws.{TablesAreOrderly, ThereAreSoManyTables};
+ghost use Rattle.cqf_laws_history.specs.HistoryLaws.{TablesAreOrderly, TablesAscend, ThereAreSoManyTables, GrantedIsATree, TreeIsItsBranches, TreesHaveFewLinks};
 ghost use Rattle.cqf_laws_history.specs.StateLaws.{
   HistoryGoesOn,
   SealsAreCounted,
@@ -26,12 +27,21 @@ ghost use Rattle.cqf_laws_history.specs.StateLaws.{
   HeldAreSound,
 };
 
-/// The tables of the first cycles of a legal history are one a cycle, and orderly: their paths are paths of the domain,
-/// numbers and names name one stream, a live stream stays until its last frame has left its last bridge, and what the
-/// streams of a table cost of a link is within the link's budget (profile).
+/// The tables of the first cycles of a legal history are one a cycle, and orderly: their trees are trees of the domain,
+/// numbers and names name one stream, a live stream stays until its last frame has left the last bridge of its deepest
+/// branch, and what the streams of a table cost of a link is within the link's budget (profile). Their rows stand by number.
 pub fn tables_are_orderly()
     ensures orderly { TablesAreOrderly }
+    ensures ascend { TablesAscend }
     ensures count { ThereAreSoManyTables }
+{}
+
+/// The branches of a request that isn't refused are a tree of the domain: each hop of the tree is one of a branch, and each
+/// hop of a branch is in the tree. A tree has no more links than its domain (profile).
+pub fn granted_is_a_tree()
+    ensures tree { GrantedIsATree }
+    ensures branches { TreeIsItsBranches }
+    ensures few { TreesHaveFewLinks }
 {}
 
 /// A running state tells what a whole history says: with each entry the streams that are held in the next cycle, and the

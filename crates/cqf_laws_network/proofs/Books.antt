@@ -1,134 +1,181 @@
 -- The book of a shorter run is the beginning of a longer run's.
-use Rattle.std.proofs.Common.{◌≡◌, ℕ, ◌+◌, ◌*◌, ◌/◌, ◌<◌, ◌≤◌, Bool, false, List, length, sym, ap, ◌∙◌, inl, inr, arith, subst}
-use Rattle.std.specs.Prelude.{[], ◌++◌, ◌&&◌, ◌==◌, map, filter, Contains, nat_lt}
+use Rattle.std.proofs.Common.{◌≡◌, ℕ, ◌+◌, ◌*◌, ◌<◌, ◌≤◌, false, List, length, sym, ap, ◌∙◌, refl, arith, eqb-true, ne_eqb}
+use Rattle.std.specs.Prelude.{◌++◌, ◌==◌, map, filter, Contains, nat_lt}
 use Rattle.std.specs.List.{flat_map}
 use Rattle.std.proofs.Math.Nat.{mul-le-mul_right}
-use Rattle.std.proofs.lemmas.Bool.{cases_lt, eqb-true, le-ltb, lt-ltb, ltb-true, ne_eqb}
+use Rattle.std.proofs.lemmas.Bool.{and_left, le-ltb, lt-ltb}
 use Rattle.std.proofs.lemmas.List.{append-nil}
 use Rattle.std.proofs.lemmas.List.Elements.{filter-append}
-use Rattle.std.proofs.lemmas.Nat.{div-add-mod', le-div, mod_below}
+use Rattle.std.proofs.lemmas.Nat.{le-div}
+use Rattle.cqf_lists.specs.Lists.{each_below}
+use Rattle.cqf_lists.proofs.EachBelow.{contains_from_below, filter_none, same_below}
+use Rattle.cqf_lists.proofs.Filters.{filter_weaker}
+use Rattle.cqf_lists.proofs.Fronts.{filter_front}
+use Rattle.cqf_lists.proofs.Made.{contains_one}
+use Rattle.cqf_lists.proofs.Members.{contains_from_flat, contains_from_map, contains_none}
+use Rattle.cqf_units.proofs.Cycles.{before_cycle, takes_time}
 use Rattle.cqf_model.specs.declared.frames.Dropped.{Dropped}
-use Rattle.cqf_model.specs.declared.frames.Offer.{Offer}
 use Rattle.cqf_model.specs.declared.frames.Sent.{Sent}
 use Rattle.cqf_model.specs.declared.frames.Started.{Started}
+use Rattle.cqf_model.specs.declared.ports.Start.{Start}
 use Rattle.cqf_model.specs.declared.topology.Row.{Row}
-use Rattle.cqf_model.specs.Book.{IsBook, batch, drop_by, drops_in, drops_of, is_of_place, started, starts_in, starts_of}
+use Rattle.cqf_model.specs.Book.{Contents, IsBook, background_of, drop_by, drops_in, drops_of, is_of_place, started, started_backed, starts_of}
 use Rattle.cqf_model.specs.Domain.{Domain, cycle_of}
 use Rattle.cqf_model.specs.GateList.{Entry}
-use Rattle.cqf_model.specs.Network.{IsLegalNetwork, queued_before}
-use Rattle.cqf_model.specs.Traffic.{DroppedFor, ExceedsGate, LacksRow, Network, Policed, Queued, Received, Verdict, each_below, policed_before}
-use Rattle.cqf_laws.specs.PortLaws.{LegalPartIsLegalForTheSamePast}
-use Rattle.cqf_laws_network.specs.NetworkLaws.{HaveTheSameTables, drops_before_cycle, network_before, starts_before_cycle}
-use Rattle.cqf_laws_network.proofs.Lists.{contains_cons, contains_from_each, contains_from_filter, contains_from_flat_map, contains_from_map, contains_nil, each_same, filter_each, filter_none_of, filter_twice_of}
-use Rattle.cqf_laws_network.proofs.Came.{SentAlike, policed_front, policed_same}
-use Rattle.cqf_laws_network.proofs.Ports.{sends_before_end}
-use Rattle.cqf_laws_network.proofs.Networks.{beginning, sent_before_less, tables_until}
+use Rattle.cqf_model.specs.Network.{IsLegalNetwork, Network, comes_before}
+use Rattle.cqf_model.specs.Run.{Run}
+use Rattle.cqf_model.specs.Traffic.{Carried, DroppedFor, ExceedsGate, LacksRow, Policed, Queued, Received, Verdict, policed_before}
+use Rattle.cqf_model.proofs.Coming.{policed_front}
+use Rattle.cqf_model.proofs.Sending.{backed_within, sent_within}
+use Rattle.cqf_laws_port.specs.PortLaws.{LegalPartIsLegalForTheSamePast}
+use Rattle.cqf_laws_network.specs.NetworkLaws.{HaveOnePast, IsShorter, backed_before, book_before_cycle, carried_before, drops_before_cycle, network_before, starts_before_cycle, with_tables}
+use Rattle.cqf_laws_network.proofs.Came.{bridges_by_past}
+use Rattle.cqf_laws_network.proofs.Networks.{beginning, sent_before_less}
 
--- an instant in a cycle before one is before that one's beginning
-before_cycle : (t cycle cycles cycle_time : ℕ) → 0 < cycle_time → t / cycle_time ≡ cycle → cycle < cycles → t < cycles * cycle_time
-before_cycle t cycle cycles cycle_time h e l =
-    let next : (cycle + 1) * cycle_time ≤ cycles * cycle_time = mul-le-mul_right cycle_time (omega (arith, l)) in
-    omega (arith, next, div-add-mod' t cycle_time, mod_below t cycle_time h, ap (λ (c : ℕ). c * cycle_time) e)
+-- the starts of one kind: what a book has of each, which bears its cycle
+module _ {A : Type 0} (at : A → ℕ) (by : ℕ → ℕ → A → Started) (bears : (cycle link : ℕ) (x : A) → (by cycle link x).cycle.0 ≡ cycle) (d : Domain) where
+  -- what the links send in a cycle, by link
+  abbrev of_cycle : (ℕ → List A) → ℕ → ℕ → List Started
+  of_cycle sends cycle link = map (by cycle link) (filter (λ x. cycle_of d (at x) == cycle) (sends link))
 
--- cycles take time where anything happens before the end
-takes_time : (t cycles cycle_time : ℕ) → t < cycles * cycle_time → 0 < cycle_time
-takes_time t cycles cycle_time l =
-    elim (cases_lt 0 cycle_time) [ inl h ↦ h | inr g ↦ (let e : cycle_time ≡ 0 = omega (arith, g) in absurd (omega (arith, l, ap (λ (x : ℕ). cycles * x) e))) ]
+  -- what they send in each of the cycles
+  abbrev of_run : ℕ → (ℕ → List A) → List Started
+  of_run cycles sends = each_below (λ cycle. each_below (of_cycle sends cycle) (length d.links)) cycles
 
--- the starts of a cycle bear it
-start_cycle : (d : Domain) (net : Network) (cycle links : ℕ) (x : Started) → Contains (each_below (starts_in d net cycle) links) x → x.cycle.0 ≡ cycle
-start_cycle d net cycle links x h =
-    let w = contains_from_each (starts_in d net cycle) links x h in
-    let s = contains_from_map (started cycle w.0) (batch d net w.0 cycle) x w.2 in
-    sym (ap (λ (y : Started). y.cycle.0) s.2)
+  -- the starts of a cycle bear it
+  start_cycle : (sends : ℕ → List A) (cycle : ℕ) (x : Started) → Contains (each_below (of_cycle sends cycle) (length d.links)) x → x.cycle.0 ≡ cycle
+  start_cycle sends cycle x h =
+      let w = contains_from_below (of_cycle sends cycle) (length d.links) x h in
+      let s = contains_from_map (by cycle w.0) (filter (λ x. cycle_of d (at x) == cycle) (sends w.0)) x w.2 in
+      sym (ap (λ (y : Started). y.cycle.0) s.2) ∙ bears cycle w.0 s.0
 
--- so do the drops
+  -- so the starts of the first cycles are those of what is sent before their end
+  pub starts_beginning : (cycles longer : ℕ) (sends : ℕ → List A) → cycles ≤ longer → ((l : ℕ) → l < length d.links → (x : A) → Contains (sends l) x → at x < longer * d.cycle_time) → starts_before_cycle cycles (of_run longer sends) ≡ of_run cycles (λ l. filter (λ x. nat_lt (at x) (cycles * d.cycle_time)) (sends l))
+  starts_beginning cycles longer sends le within =
+      let links = length d.links in
+      let end = cycles * d.cycle_time in
+      let early = λ (x : A). nat_lt (at x) end in
+      let each = λ (cycle : ℕ). each_below (of_cycle sends cycle) links in
+      let short : ℕ → List A = λ l. filter early (sends l) in
+      filter_front (λ (x : Started). nat_lt x.cycle.0 cycles) each cycles longer le
+      (λ k x l h. lt-ltb x.cycle.0 cycles (omega (arith, start_cycle sends k x h, l)))
+      (λ k x l h. le-ltb x.cycle.0 cycles (omega (arith, start_cycle sends k x h, l)))
+      ∙ same_below each (λ cycle. each_below (of_cycle short cycle) links) cycles (λ cycle k.
+      same_below (of_cycle sends cycle) (of_cycle short cycle) links (λ l h.
+      ap (map (by cycle l)) (filter_weaker (λ x. cycle_of d (at x) == cycle) early (sends l) (λ x m e.
+      let some = takes_time d.cycle_time (at x) longer (within l h x m) in
+      lt-ltb (at x) end (before_cycle d.cycle_time (at x) cycle cycles some (eqb-true (cycle_of d (at x)) cycle e) k)))))
+
+-- a drop bears its cycle
 dropped_cycle : (cycle bridge : ℕ) (x : Received) (verdict : Verdict) (drop : Dropped) → Contains (drop_by cycle bridge x verdict) drop → drop.cycle.0 ≡ cycle
 dropped_cycle cycle bridge x (DroppedFor reason) drop h =
     let own : Dropped = record { cycle = record { 0 = cycle }; bridge = bridge; frame = x.frame; octets = x.octets; reason = reason } in
-    elim (contains_cons own drop [] h) [ inl e ↦ sym (ap (λ (y : Dropped). y.cycle.0) e) | inr never ↦ absurd (contains_nil drop never) ]
-dropped_cycle cycle bridge x (Queued row link) drop h = absurd (contains_nil drop h)
-dropped_cycle cycle bridge x LacksRow drop h = absurd (contains_nil drop h)
-dropped_cycle cycle bridge x ExceedsGate drop h = absurd (contains_nil drop h)
+    sym (ap (λ (y : Dropped). y.cycle.0) (contains_one own drop h))
+dropped_cycle cycle bridge x (Queued row) drop h = absurd (contains_none drop h)
+dropped_cycle cycle bridge x LacksRow drop h = absurd (contains_none drop h)
+dropped_cycle cycle bridge x ExceedsGate drop h = absurd (contains_none drop h)
 
 -- the drops at a bridge in a cycle of the offer at a place
 abbrev drops_at : Domain → (ℕ → List Policed) → ℕ → ℕ → ℕ → List Dropped
 drops_at d policed cycle bridge place = flat_map (λ (p : Policed). drop_by cycle bridge p.received p.verdict) (filter (is_of_place d cycle place) (policed bridge))
 
+-- the drops of a cycle bear it
 drop_cycle : (d : Domain) (places : ℕ) (policed : ℕ → List Policed) (cycle bridges : ℕ) (x : Dropped) → Contains (each_below (drops_in d places policed cycle) bridges) x → x.cycle.0 ≡ cycle
 drop_cycle d places policed cycle bridges x h =
-    let w = contains_from_each (drops_in d places policed cycle) bridges x h in
-    let v = contains_from_each (drops_at d policed cycle w.0) places x w.2 in
-    let p = contains_from_flat_map (λ (p : Policed). drop_by cycle w.0 p.received p.verdict) (filter (is_of_place d cycle v.0) (policed w.0)) x v.2 in
+    let w = contains_from_below (drops_in d places policed cycle) bridges x h in
+    let v = contains_from_below (drops_at d policed cycle w.0) places x w.2 in
+    let p = contains_from_flat (λ (p : Policed). drop_by cycle w.0 p.received p.verdict) (filter (is_of_place d cycle v.0) (policed w.0)) x v.2 in
     dropped_cycle cycle w.0 p.0.received p.0.verdict x p.2
 
-module _ (d : Domain) (lists : ℕ → List Entry) (tables : List (List Row)) (offers : List Offer) (cycles longer : ℕ) (net : Network) (legal : IsLegalNetwork d lists tables offers longer net) where
+module _ (run : Run) (others : List (List Row)) (lists : ℕ → List Entry) (cycles longer : ℕ) (net : Network) (shorter : IsShorter cycles longer run.tables others) (legal : IsLegalNetwork run lists longer net) where
   -- a link sends within the run
-  within_run : (l : ℕ) → l < length d.links → (x : Sent) → Contains (net l) x → x.start.0 < longer * d.cycle_time
-  within_run l h x k =
-      let end = longer * d.cycle_time in
-      let e = sends_before_end d (lists l) l end (queued_before d tables offers net l end) (net l) (legal.sends l h) in
-      ltb-true x.start.0 end (contains_from_filter (λ (sent : Sent). nat_lt sent.start.0 end) (net l) x (subst (λ (xs : List Sent). Contains xs x) (sym e) k)).1
+  sent_in_run : (l : ℕ) → l < length run.domain.links → (x : Sent) → Contains (net.carried l) x → x.start.0 < longer * run.domain.cycle_time
+  sent_in_run l h =
+      sent_within run.domain (lists l) (longer * run.domain.cycle_time) l (comes_before run net.carried l longer) (net.carried l) (net.backed l) (legal.sends l h)
 
-  -- what it sends in a cycle of the shorter run it sends in the shorter run
-  batch_same : (l cycle : ℕ) → l < length d.links → cycle < cycles → batch d net l cycle ≡ batch d (network_before (cycles * d.cycle_time) net) l cycle
-  batch_same l cycle h k =
-      filter_twice_of (λ (sent : Sent). cycle_of d sent.start.0 == cycle) (λ (sent : Sent). nat_lt sent.start.0 (cycles * d.cycle_time)) (net l) (λ x m e.
-      let positive = takes_time x.start.0 longer d.cycle_time (within_run l h x m) in
-      lt-ltb x.start.0 (cycles * d.cycle_time) (before_cycle x.start.0 cycle cycles d.cycle_time positive (eqb-true (cycle_of d x.start.0) cycle e) k))
+  -- its background frames too
+  backed_in_run : (l : ℕ) → l < length run.domain.links → (x : Start) → Contains (net.backed l) x → x.start.0 < longer * run.domain.cycle_time
+  backed_in_run l h =
+      backed_within run.domain (lists l) (longer * run.domain.cycle_time) l (comes_before run net.carried l longer) (net.carried l) (net.backed l) (legal.sends l h)
 
-  -- so its starts are the beginning
-  pub starts_beginning : cycles ≤ longer → starts_before_cycle cycles (starts_of d longer net) ≡ starts_of d cycles (network_before (cycles * d.cycle_time) net)
-  starts_beginning le =
-      let links = length d.links in
-      let short = network_before (cycles * d.cycle_time) net in
-      let each = λ (cycle : ℕ). each_below (starts_in d net cycle) links in
-      let each_short = λ (cycle : ℕ). each_below (starts_in d short cycle) links in
-      filter_each (λ (x : Started). nat_lt x.cycle.0 cycles) each cycles longer le
-      (λ k x l h. lt-ltb x.cycle.0 cycles (omega (arith, start_cycle d net k links x h, l)))
-      (λ k x l h. le-ltb x.cycle.0 cycles (omega (arith, start_cycle d net k links x h, l)))
-      ∙ each_same each each_short cycles (λ cycle k. each_same (starts_in d net cycle) (starts_in d short cycle) links (λ l h. ap (map (started cycle l)) (batch_same l cycle h k)))
+  -- what the shorter run's links carry
+  abbrev short : Carried
+  short = carried_before (cycles * run.domain.cycle_time) net.carried
+
+  -- the verdicts at a bridge over the longer run
+  abbrev policed : ℕ → List Policed
+  policed bridge = policed_before run net.carried bridge (longer * run.domain.cycle_time)
+
+  -- and over the shorter one
+  abbrev policed_short : ℕ → List Policed
+  policed_short bridge = policed_before (with_tables run others) short bridge (cycles * run.domain.cycle_time)
+
+  -- the shorter run has the same past
+  one_past : HaveOnePast run others net.carried short cycles
+  one_past =
+      let n = cycles * run.domain.cycle_time in
+      record { tables = shorter.tables_same; links = λ l h. sym (sent_before_less n n (net.carried l) (omega arith)) }
 
   -- in a cycle of the shorter run the frames at a bridge come before its end
-  filter_same : (others : List (List Row)) (bridge cycle place : ℕ) → cycles ≤ longer → HaveTheSameTables cycles tables others → cycle < cycles → filter (is_of_place d cycle place) (policed_before d tables offers net bridge (longer * d.cycle_time)) ≡ filter (is_of_place d cycle place) (policed_before d others offers (network_before (cycles * d.cycle_time) net) bridge (cycles * d.cycle_time))
-  filter_same others bridge cycle place le same k =
+  filter_same : (bridge cycle place : ℕ) → cycle < cycles → filter (is_of_place run.domain cycle place) (policed bridge) ≡ filter (is_of_place run.domain cycle place) (policed_short bridge)
+  filter_same bridge cycle place k =
+      let d = run.domain in
       let n = cycles * d.cycle_time in
       let m = longer * d.cycle_time in
-      let short = network_before n net in
       let test = is_of_place d cycle place in
-      let front = policed_before d tables offers net bridge n in
-      let f = policed_front d tables offers net bridge n m (mul-le-mul_right d.cycle_time le) in
+      let front = policed_before run net.carried bridge n in
+      let f = policed_front run net.carried bridge n m (mul-le-mul_right d.cycle_time shorter.fewer) in
       let later : (p : Policed) → Contains f.rest p → test p ≡ false =
       λ p h. let late = f.late p h in
-      let after : cycles ≤ cycle_of d p.received.at = le-div cycles p.received.at d.cycle_time (takes_time p.received.at longer d.cycle_time late.1) late.0 in
-      ap (λ (b : Bool). b && (p.received.frame == place + 1)) (ne_eqb (cycle_of d p.received.at) cycle (λ e. omega (arith, e, after, k))) in
-      let alike : SentAlike d n net short = λ l h. sym (sent_before_less n n (net l) (omega arith)) in
-      ap (filter test) f.is ∙ filter-append test front f.rest ∙ ap (λ (ps : List Policed). filter test front ++ ps) (filter_none_of test f.rest later) ∙ append-nil (filter test front)
-      ∙ ap (filter test) (policed_same d tables others offers net short bridge n n alike (omega arith) (tables_until d lists offers tables others cycles same))
+      let after : cycles ≤ cycle_of d p.received.at = le-div cycles p.received.at d.cycle_time (takes_time d.cycle_time p.received.at longer late.1) late.0 in
+      and_left (cycle_of d p.received.at == cycle) (p.received.frame == place + 1) (ne_eqb (cycle_of d p.received.at) cycle (λ e. omega (arith, e, after, k))) in
+      ap (filter test) f.is ∙ filter-append test front f.rest ∙ ap (λ (ps : List Policed). filter test front ++ ps) (filter_none test f.rest later) ∙ append-nil (filter test front)
+      ∙ ap (filter test) (bridges_by_past run others net.carried short cycles bridge one_past)
 
   -- so its drops are the beginning
-  pub drops_beginning : (others : List (List Row)) → cycles ≤ longer → HaveTheSameTables cycles tables others → drops_before_cycle cycles (drops_of d longer (length offers) (λ bridge. policed_before d tables offers net bridge (longer * d.cycle_time))) ≡ drops_of d cycles (length offers) (λ bridge. policed_before d others offers (network_before (cycles * d.cycle_time) net) bridge (cycles * d.cycle_time))
-  drops_beginning others le same =
+  drops_beginning : drops_before_cycle cycles (drops_of run.domain longer (length run.offers) policed) ≡ drops_of run.domain cycles (length run.offers) policed_short
+  drops_beginning =
+      let d = run.domain in
       let bridges = length d.bridges in
-      let places = length offers in
-      let n = cycles * d.cycle_time in
-      let policed : ℕ → List Policed = λ bridge. policed_before d tables offers net bridge (longer * d.cycle_time) in
-      let policed_short : ℕ → List Policed = λ bridge. policed_before d others offers (network_before n net) bridge n in
+      let places = length run.offers in
       let each = λ (cycle : ℕ). each_below (drops_in d places policed cycle) bridges in
       let each_short = λ (cycle : ℕ). each_below (drops_in d places policed_short cycle) bridges in
-      filter_each (λ (x : Dropped). nat_lt x.cycle.0 cycles) each cycles longer le
+      filter_front (λ (x : Dropped). nat_lt x.cycle.0 cycles) each cycles longer shorter.fewer
       (λ k x l h. lt-ltb x.cycle.0 cycles (omega (arith, drop_cycle d places policed k bridges x h, l)))
       (λ k x l h. le-ltb x.cycle.0 cycles (omega (arith, drop_cycle d places policed k bridges x h, l)))
-      ∙ each_same each each_short cycles (λ cycle k. each_same (drops_in d places policed cycle) (drops_in d places policed_short cycle) bridges (λ bridge h.
-      each_same (drops_at d policed cycle bridge) (drops_at d policed_short cycle bridge) places (λ place g.
-      ap (flat_map (λ (p : Policed). drop_by cycle bridge p.received p.verdict)) (filter_same others bridge cycle place le same k))))
+      ∙ same_below each each_short cycles (λ cycle k. same_below (drops_in d places policed cycle) (drops_in d places policed_short cycle) bridges (λ bridge h.
+      same_below (drops_at d policed cycle bridge) (drops_at d policed_short cycle bridge) places (λ place g.
+      ap (flat_map (λ (p : Policed). drop_by cycle bridge p.received p.verdict)) (filter_same bridge cycle place k))))
+
+  -- and so are its starts of streams' frames
+  sent_beginning : starts_before_cycle cycles (starts_of run.domain longer net.carried) ≡ starts_of run.domain cycles short
+  sent_beginning =
+      starts_beginning (λ (sent : Sent). sent.start.0) started (λ cycle link x. refl) run.domain cycles longer net.carried shorter.fewer sent_in_run
+
+  -- and of background frames
+  background_beginning : starts_before_cycle cycles (background_of run.domain longer net.backed) ≡ background_of run.domain cycles (λ l. backed_before (cycles * run.domain.cycle_time) (net.backed l))
+  background_beginning =
+      starts_beginning (λ (start : Start). start.start.0) started_backed (λ cycle link x. refl) run.domain cycles longer net.backed shorter.fewer backed_in_run
 
 -- the book of a shorter run
-pub book_beginning : LegalPartIsLegalForTheSamePast → (d : Domain) (lists : ℕ → List Entry) (tables others : List (List Row)) (offers : List Offer) (cycles longer : ℕ) (starts : List Started) (drops : List Dropped) → cycles ≤ longer → HaveTheSameTables cycles tables others → IsBook d lists tables offers longer starts drops → IsBook d lists others offers cycles (starts_before_cycle cycles starts) (drops_before_cycle cycles drops)
-book_beginning part d lists tables others offers cycles longer starts drops le same book =
+pub book_beginning : LegalPartIsLegalForTheSamePast → (run : Run) (others : List (List Row)) (lists : ℕ → List Entry) (cycles longer : ℕ) (book : Contents) → IsShorter cycles longer run.tables others → IsBook run lists longer book → IsBook (with_tables run others) lists cycles (book_before_cycle cycles book)
+book_beginning part run others lists cycles longer book shorter is =
     record {
-      net = network_before (cycles * d.cycle_time) book.net;
-      legal = beginning d lists offers part tables others cycles longer book.net le same book.legal;
-      are_starts = ap (starts_before_cycle cycles) book.are_starts ∙ starts_beginning d lists tables offers cycles longer book.net book.legal le;
-      are_drops = ap (drops_before_cycle cycles) book.are_drops ∙ drops_beginning d lists tables offers cycles longer book.net book.legal others le same;
+      net = network_before (cycles * run.domain.cycle_time) is.net;
+      legal = beginning run lists cycles part others longer is.net shorter is.legal;
+      are_starts = ap (starts_before_cycle cycles) is.are_starts ∙ sent_beginning run others lists cycles longer is.net shorter is.legal;
+      are_background = ap (starts_before_cycle cycles) is.are_background ∙ background_beginning run others lists cycles longer is.net shorter is.legal;
+      are_drops = ap (drops_before_cycle cycles) is.are_drops ∙ drops_beginning run others lists cycles longer is.net shorter is.legal;
     }
+
+-- what a book of a legal network says
+abbrev pub book_of : Run → ℕ → Network → Contents
+book_of run cycles net = record {
+  starts = starts_of run.domain cycles net.carried;
+  background = background_of run.domain cycles net.backed;
+  drops = drops_of run.domain cycles (length run.offers) (λ bridge. policed_before run net.carried bridge (cycles * run.domain.cycle_time));
+}
+
+-- a book is what the book of its network says
+pub is_book_of : (run : Run) (lists : ℕ → List Entry) (cycles : ℕ) (book : Contents) (is : IsBook run lists cycles book) → book ≡ book_of run cycles is.net
+is_book_of run lists cycles book is i = record { starts = is.are_starts i; background = is.are_background i; drops = is.are_drops i }

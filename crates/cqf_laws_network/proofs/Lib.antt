@@ -1,4 +1,3 @@
-pub mod Lists
 pub mod Came
 pub mod Ports
 pub mod Networks

@@ -1,137 +1,195 @@
 -- Legal networks: one exists, it is the only one, and a shorter run is the beginning of a longer one.
-use Rattle.std.proofs.Common.{◌≡◌, ℕ, ◌*◌, ◌<◌, ◌≤◌, Bool, cond, List, length, sym, refl, ap, ◌∙◌, inl, inr, arith, subst}
+use Rattle.std.proofs.Common.{◌≡◌, ℕ, ◌*◌, ◌<◌, ◌≤◌, Bool, cond, List, length, sym, refl, ap, ap₂, ◌∙◌, inl, inr, arith, subst}
 use std.Path.{fun_ext}
 use Rattle.std.proofs.Math.Nat.{mul-le-mul_right}
-use Rattle.std.specs.Prelude.{[], map, nat_lt, take, zero, suc}
+use Rattle.std.specs.Prelude.{[], nat_lt, take, zero, suc}
+use Rattle.std.specs.List.{flat_map}
 use Rattle.std.proofs.lemmas.Bool.{cases_lt, le-ltb, lt-ltb, ltb-true}
-use Rattle.std.proofs.lemmas.Nat.{div_below}
 use Rattle.std.proofs.lemmas.List.{get_or-take}
-use Rattle.cqf_model.specs.declared.frames.Offer.{Offer}
+use Rattle.cqf_lists.proofs.EachBelow.{filter_none}
+use Rattle.cqf_lists.proofs.Filters.{filter_weaker}
+use Rattle.cqf_lists.proofs.Fronts.{Front, each_front, front_whole}
 use Rattle.cqf_model.specs.declared.frames.Sent.{Sent}
+use Rattle.cqf_model.specs.declared.ports.Start.{Start}
 use Rattle.cqf_model.specs.declared.topology.Row.{Row}
-use Rattle.cqf_model.specs.Domain.{Domain, cycle_of, octet_time_of}
+use Rattle.cqf_model.specs.Domain.{octet_time_of}
 use Rattle.cqf_model.specs.GateList.{Entry}
-use Rattle.cqf_model.specs.Network.{IsLegalNetwork, QueuedFrame, Sends, arrivals_of, queued_before, sent_of}
-use Rattle.cqf_model.specs.Port.{PortRules}
-use Rattle.cqf_model.specs.Table.{table_of}
-use Rattle.cqf_model.specs.Traffic.{Network}
-use Rattle.cqf_laws.specs.PortLaws.{LegalPartIsLegalForTheSamePast, LegalStartsExist, OnlyThePastCounts}
-use Rattle.cqf_laws_network.specs.NetworkLaws.{HaveTheSameTables, network_before, sent_before}
-use Rattle.cqf_laws_network.proofs.Lists.{Front, filter_none, filter_twice, front_whole}
-use Rattle.cqf_laws_network.proofs.Came.{SentAlike, queued_front, queued_same}
-use Rattle.cqf_laws_network.proofs.Ports.{Late, port_part, port_past, sends_before_end}
+use Rattle.cqf_model.specs.Network.{IsLegalNetwork, Network, QueuedFrame, Sends, arrivals_of, backed_of, comes_before, comes_in, sent_of}
+use Rattle.cqf_model.specs.Port.{AreLegal, PortRules}
+use Rattle.cqf_model.specs.Run.{Run}
+use Rattle.cqf_model.specs.Traffic.{Carried}
+use Rattle.cqf_model.proofs.Coming.{comes_in_late}
+use Rattle.cqf_model.proofs.Legal.{none_at_0}
+use Rattle.cqf_laws_port.specs.PortLaws.{LegalPartIsLegalForTheSamePast, LegalStartsExist, OnlyThePastCounts}
+use Rattle.cqf_laws_network.specs.NetworkLaws.{CarryTheSame, HaveOnePast, HaveTheSameTables, IsShorter, SendTheSame, backed_before, carried_before, network_before, sent_before, with_tables}
+use Rattle.cqf_laws_network.proofs.Came.{Late, one_front, ports_by_past}
+use Rattle.cqf_laws_network.proofs.Ports.{backed_before_end, port_part, port_past, sends_before_end}
 
 -- nothing is sent before instant 0
 sent_before_0 : (sents : List Sent) → sent_before 0 sents ≡ []
-sent_before_0 sents = filter_none (λ (sent : Sent). nat_lt sent.start.0 0) sents (λ sent. le-ltb sent.start.0 0 (omega arith))
+sent_before_0 sents = filter_none (λ (sent : Sent). nat_lt sent.start.0 0) sents (λ sent h. le-ltb sent.start.0 0 (omega arith))
 
 -- what is sent before an instant, of that before a later one
 pub sent_before_less : (t n : ℕ) (sents : List Sent) → t ≤ n → sent_before t (sent_before n sents) ≡ sent_before t sents
 sent_before_less t n sents le =
-    sym (filter_twice (λ (sent : Sent). nat_lt sent.start.0 t) (λ (sent : Sent). nat_lt sent.start.0 n) (λ sent h. lt-ltb sent.start.0 n (omega (arith, le, ltb-true sent.start.0 t h))) sents)
+    sym (filter_weaker (λ (sent : Sent). nat_lt sent.start.0 t) (λ (sent : Sent). nat_lt sent.start.0 n) sents (λ sent c h. lt-ltb sent.start.0 n (omega (arith, le, ltb-true sent.start.0 t h))))
 
--- each link of the domain sends what is legal up to an instant
-abbrev IsLegalUntil : Domain → (ℕ → List Entry) → List Offer → List (List Row) → ℕ → Network → Type 0
-IsLegalUntil d lists offers tables end net = (l : ℕ) → l < length d.links → Sends d (lists l) end l (queued_before d tables offers net l end) (net l)
+-- two networks are one where each link sends the same in both, of both kinds
+one_network : (net other : Network) → ((l : ℕ) → net.carried l ≡ other.carried l) → ((l : ℕ) → net.backed l ≡ other.backed l) → net ≡ other
+one_network net other carried backed =
+    let by : Carried → (ℕ → List Start) → Network = λ c b. record { carried = c; backed = b } in
+    ap₂ by (fun_ext carried) (fun_ext backed)
 
-module _ (d : Domain) (lists : ℕ → List Entry) (offers : List Offer) where
+-- each link of the domain sends what is legal up to an instant, for what comes in the run's cycles
+abbrev IsLegalUntil : Run → (ℕ → List Entry) → ℕ → ℕ → Network → Type 0
+IsLegalUntil run lists cycles end net = (l : ℕ) → l < length run.domain.links → Sends run.domain (lists l) end l (comes_before run net.carried l cycles) (net.carried l) (net.backed l)
+
+module _ (run : Run) (lists : ℕ → List Entry) (cycles : ℕ) where
   -- two networks that are legal up to an end send the same before each instant up to it
-  same_until : OnlyThePastCounts → (tables : List (List Row)) (end : ℕ) (net other : Network) → IsLegalUntil d lists offers tables end net → IsLegalUntil d lists offers tables end other → (t : ℕ) → t ≤ end → SentAlike d t net other
-  same_until past tables end net other a b zero le l h = sent_before_0 (net l) ∙ sym (sent_before_0 (other l))
-  same_until past tables end net other a b (suc t) le l h =
-      let alike = same_until past tables end net other a b t (omega (arith, le)) in
-      let front = queued_before d tables offers net l (suc t) in
-      let same : queued_before d tables offers net l (suc t) ≡ queued_before d tables offers other l (suc t) =
-      queued_same d tables tables offers net other l t (suc t) alike (omega arith) (λ u m. refl) in
-      let f = queued_front d tables offers net l (suc t) end le in
-      let g = queued_front d tables offers other l (suc t) end le in
-      let g_same : Front (queued_before d tables offers other l end) front (Late (suc t)) =
-      subst (λ (xs : List QueuedFrame). Front (queued_before d tables offers other l end) xs (Late (suc t))) (sym same) g in
-      port_past d (lists l) l past (suc t) end end (queued_before d tables offers net l end) (queued_before d tables offers other l end) front (net l) (other l) le le f g_same (a l h) (b l h)
+  both_until : OnlyThePastCounts → (end t : ℕ) (net other : Network) → IsLegalUntil run lists cycles end net → IsLegalUntil run lists cycles end other → suc t ≤ end → CarryTheSame run.domain t net.carried other.carried → (l : ℕ) → l < length run.domain.links → SendTheSame (suc t) (net.carried l) (other.carried l) (net.backed l) (other.backed l)
+  both_until past end t net other a b le alike l h =
+      let f = one_front run net.carried other.carried t alike l (suc t) cycles (omega arith) in
+      port_past run.domain (lists l) l (suc t) end (comes_before run net.carried l cycles) (comes_before run other.carried l cycles) f.front (net.carried l) (net.backed l) f.first f.second (a l h) past end (other.carried l) (other.backed l) le le (b l h)
 
-  -- so they are one
-  same_sents_until : OnlyThePastCounts → (tables : List (List Row)) (end : ℕ) (net other : Network) → IsLegalUntil d lists offers tables end net → IsLegalUntil d lists offers tables end other → (l : ℕ) → l < length d.links → net l ≡ other l
-  same_sents_until past tables end net other a b l h =
-      sym (sends_before_end d (lists l) l end (queued_before d tables offers net l end) (net l) (a l h))
-      ∙ same_until past tables end net other a b end (omega arith) l h
-      ∙ sends_before_end d (lists l) l end (queued_before d tables offers other l end) (other l) (b l h)
+  -- of streams' frames
+  same_until : OnlyThePastCounts → (end : ℕ) (net other : Network) → IsLegalUntil run lists cycles end net → IsLegalUntil run lists cycles end other → (t : ℕ) → t ≤ end → CarryTheSame run.domain t net.carried other.carried
+  same_until past end net other a b zero le l h = sent_before_0 (net.carried l) ∙ sym (sent_before_0 (other.carried l))
+  same_until past end net other a b (suc t) le l h =
+      (both_until past end t net other a b le (same_until past end net other a b t (omega (arith, le))) l h).sent
+
+  -- and before the end of both kinds
+  same_at_end : OnlyThePastCounts → (end : ℕ) (net other : Network) → IsLegalUntil run lists cycles end net → IsLegalUntil run lists cycles end other → (l : ℕ) → l < length run.domain.links → SendTheSame end (net.carried l) (other.carried l) (net.backed l) (other.backed l)
+  same_at_end past end net other a b l h =
+      let f = one_front run net.carried other.carried end (same_until past end net other a b end (omega arith)) l end cycles (omega arith) in
+      port_past run.domain (lists l) l end end (comes_before run net.carried l cycles) (comes_before run other.carried l cycles) f.front (net.carried l) (net.backed l) f.first f.second (a l h) past end (other.carried l) (other.backed l) (omega arith) (omega arith) (b l h)
 
   -- legal networks are unique
-  pub network_same : OnlyThePastCounts → (tables : List (List Row)) (cycles : ℕ) (net other : Network) → IsLegalNetwork d lists tables offers cycles net → IsLegalNetwork d lists tables offers cycles other → net ≡ other
-  network_same past tables cycles net other a b =
-      fun_ext (λ l. elim (cases_lt l (length d.links)) [
-        | inl h ↦ same_sents_until past tables (cycles * d.cycle_time) net other a.sends b.sends l h
-        | inr g ↦ a.no_others l g ∙ sym (b.no_others l g)
+  pub network_same : OnlyThePastCounts → (net other : Network) → IsLegalNetwork run lists cycles net → IsLegalNetwork run lists cycles other → net ≡ other
+  network_same past net other a b =
+      let d = run.domain in
+      let end = cycles * d.cycle_time in
+      let came = λ (l : ℕ). comes_before run net.carried l cycles in
+      let came_other = λ (l : ℕ). comes_before run other.carried l cycles in
+      one_network net other
+      (λ l. elim (cases_lt l (length d.links)) [
+        | inl h ↦
+            sym (sends_before_end d (lists l) l end (came l) (net.carried l) (net.backed l) (a.sends l h))
+            ∙ (same_at_end past end net other a.sends b.sends l h).sent
+            ∙ sends_before_end d (lists l) l end (came_other l) (other.carried l) (other.backed l) (b.sends l h)
+        | inr g ↦ (a.no_others l g).0 ∙ sym (b.no_others l g).0
+      ])
+      (λ l. elim (cases_lt l (length d.links)) [
+        | inl h ↦
+            sym (backed_before_end d (lists l) l end (came l) (net.carried l) (net.backed l) (a.sends l h))
+            ∙ (same_at_end past end net other a.sends b.sends l h).background
+            ∙ backed_before_end d (lists l) l end (came_other l) (other.carried l) (other.backed l) (b.sends l h)
+        | inr g ↦ (a.no_others l g).1 ∙ sym (b.no_others l g).1
       ])
 
-  -- what a network that is legal up to an end sends before an earlier instant is legal up to that
-  beginning_legal : LegalPartIsLegalForTheSamePast → (tables others : List (List Row)) (n end : ℕ) (net : Network) → n ≤ end → ((u : ℕ) → u < n → table_of tables (cycle_of d u) ≡ table_of others (cycle_of d u)) → IsLegalUntil d lists offers tables end net → IsLegalUntil d lists offers others n (network_before n net)
-  beginning_legal part tables others n end net le same legal l h =
-      let alike : SentAlike d n net (network_before n net) = λ m k. sym (sent_before_less n n (net m) (omega arith)) in
-      let front = queued_before d tables offers net l n in
-      let ys = queued_before d others offers (network_before n net) l n in
-      let e : front ≡ ys = queued_same d tables others offers net (network_before n net) l n n alike (omega arith) same in
-      port_part d (lists l) l part n end (queued_before d tables offers net l end) ys front (net l) le (queued_front d tables offers net l n end le) (front_whole ys front (Late n) (sym e)) (legal l h)
-
-  -- the tables of the cycles of a run
-  pub tables_until : (tables others : List (List Row)) (cycles : ℕ) → HaveTheSameTables cycles tables others → (u : ℕ) → u < cycles * d.cycle_time → table_of tables (cycle_of d u) ≡ table_of others (cycle_of d u)
-  tables_until tables others cycles same u l = same (cycle_of d u) (div_below u d.cycle_time cycles (positive l) l)
-    where
-      positive : u < cycles * d.cycle_time → 0 < d.cycle_time
-      positive l = elim (cases_lt 0 d.cycle_time) [ inl h ↦ h | inr g ↦ (let e : d.cycle_time ≡ 0 = omega (arith, g) in absurd (omega (arith, l, ap (λ (t : ℕ). cycles * t) e))) ]
+  -- what a port gets in the run is the front of what it gets in a longer one
+  longer_front : (carried : Carried) (l longer : ℕ) → cycles ≤ longer → Front (comes_before run carried l longer) (comes_before run carried l cycles) (Late (cycles * run.domain.cycle_time))
+  longer_front carried l longer le =
+      let f = each_front (comes_in run carried l) cycles longer le in
+      record {
+        rest = f.rest;
+        is = f.is;
+        late = λ x h.
+            let w = f.late x h in
+            let begun : cycles * run.domain.cycle_time ≤ w.0 * run.domain.cycle_time = mul-le-mul_right run.domain.cycle_time w.1 in
+            omega (arith, begun, comes_in_late run carried l w.0 x w.3);
+      }
 
   -- a longer run's beginning is legal
-  pub beginning : LegalPartIsLegalForTheSamePast → (tables others : List (List Row)) (cycles longer : ℕ) (net : Network) → cycles ≤ longer → HaveTheSameTables cycles tables others → IsLegalNetwork d lists tables offers longer net → IsLegalNetwork d lists others offers cycles (network_before (cycles * d.cycle_time) net)
-  beginning part tables others cycles longer net le same legal =
+  pub beginning : LegalPartIsLegalForTheSamePast → (others : List (List Row)) (longer : ℕ) (net : Network) → IsShorter cycles longer run.tables others → IsLegalNetwork run lists longer net → IsLegalNetwork (with_tables run others) lists cycles (network_before (cycles * run.domain.cycle_time) net)
+  beginning part others longer net shorter legal =
+      let d = run.domain in
+      let n = cycles * d.cycle_time in
+      let short = carried_before n net.carried in
+      let past : HaveOnePast run others net.carried short cycles =
+      record { tables = shorter.tables_same; links = λ m k. sym (sent_before_less n n (net.carried m) (omega arith)) } in
       record {
-        sends = beginning_legal part tables others (cycles * d.cycle_time) (longer * d.cycle_time) net (mul-le-mul_right d.cycle_time le) (tables_until tables others cycles same) legal.sends;
-        no_others = λ l g. ap (sent_before (cycles * d.cycle_time)) (legal.no_others l g);
+        sends = λ l h.
+            let ys = comes_before (with_tables run others) short l cycles in
+            let e : comes_before run net.carried l cycles ≡ ys = ports_by_past run others net.carried short cycles l past in
+            let front = subst (λ (xs : List QueuedFrame). Front (comes_before run net.carried l longer) xs (Late n)) e (longer_front net.carried l longer shorter.fewer) in
+            port_part d (lists l) l n (longer * d.cycle_time) (comes_before run net.carried l longer) ys ys (net.carried l) (net.backed l) front (front_whole ys ys (Late n) refl) (legal.sends l h) part (mul-le-mul_right d.cycle_time shorter.fewer);
+        no_others = λ l g. (ap (sent_before n) (legal.no_others l g).0, ap (backed_before n) (legal.no_others l g).1);
       }
 
   -- a network that is legal up to an instant goes on
-  longer_until : OnlyThePastCounts → LegalStartsExist → (tables : List (List Row)) (end : ℕ) (net : Network) → IsLegalUntil d lists offers tables end net → (more : Network) × IsLegalUntil d lists offers tables (suc end) more
-  longer_until past exist tables end net legal =
-      let queue = λ (l : ℕ). queued_before d tables offers net l (suc end) in
+  longer_until : LegalPartIsLegalForTheSamePast → OnlyThePastCounts → LegalStartsExist → (end : ℕ) (net : Network) → IsLegalUntil run lists cycles end net → (more : Network) × IsLegalUntil run lists cycles (suc end) more
+  longer_until part past exist end net legal =
+      let d = run.domain in
+      let queue = λ (l : ℕ). comes_before run net.carried l cycles in
       let rules : ℕ → PortRules = λ l. record { entries = lists l; octet_time = octet_time_of d l } in
-      let more : Network = λ l. map (sent_of (queue l)) (exist (rules l) (arrivals_of (queue l)) (suc end)).0 in
-      let sends : (l : ℕ) → Sends d (lists l) (suc end) l (queue l) (more l) =
-      λ l. record { starts = (exist (rules l) (arrivals_of (queue l)) (suc end)).0; legal = (exist (rules l) (arrivals_of (queue l)) (suc end)).1; are = refl } in
-      let alike : SentAlike d end net more =
-      λ l h. let front = queued_before d tables offers net l end in
-      port_past d (lists l) l past end end (suc end) front (queue l) front (net l) (more l) (omega arith) (omega arith)
-      (front_whole front front (Late end) refl) (queued_front d tables offers net l end (suc end) (omega arith)) (legal l h) (sends l) in
-      (more, λ l h. subst (λ (xs : List QueuedFrame). Sends d (lists l) (suc end) l xs (more l)) (queued_same d tables tables offers net more l end (suc end) alike (omega arith) (λ u m. refl)) (sends l))
+      let starts = λ (l : ℕ). (exist (rules l) (arrivals_of (queue l)) (suc end)).0 in
+      let more : Network = record { carried = λ l. flat_map (sent_of (queue l)) (starts l); backed = λ l. flat_map (backed_of (queue l)) (starts l) } in
+      let sends : (l : ℕ) → Sends d (lists l) (suc end) l (queue l) (more.carried l) (more.backed l) =
+      λ l. record { starts = starts l; legal = (exist (rules l) (arrivals_of (queue l)) (suc end)).1; are_sent = refl; are_backed = refl } in
+      let alike : CarryTheSame d end net.carried more.carried =
+      λ l h. (port_past d (lists l) l end end (queue l) (queue l) (queue l) (net.carried l) (net.backed l) (front_whole (queue l) (queue l) (Late end) refl) (front_whole (queue l) (queue l) (Late end) refl) (legal l h) past (suc end) (more.carried l) (more.backed l) (omega arith) (omega arith) (sends l)).sent in (
+        more,
+        λ l h.
+            let f = one_front run net.carried more.carried end alike l (suc end) cycles (omega arith) in
+            let ys = comes_before run more.carried l cycles in
+            let part_sends : Sends d (lists l) (suc end) l ys (sent_before (suc end) (more.carried l)) (backed_before (suc end) (more.backed l)) =
+            port_part d (lists l) l (suc end) (suc end) (queue l) ys f.front (more.carried l) (more.backed l) f.first f.second (sends l) part (omega arith) in
+            subst (λ (sents : List Sent). Sends d (lists l) (suc end) l ys sents (more.backed l)) (sends_before_end d (lists l) l (suc end) (queue l) (more.carried l) (more.backed l) (sends l))
+            (subst (λ (backed : List Start). Sends d (lists l) (suc end) l ys (sent_before (suc end) (more.carried l)) backed) (backed_before_end d (lists l) l (suc end) (queue l) (more.carried l) (more.backed l) (sends l)) part_sends),
+      )
 
-  some_until : OnlyThePastCounts → LegalStartsExist → (tables : List (List Row)) (end : ℕ) → (net : Network) × IsLegalUntil d lists offers tables end net
-  some_until past exist tables zero =
-      let rules : ℕ → PortRules = λ l. record { entries = lists l; octet_time = octet_time_of d l } in
-      (λ l. map (sent_of []) (exist (rules l) [] 0).0, λ l h. record { starts = (exist (rules l) [] 0).0; legal = (exist (rules l) [] 0).1; are = refl })
-  some_until past exist tables (suc end) =
-      let w = some_until past exist tables end in longer_until past exist tables end w.0 w.1
+  -- some network is legal up to each instant
+  some_until : LegalPartIsLegalForTheSamePast → OnlyThePastCounts → LegalStartsExist → (end : ℕ) → (net : Network) × IsLegalUntil run lists cycles end net
+  some_until part past exist zero =
+      let nothing : Network = record { carried = λ l. []; backed = λ l. [] } in
+      let rules : ℕ → PortRules = λ l. record { entries = lists l; octet_time = octet_time_of run.domain l } in (
+        nothing,
+        λ l h.
+            let arrivals = arrivals_of (comes_before run nothing.carried l cycles) in
+            let w = exist (rules l) arrivals 0 in
+            record {
+              starts = [];
+              legal = subst (AreLegal (rules l) arrivals 0) (none_at_0 (rules l) arrivals 0 w.0 refl w.1) w.1;
+              are_sent = refl;
+              are_backed = refl;
+            },
+      )
+  some_until part past exist (suc end) =
+      let w = some_until part past exist end in longer_until part past exist end w.0 w.1
 
   -- a network of the domain's links alone
   abbrev only_links : Network → Network
-  only_links net l = cond (nat_lt l (length d.links)) (net l) []
+  only_links net = record {
+    carried = λ l. cond (nat_lt l (length run.domain.links)) (net.carried l) [];
+    backed = λ l. cond (nat_lt l (length run.domain.links)) (net.backed l) [];
+  }
 
-  links_kept : (net : Network) (l : ℕ) → l < length d.links → net l ≡ only_links net l
-  links_kept net l h = sym (ap (λ (b : Bool). cond b (net l) []) (lt-ltb l (length d.links) h))
+  -- a list that is there for the links alone is there for a link
+  kept : {X : Type 0} (xs : List X) (l : ℕ) → l < length run.domain.links → xs ≡ cond (nat_lt l (length run.domain.links)) xs []
+  kept xs l h = sym (ap (λ (b : Bool). cond b xs []) (lt-ltb l (length run.domain.links) h))
 
-  others_none : (net : Network) (l : ℕ) → length d.links ≤ l → only_links net l ≡ []
-  others_none net l g = ap (λ (b : Bool). cond b (net l) []) (le-ltb l (length d.links) g)
+  -- and for no other number
+  left_out : {X : Type 0} (xs : List X) (l : ℕ) → length run.domain.links ≤ l → cond (nat_lt l (length run.domain.links)) xs [] ≡ []
+  left_out xs l g = ap (λ (b : Bool). cond b xs []) (le-ltb l (length run.domain.links) g)
 
   -- a legal network exists
-  pub network_exists : OnlyThePastCounts → LegalStartsExist → (tables : List (List Row)) (cycles : ℕ) → (net : Network) × IsLegalNetwork d lists tables offers cycles net
-  network_exists past exist tables cycles =
+  pub network_exists : LegalPartIsLegalForTheSamePast → OnlyThePastCounts → LegalStartsExist → (net : Network) × IsLegalNetwork run lists cycles net
+  network_exists part past exist =
+      let d = run.domain in
       let end = cycles * d.cycle_time in
-      let w = some_until past exist tables end in
+      let w = some_until part past exist end in
       let net = only_links w.0 in
-      let alike : SentAlike d end w.0 net = λ l h. ap (sent_before end) (links_kept w.0 l h) in (
+      let one_past : HaveOnePast run run.tables w.0.carried net.carried cycles =
+      record { tables = λ cycle h. refl; links = λ l h. ap (sent_before end) (kept (w.0.carried l) l h) } in (
         net,
         record {
           sends = λ l h.
-              let same : queued_before d tables offers w.0 l end ≡ queued_before d tables offers net l end = queued_same d tables tables offers w.0 net l end end alike (omega arith) (λ u m. refl) in
-              subst (λ (xs : List QueuedFrame). Sends d (lists l) end l xs (net l)) same (subst (λ (sents : List Sent). Sends d (lists l) end l (queued_before d tables offers w.0 l end) sents) (links_kept w.0 l h) (w.1 l h));
-          no_others = others_none w.0;
+              let queue = comes_before run w.0.carried l cycles in
+              let same : queue ≡ comes_before run net.carried l cycles = ports_by_past run run.tables w.0.carried net.carried cycles l one_past in
+              subst (λ (xs : List QueuedFrame). Sends d (lists l) end l xs (net.carried l) (net.backed l)) same
+              (subst (λ (backed : List Start). Sends d (lists l) end l queue (net.carried l) backed) (kept (w.0.backed l) l h)
+              (subst (λ (sents : List Sent). Sends d (lists l) end l queue sents (w.0.backed l)) (kept (w.0.carried l) l h) (w.1 l h)));
+          no_others = λ l g. (left_out (w.0.carried l) l g, left_out (w.0.backed l) l g);
         },
       )
 

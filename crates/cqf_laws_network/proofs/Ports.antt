@@ -1,22 +1,24 @@
--- What a port of a network sends before an instant hangs on the front of its queue alone.
-use Rattle.std.proofs.Common.{◌≡◌, ℕ, ◌+◌, ◌-◌, ◌<◌, ◌≤◌, List, length, length-append, get_or-append-add, sym, ap, ◌∙◌, inl, inr, arith, subst}
-use Rattle.std.specs.Prelude.{◌++◌, map, Contains, nat_lt, slice_index_or}
+-- What a port of a network sends before an instant hangs on the front of what comes to it alone.
+use Rattle.std.proofs.Common.{◌≡◌, ℕ, ◌+◌, ◌-◌, ◌<◌, ◌≤◌, List, length, length-append, get_or-append-add, sym, ap, ◌∙◌, inl, inr, arith, refl}
+use Rattle.std.specs.Prelude.{◌++◌, Contains, nat_lt, slice_index_or}
+use Rattle.std.specs.List.{flat_map}
 use Rattle.std.proofs.lemmas.Bool.{cases_lt, lt-ltb, ltb-true}
 use Rattle.std.proofs.lemmas.List.{get_or-map, get_or_append_left, length-map}
 use Rattle.std.proofs.lemmas.List.Elements.{Contains-get_or}
+use Rattle.cqf_lists.proofs.EachBelow.{filter_each}
+use Rattle.cqf_lists.proofs.Fronts.{Front}
+use Rattle.cqf_lists.proofs.Members.{contains_from_filter}
 use Rattle.cqf_model.specs.declared.frames.Sent.{Sent}
 use Rattle.cqf_model.specs.declared.ports.Arrival.{Arrival}
+use Rattle.cqf_model.specs.declared.ports.Start.{Start}
 use Rattle.cqf_model.specs.Domain.{Domain, octet_time_of}
 use Rattle.cqf_model.specs.GateList.{Entry}
-use Rattle.cqf_model.specs.Network.{QueuedFrame, Sends, arrivals_of, no_frame, sent_of}
+use Rattle.cqf_model.specs.Network.{QueuedFrame, Sends, arrivals_of, backed_of, no_frame, sent_of}
 use Rattle.cqf_model.specs.Port.{AreLegal, PortRules, Transmission, instant_of, no_arrival}
-use Rattle.cqf_laws.specs.PortLaws.{HasAllBefore, LegalPartIsLegalForTheSamePast, OnlyThePastCounts, starts_before}
-use Rattle.cqf_laws_network.specs.NetworkLaws.{sent_before}
-use Rattle.cqf_laws_network.proofs.Lists.{Front, contains_from_filter, contains_from_map, filter-map, filter_all, map_same}
-
--- the frame comes at an instant or later
-abbrev pub Late : ℕ → QueuedFrame → Type 0
-Late n x = n ≤ x.arrival.at.0
+use Rattle.cqf_model.proofs.Sending.{backed_same, backed_then, backed_within, sent_same, sent_then, sent_within}
+use Rattle.cqf_laws_port.specs.PortLaws.{HasAllBefore, LegalPartIsLegalForTheSamePast, OnlyThePastCounts, starts_before}
+use Rattle.cqf_laws_network.specs.NetworkLaws.{PortGoesByThePast, SendTheSame, backed_before, sent_before}
+use Rattle.cqf_laws_network.proofs.Came.{Late}
 
 -- a frame that came before the instant stands in the front
 in_front : (n : ℕ) (front rest : List QueuedFrame) → ((x : QueuedFrame) → Contains rest x → Late n x) → (p : ℕ) → p < length (front ++ rest) → (slice_index_or (front ++ rest) p no_frame).arrival.at.0 < n → p < length front
@@ -66,46 +68,66 @@ same_before n xs ys front f g p l came =
       arrival_at xs p (place_of xs p l) ∙ ap (λ (x : QueuedFrame). x.arrival) (h.1 ∙ sym k.1) ∙ sym (arrival_at ys p k.0),
     )
 
--- and the same starts send the same before it
-same_sents : (n end : ℕ) (rules : PortRules) (xs ys front : List QueuedFrame) (starts : List Transmission) → Front xs front (Late n) → Front ys front (Late n) → AreLegal rules (arrivals_of xs) end starts → map (sent_of xs) (starts_before n starts) ≡ map (sent_of ys) (starts_before n starts)
-same_sents n end rules xs ys front starts f g legal =
-    map_same (sent_of xs) (sent_of ys) (starts_before n starts) (λ x h.
+-- and a transmission before it is of the same frame in both
+same_frame : (n end : ℕ) (rules : PortRules) (xs ys front : List QueuedFrame) (starts : List Transmission) → Front xs front (Late n) → Front ys front (Late n) → AreLegal rules (arrivals_of xs) end starts → (x : Transmission) → Contains (starts_before n starts) x → slice_index_or xs x.0 no_frame ≡ slice_index_or ys x.0 no_frame
+same_frame n end rules xs ys front starts f g legal x h =
     let w = contains_from_filter (λ (start : Transmission). nat_lt start.1 n) starts x h in
     let waits = (legal.first x.0 x.1 w.0).waits in
     let came : instant_of (arrivals_of xs) x.0 < n = omega (arith, waits.come, ltb-true x.1 n w.1) in
     let a = arrived_in_front n xs front f x.0 waits.inside came in
     let b = front_place n ys front g x.0 a.0 in
-    let by : QueuedFrame → Sent = λ y. record { start = record { 0 = x.1 }; frame = y.arrival.frame; stream = y.stream; octets = y.arrival.octets } in
-    ap by (a.1 ∙ sym b.1))
-
--- what is sent before an instant is what starts before it
-sent_starts : (n : ℕ) (queued : List QueuedFrame) (starts : List Transmission) → sent_before n (map (sent_of queued) starts) ≡ map (sent_of queued) (starts_before n starts)
-sent_starts n queued starts = filter-map (sent_of queued) (λ (sent : Sent). nat_lt sent.start.0 n) starts
+    a.1 ∙ sym b.1
 
 module _ (d : Domain) (entries : List Entry) (l : ℕ) where
+  abbrev rules : PortRules
+  rules = record { entries = entries; octet_time = octet_time_of d l }
+
   -- a port sends nothing from its end on
-  pub sends_before_end : (end : ℕ) (queued : List QueuedFrame) (sents : List Sent) → Sends d entries end l queued sents → sent_before end sents ≡ sents
-  sends_before_end end queued sents s =
-      filter_all (λ (sent : Sent). nat_lt sent.start.0 end) sents (λ x h.
-      let w = contains_from_map (sent_of queued) s.starts x (subst (λ (xs : List Sent). Contains xs x) s.are h) in
-      let at : w.0.1 ≡ x.start.0 = ap (λ (y : Sent). y.start.0) w.2 in
-      lt-ltb x.start.0 end (omega (arith, at, s.legal.before_end w.0.0 w.0.1 w.1)))
+  pub sends_before_end : (end : ℕ) (queued : List QueuedFrame) (sents : List Sent) (backed : List Start) → Sends d entries end l queued sents backed → sent_before end sents ≡ sents
+  sends_before_end end queued sents backed s =
+      filter_each (λ (sent : Sent). nat_lt sent.start.0 end) sents (λ x h. lt-ltb x.start.0 end (sent_within d entries end l queued sents backed s x h))
 
-  -- two ports with one front of their queues send the same before the instant
-  pub port_past : OnlyThePastCounts → (n end other_end : ℕ) (xs ys front : List QueuedFrame) (sents others : List Sent) → n ≤ end → n ≤ other_end → Front xs front (Late n) → Front ys front (Late n) → Sends d entries end l xs sents → Sends d entries other_end l ys others → sent_before n sents ≡ sent_before n others
-  port_past past n end other_end xs ys front sents others le other_le f g s t =
-      let rules : PortRules = record { entries = entries; octet_time = octet_time_of d l } in
-      let same : starts_before n s.starts ≡ starts_before n t.starts =
-      past rules (arrivals_of xs) (arrivals_of ys) n end other_end s.starts t.starts le other_le (same_before n xs ys front f g) (same_before n ys xs front g f) s.legal t.legal in
-      ap (sent_before n) s.are ∙ sent_starts n xs s.starts ∙ same_sents n end rules xs ys front s.starts f g s.legal ∙ ap (map (sent_of ys)) same
-      ∙ sym (sent_starts n ys t.starts) ∙ sym (ap (sent_before n) t.are)
+  -- no background frame either
+  pub backed_before_end : (end : ℕ) (queued : List QueuedFrame) (sents : List Sent) (backed : List Start) → Sends d entries end l queued sents backed → backed_before end backed ≡ backed
+  backed_before_end end queued sents backed s =
+      filter_each (λ (start : Start). nat_lt start.start.0 end) backed (λ x h. lt-ltb x.start.0 end (backed_within d entries end l queued sents backed s x h))
 
-  -- what a port sends before an instant is legal for what is queued before it
-  pub port_part : LegalPartIsLegalForTheSamePast → (n end : ℕ) (xs ys front : List QueuedFrame) (sents : List Sent) → n ≤ end → Front xs front (Late n) → Front ys front (Late n) → Sends d entries end l xs sents → Sends d entries n l ys (sent_before n sents)
-  port_part part n end xs ys front sents le f g s =
-      let rules : PortRules = record { entries = entries; octet_time = octet_time_of d l } in
-      record {
-        starts = starts_before n s.starts;
-        legal = part rules (arrivals_of xs) (arrivals_of ys) n end s.starts le (same_before n xs ys front f g) (same_before n ys xs front g f) s.legal;
-        are = ap (sent_before n) s.are ∙ sent_starts n xs s.starts ∙ same_sents n end rules xs ys front s.starts f g s.legal;
-      }
+  module _ (n end : ℕ) (xs ys front : List QueuedFrame) (sents : List Sent) (backed : List Start) (f : Front xs front (Late n)) (g : Front ys front (Late n)) (s : Sends d entries end l xs sents backed) where
+    -- what it sends before an instant, of what another port gets with the same front
+    sent_of_other : sent_before n sents ≡ flat_map (sent_of ys) (starts_before n s.starts)
+    sent_of_other =
+        ap (sent_before n) s.are_sent ∙ sent_then (λ t. nat_lt t n) xs s.starts
+        ∙ sent_same xs ys (starts_before n s.starts) (same_frame n end rules xs ys front s.starts f g s.legal)
+
+    -- of background frames too
+    backed_of_other : backed_before n backed ≡ flat_map (backed_of ys) (starts_before n s.starts)
+    backed_of_other =
+        ap (backed_before n) s.are_backed ∙ backed_then (λ t. nat_lt t n) xs s.starts
+        ∙ backed_same xs ys (starts_before n s.starts) (same_frame n end rules xs ys front s.starts f g s.legal)
+
+    -- that is legal for what the other gets
+    pub port_part : LegalPartIsLegalForTheSamePast → n ≤ end → Sends d entries n l ys (sent_before n sents) (backed_before n backed)
+    port_part part le =
+        record {
+          starts = starts_before n s.starts;
+          legal = part rules (arrivals_of xs) (arrivals_of ys) n end s.starts le (same_before n xs ys front f g) (same_before n ys xs front g f) s.legal;
+          are_sent = sent_of_other;
+          are_backed = backed_of_other;
+        }
+
+    -- and the other sends the same before the instant
+    pub port_past : OnlyThePastCounts → (other_end : ℕ) (others : List Sent) (other_backed : List Start) → n ≤ end → n ≤ other_end → Sends d entries other_end l ys others other_backed → SendTheSame n sents others backed other_backed
+    port_past past other_end others other_backed le other_le t =
+        let same : starts_before n s.starts ≡ starts_before n t.starts =
+        past rules (arrivals_of xs) (arrivals_of ys) n end other_end s.starts t.starts le other_le (same_before n xs ys front f g) (same_before n ys xs front g f) s.legal t.legal in
+        record {
+          sent = sent_of_other ∙ ap (flat_map (sent_of ys)) same ∙ sym (sent_then (λ u. nat_lt u n) ys t.starts) ∙ sym (ap (sent_before n) t.are_sent);
+          background = backed_of_other ∙ ap (flat_map (backed_of ys)) same ∙ sym (backed_then (λ u. nat_lt u n) ys t.starts) ∙ sym (ap (backed_before n) t.are_backed);
+        }
+
+-- a port goes by the past
+pub port_by_past : OnlyThePastCounts → PortGoesByThePast
+port_by_past past d entries l end front rest other_rest late other_late one other le other_le =
+    let f : Front (front ++ rest) front (Late end) = record { rest = rest; is = refl; late = late } in
+    let g : Front (front ++ other_rest) front (Late end) = record { rest = other_rest; is = refl; late = other_late } in
+    port_past d entries l end one.end (front ++ rest) (front ++ other_rest) front one.sents one.backed f g one.sends past other.end other.sents other.backed le other_le other.sends

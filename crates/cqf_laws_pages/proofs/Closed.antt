@@ -1,5 +1,5 @@
 -- Arrivals whose gate is closed since they came change nothing.
-use Rattle.std.proofs.Common.{◌≡◌, ℕ, ◌+◌, ◌-◌, ◌*◌, ◌<◌, ◌≤◌, ◌⊎◌, List, length, sym, refl, ap, ◌∙◌, inl, inr, arith, subst, append_assoc, append-nil, length-append, get_or-append-add}
+use Rattle.std.proofs.Common.{◌≡◌, ℕ, ◌+◌, ◌-◌, ◌*◌, ◌<◌, ◌≤◌, ◌⊎◌, List, length, sym, ap, ◌∙◌, inl, inr, arith, subst, append_assoc, append-nil, length-append, get_or-append-add}
 use Rattle.std.specs.Prelude.{[], ◌∷◌, ◌++◌, Contains, slice_index_or}
 use Rattle.std.proofs.lemmas.Bool.{cases_lt}
 use Rattle.std.proofs.lemmas.List.{get_or_append_left}
@@ -7,10 +7,9 @@ use Rattle.std.proofs.lemmas.List.Elements.{Contains-get_or}
 use Rattle.cqf_model.specs.declared.ports.Arrival.{Arrival}
 use Rattle.cqf_model.specs.GateList.{IsOpen}
 use Rattle.cqf_model.specs.Port.{AreLegal, IsEligible, IsFirst, IsIdle, PortRules, Transmission, Waits, no_arrival, octets_of}
-use Rattle.cqf_laws.proofs.Alike.{eligible_alike}
-use Rattle.cqf_laws.proofs.Late.{late_legal}
-use Rattle.cqf_laws.proofs.Spans.{ends_later}
-use Rattle.cqf_laws_network.proofs.Lists.{contains_here, contains_there}
+use Rattle.cqf_lists.proofs.Members.{contains_here, contains_later}
+use Rattle.cqf_model.proofs.Legal.{eligible_alike, ends_later}
+use Rattle.cqf_laws_port.specs.PortLaws.{LateArrivalChangesNothing}
 
 -- the gate of an arrival is closed from when it comes up to the end
 abbrev pub IsClosedUntil : PortRules → ℕ → Arrival → Type 0
@@ -43,14 +42,17 @@ module _ (rules : PortRules) (xs ys : List Arrival) (end : ℕ) (positive : 0 < 
         | inr m ↦ absurd (closed (slice_index_or (xs ++ ys) p no_arrival) m t came l (e t (omega arith) (ends_later t (octets_of (xs ++ ys) p) rules.octet_time positive)))
       ]
 
+  -- what waits in the front waits alone
   waits_fewer : (starts : List Transmission) (p t : ℕ) → p < length xs → Waits (xs ++ ys) starts p t → Waits xs starts p t
   waits_fewer starts p t l w =
       record { inside = l; come = omega (arith, w.come, ap (λ (y : Arrival). y.at.0) (kept xs ys p l)); not_started = w.not_started }
 
+  -- and beside the others
   waits_more : (starts : List Transmission) (p t : ℕ) → Waits xs starts p t → Waits (xs ++ ys) starts p t
   waits_more starts p t w =
       record { inside = omega (arith, w.inside, length-append xs ys); come = omega (arith, w.come, ap (λ (y : Arrival). y.at.0) (kept xs ys p w.inside)); not_started = w.not_started }
 
+  -- what is first is first in the front alone
   first_fewer : (starts : List Transmission) (p t : ℕ) → p < length xs → IsFirst (xs ++ ys) starts p t → IsFirst xs starts p t
   first_fewer starts p t l f =
       let class = λ (y : Arrival). y.class in
@@ -60,6 +62,7 @@ module _ (rules : PortRules) (xs ys : List Arrival) (end : ℕ) (positive : 0 < 
         none_before = λ other m c w. f.none_before other m (sym (ap class (kept xs ys other w.inside)) ∙ c ∙ own) (waits_more starts other t w);
       }
 
+  -- and beside the others
   first_more : (starts : List Transmission) (p t : ℕ) → IsFirst xs starts p t → IsFirst (xs ++ ys) starts p t
   first_more starts p t f =
       let class = λ (y : Arrival). y.class in
@@ -100,9 +103,9 @@ module _ (rules : PortRules) (xs ys : List Arrival) (end : ℕ) (positive : 0 < 
       }
 
 -- and what is legal for the front is legal with them
-pub more_legal : (rules : PortRules) (xs ys : List Arrival) (end : ℕ) (starts : List Transmission) → 0 < rules.octet_time → ((x : Arrival) → Contains ys x → IsClosedUntil rules end x) → AreLegal rules xs end starts → AreLegal rules (xs ++ ys) end starts
-more_legal rules xs [] end starts positive closed legal = subst (λ (zs : List Arrival). AreLegal rules zs end starts) (sym (append-nil xs)) legal
-more_legal rules xs (y ∷ ys) end starts positive closed legal =
-    let one : AreLegal rules (xs ++ y ∷ []) end starts = late_legal rules xs y end starts positive (closed y (contains_here y y ys refl)) legal in
-    let all = more_legal rules (xs ++ y ∷ []) ys end starts positive (λ x h. closed x (contains_there y x ys h)) one in
+pub more_legal : LateArrivalChangesNothing → (rules : PortRules) (xs ys : List Arrival) (end : ℕ) (starts : List Transmission) → 0 < rules.octet_time → ((x : Arrival) → Contains ys x → IsClosedUntil rules end x) → AreLegal rules xs end starts → AreLegal rules (xs ++ ys) end starts
+more_legal late rules xs [] end starts positive closed legal = subst (λ (zs : List Arrival). AreLegal rules zs end starts) (sym (append-nil xs)) legal
+more_legal late rules xs (y ∷ ys) end starts positive closed legal =
+    let one : AreLegal rules (xs ++ y ∷ []) end starts = late rules xs y end starts positive (closed y (contains_here y ys)) legal in
+    let all = more_legal late rules (xs ++ y ∷ []) ys end starts positive (λ x h. closed x (contains_later y ys x h)) one in
     subst (λ (zs : List Arrival). AreLegal rules zs end starts) (append_assoc xs (y ∷ []) ys) all

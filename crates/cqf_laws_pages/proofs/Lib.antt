@@ -1,4 +1,3 @@
-pub mod Picked
 pub mod PageParts
 pub mod Closed
 pub mod PortCycles

@@ -1,58 +1,60 @@
 -- Laws about what a bridge takes in one cycle, in a planner's words.
 use Rattle.std.specs.Prelude.{ℕ, ◌≡◌, ◌+◌, ◌*◌, ◌<◌, ◌++◌, AllPairs, List, Contains, true}
-use Rattle.cqf_model.specs.declared.frames.Offer.{Offer}
+use Rattle.cqf_lists.specs.Lists.{each_below}
 use Rattle.cqf_model.specs.declared.frames.Sent.{Sent}
-use Rattle.cqf_model.specs.declared.topology.Row.{Row}
 use Rattle.cqf_model.specs.Book.{batch, drops_in}
-use Rattle.cqf_model.specs.Domain.{Domain, IsAccepted, cycle_of, enters}
+use Rattle.cqf_model.specs.Domain.{IsAccepted, cycle_of, enters}
 use Rattle.cqf_model.specs.GateList.{Entry}
-use Rattle.cqf_model.specs.Network.{IsLegalNetwork, bridge_of, compiled_lists, queued_before, queued_to}
-use Rattle.cqf_model.specs.Traffic.{Network, Policed, Received, each_below, police_all, policed_before, received_at, whole_at, within_gate}
+use Rattle.cqf_model.specs.Network.{IsLegalNetwork, Network, compiled_lists}
+use Rattle.cqf_model.specs.Run.{Run}
+use Rattle.cqf_model.specs.Traffic.{Carried, Policed, Received, police_all, policed_before, received_at, whole_at}
 
 -- what comes to a bridge in a cycle, instant by instant
-abbrev pub received_in : Domain → List Offer → Network → ℕ → ℕ → List Received
-received_in d offers net bridge cycle = each_below (λ offset. received_at d offers net bridge (cycle * d.cycle_time + offset)) d.cycle_time
+abbrev pub received_in : Run → Carried → ℕ → ℕ → List Received
+received_in run carried bridge cycle =
+    each_below (λ offset. received_at run carried bridge (cycle * run.domain.cycle_time + offset)) run.domain.cycle_time
 
 -- what becomes of it, behind the frames before
-abbrev pub policed_in : Domain → List (List Row) → List Offer → Network → ℕ → ℕ → List Policed → List Policed
-policed_in d tables offers net bridge cycle earlier = police_all d tables (within_gate d) bridge earlier (received_in d offers net bridge cycle)
+abbrev pub policed_in : Run → Carried → ℕ → ℕ → List Policed → List Policed
+policed_in run carried bridge cycle earlier = police_all run.domain run.tables bridge earlier (received_in run carried bridge cycle)
+
+-- what becomes of it in a run, behind the frames of the cycles before
+abbrev pub policed_of : Run → Carried → ℕ → ℕ → List Policed
+policed_of run carried bridge cycle = policed_in run carried bridge cycle (policed_before run carried bridge (cycle * run.domain.cycle_time))
 
 -- a bridge goes on from cycle to cycle: what becomes of all that came by the end of a cycle is what became of what came
 -- before the cycle, and then of what came in it
 abbrev pub BridgeGoesOn : Type 0
-BridgeGoesOn =
-    (d : Domain) (tables : List (List Row)) (offers : List Offer) (net : Network) (bridge cycle : ℕ) →
-    (let earlier = policed_before d tables offers net bridge (cycle * d.cycle_time) in
-    policed_before d tables offers net bridge ((cycle + 1) * d.cycle_time) ≡ earlier ++ policed_in d tables offers net bridge cycle earlier)
+BridgeGoesOn = (run : Run) (carried : Carried) (bridge cycle : ℕ) →
+    policed_before run carried bridge ((cycle + 1) * run.domain.cycle_time)
+    ≡ policed_before run carried bridge (cycle * run.domain.cycle_time) ++ policed_of run carried bridge cycle
 
--- and so do its queues
-abbrev pub QueueGoesOn : Type 0
-QueueGoesOn =
-    (d : Domain) (tables : List (List Row)) (offers : List Offer) (net : Network) (l cycle : ℕ) →
-    (let earlier = policed_before d tables offers net (bridge_of d l) (cycle * d.cycle_time) in
-    queued_before d tables offers net l ((cycle + 1) * d.cycle_time) ≡ queued_before d tables offers net l (cycle * d.cycle_time) ++ queued_to d l (policed_in d tables offers net (bridge_of d l) cycle earlier))
+-- the legal network of a run over an accepted domain, by the compiled gate lists
+pub record IsCompiledNetwork (run : Run) (cycles : ℕ) (net : Network) : Type 0 where
+  pub accepted : IsAccepted run.domain
+  pub legal : IsLegalNetwork run (compiled_lists run.domain) cycles net
 
 -- what a link sends in a cycle is whole in the next node in the same cycle: it ends before the guard time, and the delay
 -- is within that
 abbrev pub BatchIsWholeInItsCycle : Type 0
-BatchIsWholeInItsCycle =
-    (d : Domain) (tables : List (List Row)) (offers : List Offer) (cycles cycle m : ℕ) (net : Network) (sent : Sent) → IsAccepted d → IsLegalNetwork d (compiled_lists d) tables offers cycles net → Contains (batch d net m cycle) sent → cycle_of d (whole_at d m sent) ≡ cycle
+BatchIsWholeInItsCycle = (run : Run) (cycles cycle m : ℕ) (net : Network) (sent : Sent) →
+    IsCompiledNetwork run cycles net → Contains (batch run.domain net.carried m cycle) sent →
+    cycle_of run.domain (whole_at run.domain m sent) ≡ cycle
 
 -- so what comes to a bridge in a cycle is what its incoming links send in it, and what is offered in it
 abbrev pub CycleBringsItsBatches : Type 0
-CycleBringsItsBatches =
-    (d : Domain) (tables : List (List Row)) (offers : List Offer) (cycles cycle bridge : ℕ) (net batches : Network) → IsAccepted d → IsLegalNetwork d (compiled_lists d) tables offers cycles net →
-    ((m : ℕ) → enters d m bridge ≡ true → batches m ≡ batch d net m cycle) →
-    received_in d offers batches bridge cycle ≡ received_in d offers net bridge cycle
+CycleBringsItsBatches = (run : Run) (cycles cycle bridge : ℕ) (net : Network) (batches : Carried) →
+    IsCompiledNetwork run cycles net →
+    ((m : ℕ) → enters run.domain m bridge ≡ true → batches m ≡ batch run.domain net.carried m cycle) →
+    received_in run batches bridge cycle ≡ received_in run net.carried bridge cycle
 
 -- the frames of one link are whole one after the other, in the order in which they were sent
 abbrev pub FramesKeepTheirOrder : Type 0
-FramesKeepTheirOrder =
-    (d : Domain) (lists : ℕ → List Entry) (tables : List (List Row)) (offers : List Offer) (cycles m : ℕ) (net : Network) → IsLegalNetwork d lists tables offers cycles net → AllPairs (λ (a b : Sent). whole_at d m a < whole_at d m b) (net m)
+FramesKeepTheirOrder = (run : Run) (lists : ℕ → List Entry) (cycles m : ℕ) (net : Network) →
+    IsLegalNetwork run lists cycles net → AllPairs (λ (a b : Sent). whole_at run.domain m a < whole_at run.domain m b) (net.carried m)
 
 -- the drops of a cycle are those among what comes in it
 abbrev pub DropsAreOfTheCycle : Type 0
-DropsAreOfTheCycle =
-    (d : Domain) (tables : List (List Row)) (offers : List Offer) (net : Network) (cycles cycle bridge places : ℕ) → cycle < cycles →
-    drops_in d places (λ b. policed_before d tables offers net b (cycles * d.cycle_time)) cycle bridge
-    ≡ drops_in d places (λ b. policed_in d tables offers net b cycle (policed_before d tables offers net b (cycle * d.cycle_time))) cycle bridge
+DropsAreOfTheCycle = (run : Run) (carried : Carried) (cycles cycle bridge places : ℕ) → cycle < cycles →
+    drops_in run.domain places (λ b. policed_before run carried b (cycles * run.domain.cycle_time)) cycle bridge
+    ≡ drops_in run.domain places (λ b. policed_of run carried b cycle) cycle bridge

@@ -1,5 +1,5 @@
 pub mod PageLaws
-pub mod PortCycle
 pub mod BridgeCycle
+pub mod PortCycle
 pub mod Gathered
 pub mod RunSteps

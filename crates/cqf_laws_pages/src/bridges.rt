@@ -1,12 +1,11 @@
 //! What a bridge takes in one cycle.
-ghost use Rattle.cqf_laws_pages.specs.BridgeCycle.{BatchIsWholeInItsCycle, BridgeGoesOn, CycleBringsItsBatches, DropsAreOfTheCycle, FramesKeepTheirOrder, QueueGoesOn};
-ghost use Rattle.cqf_laws_pages.specs.Gathered.{DropsAreByFrame, FramesAreTakenInOrder};
+ghost use Rattle.cqf_laws_pages.specs.BridgeCycle.{BatchIsWholeInItsCycle, BridgeGoesOn, CycleBringsItsBatches, DropsAreOfTheCycle, FramesKeepTheirOrder};
+ghost use Rattle.cqf_laws_pages.specs.Gathered.{BackgroundStandsInOrder, DropsAreByFrame, FramesAreTakenInOrder, OffersStandInOrder, PortsGetTheirBackground};
 
 /// What becomes of all that came to a bridge by the end of a cycle is what became of it before the cycle, and then what
-/// becomes of the cycle's frames behind that; and so it is in the queue of each port (profile).
+/// becomes of the cycle's frames behind that (profile).
 pub fn bridge_goes_on()
-    ensures policed { BridgeGoesOn }
-    ensures queued { QueueGoesOn }
+    ensures { BridgeGoesOn }
 {}
 
 /// What a link sends in a cycle is whole in the next node within the cycle, so what comes to a bridge in a cycle is what
@@ -15,10 +14,10 @@ pub fn cycle_brings_its_batches()
     ensures whole { BatchIsWholeInItsCycle }
     ensures brings { CycleBringsItsBatches }
 {
-    cqf_shift::port_list_sends();
+    cqf_laws_cycle::port_list_sends();
 }
 
-/// The frames of a link are whole in the next node in the order in which they were sent, at different instants.
+/// The streams' frames of a link are whole in the next node in the order in which they were sent, at different instants.
 pub fn frames_keep_their_order()
     ensures { FramesKeepTheirOrder }
 {}
@@ -31,7 +30,16 @@ pub fn drops_are_of_the_cycle()
 {}
 
 /// The frames of a cycle, gathered by link and then by offer, and brought into order of instant by a stable sort, stand in
-/// the order in which the bridge takes them (profile).
+/// the order in which the bridge takes them; and its offers of the cycle, brought into that order, stand in the order in
+/// which they are gathered (profile).
 pub fn frames_are_taken_in_order()
-    ensures { FramesAreTakenInOrder }
+    ensures offers { OffersStandInOrder }
+    ensures taken { FramesAreTakenInOrder }
+{}
+
+/// The background frames of a bridge in a cycle, brought into order of instant by a stable sort, stand in the order in which
+/// its ports get them: each port gets those of its link (profile).
+pub fn background_comes_in_order()
+    ensures sorted { BackgroundStandsInOrder }
+    ensures ports { PortsGetTheirBackground }
 {}

@@ -5,12 +5,12 @@ use Rattle.std.proofs.lemmas.Bool.{cases_Bool, eq-eqb, ne_eqb, and_parts, eqb-tr
 use Rattle.std.proofs.lemmas.List.Elements.{All-head, All-tail, filter-append}
 use Rattle.cqf_model.specs.declared.frames.Dropped.{Dropped}
 use Rattle.cqf_model.specs.Domain.{Domain, cycle_of}
-use Rattle.cqf_model.specs.Traffic.{each_below, Policed, Queued, DroppedFor, LacksRow, ExceedsGate}
+use Rattle.cqf_lists.specs.Lists.{each_below}
+use Rattle.cqf_model.specs.Traffic.{Policed, Queued, DroppedFor, LacksRow, ExceedsGate}
 use Rattle.cqf_model.specs.Book.{drop_by, is_of_place, drops_in, drops_of}
 use Rattle.cqf_line.specs.Edge.{dropped}
-use Rattle.cqf_edge.specs.BookOrder.{in_book_order, is_drop_of}
-use Rattle.cqf_edge.proofs.InOrder.{each_below-same}
-use Rattle.cqf_edge.proofs.Groups.{each_below-shift}
+use Rattle.cqf_order.specs.BookOrder.{in_book_order, is_drop_of}
+use Rattle.cqf_lists.proofs.EachBelow.{first_below, same_below}
 
 -- the drop is of its frame's cycle and number, and of no other
 kept-drop : (d : Domain) (bridge cycle place : ℕ) (p : Policed) → is_of_place d cycle place p ≡ true → filter (is_drop_of cycle bridge (place + 1)) (dropped d bridge p) ≡ drop_by cycle bridge p.received p.verdict
@@ -20,7 +20,7 @@ kept-drop d bridge cycle place p hit =
     let number : p.received.frame ≡ place + 1 = eqb-true p.received.frame (place + 1) parts.1 in
     let at_bridge : (bridge == bridge) ≡ true = eq-eqb bridge bridge refl in
     elim p.verdict as (λ v. filter (is_drop_of cycle bridge (place + 1)) (drop_by (cycle_of d p.received.at) bridge p.received v) ≡ drop_by cycle bridge p.received v) [
-      | Queued row link ↦ refl
+      | Queued row ↦ refl
       | DroppedFor reason ↦ rw (parts.0, at_bridge, parts.1, same) refl
       | LacksRow ↦ refl
       | ExceedsGate ↦ refl
@@ -29,7 +29,7 @@ kept-drop d bridge cycle place p hit =
 passed-drop : (d : Domain) (bridge cycle place : ℕ) (p : Policed) → is_of_place d cycle place p ≡ false → filter (is_drop_of cycle bridge (place + 1)) (dropped d bridge p) ≡ []
 passed-drop d bridge cycle place p miss =
     elim p.verdict as (λ v. filter (is_drop_of cycle bridge (place + 1)) (drop_by (cycle_of d p.received.at) bridge p.received v) ≡ []) [
-      | Queued row link ↦ refl
+      | Queued row ↦ refl
       | DroppedFor reason ↦
           elim (cases_Bool (cycle_of d p.received.at == cycle)) [
             | inl hit ↦
@@ -66,7 +66,7 @@ no-frame : (d : Domain) (bridge cycle : ℕ) (p : Policed) → 1 ≤ p.received.
 no-frame d bridge cycle p some =
     let other : (p.received.frame == 0) ≡ false = ne_eqb p.received.frame 0 (λ e. omega (arith, e, some)) in
     elim p.verdict as (λ v. filter (is_drop_of cycle bridge 0) (drop_by (cycle_of d p.received.at) bridge p.received v) ≡ []) [
-      | Queued row link ↦ refl
+      | Queued row ↦ refl
       | DroppedFor reason ↦
           elim (cases_Bool (cycle_of d p.received.at == cycle)) [
             | inl hit ↦ rw (hit, other, eq-eqb bridge bridge refl) refl
@@ -89,9 +89,9 @@ pub drops-in_book_order : (d : Domain) (cycles places : ℕ) (policed : ℕ → 
 drops-in_book_order d cycles places policed one some =
     let drops : List Dropped = flat_map (dropped d 0) (policed 0) in
     let of_cycle : (cycle : ℕ) → each_below (λ frame. filter (is_drop_of cycle 0 frame) drops) (suc places) ≡ drops_in d places policed cycle 0 =
-    λ cycle. each_below-shift (λ frame. filter (is_drop_of cycle 0 frame) drops) places
+    λ cycle. first_below (λ frame. filter (is_drop_of cycle 0 frame) drops) places
     ∙ ap (λ xs. xs ++ each_below (λ place. filter (is_drop_of cycle 0 (place + 1)) drops) places) (no-frames d 0 cycle (policed 0) some)
-    ∙ each_below-same (λ place. filter (is_drop_of cycle 0 (place + 1)) drops) (λ place. flat_map (λ (p : Policed). drop_by cycle 0 p.received p.verdict) (filter (is_of_place d cycle place) (policed 0))) places
+    ∙ same_below (λ place. filter (is_drop_of cycle 0 (place + 1)) drops) (λ place. flat_map (λ (p : Policed). drop_by cycle 0 p.received p.verdict) (filter (is_of_place d cycle place) (policed 0))) places
     (λ place below. kept-drops d 0 cycle place (policed 0)) in
-    each_below-same (λ cycle. each_below (λ bridge. each_below (λ frame. filter (is_drop_of cycle bridge frame) drops) (suc places)) 1) (λ cycle. each_below (drops_in d places policed cycle) (length d.bridges)) cycles
+    same_below (λ cycle. each_below (λ bridge. each_below (λ frame. filter (is_drop_of cycle bridge frame) drops) (suc places)) 1) (λ cycle. each_below (drops_in d places policed cycle) (length d.bridges)) cycles
     (λ cycle below. of_cycle cycle ∙ ap (λ n. each_below (drops_in d places policed cycle) n) (sym one))

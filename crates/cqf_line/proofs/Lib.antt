@@ -5,4 +5,4 @@ pub mod Starts
 pub mod Taking
 pub mod Running
 pub mod Orderly
-pub mod Domains
+pub mod LineText

@@ -1,12 +1,15 @@
 -- The line is a domain that is accepted, and its tables are those of a history.
-use Rattle.std.proofs.Common.{ℕ, ◌≡◌, ◌≢◌, ◌+◌, ◌∙◌, ◌<◌, ◌≤◌, inl, inr, List, [], ◌∷◌, Some, get_or, refl, sym, ap, subst, arith, zero, suc, Contains, AllPairs, slice_get, lit≤}
+use Rattle.std.proofs.Common.{ℕ, ◌≡◌, ◌≢◌, ◌∙◌, ◌<◌, ◌≤◌, inl, inr, true, false, List, [], ◌∷◌, Some, None, refl, sym, ap, subst, arith, zero, suc, Contains, AllPairs, slice_get, lit≤}
 use Rattle.std.proofs.lemmas.Bool.{cases_lt}
 use Rattle.std.proofs.Math.ListN.{get_or-eq_default}
+use Rattle.cqf_lists.proofs.Members.{all_from_members, contains_none}
+use Rattle.cqf_lists.proofs.Made.{contains_one}
+use Rattle.cqf_model.specs.declared.topology.Hop.{Hop}
 use Rattle.cqf_model.specs.declared.topology.Link.{Link}
 use Rattle.cqf_model.specs.declared.topology.Row.{Row}
-use Rattle.cqf_model.specs.Domain.{IsAccepted, IsAcceptedLink, IsPath, enters, budget}
-use Rattle.cqf_model.specs.Table.{AreOrderly, link_cost, table_of}
-use Rattle.cqf_line.specs.Line.{line_domain, line_link, line_row, line_tables}
+use Rattle.cqf_model.specs.Domain.{IsAccepted, IsAcceptedLink, budget, enters, leaves}
+use Rattle.cqf_model.specs.Table.{AreOrderly, IsTree, link_cost, table_of}
+use Rattle.cqf_line.specs.Line.{line_domain, line_hop, line_link, line_row, line_tables}
 use Rattle.cqf_line.proofs.Policing.{table-line, length-line_tables}
 
 link-good : IsAcceptedLink line_domain line_link
@@ -29,44 +32,38 @@ line-accepted = record {
   links_good = links-good;
 }
 
--- of one element, what is contained
-one-contained : {X : Type 0} (a x : X) → Contains (a ∷ []) x → a ≡ x
-one-contained a x (zero, below, is) = is
-one-contained a x (suc k, below, is) = absurd (omega (arith, below))
-
-none-contained : {X : Type 0} (x : X) → Contains [] x → ⊥
-none-contained x (k, below, is) = omega (arith, below)
-
 -- what a table of the line holds
 pub table-holds : (cycles cycle : ℕ) (row : Row) → Contains (table_of (line_tables cycles) cycle) row → (cycle < cycles) × (line_row ≡ row)
 table-holds cycles cycle row held = elim (cases_lt cycle cycles) [
   | inl inside ↦
       let C : List Row → Type 0 = λ rows. Contains rows row in
-      (inside, one-contained line_row row (subst C (table-line cycles cycle inside) held))
+      (inside, contains_one line_row row (subst C (table-line cycles cycle inside) held))
   | inr past ↦
       let none : table_of (line_tables cycles) cycle ≡ [] = get_or-eq_default (line_tables cycles) [] (omega (arith, past, length-line_tables cycles)) in
       let C : List Row → Type 0 = λ rows. Contains rows row in
-      absurd (none-contained row (subst C none held))
+      absurd (contains_none row (subst C none held))
 ]
 
--- a path of one link
-path-get : (k m : ℕ) → slice_get (0 ∷ []) k ≡ Some m → (k ≡ 0) × (m ≡ 0)
-path-get zero m is = (refl, cc)
-path-get (suc k) m is = absurd cc
+-- the one hop begins at bridge a and ends in station s
+only-hop : (P : Hop → Type 0) (hop : Hop) → P line_hop → Contains (line_hop ∷ []) hop → P hop
+only-hop P hop has held = subst P (contains_one line_hop hop held) has
 
-path-inside : (k d : ℕ) → k < 1 → get_or (0 ∷ []) k d < 1
-path-inside zero d below = omega arith
-path-inside (suc k) d below = absurd (omega (arith, below))
-
-line-path : IsPath line_domain (0 ∷ [])
-line-path = record {
+line-tree : IsTree line_domain (line_hop ∷ [])
+line-tree = record {
+  first = 0;
   some = omega arith;
-  few = omega arith;
-  inside = path-inside;
-  joined = λ k m l first second. absurd (omega (arith, (path-get (k + 1) l second).0));
-  no_bridge_twice = λ j k m l bridge before first second from. absurd (omega (arith, before, (path-get k l second).0));
-  ends = λ m bridge last. ap (λ n. enters line_domain n bridge) (path-get 0 m last).1;
+  inside = all_from_members (λ (hop : Hop). hop.link < 1) (line_hop ∷ []) (λ hop held. only-hop (λ (hop : Hop). hop.link < 1) hop (omega arith) held);
+  deep = all_from_members (λ (hop : Hop). hop.depth ≤ 16) (line_hop ∷ []) (λ hop held. only-hop (λ (hop : Hop). hop.depth ≤ 16) hop (omega arith) held);
+  begins = λ hop held none. only-hop (λ (hop : Hop). (hop.depth ≡ 1) × (leaves line_domain hop.link 0 ≡ true)) hop (refl, refl) held;
+  follows = λ place m hop at from. absurd (follows-none place m hop at from);
+  reached_once = λ i j d before below. absurd (omega (arith, before, below));
+  first_not_reached = all_from_members (λ (hop : Hop). enters line_domain hop.link 0 ≡ false) (line_hop ∷ []) (λ hop held. only-hop (λ (hop : Hop). enters line_domain hop.link 0 ≡ false) hop refl held);
+  ends = λ hop bridge held enters_it. absurd (only-hop (λ (hop : Hop). enters line_domain hop.link bridge ≡ true → ⊥) hop (λ e. cc) held enters_it);
 }
+  where
+    follows-none : (place m : ℕ) (hop : Hop) → slice_get (line_hop ∷ []) place ≡ Some hop → hop.from ≡ Some m → ⊥
+    follows-none zero m hop at from = let is : line_hop ≡ hop = cc in let none : None ≡ Some m = ap (λ (h : Hop). h.from) is ∙ from in cc
+    follows-none (suc place) m hop at from = cc
 
 -- the stream costs no more than the link's budget
 line-load : (l : ℕ) → l < 1 → link_cost (line_row ∷ []) l ≤ budget line_domain l
@@ -101,12 +98,12 @@ alone P cycles cycle = elim (cases_lt cycle cycles) [
 -- the tables of the line are those of a history
 pub line-orderly : (cycles : ℕ) → AreOrderly line_domain (line_tables cycles)
 line-orderly cycles = record {
-  paths = λ cycle row held. let P : Row → Type 0 = λ r. IsPath line_domain r.path.items in subst P (table-holds cycles cycle row held).1 line-path;
+  trees = λ cycle row held. let P : Row → Type 0 = λ r. IsTree line_domain r.tree.items in subst P (table-holds cycles cycle row held).1 line-tree;
   numbers = alone (λ (a b : Row). a.no ≢ b.no) cycles;
   names = alone (λ (a b : Row). a.name ≢ b.name) cycles;
   one_stream = λ cycle later early late one other same.
       let equal : early ≡ late = sym (table-holds cycles cycle early one).1 ∙ (table-holds cycles later late other).1 in
-      record { name = ap (λ (r : Row). r.name) equal; octets = ap (λ (r : Row). r.octets) equal; path = ap (λ (r : Row). r.path.items) equal };
+      record { name = ap (λ (r : Row). r.name) equal; octets = ap (λ (r : Row). r.octets) equal; tree = ap (λ (r : Row). r.tree.items) equal };
   stays = λ cycle later row held live before within inside.
       let is : table_of (line_tables cycles) later ≡ line_row ∷ [] = table-line cycles later (omega (arith, inside, length-line_tables cycles)) in
       let C : List Row → Type 0 = λ rows. Contains rows line_row in

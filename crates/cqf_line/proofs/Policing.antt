@@ -1,28 +1,17 @@
--- Policing one frame after the other.
-use Rattle.std.proofs.Common.{ℕ, ◌≡◌, ◌+◌, ◌∙◌, ◌<◌, List, [], ◌∷◌, ◌++◌, length, refl, sym, ap, arith, zero, suc, append-nil, append_assoc, inl, inr}
+-- What comes to the one bridge, and its tables.
+use Rattle.std.proofs.Common.{ℕ, ◌≡◌, ◌+◌, ◌∙◌, ◌<◌, List, [], ◌∷◌, length, refl, ap, arith, zero, suc, inl, inr}
 use Rattle.std.proofs.lemmas.List.{get_or_append_left, get_or_at, length-append}
 use Rattle.std.proofs.lemmas.Bool.{cases_lt}
+use Rattle.cqf_lists.specs.Lists.{each_below}
+use Rattle.cqf_lists.proofs.EachBelow.{same_below}
 use Rattle.cqf_model.specs.declared.frames.Offer.{Offer}
-use Rattle.cqf_model.specs.declared.topology.Row.{Row}
-use Rattle.cqf_model.specs.Domain.{Domain}
 use Rattle.cqf_model.specs.Table.{table_of}
-use Rattle.cqf_model.specs.Traffic.{Received, Policed, Test, Network, police, police_all, received_before, received_at}
-use Rattle.cqf_model.specs.Shift.{offered_before}
-use Rattle.cqf_edge.proofs.InOrder.{each_below-same}
-use Rattle.cqf_line.specs.Line.{line_domain, line_row, line_tables}
-
--- one frame more is policed behind all those before it
-pub police_all-push : (d : Domain) (tables : List (List Row)) (test : Test) (bridge : ℕ) (earlier : List Policed) (xs : List Received) (x : Received)
-    → police_all d tables test bridge earlier (xs ++ x ∷ []) ≡ police_all d tables test bridge earlier xs ++ police d tables test bridge (earlier ++ police_all d tables test bridge earlier xs) x ∷ []
-police_all-push d tables test bridge earlier [] x = ap (λ e. police d tables test bridge e x ∷ []) (sym (append-nil earlier))
-police_all-push d tables test bridge earlier (y ∷ xs) x =
-    let p : Policed = police d tables test bridge earlier y in
-    let more = police_all-push d tables test bridge (earlier ++ p ∷ []) xs x in
-    ap (λ zs. p ∷ zs) (more ∙ ap (λ e. police_all d tables test bridge (earlier ++ p ∷ []) xs ++ police d tables test bridge e x ∷ []) (append_assoc earlier (p ∷ []) (police_all d tables test bridge (earlier ++ p ∷ []) xs)))
+use Rattle.cqf_model.specs.Traffic.{Carried, received_before, received_at, offered_at}
+use Rattle.cqf_line.specs.Line.{line_row, line_run, line_tables}
 
 -- no link enters the bridge, so all that it receives is offered there
-pub received-line : (offers : List Offer) (net : Network) (end : ℕ) → received_before line_domain offers net 0 end ≡ offered_before offers 0 end
-received-line offers net end = each_below-same (received_at line_domain offers net 0) _ end (λ t soon. refl)
+pub received-line : (cycles : ℕ) (offers : List Offer) (carried : Carried) (end : ℕ) → received_before (line_run cycles offers) carried 0 end ≡ each_below (offered_at offers 0) end
+received-line cycles offers carried end = same_below (received_at (line_run cycles offers) carried 0) (offered_at offers 0) end (λ t soon. refl)
 
 -- as many tables as cycles
 pub length-line_tables : (cycles : ℕ) → length (line_tables cycles) ≡ cycles

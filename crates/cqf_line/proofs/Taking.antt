@@ -7,15 +7,15 @@ use Rattle.std.proofs.lemmas.List.Elements.{All-weaker}
 use Rattle.cqf_model.specs.declared.frames.Dropped.{Dropped}
 use Rattle.cqf_model.specs.declared.frames.Offer.{Offer}
 use Rattle.cqf_model.specs.declared.ports.Arrival.{Arrival}
-use Rattle.cqf_model.specs.Traffic.{Policed, police, police_all, within_gate, offer_received}
+use Rattle.cqf_model.specs.Traffic.{Policed, police, police_all, offer_received}
 use Rattle.cqf_gates.specs.StreamGate.{Gate}
 use Rattle.cqf_port.specs.PortState.{PortState}
-use Rattle.cqf_edge.specs.declared.Due.{Due}
-use Rattle.cqf_edge.specs.InTime.{received_of, no_offer, IsDue}
+use Rattle.cqf_order.specs.declared.Due.{Due}
+use Rattle.cqf_order.specs.InTime.{received_of, no_offer, IsDue}
 use Rattle.cqf_line.specs.Line.{line_domain, line_tables}
-use Rattle.cqf_line.specs.Edge.{IsReady, HasPoliced}
+use Rattle.cqf_line.specs.Edge.{IsReady, HasPoliced, offered_as}
 use Rattle.cqf_line.specs.Run.{policed_dues, HasTaken}
-use Rattle.cqf_line.proofs.Policing.{police_all-push}
+use Rattle.cqf_model.proofs.Policing.{police_more}
 
 -- so many of the offers that are due have been taken, and each further one may be
 pub record IsAlong (cycles : ℕ) (offers : List Offer) (dues : List Due) (k : ℕ) (port : PortState) (gate : Gate) (drops : List Dropped) : Type 0 where
@@ -25,12 +25,12 @@ pub record IsAlong (cycles : ℕ) (offers : List Offer) (dues : List Due) (k : �
 
 -- one more is policed behind those before
 pub policed-more : (cycles : ℕ) (offers : List Offer) (dues : List Due) (k : ℕ) (due : Due) → k < length dues → due ≡ get_or dues k due
-    → policed_dues cycles offers (take (k + 1) dues) ≡ policed_dues cycles offers (take k dues) ++ police line_domain (line_tables cycles) (within_gate line_domain) 0 (policed_dues cycles offers (take k dues)) (received_of offers due) ∷ []
+    → policed_dues cycles offers (take (k + 1) dues) ≡ policed_dues cycles offers (take k dues) ++ police line_domain (line_tables cycles) 0 (policed_dues cycles offers (take k dues)) (received_of offers due) ∷ []
 policed-more cycles offers dues k due below is =
     let list : take (k + 1) dues ≡ take k dues ++ due ∷ [] = take_more dues k due below ∙ ap (λ x. take k dues ++ x ∷ []) (sym is) in
     ap (policed_dues cycles offers) list
-    ∙ ap (police_all line_domain (line_tables cycles) (within_gate line_domain) 0 []) (map-append (received_of offers) (take k dues) (due ∷ []))
-    ∙ police_all-push line_domain (line_tables cycles) (within_gate line_domain) 0 [] (map (received_of offers) (take k dues)) (received_of offers due)
+    ∙ ap (police_all line_domain (line_tables cycles) 0 []) (map-append (received_of offers) (take k dues) (due ∷ []))
+    ∙ police_more line_domain (line_tables cycles) 0 [] (map (received_of offers) (take k dues)) (received_of offers due ∷ [])
 
 -- what is ready at an instant is at a later one
 pub IsReady-later : (port : PortState) (gate : Gate) (s t : ℕ) → s ≤ t → IsReady port gate s → IsReady port gate t
@@ -45,7 +45,7 @@ IsReady-later port gate s t later ready = record {
 pub IsAlong-more : (cycles : ℕ) (offers : List Offer) (dues : List Due) (k : ℕ) (due : Due) (port : PortState) (gate : Gate) (drops : List Dropped) → k < length dues → due ≡ get_or dues k due
     → IsNonDecreasingBy (λ (x : Due). x.at) dues
     → IsReady port gate due.at
-    → HasPoliced port gate drops (policed_dues cycles offers (take k dues) ++ police line_domain (line_tables cycles) (within_gate line_domain) 0 (policed_dues cycles offers (take k dues)) (received_of offers due) ∷ [])
+    → HasPoliced port gate drops (policed_dues cycles offers (take k dues) ++ police line_domain (line_tables cycles) 0 (policed_dues cycles offers (take k dues)) (received_of offers due) ∷ [])
     → IsAlong cycles offers dues (k + 1) port gate drops
 IsAlong-more cycles offers dues k due port gate drops below is up ready has =
     let P : List Policed → Type 0 = λ xs. HasPoliced port gate drops xs in
@@ -82,7 +82,7 @@ module _ (cycles : ℕ) (offers : List Offer) (dues : List Due) (k : ℕ) (offer
       → IsAlong cycles offers dues k port gate drops
       → IsReady port' gate' offer.at.0
       → ((cycles : ℕ) (earlier : List Policed) → offer.at.0 < cycles * 125000 → HasPoliced port gate drops earlier
-      → HasPoliced port' gate' drops' (earlier ++ police line_domain (line_tables cycles) (within_gate line_domain) 0 earlier (offer_received ((get_or dues k no_due).place, offer)) ∷ []))
+      → HasPoliced port' gate' drops' (earlier ++ police line_domain (line_tables cycles) 0 earlier (offer_received (offered_as (get_or dues k no_due).place offer)) ∷ []))
       → IsAlong cycles offers dues (k + 1) port' gate' drops'
   IsAlong-next port port' gate gate' drops drops' below each up is along ready takes =
       let due : Due = get_or dues k no_due in
@@ -90,7 +90,7 @@ module _ (cycles : ℕ) (offers : List Offer) (dues : List Due) (k : ℕ) (offer
       let early : offer.at.0 < cycles * 125000 = omega (arith, instant, (each k no_due below).early) in
       let R : ℕ → Type 0 = λ t. IsReady port' gate' t in
       let earlier : List Policed = policed_dues cycles offers (take k dues) in
-      let P : Offer → Type 0 = λ o. HasPoliced port' gate' drops' (earlier ++ police line_domain (line_tables cycles) (within_gate line_domain) 0 earlier (offer_received (due.place, o)) ∷ []) in
+      let P : Offer → Type 0 = λ o. HasPoliced port' gate' drops' (earlier ++ police line_domain (line_tables cycles) 0 earlier (offer_received (offered_as due.place o)) ∷ []) in
       IsAlong-more cycles offers dues k due port' gate' drops' below (get_or_default dues k no_due due below) up
       (subst R (sym instant) ready)
       (subst P (same-offer below each is) (takes cycles earlier early along.policed))

@@ -4,6 +4,7 @@ use Rattle.std.specs.List.{flat_map}
 use Rattle.cqf_units.specs.declared.timing.Rate.TheVariants.{Mb1000}
 use Rattle.cqf_model.specs.declared.frames.Dropped.{Dropped}
 use Rattle.cqf_model.specs.declared.frames.Offer.{Offer}
+use Rattle.cqf_model.specs.declared.frames.Offered.{Offered}
 use Rattle.cqf_model.specs.declared.frames.Reason.{Reason}
 use Rattle.cqf_model.specs.declared.ports.Arrival.{Arrival}
 use Rattle.cqf_model.specs.GateList.{port_list}
@@ -35,9 +36,14 @@ pub record HasPoliced (port : PortState) (gate : Gate) (drops : List Dropped) (p
   pub counts : Counts gate (calls_of 0 policed)
   pub drops_are : drops ≡ flat_map (dropped line_domain 0) policed
 
+-- the offer at a place among the offers, with its number
+abbrev pub offered_as : ℕ → Offer → Offered
+offered_as place offer = record { frame = place + 1; offer = offer }
+
 -- the drop of an offer at a place among the offers
 abbrev pub drop_for : ℕ → Offer → Reason → Dropped
-drop_for place offer reason = record { cycle = record { 0 = cycle_of line_domain offer.at.0 }; bridge = 0; frame = place + 1; octets = offer.octets; reason = reason }
+drop_for place offer reason =
+    record { cycle = record { 0 = cycle_of line_domain offer.at.0 }; bridge = 0; frame = place + 1; octets = offer.octets; reason = reason }
 
 -- the arrival of an offer at a place among the offers, with the class that its gate gives
 abbrev pub arrival_for : ℕ → Offer → ℕ → Arrival

@@ -1,5 +1,6 @@
 -- What the line has taken and sent.
 use Rattle.std.specs.Prelude.{ℕ, ◌≡◌, List, [], map}
+use Rattle.cqf_model.specs.declared.frames.Book.{Book}
 use Rattle.cqf_model.specs.declared.frames.Dropped.{Dropped}
 use Rattle.cqf_model.specs.declared.frames.Offer.{Offer}
 use Rattle.cqf_model.specs.declared.frames.Started.{Started}
@@ -8,14 +9,19 @@ use Rattle.cqf_model.specs.declared.ports.Arrival.{Arrival}
 use Rattle.cqf_model.specs.declared.ports.Start.{Start}
 use Rattle.cqf_model.specs.GateList.{port_list}
 use Rattle.cqf_model.specs.Port.{Transmission, PortRules, AreLegal}
+use Rattle.cqf_model.specs.Book.{Contents}
 use Rattle.cqf_model.specs.Domain.{cycle_of}
-use Rattle.cqf_model.specs.Traffic.{Policed, police_all, within_gate}
+use Rattle.cqf_model.specs.Traffic.{Policed, police_all}
 use Rattle.cqf_gates.specs.StreamGate.{Gate}
 use Rattle.cqf_port.specs.PortState.{PortState, rules_of, start_of}
-use Rattle.cqf_edge.specs.declared.Due.{Due}
-use Rattle.cqf_edge.specs.InTime.{received_of}
+use Rattle.cqf_order.specs.declared.Due.{Due}
+use Rattle.cqf_order.specs.InTime.{received_of}
 use Rattle.cqf_line.specs.Line.{line_domain, line_tables}
 use Rattle.cqf_line.specs.Edge.{HasPoliced}
+
+-- what a book has
+abbrev pub contents_of : Book → Contents
+contents_of book = record { starts = book.starts.items; background = book.background.items; drops = book.drops.items }
 
 -- a start of the one link as a book has it
 abbrev pub started_by : Start → Started
@@ -23,7 +29,7 @@ started_by s = record { cycle = record { 0 = cycle_of line_domain s.start.0 }; l
 
 -- what becomes of the offers that are due
 abbrev pub policed_dues : ℕ → List Offer → List Due → List Policed
-policed_dues cycles offers dues = police_all line_domain (line_tables cycles) (within_gate line_domain) 0 [] (map (received_of offers) dues)
+policed_dues cycles offers dues = police_all line_domain (line_tables cycles) 0 [] (map (received_of offers) dues)
 
 -- they have been taken, and the port hasn't begun
 pub record HasTaken (cycles : ℕ) (offers : List Offer) (dues : List Due) (port : PortState) (gate : Gate) (drops : List Dropped) : Type 0 where

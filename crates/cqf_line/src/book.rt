@@ -2,17 +2,18 @@
 ghost use Rattle.std.specs.Prelude.{◌≡◌, ◌+◌, ◌*◌, ◌^◌, ◌<◌, ◌≤◌, ℕ, [], All, IfOk, OnOk, length, map};
 ghost use Rattle.std.specs.List.Sorted.{IsNonDecreasingBy};
 ghost use Rattle.cqf_model.specs.declared.ports.Start.{Start as AStart};
-ghost use Rattle.cqf_model.specs.Traffic.{AreOffers};
-ghost use Rattle.cqf_model.specs.Book.{IsOneThreadBook};
-ghost use Rattle.cqf_edge.specs.InTime.{IsDue};
+ghost use Rattle.cqf_model.specs.Run.{AreOffers};
+ghost use Rattle.cqf_model.specs.Book.{Contents, IsOneThreadBook};
+ghost use Rattle.cqf_order.specs.InTime.{IsDue};
 ghost use Rattle.cqf_shift.specs.Books.{SaysTheShift};
-ghost use Rattle.cqf_line.specs.Line.{line_domain, line_tables};
-ghost use Rattle.cqf_line.specs.Run.{line_rules, started_by, HasTaken, HasRun};
+ghost use Rattle.cqf_line.specs.Line.{line_domain, line_run};
+ghost use Rattle.cqf_line.specs.Run.{contents_of, line_rules, started_by, HasTaken, HasRun};
 
 use crate::compiled::CYCLE_TIME;
 use crate::edge::Edge;
-use cqf_edge::{Due, in_time, sort_drops};
+use cqf_laws_network::book_is_unique;
 use cqf_model::{Book, Offer, Start, Started};
+use cqf_order::{Due, in_time, sort_drops};
 use cqf_shift::book_says_the_shift;
 use cqf_units::{Memory, Nanos, cycle_of};
 use std::alloc::Global;
@@ -23,7 +24,7 @@ fn as_started(start: &Start) -> Started
     ensures { result ≡ started_by start.now }
 {
     Started {
-        cycle: cycle_of(start.start, Nanos(u64::from(CYCLE_TIME))),
+        cycle: cycle_of(start.start, CYCLE_TIME),
         link: 0,
         frame: start.frame,
         octets: start.octets,
@@ -62,7 +63,7 @@ fn taken(alloc: Global, offers: &[Offer], dues: &[Due], cycles: u32) -> Result<E
 fn end_of_run(cycles: u32) -> u64
     ensures { result ≡ cycles * 125000 }
 {
-    u64::from(cycles) * u64::from(CYCLE_TIME)
+    u64::from(cycles) * CYCLE_TIME.0
 }
 
 /// What the port starts before the end, in order.
@@ -81,15 +82,17 @@ fn run(alloc: Global, edge: &mut Edge, end: u64) -> Result<Vec<Start>, Memory>
 
 /// The book of one bridge `a`, one station `s`, the link from one to the other and one stream `x`: 1,000 Mb/s and a delay
 /// of 500 ns, a cycle time of 125,000 ns with a guard time of 5,000 ns, and 1,500 octets a cycle for `x`, which is live
-/// in every cycle. The run has so many cycles, 0 to 100,000; offers of later cycles are in no book. `Memory` where a growth
-/// is refused (profile).
+/// in every cycle; there are no background frames. The run has so many cycles, 0 to 100,000; offers of later cycles are in
+/// no book. `Memory` where a growth is refused (profile).
 pub fn line_book(alloc: Global, offers: &[Offer], cycles: u32) -> Result<Book, Memory>
     requires offers { AreOffers line_domain offers.now }
     requires few { length offers.now ≤ 1000000 }
     requires short { cycles ≤ 100000 }
-    ensures book { IfOk result (λ book. IsOneThreadBook line_domain (line_tables cycles) offers.now book.starts.items book.drops.items) }
-    ensures shift { IfOk result (λ book. SaysTheShift line_domain (line_tables cycles) offers.now book.starts.items book.drops.items) }
+    ensures book { IfOk result (λ book. IsOneThreadBook (line_run cycles offers.now) (contents_of book)) }
+    ensures only { IfOk result (λ book. (other : Contents) → IsOneThreadBook (line_run cycles offers.now) other → other ≡ contents_of book) }
+    ensures shift { IfOk result (λ book. SaysTheShift (line_run cycles offers.now) (contents_of book)) }
 {
+    book_is_unique();
     book_says_the_shift();
     let end = end_of_run(cycles);
     let dues = in_time(alloc, offers, 0, end)?;
@@ -99,6 +102,7 @@ pub fn line_book(alloc: Global, offers: &[Offer], cycles: u32) -> Result<Book, M
     sort_drops(&mut edge.drops)?;
     Ok(Book {
         starts: started,
+        background: Vec::new(alloc),
         drops: edge.into_drops(),
     })
 }

@@ -5,50 +5,31 @@ ghost use Rattle.cqf_model.specs.GateList.{port_list};
 ghost use Rattle.cqf_model.specs.StreamGate.{stream_list};
 ghost use Rattle.cqf_gates.specs.StreamGate.{fresh};
 
-use cqf_gates::{StreamEntry, StreamGate, StreamList, TxList};
-use cqf_units::Name;
+use cqf_gates::{StreamGate, TxList, compiled_list, gate_of_reservation};
+use cqf_units::{Name, Nanos, Octets};
 
-/// The cycle time, in nanoseconds.
-pub(crate) const CYCLE_TIME: u32 = 125_000;
+/// The cycle time.
+pub(crate) const CYCLE_TIME: Nanos = Nanos(125_000);
 
-/// What of a cycle isn't the guard time, in nanoseconds.
-const OPEN_TIME: u32 = 120_000;
-
-/// The guard time, in nanoseconds.
-const GUARD: u32 = 5_000;
+/// The guard time.
+const GUARD: Nanos = Nanos(5_000);
 
 /// The reservation of the stream, in octets a cycle.
-const RESERVED: u32 = 1_500;
+const RESERVED: Octets = Octets(1_500);
 
-/// The gate control list of the port: class 7 in even cycles, class 6 in odd ones, and none in the guard time.
+/// The gate control list of the port: class 7 in even cycles, class 6 in odd ones, classes 0 to 5 in both, and none in the
+/// guard time.
 pub(crate) fn gate_list() -> TxList
     ensures { result ≡ port_list 125000 5000 }
 {
-    let entries = [
-        (0x80, OPEN_TIME),
-        (0x00, GUARD),
-        (0x40, OPEN_TIME),
-        (0x00, GUARD),
-    ];
-    match TxList::new(&entries) {
-        Ok(list) => list,
-        Err(_) => unreachable!(),
-    }
+    compiled_list(CYCLE_TIME, GUARD)
 }
 
 /// The gate of the stream: its octets in each cycle, class 6 in even cycles and class 7 in odd ones.
 pub(crate) fn stream_gate() -> StreamGate
     ensures { result ≡ fresh (stream_list 125000 1500) }
 {
-    let entry = |ipv: u8| StreamEntry {
-        ipv,
-        interval: CYCLE_TIME,
-        octet_max: Some(RESERVED),
-    };
-    match StreamList::new(&[entry(6), entry(7)]) {
-        Ok(list) => StreamGate::new(list),
-        Err(_) => unreachable!(),
-    }
+    StreamGate::new(gate_of_reservation(CYCLE_TIME, RESERVED))
 }
 
 /// Whether it is the name of the stream.

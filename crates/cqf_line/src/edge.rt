@@ -1,15 +1,15 @@
 //! The edge of the one bridge: its port, the gate of its stream, and what is dropped.
 ghost use Rattle.std.specs.Prelude.{◌≡◌, ◌+◌, ◌*◌, ◌^◌, ◌<◌, ◌≤◌, ℕ, List, [], ◌∷◌, ◌++◌, All, OnOk, codes};
 ghost use Rattle.cqf_model.specs.declared.ports.Arrival.{Arrival};
-ghost use Rattle.cqf_model.specs.Traffic.{Policed, police, within_gate, offer_received};
+ghost use Rattle.cqf_model.specs.Traffic.{Policed, police, offer_received};
 ghost use Rattle.cqf_line.specs.Line.{line_domain, line_tables};
-ghost use Rattle.cqf_line.specs.Edge.{IsReady, HasPoliced, drop_for, arrival_for};
+ghost use Rattle.cqf_line.specs.Edge.{IsReady, HasPoliced, offered_as, drop_for, arrival_for};
 
 use crate::compiled::{CYCLE_TIME, gate_list, is_name_of_stream, stream_gate};
 use cqf_gates::{Passed, StreamGate, gate_counts_calls};
 use cqf_model::{Dropped, Offer, Reason};
 use cqf_port::{Arrival, Port, PortFault};
-use cqf_units::{Memory, Nanos, Octets, Rate, cycle_of};
+use cqf_units::{Memory, Octets, Rate, cycle_of};
 use std::alloc::{AllocError, Global};
 
 /// The bridge's port, the gate of its stream, and the offers that were dropped, in the order in which they came.
@@ -43,7 +43,7 @@ impl Edge {
         ensures gate { self.new.gate ≡ self.old.gate }
     {
         self.drops.push(Dropped {
-            cycle: cycle_of(offer.at, Nanos(u64::from(CYCLE_TIME))),
+            cycle: cycle_of(offer.at, CYCLE_TIME),
             bridge: 0,
             frame: (place + 1) as u32,
             octets: offer.octets,
@@ -86,7 +86,7 @@ impl Edge {
         ensures ready { OnOk result (IsReady self.new.port self.new.gate offer.now.at.0) }
         ensures policed { OnOk result ((cycles : ℕ) (earlier : List Policed) → offer.now.at.0 < cycles * 125000
             → HasPoliced self.old.port self.old.gate self.old.drops.items earlier
-            → HasPoliced self.new.port self.new.gate self.new.drops.items (earlier ++ police line_domain (line_tables cycles) (within_gate line_domain) 0 earlier (offer_received (place, offer.now)) ∷ [])) }
+            → HasPoliced self.new.port self.new.gate self.new.drops.items (earlier ++ police line_domain (line_tables cycles) 0 earlier (offer_received (offered_as place offer.now)) ∷ [])) }
     {
         gate_counts_calls();
         if !is_name_of_stream(&offer.stream) {

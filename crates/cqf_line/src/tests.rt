@@ -1,25 +1,77 @@
-ghost use Rattle.std.specs.Prelude.{◌<◌, ◌≤◌, IfOk};
-ghost use Rattle.cqf_model.specs.Traffic.{IsOffer};
+//! Books of the line.
+ghost use Rattle.std.specs.Prelude.{◌≤◌, IfOk, IfSome, length};
+ghost use Rattle.cqf_model.specs.Run.{AreOffers, IsOffer};
 ghost use Rattle.cqf_line.specs.Line.{line_domain};
 
 use super::*;
 use cqf_model::{Dropped, Offer, Reason, Started};
-use cqf_units::{Cycle, Name, Nanos};
+use cqf_units::{Cycle, Memory, Name, Nanos};
+use std::alloc::Global;
 use std::test::Fail;
 
-/// An offer at the bridge of the line.
-fn offer(at: u64, stream: &[u8], octets: u32) -> Result<Offer, Fail>
-    requires early { at < 1000000000000 }
-    requires least { 64 ≤ octets }
-    requires most { octets ≤ 1522 }
-    ensures { IfOk result (IsOffer line_domain) }
+/// An offer at the bridge of the line: its instant, the one letter of its stream's name, and its octets.
+type Case = (u64, u8, u32);
+
+/// The offer, where it is one that may be handed to a run.
+fn offer_of(case: Case) -> Option<Offer>
+    ensures { IfSome result (IsOffer line_domain) }
 {
-    Ok(Offer {
+    let (at, letter, octets) = case;
+    if at >= 1_000_000_000_000 || octets < 64 || octets > 1522 {
+        return None;
+    }
+    let stream = Name::new(&[letter])?;
+    Some(Offer {
         at: Nanos(at),
         bridge: 0,
-        stream: Name::new(stream).ok_or("no name")?,
+        stream,
         octets,
     })
+}
+
+/// The offers, which each may be handed to a run.
+fn offers_of(alloc: Global, cases: &[Case]) -> Result<Vec<Offer>, Fail>
+    ensures { IfOk result (λ offers. AreOffers line_domain offers.items) }
+{
+    let mut offers = Vec::new(alloc);
+    for case in cases {
+        let offer = offer_of(*case).ok_or("no offer")?;
+        offers.push(offer)?;
+    }
+    Ok(offers)
+}
+
+/// Whether the line's book over some offers has these starts and drops, and no background frame.
+fn has_book(
+    alloc: Global,
+    offers: &[Offer],
+    cycles: u32,
+    starts: &[Started],
+    drops: &[Dropped],
+) -> Result<bool, Memory>
+    requires offers { AreOffers line_domain offers.now }
+    requires few { length offers.now ≤ 1000000 }
+    requires short { cycles ≤ 100000 }
+{
+    let book = line_book(alloc, offers, cycles)?;
+    let as_started = book.starts.as_slice() == starts;
+    let as_dropped = book.drops.as_slice() == drops;
+    Ok(as_started && as_dropped && book.background.is_empty())
+}
+
+/// Whether the line's book over the offers of these cases has these starts and drops, and no background frame.
+fn gives(
+    alloc: Global,
+    cases: &[Case],
+    cycles: u32,
+    starts: &[Started],
+    drops: &[Dropped],
+) -> Result<bool, Fail>
+    requires { cycles ≤ 100000 }
+{
+    let offers = offers_of(alloc, cases)?;
+    let few = offers.len() <= 1_000_000;
+    Ok(few && has_book(alloc, offers.as_slice(), cycles, starts, drops)?)
 }
 
 /// A start on the one link.
@@ -48,20 +100,10 @@ fn dropped(cycle: u32, frame: u32, octets: u32, reason: Reason) -> Dropped {
 fn a_smaller_frame_passes_behind_one_that_exceeds_the_reservation(
     rt: HostRuntime,
 ) -> Result<(), Fail> {
-    let offers = [
-        offer(0, b"x", 1000)?,
-        offer(10, b"x", 600)?,
-        offer(20, b"x", 500)?,
-    ];
-    let book = line_book(rt.alloc(), &offers, 2)?;
-    assert_eq!(rt;
-        book.starts.as_slice(),
-        [start(1, 1, 1000, 125_000), start(1, 3, 500, 133_160)].as_slice()
-    );
-    assert_eq!(rt;
-        book.drops.as_slice(),
-        [dropped(0, 2, 600, Reason::Octets)].as_slice()
-    );
+    let cases = [(0, b'x', 1000), (10, b'x', 600), (20, b'x', 500)];
+    let starts = [start(1, 1, 1000, 125_000), start(1, 3, 500, 133_160)];
+    let drops = [dropped(0, 2, 600, Reason::Octets)];
+    assert!(rt; gives(rt.alloc(), &cases, 2, &starts, &drops)?);
     Ok(())
 }
 
@@ -69,13 +111,9 @@ fn a_smaller_frame_passes_behind_one_that_exceeds_the_reservation(
 fn the_last_nanosecond_of_a_cycle_leaves_in_the_next_and_the_first_in_the_one_after(
     rt: HostRuntime,
 ) -> Result<(), Fail> {
-    let offers = [offer(124_999, b"x", 64)?, offer(125_000, b"x", 64)?];
-    let book = line_book(rt.alloc(), &offers, 3)?;
-    assert_eq!(rt;
-        book.starts.as_slice(),
-        [start(1, 1, 64, 125_000), start(2, 2, 64, 250_000)].as_slice()
-    );
-    assert!(rt; book.drops.is_empty());
+    let cases = [(124_999, b'x', 64), (125_000, b'x', 64)];
+    let starts = [start(1, 1, 64, 125_000), start(2, 2, 64, 250_000)];
+    assert!(rt; gives(rt.alloc(), &cases, 3, &starts, &[])?);
     Ok(())
 }
 
@@ -83,18 +121,12 @@ fn the_last_nanosecond_of_a_cycle_leaves_in_the_next_and_the_first_in_the_one_af
 fn an_unknown_stream_is_dropped_and_a_cycle_that_is_not_run_is_in_no_book(
     rt: HostRuntime,
 ) -> Result<(), Fail> {
-    let offers = [
-        offer(250_000, b"x", 64)?,
-        offer(130_000, b"y", 64)?,
-        offer(5, b"y", 70)?,
-    ];
-    let book = line_book(rt.alloc(), &offers, 2)?;
-    assert!(rt; book.starts.is_empty());
+    let cases = [(250_000, b'x', 64), (130_000, b'y', 64), (5, b'y', 70)];
     let drops = [
         dropped(0, 3, 70, Reason::Unknown),
         dropped(1, 2, 64, Reason::Unknown),
     ];
-    assert_eq!(rt; book.drops.as_slice(), drops.as_slice());
+    assert!(rt; gives(rt.alloc(), &cases, 2, &[], &drops)?);
     Ok(())
 }
 

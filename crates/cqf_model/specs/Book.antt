@@ -1,34 +1,50 @@
 -- The book of a run: every transmission, and every offer that is dropped (profile).
 use Rattle.std.specs.Prelude.{ℕ, ◌≡◌, ◌+◌, ◌*◌, ◌&&◌, ◌==◌, List, [], ◌∷◌, Bool, filter, map, length}
 use Rattle.std.specs.List.{flat_map}
+use Rattle.cqf_lists.specs.Lists.{each_below}
 use Rattle.cqf_model.specs.declared.frames.Dropped.{Dropped}
-use Rattle.cqf_model.specs.declared.frames.Offer.{Offer}
 use Rattle.cqf_model.specs.declared.frames.Sent.{Sent}
 use Rattle.cqf_model.specs.declared.frames.Started.{Started}
-use Rattle.cqf_model.specs.declared.topology.Row.{Row}
+use Rattle.cqf_model.specs.declared.ports.Start.{Start}
 use Rattle.cqf_model.specs.GateList.{Entry}
 use Rattle.cqf_model.specs.Domain.{Domain, cycle_of, leaves}
-use Rattle.cqf_model.specs.Traffic.{each_below, Network, Received, Policed, Verdict, Queued, DroppedFor, LacksRow, ExceedsGate, policed_before}
-use Rattle.cqf_model.specs.Network.{IsLegalNetwork, compiled_lists}
+use Rattle.cqf_model.specs.Run.{Run}
+use Rattle.cqf_model.specs.Traffic.{Carried, Received, Policed, Verdict, Queued, DroppedFor, LacksRow, ExceedsGate, policed_before}
+use Rattle.cqf_model.specs.Network.{IsLegalNetwork, Network, compiled_lists}
 
--- what a link sends in a cycle, in order of start
-abbrev pub batch : Domain → Network → ℕ → ℕ → List Sent
-batch d net link cycle = filter (λ (sent : Sent). cycle_of d sent.start.0 == cycle) (net link)
+-- what a link sends in a cycle, in order of start: the batch of streams' frames, and the background frames
+abbrev pub batch : Domain → Carried → ℕ → ℕ → List Sent
+batch d carried link cycle = filter (λ (sent : Sent). cycle_of d sent.start.0 == cycle) (carried link)
 
--- the starts, by cycle, then link, then instant
+abbrev pub backed_batch : Domain → (ℕ → List Start) → ℕ → ℕ → List Start
+backed_batch d backed link cycle = filter (λ (start : Start). cycle_of d start.start.0 == cycle) (backed link)
+
+-- as a book has them
 abbrev pub started : ℕ → ℕ → Sent → Started
 started cycle link sent = record { cycle = record { 0 = cycle }; link = link; frame = sent.frame; octets = sent.octets; start = sent.start }
 
-abbrev pub starts_in : Domain → Network → ℕ → ℕ → List Started
-starts_in d net cycle link = map (started cycle link) (batch d net link cycle)
+abbrev pub started_backed : ℕ → ℕ → Start → Started
+started_backed cycle link start = record { cycle = record { 0 = cycle }; link = link; frame = start.frame; octets = start.octets; start = start.start }
 
-abbrev pub starts_of : Domain → ℕ → Network → List Started
-starts_of d cycles net = each_below (λ cycle. each_below (starts_in d net cycle) (length d.links)) cycles
+-- the starts of streams' frames, by cycle, then link, then instant
+abbrev pub starts_in : Domain → Carried → ℕ → ℕ → List Started
+starts_in d carried cycle link = map (started cycle link) (batch d carried link cycle)
+
+abbrev pub starts_of : Domain → ℕ → Carried → List Started
+starts_of d cycles carried = each_below (λ cycle. each_below (starts_in d carried cycle) (length d.links)) cycles
+
+-- the background list: the starts of background frames, likewise
+abbrev pub background_in : Domain → (ℕ → List Start) → ℕ → ℕ → List Started
+background_in d backed cycle link = map (started_backed cycle link) (backed_batch d backed link cycle)
+
+abbrev pub background_of : Domain → ℕ → (ℕ → List Start) → List Started
+background_of d cycles backed = each_below (λ cycle. each_below (background_in d backed cycle) (length d.links)) cycles
 
 -- the drops, by cycle, then bridge, then frame
 abbrev pub drop_by : ℕ → ℕ → Received → Verdict → List Dropped
-drop_by cycle bridge x (DroppedFor reason) = record { cycle = record { 0 = cycle }; bridge = bridge; frame = x.frame; octets = x.octets; reason = reason } ∷ []
-drop_by cycle bridge x (Queued row link) = []
+drop_by cycle bridge x (DroppedFor reason) =
+    record { cycle = record { 0 = cycle }; bridge = bridge; frame = x.frame; octets = x.octets; reason = reason } ∷ []
+drop_by cycle bridge x (Queued row) = []
 drop_by cycle bridge x LacksRow = []
 drop_by cycle bridge x ExceedsGate = []
 
@@ -37,21 +53,31 @@ is_of_place d cycle place p = (cycle_of d p.received.at == cycle) && (p.received
 
 -- the drops at a bridge in a cycle, by frame, of so many offers
 abbrev pub drops_in : Domain → ℕ → (ℕ → List Policed) → ℕ → ℕ → List Dropped
-drops_in d places policed cycle bridge = each_below (λ place. flat_map (λ (p : Policed). drop_by cycle bridge p.received p.verdict) (filter (is_of_place d cycle place) (policed bridge))) places
+drops_in d places policed cycle bridge = each_below
+    (λ place. flat_map (λ (p : Policed). drop_by cycle bridge p.received p.verdict) (filter (is_of_place d cycle place) (policed bridge)))
+    places
 
 abbrev pub drops_of : Domain → ℕ → ℕ → (ℕ → List Policed) → List Dropped
 drops_of d cycles places policed = each_below (λ cycle. each_below (drops_in d places policed cycle) (length d.bridges)) cycles
 
--- the book of the legal network
-pub record IsBook (d : Domain) (lists : ℕ → List Entry) (tables : List (List Row)) (offers : List Offer) (cycles : ℕ) (starts : List Started) (drops : List Dropped) : Type 0 where
-  pub net : Network
-  pub legal : IsLegalNetwork d lists tables offers cycles net
-  pub are_starts : starts ≡ starts_of d cycles net
-  pub are_drops : drops ≡ drops_of d cycles (length offers) (λ bridge. policed_before d tables offers net bridge (cycles * d.cycle_time))
+-- what a book has, and what a page of it has
+pub record Contents : Type 0 where
+  pub starts : List Started
+  pub background : List Started
+  pub drops : List Dropped
 
--- the one-thread book of tables: that of the compiled gate lists, over as many cycles as there are tables
-abbrev pub IsOneThreadBook : Domain → List (List Row) → List Offer → List Started → List Dropped → Type 0
-IsOneThreadBook d tables offers starts drops = IsBook d (compiled_lists d) tables offers (length tables) starts drops
+-- the book of the legal network, over so many cycles
+pub record IsBook (run : Run) (lists : ℕ → List Entry) (cycles : ℕ) (book : Contents) : Type 0 where
+  pub net : Network
+  pub legal : IsLegalNetwork run lists cycles net
+  pub are_starts : book.starts ≡ starts_of run.domain cycles net.carried
+  pub are_background : book.background ≡ background_of run.domain cycles net.backed
+  pub are_drops : book.drops ≡ drops_of run.domain cycles (length run.offers)
+      (λ bridge. policed_before run net.carried bridge (cycles * run.domain.cycle_time))
+
+-- the one-thread book of a run: that of the compiled gate lists, over as many cycles as there are tables
+abbrev pub IsOneThreadBook : Run → Contents → Type 0
+IsOneThreadBook run book = IsBook run (compiled_lists run.domain) (length run.tables) book
 
 -- a bridge's page of a cycle: what of the book is on links that leave it, and on offers at it
 abbrev pub page_starts : Domain → ℕ → ℕ → List Started → List Started
@@ -59,3 +85,10 @@ page_starts d bridge cycle starts = filter (λ (s : Started). leaves d s.link br
 
 abbrev pub page_drops : ℕ → ℕ → List Dropped → List Dropped
 page_drops bridge cycle drops = filter (λ (x : Dropped). (x.bridge == bridge) && (x.cycle.0 == cycle)) drops
+
+abbrev pub page_of : Domain → ℕ → ℕ → Contents → Contents
+page_of d bridge cycle book = record {
+  starts = page_starts d bridge cycle book.starts;
+  background = page_starts d bridge cycle book.background;
+  drops = page_drops bridge cycle book.drops;
+}

@@ -1,5 +1,5 @@
--- A domain of bridges and stations, its links, and the paths of streams through it.
-use Rattle.std.specs.Prelude.{ℕ, ◌≡◌, ◌≢◌, ◌+◌, ◌-◌, ◌*◌, ◌≤◌, ◌<◌, List, [], ◌∷◌, Bool, true, false, ◌==◌, ◌&&◌, if◌then◌else◌, length, Option, Some, None, All, slice_get, position}
+-- A domain of bridges and stations, and its links.
+use Rattle.std.specs.Prelude.{ℕ, ◌≡◌, ◌≢◌, ◌*◌, ◌≤◌, ◌<◌, List, [], ◌∷◌, Bool, true, false, ◌==◌, ◌&&◌, length, Option, Some, None, option_map, slice_get, position}
 use Rattle.std.specs.Option.{option_map_or}
 use Rattle.cqf_units.specs.Timing.{nanos_of_octet, budget_of, cycle_at}
 use Rattle.cqf_model.specs.declared.topology.Link.{Link}
@@ -19,7 +19,7 @@ abbrev pub IsNode : Domain → Node → Type 0
 IsNode d (Bridge b) = b < length d.bridges
 IsNode d (Station s) = s < length d.stations
 
--- a link that is accepted: its ends exist; what is sent in a cycle comes in it, since its delay is within the guard
+-- a link that is accepted: its ends exist; what is sent in a cycle is received in it, since its delay is within the guard
 -- time; and the gap behind the last frame of a cycle is over at the cycle's end (profile)
 pub record IsAcceptedLink (d : Domain) (link : Link) : Type 0 where
   pub from_bridge : link.from < length d.bridges
@@ -29,7 +29,7 @@ pub record IsAcceptedLink (d : Domain) (link : Link) : Type 0 where
   pub gap_short : 12 * nanos_of_octet link.rate ≤ d.guard
 
 -- a domain that is accepted (profile). That names are well formed and stand once, and that no link stands twice, is said
--- where domains are read: nothing that a network does hangs on it
+-- where domains are read: nothing that a network does hangs on it, though what a name means to admission does
 pub record IsAccepted (d : Domain) : Type 0 where
   pub cycle_least : 10000 ≤ d.cycle_time
   pub cycle_most : d.cycle_time ≤ 10000000
@@ -56,6 +56,13 @@ delay_of d l = option_map_or (λ (link : Link). link.delay) (slice_get d.links l
 abbrev pub budget : Domain → ℕ → ℕ
 budget d l = budget_of d.cycle_time d.guard (octet_time_of d l)
 
+-- the bridge that a link leaves, and the node that it ends in
+abbrev pub bridge_of : Domain → ℕ → ℕ
+bridge_of d l = option_map_or (λ (link : Link). link.from) (slice_get d.links l) 0
+
+abbrev pub end_of : Domain → ℕ → Option Node
+end_of d l = option_map (λ (link : Link). link.to) (slice_get d.links l)
+
 -- whether the link leaves the bridge, and whether it ends in it. A link that the domain lacks does neither
 abbrev pub leaves : Domain → ℕ → ℕ → Bool
 leaves d l bridge = option_map_or (λ (link : Link). link.from == bridge) (slice_get d.links l) false
@@ -70,24 +77,6 @@ enters d l bridge = option_map_or (λ (link : Link). node_is link.to bridge) (sl
 -- whether the first link ends in the bridge that the second leaves
 abbrev pub joins : Domain → ℕ → ℕ → Bool
 joins d m l = option_map_or (λ (link : Link). enters d m link.from) (slice_get d.links l) false
-
--- the path's first link, and the link that directly follows a link in it
-abbrev pub first_link : List ℕ → Option ℕ
-first_link path = slice_get path 0
-
-abbrev pub next_link : List ℕ → ℕ → Option ℕ
-next_link [] m = None
-next_link (x ∷ path) m = if x == m then first_link path else next_link path m
-
--- a path: each link ends in the bridge that the next one leaves, the last ends in no bridge, and no bridge stands in it
--- twice
-pub record IsPath (d : Domain) (path : List ℕ) : Type 0 where
-  pub some : 0 < length path
-  pub few : length path ≤ 16
-  pub inside : All (λ l. l < length d.links) path
-  pub joined : (k m l : ℕ) → slice_get path k ≡ Some m → slice_get path (k + 1) ≡ Some l → joins d m l ≡ true
-  pub no_bridge_twice : (j k m l bridge : ℕ) → j < k → slice_get path j ≡ Some m → slice_get path k ≡ Some l → leaves d m bridge ≡ true → leaves d l bridge ≡ false
-  pub ends : (m bridge : ℕ) → slice_get path (length path - 1) ≡ Some m → enters d m bridge ≡ false
 
 -- whether two texts are the same
 abbrev pub is_text : List ℕ → List ℕ → Bool

@@ -1,27 +1,32 @@
--- The history of an administration: calls with the answers that they got, the streams that it accepted, and the table of
+-- The history of admission control: calls with the answers that they got, the streams that it accepted, and the table of
 -- each cycle. All of it is said of the whole list of entries, with no running state (profile).
-use Rattle.std.specs.Prelude.{ℕ, ◌≡◌, ◌+◌, ◌-◌, ◌≤◌, List, [], ◌∷◌, Bool, true, false, not, ◌==◌, ◌&&◌, ◌||◌, if◌then◌else◌, nat_le, nat_lt, filter, length, take, Option, Some, None, is_none, slice_get, slice_index_or, count_by, position}
+use Rattle.std.specs.Prelude.{ℕ, ◌≡◌, ◌+◌, ◌-◌, ◌≤◌, List, [], ◌∷◌, Bool, true, false, not, ◌==◌, ◌&&◌, ◌||◌, if◌then◌else◌, nat_le, nat_lt, filter, find, length, take, Option, Some, None, is_none, option_map, slice_get, slice_index_or, count_by, position, suc, zero}
 use Rattle.std.specs.Option.{option_map_or}
-use Rattle.std.specs.List.{list_any}
+use Rattle.std.specs.List.{flat_map, list_any}
+use Rattle.cqf_lists.specs.Lists.{each_below, each_once, least, or_else}
 use Rattle.cqf_units.specs.Name.{is_name}
 use Rattle.cqf_units.specs.Timing.{cost_of}
 use Rattle.cqf_units.specs.declared.reservations.Cycle.{Cycle}
 use Rattle.cqf_model.specs.declared.history.Refused.{Refused}
-use Rattle.cqf_model.specs.declared.history.Refused.TheVariants.{BadName, BadOctets, UnknownNode, BrokenPath, LoopingPath, NameHeld, TooManyStreams, BudgetShort, NotHeld, AlreadyWithdrawn}
+use Rattle.cqf_model.specs.declared.history.Refused.TheVariants.{BadName, BadOctets, UnknownNode, BrokenPath, LoopingPath, NotATree, NameHeld, TooManyStreams, BudgetShort, NotHeld, AlreadyWithdrawn}
 use Rattle.cqf_model.specs.declared.history.Reply.{Reply}
 use Rattle.cqf_model.specs.declared.history.Reply.TheVariants.{Accepted, Sealed, Refused as RefusedFor}
+use Rattle.cqf_model.specs.declared.topology.Hop.{Hop}
 use Rattle.cqf_model.specs.declared.topology.Node.{Node}
 use Rattle.cqf_model.specs.declared.topology.Node.TheVariants.{Bridge, Station}
 use Rattle.cqf_model.specs.declared.topology.Row.{Row}
 use Rattle.cqf_model.specs.Domain.{Domain, budget, is_text, node_named, link_between, same_node}
-use Rattle.cqf_model.specs.Table.{is_held, link_cost, row_named}
-use Rattle.cqf_model.specs.Traffic.{each_below}
+use Rattle.cqf_model.specs.Table.{is_held, link_cost, links_in, row_named}
 
--- a stream that is asked for: its name, its octets a cycle, and the names of its path's bridges and then of its station
+-- a branch of a stream's tree, by names: its bridges in order, and then the listener's station
+abbrev pub Branch : Type 0
+Branch = List (List ℕ)
+
+-- a stream that is asked for: its name, its octets a cycle, and the branches of its tree
 pub record Asked : Type 0 where
   pub name : List ℕ
   pub octets : ℕ
-  pub path : List (List ℕ)
+  pub paths : List Branch
 
 -- what is called for: to admit a stream, to withdraw the one of a name, or to close the next cycle to changes
 pub data Act : Type 0 where
@@ -45,13 +50,9 @@ is_seal Seals = true
 abbrev pub seals : List Recorded → ℕ
 seals entries = count_by (λ (e : Recorded). is_seal e.act) entries
 
--- the least number below a bound that passes a test
-abbrev pub least : (ℕ → Bool) → ℕ → Option ℕ
-least test n = slice_get (each_below (λ k. if test k then k ∷ [] else []) n) 0
-
--- the nodes of a path's names
-abbrev pub node_at : Domain → List (List ℕ) → ℕ → Option Node
-node_at d path place = option_map_or (λ name. node_named d name) (slice_get path place) None
+-- the node of a branch at a place
+abbrev pub node_at : Domain → Branch → ℕ → Option Node
+node_at d branch place = option_map_or (λ name. node_named d name) (slice_get branch place) None
 
 -- the link between two nodes, where both are there
 abbrev pub link_from : Domain → Option Node → Option Node → Option ℕ
@@ -60,13 +61,26 @@ link_from d (Some from) None = None
 link_from d (Some (Station s)) (Some to) = None
 link_from d (Some (Bridge b)) (Some to) = link_between d b to
 
--- the links of a path, each from the node at its place to the next
-abbrev pub link_list : Option ℕ → List ℕ
-link_list None = []
-link_list (Some l) = l ∷ []
+-- the link from the node at a place to the next one, and the link before it
+abbrev pub link_at : Domain → Branch → ℕ → Option ℕ
+link_at d branch place = link_from d (node_at d branch place) (node_at d branch (place + 1))
 
-abbrev pub links_along : Domain → List (List ℕ) → List ℕ
-links_along d path = each_below (λ place. link_list (link_from d (node_at d path place) (node_at d path (place + 1)))) (length path - 1)
+abbrev pub link_before : Domain → Branch → ℕ → Option ℕ
+link_before d branch zero = None
+link_before d branch (suc place) = link_at d branch place
+
+-- the hops of a branch
+abbrev pub hop_to : ℕ → Option ℕ → Option ℕ → List Hop
+hop_to depth from None = []
+hop_to depth from (Some l) = record { link = l; depth = depth; from = from } ∷ []
+
+abbrev pub hops_along : Domain → Branch → List Hop
+hops_along d branch =
+    each_below (λ place. hop_to (place + 1) (link_before d branch place) (link_at d branch place)) (length branch - 1)
+
+-- the tree of some branches: their hops, each link once, where it first stands. That is the tree's order
+abbrev pub tree_of : Domain → List Branch → List Hop
+tree_of d paths = each_once (λ (a b : Hop). a.link == b.link) (flat_map (hops_along d) paths)
 
 -- the effect of an entry that withdraws the stream of a number, where so many Seals stand before it
 abbrev pub withdrawal_by : ℕ → ℕ → Act → Reply → List Cycle
@@ -78,7 +92,9 @@ withdrawal_by effect number (Withdraws name) Sealed = []
 
 -- the effects of the accepted withdrawals of a stream's number, in order
 abbrev pub withdrawals : List Recorded → ℕ → List Cycle
-withdrawals entries number = each_below (λ place. option_map_or (λ (e : Recorded). withdrawal_by (seals (take place entries)) number e.act e.reply) (slice_get entries place) []) (length entries)
+withdrawals entries number = each_below
+    (λ place. option_map_or (λ (e : Recorded). withdrawal_by (seals (take place entries)) number e.act e.reply) (slice_get entries place) [])
+    (length entries)
 
 -- the stream of an entry that admits one, where so many Seals stand before it. It is withdrawn from the effect of the
 -- first accepted withdrawal of its number on
@@ -91,14 +107,16 @@ stream_by d entries effect (Admits asked) (Accepted receipt) = record {
   no = receipt.no;
   name = asked.name;
   octets = asked.octets;
-  path = record { items = links_along d asked.path };
+  tree = record { items = tree_of d asked.paths };
   admitted = record { 0 = effect };
   withdrawn = slice_get (withdrawals entries receipt.no) 0;
 } ∷ []
 
 -- the streams that were accepted, by number
 abbrev pub streams_of : Domain → List Recorded → List Row
-streams_of d entries = each_below (λ place. option_map_or (λ (e : Recorded). stream_by d entries (seals (take place entries)) e.act e.reply) (slice_get entries place) []) (length entries)
+streams_of d entries = each_below
+    (λ place. option_map_or (λ (e : Recorded). stream_by d entries (seals (take place entries)) e.act e.reply) (slice_get entries place) [])
+    (length entries)
 
 -- those that are held in a cycle
 abbrev pub held_in : Domain → List Recorded → ℕ → List Row
@@ -110,14 +128,14 @@ is_bridge None = false
 is_bridge (Some (Bridge b)) = true
 is_bridge (Some (Station s)) = false
 
--- where a path is broken: it is empty or begins with no bridge; no link goes from the node before to this one; its last
--- node is a bridge; or a 17th bridge stands before this place
-abbrev pub is_broken_at : Domain → List (List ℕ) → ℕ → Bool
-is_broken_at d path place =
-    ((place == 0) && not (is_bridge (node_at d path 0)))
-    || (nat_le 1 place && nat_lt place (length path) && is_none (link_from d (node_at d path (place - 1)) (node_at d path place)))
-    || ((place + 1 == length path) && is_bridge (node_at d path place))
-    || ((place == 17) && nat_lt place (length path))
+-- where a branch is broken: it is empty or begins with no bridge; no link goes from the node before to this one; its last
+-- node is a bridge; or the place is 17, so that 17 nodes stand before it
+abbrev pub is_broken_at : Domain → Branch → ℕ → Bool
+is_broken_at d branch place =
+    ((place == 0) && not (is_bridge (node_at d branch 0)))
+    || (nat_le 1 place && nat_lt place (length branch) && is_none (link_at d branch (place - 1)))
+    || ((place + 1 == length branch) && is_bridge (node_at d branch place))
+    || ((place == 17) && nat_lt place (length branch))
 
 -- whether both nodes are there and the same
 abbrev pub is_same : Option Node → Option Node → Bool
@@ -125,24 +143,55 @@ is_same None b = false
 is_same (Some a) None = false
 is_same (Some a) (Some b) = same_node a b
 
--- whether the node at a place stood earlier
-abbrev pub is_loop_at : Domain → List (List ℕ) → ℕ → Bool
-is_loop_at d path place = list_any (λ name. is_same (node_named d name) (node_at d path place)) (take place path)
+-- whether the node at a place stood earlier in the branch
+abbrev pub is_loop_at : Domain → Branch → ℕ → Bool
+is_loop_at d branch place = list_any (λ name. is_same (node_named d name) (node_at d branch place)) (take place branch)
+
+-- the first place at which a branch fails a test, where places count through the branches as one list. An empty branch is
+-- asked at place 0 too
+abbrev pub first_place : (Branch → ℕ → Bool) → List Branch → Option ℕ
+first_place fails [] = None
+first_place fails (branch ∷ paths) =
+    or_else (least (fails branch) (length branch + 1)) (option_map (λ place. length branch + place) (first_place fails paths))
+
+-- the first place at which a branch is broken. Without any branch it is place 0
+abbrev pub broken_place : Domain → List Branch → Option ℕ
+broken_place d [] = Some 0
+broken_place d (branch ∷ paths) = first_place (is_broken_at d) (branch ∷ paths)
+
+-- whether no node of one part of a branch is in a part of another
+abbrev pub are_apart : Branch → Branch → Bool
+are_apart xs ys = not (list_any (λ x. list_any (λ y. is_text x y) ys) xs)
+
+-- whether they part for good: after the beginning that they have in common both go on, and no node of what follows is in
+-- both
+abbrev pub part : Branch → Branch → Bool
+part [] ys = false
+part (x ∷ xs) [] = false
+part (x ∷ xs) (y ∷ ys) = if is_text x y then part xs ys else are_apart (x ∷ xs) (y ∷ ys)
+
+-- whether two branches make one tree: they begin at one bridge, and part for good. This is asked of branches that are paths
+-- without loops and end in a station; of those it says that neither is the other, and that each node which stands in both
+-- has the same nodes before it in both
+abbrev pub make_a_tree : Branch → Branch → Bool
+make_a_tree [] ys = false
+make_a_tree (x ∷ xs) [] = false
+make_a_tree (x ∷ xs) (y ∷ ys) = is_text x y && part xs ys
+
+-- whether a branch makes no tree with one before it
+abbrev pub is_stray : List Branch → ℕ → Bool
+is_stray paths place =
+    option_map_or (λ branch. list_any (λ before. not (make_a_tree before branch)) (take place paths)) (slice_get paths place) false
 
 -- what a link has left of its budget, in octets, beside these streams
 abbrev pub left_on : Domain → List Row → ℕ → ℕ
 left_on d rows l = budget d l - link_cost rows l
 
--- the first link of a path that has less left than a stream costs, by its place in the path
-abbrev pub short_link : Domain → List Row → ℕ → List ℕ → Option ℕ
-short_link d rows cost [] = None
-short_link d rows cost (l ∷ path) = if nat_lt (left_on d rows l) cost then Some l else short_link d rows cost path
+-- the first link of a tree, in its order, that has less left than a stream costs
+abbrev pub short_link : Domain → List Row → ℕ → List Hop → Option ℕ
+short_link d rows cost tree = find (λ l. nat_lt (left_on d rows l) cost) (links_in tree)
 
--- the first of some refusals that is due
-abbrev pub or_else : Option Refused → Option Refused → Option Refused
-or_else (Some refused) later = Some refused
-or_else None later = later
-
+-- a refusal that is due, for a cause and for a number
 abbrev pub refused_if : Bool → Refused → Option Refused
 refused_if true refused = Some refused
 refused_if false refused = None
@@ -156,12 +205,14 @@ abbrev pub refusal_of : Domain → List Row → Asked → Option Refused
 refusal_of d rows asked =
     or_else (refused_if (not (is_name asked.name)) BadName)
     (or_else (refused_if (not (nat_le 64 asked.octets && nat_le asked.octets 60000)) BadOctets)
-    (or_else (refused_at (λ place. UnknownNode place) (position (λ name. is_none (node_named d name)) asked.path))
-    (or_else (refused_at (λ place. BrokenPath place) (least (is_broken_at d asked.path) (length asked.path + 1)))
-    (or_else (refused_at (λ place. LoopingPath place) (least (is_loop_at d asked.path) (length asked.path)))
+    (or_else (refused_at (λ place. UnknownNode place)
+    (position (λ name. is_none (node_named d name)) (flat_map (λ branch. branch) asked.paths)))
+    (or_else (refused_at (λ place. BrokenPath place) (broken_place d asked.paths))
+    (or_else (refused_at (λ place. LoopingPath place) (first_place (is_loop_at d) asked.paths))
+    (or_else (refused_at (λ branch. NotATree branch) (least (is_stray asked.paths) (length asked.paths)))
     (or_else (refused_if (list_any (λ (row : Row). is_text row.name asked.name) rows) NameHeld)
     (or_else (refused_if (nat_le 1024 (length rows)) TooManyStreams)
-    (refused_at (λ l. BudgetShort l (left_on d rows l)) (short_link d rows (cost_of asked.octets) (links_along d asked.path)))))))))
+    (refused_at (λ l. BudgetShort l (left_on d rows l)) (short_link d rows (cost_of asked.octets) (tree_of d asked.paths))))))))))
 
 -- the number of the next stream
 abbrev pub next_number : Domain → List Recorded → ℕ
@@ -194,7 +245,9 @@ pub record IsLegalHistory (d : Domain) (entries : List Recorded) : Type 0 where
 
 -- the places of the Seals
 abbrev pub seal_places : List Recorded → List ℕ
-seal_places entries = each_below (λ place. option_map_or (λ (e : Recorded). if is_seal e.act then place ∷ [] else []) (slice_get entries place) []) (length entries)
+seal_places entries = each_below
+    (λ place. option_map_or (λ (e : Recorded). if is_seal e.act then place ∷ [] else []) (slice_get entries place) [])
+    (length entries)
 
 -- the table of a cycle: the streams that are held in it by the entries before the Seal that closes it, by number. Of the
 -- cycle that the next Seal would close it is the table by all entries; of later cycles there is none to speak of

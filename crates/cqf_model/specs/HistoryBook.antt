@@ -1,13 +1,19 @@
 -- The one-thread book of a history (profile).
 use Rattle.std.specs.Prelude.{ℕ, ◌≤◌, List}
-use Rattle.cqf_model.specs.declared.frames.Dropped.{Dropped}
+use Rattle.cqf_model.specs.declared.frames.Background.{Background}
 use Rattle.cqf_model.specs.declared.frames.Offer.{Offer}
-use Rattle.cqf_model.specs.declared.frames.Started.{Started}
 use Rattle.cqf_model.specs.Domain.{Domain}
-use Rattle.cqf_model.specs.Book.{IsOneThreadBook}
+use Rattle.cqf_model.specs.Run.{Run}
+use Rattle.cqf_model.specs.Book.{Contents, IsOneThreadBook}
 use Rattle.cqf_model.specs.History.{Recorded, seals, tables_of}
 
--- the book over its first cycles, each of which it sealed
-pub record IsBookOfHistory (d : Domain) (entries : List Recorded) (offers : List Offer) (cycles : ℕ) (starts : List Started) (drops : List Dropped) : Type 0 where
+-- the run over the first cycles of a history
+abbrev pub run_of_history : Domain → List Recorded → List Offer → List Background → ℕ → Run
+run_of_history d entries offers background cycles =
+    record { domain = d; tables = tables_of d entries cycles; offers = offers; background = background }
+
+-- the book over the first cycles of the history, all of them sealed
+pub record IsBookOfHistory (d : Domain) (entries : List Recorded) (offers : List Offer) (background : List Background) (cycles : ℕ)
+    (book : Contents) : Type 0 where
   pub sealed : cycles ≤ seals entries
-  pub book : IsOneThreadBook d (tables_of d entries cycles) offers starts drops
+  pub is_book : IsOneThreadBook (run_of_history d entries offers background cycles) book

@@ -1,34 +1,39 @@
 -- All ports of a domain at once: the legal network. Each port is that of IEEE Std 802.1Q-2018, 8.6.8; what joins them is
 -- the profile's.
-use Rattle.std.specs.Prelude.{ℕ, ◌≡◌, ◌*◌, ◌<◌, ◌≤◌, List, [], ◌∷◌, ◌==◌, if◌then◌else◌, map, slice_get, length, slice_index_or, Contains}
-use Rattle.std.specs.Option.{option_map_or}
-use Rattle.std.specs.List.{flat_map}
-use Rattle.cqf_model.specs.declared.frames.Offer.{Offer}
+use Rattle.std.specs.Prelude.{ℕ, ◌≡◌, ◌+◌, ◌*◌, ◌<◌, ◌≤◌, ◌++◌, List, [], ◌∷◌, Bool, ◌==◌, ◌&&◌, if◌then◌else◌, Option, Some, None, filter, map, length, slice_index_or, Contains}
+use Rattle.std.specs.List.{enumerate_from, flat_map, list_any}
+use Rattle.cqf_lists.specs.Lists.{each_below}
+use Rattle.cqf_model.specs.declared.frames.Backed.{Backed}
+use Rattle.cqf_model.specs.declared.frames.Background.{Background}
 use Rattle.cqf_model.specs.declared.frames.Sent.{Sent}
 use Rattle.cqf_model.specs.declared.ports.Arrival.{Arrival}
-use Rattle.cqf_model.specs.declared.topology.Link.{Link}
+use Rattle.cqf_model.specs.declared.ports.Start.{Start}
 use Rattle.cqf_model.specs.declared.topology.Row.{Row}
 use Rattle.cqf_model.specs.GateList.{Entry, port_list}
 use Rattle.cqf_model.specs.Port.{Transmission, AreLegal, no_arrival}
 use Rattle.cqf_model.specs.StreamGate.{stream_list, gate_class}
-use Rattle.cqf_model.specs.Domain.{Domain, octet_time_of}
-use Rattle.cqf_model.specs.Traffic.{Network, Policed, Received, Verdict, Queued, DroppedFor, LacksRow, ExceedsGate, policed_before}
+use Rattle.cqf_model.specs.Domain.{Domain, bridge_of, cycle_of, octet_time_of}
+use Rattle.cqf_model.specs.Run.{Run}
+use Rattle.cqf_model.specs.Table.{goes_to}
+use Rattle.cqf_model.specs.Traffic.{Carried, Policed, Received, Verdict, Queued, DroppedFor, LacksRow, ExceedsGate, came_by, policed_before}
 
--- a frame that is queued to a port: the arrival that the port sees, with the frame's number as its label, and the number
--- of its stream
+-- a frame that waits at a port: the arrival that the port sees, with the frame's number as its label, and the number of
+-- its stream, none for a background frame
 pub record QueuedFrame : Type 0 where
   pub arrival : Arrival
-  pub stream : ℕ
+  pub stream : Option ℕ
 
--- with the class that its stream's gate gives it
+-- a stream's frame, with the class that its stream's gate gives it
 abbrev pub queued_frame : Domain → Received → Row → QueuedFrame
 queued_frame d x row = record {
   arrival = record { at = record { 0 = x.at }; class = gate_class (stream_list d.cycle_time row.octets) x.at; octets = x.octets; frame = x.frame };
-  stream = row.no;
+  stream = Some row.no;
 }
 
+-- it is queued to each port by whose link its stream goes on
 abbrev pub queued_by : Domain → ℕ → Received → Verdict → List QueuedFrame
-queued_by d l x (Queued row link) = if link == l then queued_frame d x row ∷ [] else []
+queued_by d l x (Queued row) =
+    if list_any (λ next. next == l) (goes_to row (came_by x.way)) then queued_frame d x row ∷ [] else []
 queued_by d l x (DroppedFor reason) = []
 queued_by d l x LacksRow = []
 queued_by d l x ExceedsGate = []
@@ -37,48 +42,99 @@ queued_by d l x ExceedsGate = []
 abbrev pub queued_to : Domain → ℕ → List Policed → List QueuedFrame
 queued_to d l policed = flat_map (λ (p : Policed). queued_by d l p.received p.verdict) policed
 
--- the bridge that a link leaves
-abbrev pub bridge_of : Domain → ℕ → ℕ
-bridge_of d l = option_map_or (λ (link : Link). link.from) (slice_get d.links l) 0
+-- all streams' frames that are queued to a port before an instant
+abbrev pub queued_before : Run → Carried → ℕ → ℕ → List QueuedFrame
+queued_before run carried l end = queued_to run.domain l (policed_before run carried (bridge_of run.domain l) end)
 
--- all that is queued to a port before an instant
-abbrev pub queued_before : Domain → List (List Row) → List Offer → Network → ℕ → ℕ → List QueuedFrame
-queued_before d tables offers net l end = queued_to d l (policed_before d tables offers net (bridge_of d l) end)
+-- the background frames by place, each with its number, from 1
+abbrev pub numbered_background : List Background → List Backed
+numbered_background background =
+    map (λ (x : ℕ × Background). record { frame = x.0; background = x.1 }) (enumerate_from 1 background)
+
+-- those of a link at an instant, by place: each waits with its own class, and no stream gate polices it
+abbrev pub backed_frame : Backed → QueuedFrame
+backed_frame x = record {
+  arrival = record { at = x.background.at; class = x.background.class; octets = x.background.octets; frame = x.frame };
+  stream = None;
+}
+
+abbrev pub is_backed_at : ℕ → ℕ → Backed → Bool
+is_backed_at l t x = (x.background.link == l) && (x.background.at.0 == t)
+
+abbrev pub backed_at : List Background → ℕ → ℕ → List QueuedFrame
+backed_at background l t = map backed_frame (filter (is_backed_at l t) (numbered_background background))
+
+-- those of a cycle, in order of instant, then place
+abbrev pub backed_in : Domain → List Background → ℕ → ℕ → List QueuedFrame
+backed_in d background l cycle = each_below (λ offset. backed_at background l (cycle * d.cycle_time + offset)) d.cycle_time
+
+-- the streams' frames that are queued to a port in a cycle
+abbrev pub queued_in : Run → Carried → ℕ → ℕ → List QueuedFrame
+queued_in run carried l cycle = filter (λ (x : QueuedFrame). cycle_of run.domain x.arrival.at.0 == cycle)
+    (queued_before run carried l ((cycle + 1) * run.domain.cycle_time))
+
+-- what comes to a port in the first cycles, cycle by cycle, as a bridge hands it on: in each the link's background frames, then
+-- the streams' frames. Which of the two kinds stands first is no matter: they have no class in common, and only frames of
+-- one class go by their places, which are in order of instant
+abbrev pub comes_in : Run → Carried → ℕ → ℕ → List QueuedFrame
+comes_in run carried l cycle = backed_in run.domain run.background l cycle ++ queued_in run carried l cycle
+
+abbrev pub comes_before : Run → Carried → ℕ → ℕ → List QueuedFrame
+comes_before run carried l cycles = each_below (comes_in run carried l) cycles
 
 abbrev pub arrivals_of : List QueuedFrame → List Arrival
 arrivals_of queued = map (λ (x : QueuedFrame). x.arrival) queued
 
 abbrev pub no_frame : QueuedFrame
-no_frame = record { arrival = no_arrival; stream = 0 }
+no_frame = record { arrival = no_arrival; stream = None }
 
--- what a transmission sends
-abbrev pub sent_of : List QueuedFrame → Transmission → Sent
-sent_of queued start = let x = slice_index_or queued start.0 no_frame in
-    record { start = record { 0 = start.1 }; frame = x.arrival.frame; stream = x.stream; octets = x.arrival.octets }
+-- what a transmission sends: a stream's frame, or a background frame
+abbrev pub sent_by : ℕ → Arrival → Option ℕ → List Sent
+sent_by t x None = []
+sent_by t x (Some stream) = record { start = record { 0 = t }; frame = x.frame; stream = stream; octets = x.octets } ∷ []
 
--- a port's transmissions are legal for what is queued to it, and are what its link sends
-pub record Sends (d : Domain) (entries : List Entry) (end l : ℕ) (queued : List QueuedFrame) (sents : List Sent) : Type 0 where
+abbrev pub backed_by : ℕ → Arrival → Option ℕ → List Start
+backed_by t x None = record { start = record { 0 = t }; class = x.class; octets = x.octets; frame = x.frame } ∷ []
+backed_by t x (Some stream) = []
+
+abbrev pub sent_of : List QueuedFrame → Transmission → List Sent
+sent_of queued start = let x = slice_index_or queued start.0 no_frame in sent_by start.1 x.arrival x.stream
+
+abbrev pub backed_of : List QueuedFrame → Transmission → List Start
+backed_of queued start = let x = slice_index_or queued start.0 no_frame in backed_by start.1 x.arrival x.stream
+
+-- a port's transmissions are legal for what comes to it; those of streams' frames are what its link carries to the next
+-- node, and those of background frames end there
+pub record Sends (d : Domain) (entries : List Entry) (end l : ℕ) (queued : List QueuedFrame) (sents : List Sent) (backed : List Start) :
+    Type 0 where
   pub starts : List Transmission
   pub legal : AreLegal (record { entries = entries; octet_time = octet_time_of d l }) (arrivals_of queued) end starts
-  pub are : sents ≡ map (sent_of queued) starts
+  pub are_sent : sents ≡ flat_map (sent_of queued) starts
+  pub are_backed : backed ≡ flat_map (backed_of queued) starts
 
--- each link sends what its gate list demands for what the others send and what is offered, up to the end of the run. A
--- link that the domain lacks sends nothing
-pub record IsLegalNetwork (d : Domain) (lists : ℕ → List Entry) (tables : List (List Row)) (offers : List Offer) (cycles : ℕ) (net : Network) : Type 0 where
-  pub sends : (l : ℕ) → l < length d.links → (let end = cycles * d.cycle_time in Sends d (lists l) end l (queued_before d tables offers net l end) (net l))
-  pub no_others : (l : ℕ) → length d.links ≤ l → net l ≡ []
+-- what each link sends, in order of start: streams' frames, and background frames
+pub record Network : Type 0 where
+  pub carried : Carried
+  pub backed : ℕ → List Start
+
+-- each link sends what its gate list demands for what the others send, what is offered and its background frames, up to
+-- the end of the run. A link that the domain lacks sends nothing
+pub record IsLegalNetwork (run : Run) (lists : ℕ → List Entry) (cycles : ℕ) (net : Network) : Type 0 where
+  pub sends : (l : ℕ) → l < length run.domain.links →
+      Sends run.domain (lists l) (cycles * run.domain.cycle_time) l (comes_before run net.carried l cycles) (net.carried l) (net.backed l)
+  pub no_others : (l : ℕ) → length run.domain.links ≤ l → (net.carried l ≡ []) × (net.backed l ≡ [])
 
 -- the gate lists that a domain is compiled to: one and the same for each port (profile)
 abbrev pub compiled_lists : Domain → ℕ → List Entry
 compiled_lists d l = port_list d.cycle_time d.guard
 
--- a frame is lost inside: it came to a bridge by a link within the run and isn't queued there
+-- a frame is lost inside: it came to a bridge by a link within the run and goes on to no port there
 abbrev pub IsLoss : Verdict → Type 0
-IsLoss (Queued row link) = ⊥
+IsLoss (Queued row) = ⊥
 IsLoss (DroppedFor reason) = ⊥
 IsLoss LacksRow = Unit {0}
 IsLoss ExceedsGate = Unit {0}
 
-pub record IsLost (d : Domain) (tables : List (List Row)) (offers : List Offer) (net : Network) (cycles bridge : ℕ) (policed : Policed) : Type 0 where
-  pub came : Contains (policed_before d tables offers net bridge (cycles * d.cycle_time)) policed
+pub record IsLost (run : Run) (carried : Carried) (cycles bridge : ℕ) (policed : Policed) : Type 0 where
+  pub came : Contains (policed_before run carried bridge (cycles * run.domain.cycle_time)) policed
   pub lost : IsLoss policed.verdict

@@ -1,39 +1,97 @@
 -- The meaning of a domain: which offers are covered, and which frame leaves on which link in which cycle. No queue, gate,
--- class, port or instant of sending is in it (profile): of a verdict it reads only by which row an offer goes on, or why it
--- is dropped.
-use Rattle.std.specs.Prelude.{ℕ, ◌≡◌, ◌+◌, ◌*◌, ◌<◌, List, [], Some, slice_get, Contains}
+-- class, port or instant of sending is in it (profile).
+use Rattle.std.specs.Prelude.{ℕ, ◌≡◌, ◌+◌, ◌<◌, ◌≤◌, ◌++◌, List, Bool, true, false, ◌==◌, ◌&&◌, if◌then◌else◌, nat_le, nat_lt, filter, fold, Option, Some, None, Contains}
+use Rattle.cqf_lists.specs.Lists.{each_below}
 use Rattle.cqf_model.specs.declared.frames.Offer.{Offer}
+use Rattle.cqf_model.specs.declared.frames.Offered.{Offered}
 use Rattle.cqf_model.specs.declared.frames.Reason.{Reason}
+use Rattle.cqf_model.specs.declared.frames.Reason.TheVariants.{Unknown, Withdrawn, OtherBridge, Octets}
 use Rattle.cqf_model.specs.declared.topology.Row.{Row}
-use Rattle.cqf_model.specs.Domain.{Domain, cycle_of}
-use Rattle.cqf_model.specs.Traffic.{each_below, Received, Policed, Queued, DroppedFor, within_reservation, police_all, offered_at}
+use Rattle.cqf_model.specs.Domain.{Domain, cycle_of, is_text}
+use Rattle.cqf_model.specs.Run.{Run}
+use Rattle.cqf_model.specs.Table.{IsHop, begins_at, is_live, row_named, table_of}
+use Rattle.cqf_model.specs.Traffic.{numbered}
 
--- the offers at a bridge before an instant, in order of instant, then place
-abbrev pub offered_before : List Offer → ℕ → ℕ → List Received
-offered_before offers bridge end = each_below (offered_at offers bridge) end
+-- the offers at an instant, by place
+abbrev pub offers_at : List Offer → ℕ → List Offered
+offers_at offers t = filter (λ (x : Offered). x.offer.at.0 == t) (numbered offers)
 
--- what becomes of each by the reservations alone. The covered offers of a row all stand at the first bridge of its path,
--- so those before at this bridge are all that count
-abbrev pub judged_before : Domain → List (List Row) → List Offer → ℕ → ℕ → List Policed
-judged_before d tables offers bridge end = police_all d tables (within_reservation d) bridge [] (offered_before offers bridge end)
+-- the offers before one, in order of instant, then place
+abbrev pub offers_before : List Offer → Offered → List Offered
+offers_before offers x = let t = x.offer.at.0 in
+    each_below (offers_at offers) t ++ filter (λ (y : Offered). nat_lt y.frame x.frame) (offers_at offers t)
+
+-- the cycle of an offer
+abbrev pub offer_cycle : Domain → Offered → ℕ
+offer_cycle d x = cycle_of d x.offer.at.0
+
+-- whether an offer asks for octets of the row's reservation in a cycle: it has the stream's name, at its first bridge
+abbrev pub claims : Domain → Row → ℕ → Offered → Bool
+claims d row cycle x = (offer_cycle d x == cycle) && is_text row.name x.offer.stream && begins_at d row x.offer.bridge
+
+-- what the covered ones among some offers take of a row's reservation in a cycle: one after the other, each that asks for
+-- no more than is left takes its octets, and the others take none
+abbrev pub take_octets : Domain → Row → ℕ → ℕ → Offered → ℕ
+take_octets d row cycle taken x =
+    if claims d row cycle x && nat_le (taken + x.offer.octets) row.octets then taken + x.offer.octets else taken
+
+abbrev pub taken_by : Domain → Row → ℕ → List Offered → ℕ
+taken_by d row cycle offers = fold (take_octets d row cycle) 0 offers
+
+-- the row that an offer names, in the table of its cycle
+abbrev pub row_for : Domain → List (List Row) → Offered → Option Row
+row_for d tables x = row_named (table_of tables (offer_cycle d x)) x.offer.stream
+
+-- what an offer and those before it of its row and cycle would take
+abbrev pub asked_with : Domain → List Offer → Offered → Row → ℕ
+asked_with d offers x row = taken_by d row (offer_cycle d x) (offers_before offers x) + x.offer.octets
 
 -- the offer is covered by the row
-pub record IsCovered (d : Domain) (tables : List (List Row)) (offers : List Offer) (end bridge : ℕ) (x : Received) (row : Row) : Type 0 where
-  pub link : ℕ
-  pub judged : Contains (judged_before d tables offers bridge end) (record { received = x; verdict = Queued row link })
+pub record IsCovered (run : Run) (x : Offered) (row : Row) : Type 0 where
+  pub offered : Contains (numbered run.offers) x
+  pub named : row_for run.domain run.tables x ≡ Some row
+  pub live : is_live row (offer_cycle run.domain x) ≡ true
+  pub first_bridge : begins_at run.domain row x.offer.bridge ≡ true
+  pub within : asked_with run.domain run.offers x row ≤ row.octets
 
--- the offer isn't covered, and this is the first reason that fits
-abbrev pub IsUncovered : Domain → List (List Row) → List Offer → ℕ → ℕ → Received → Reason → Type 0
-IsUncovered d tables offers end bridge x reason = Contains (judged_before d tables offers bridge end) (record { received = x; verdict = DroppedFor reason })
+-- the row that an offer names lacks what it needs: it isn't live in the offer's cycle
+pub record IsNotLive (run : Run) (x : Offered) (row : Row) : Type 0 where
+  pub named : row_for run.domain run.tables x ≡ Some row
+  pub not_live : is_live row (offer_cycle run.domain x) ≡ false
 
--- the frame is covered, and leaves on its path's link number hop + 1 so many cycles after its own
-pub record InShift (d : Domain) (tables : List (List Row)) (offers : List Offer) (cycles frame link cycle : ℕ) : Type 0 where
-  pub bridge : ℕ
-  pub x : Received
+-- it is live, and its tree begins at another bridge
+pub record BeginsElsewhere (run : Run) (x : Offered) (row : Row) : Type 0 where
+  pub named : row_for run.domain run.tables x ≡ Some row
+  pub live : is_live row (offer_cycle run.domain x) ≡ true
+  pub elsewhere : begins_at run.domain row x.offer.bridge ≡ false
+
+-- it is live and begins here, and has fewer octets left
+pub record IsShort (run : Run) (x : Offered) (row : Row) : Type 0 where
+  pub named : row_for run.domain run.tables x ≡ Some row
+  pub live : is_live row (offer_cycle run.domain x) ≡ true
+  pub first_bridge : begins_at run.domain row x.offer.bridge ≡ true
+  pub short : row.octets < asked_with run.domain run.offers x row
+
+-- the first reason that fits, for an offer that isn't covered
+abbrev pub IsReason : Run → Offered → Reason → Type 0
+IsReason run x Unknown = row_for run.domain run.tables x ≡ None
+IsReason run x Withdrawn = (row : Row) × IsNotLive run x row
+IsReason run x OtherBridge = (row : Row) × BeginsElsewhere run x row
+IsReason run x Octets = (row : Row) × IsShort run x row
+
+-- an offer of the run that isn't covered, with its reason. That its cycle is run is for the claim to say: past the tables
+-- every name is unknown, and a later offer is in no book
+pub record IsUncovered (run : Run) (x : Offered) (reason : Reason) : Type 0 where
+  pub offered : Contains (numbered run.offers) x
+  pub is_reason : IsReason run x reason
+
+-- the frame is covered, and leaves on a link of its stream's tree as many cycles after its own as the link is deep
+pub record InShift (run : Run) (cycles frame link cycle : ℕ) : Type 0 where
+  pub x : Offered
   pub row : Row
-  pub hop : ℕ
-  pub covered : IsCovered d tables offers (cycles * d.cycle_time) bridge x row
+  pub depth : ℕ
+  pub covered : IsCovered run x row
   pub is_frame : frame ≡ x.frame
-  pub is_link : slice_get row.path.items hop ≡ Some link
-  pub is_cycle : cycle ≡ cycle_of d x.at + hop + 1
+  pub is_hop : IsHop row depth link
+  pub is_cycle : cycle ≡ offer_cycle run.domain x + depth
   pub within_run : cycle < cycles

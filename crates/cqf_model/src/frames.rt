@@ -22,7 +22,29 @@ pub struct Offered {
     pub offer: Offer,
 }
 
-/// A frame that a link carries.
+/// A frame of a class that no stream has, for one hop: no stream gate polices it, it is never dropped, and it ends at the
+/// far end of its link (profile).
+#[derive(Clone, Copy, Debug, PartialEq, Eq)]
+pub struct Background {
+    /// The instant from which it waits.
+    pub at: Nanos,
+    /// The number of its link.
+    pub link: u8,
+    /// Its traffic class, 0 to 5.
+    pub class: u8,
+    /// Its size from the destination address to the FCS, 64 to 1,522.
+    pub octets: u32,
+}
+
+/// A background frame with its number among all background frames.
+#[derive(Clone, Copy, Debug, PartialEq, Eq)]
+pub struct Backed {
+    /// Its place among the background frames, from 1.
+    pub frame: u32,
+    pub background: Background,
+}
+
+/// A stream's frame that a link carries.
 #[derive(Clone, Copy, Debug, PartialEq, Eq)]
 pub struct Sent {
     pub start: Nanos,
@@ -50,7 +72,7 @@ pub enum Reason {
     Unknown,
     /// The stream is held, and not live.
     Withdrawn,
-    /// The bridge is not the first of the stream's path.
+    /// The bridge is not the first of the stream's tree.
     OtherBridge,
     /// The stream's gate has fewer octets left.
     Octets,
@@ -72,8 +94,10 @@ pub struct Dropped {
 pub struct Page {
     pub bridge: u8,
     pub cycle: Cycle,
-    /// By link, then start instant.
+    /// The starts of streams' frames, by link, then start instant.
     pub starts: Vec<Started>,
+    /// The starts of background frames, ordered likewise.
+    pub background: Vec<Started>,
     /// By frame.
     pub drops: Vec<Dropped>,
 }
@@ -81,8 +105,10 @@ pub struct Page {
 /// All that a network sent and dropped in the cycles of a run.
 #[derive(Debug, Drop)]
 pub struct Book {
-    /// By cycle, then link, then start instant.
+    /// The starts of streams' frames, by cycle, then link, then start instant.
     pub starts: Vec<Started>,
+    /// The starts of background frames, ordered likewise.
+    pub background: Vec<Started>,
     /// By cycle, then bridge, then frame.
     pub drops: Vec<Dropped>,
 }

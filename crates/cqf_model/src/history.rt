@@ -1,6 +1,7 @@
 //! What an admission controller answers.
 
 use cqf_units::Cycle;
+use thiserror::Error;
 
 /// An accepted call: the stream's number, from 0 in the order of accepted admissions, and the cycle from which the call
 /// holds (profile).
@@ -10,8 +11,8 @@ pub struct Receipt {
     pub effect: Cycle,
 }
 
-/// Why a call is refused (profile). Places are those of the path's nodes, from 0.
-#[derive(Clone, Copy, Debug, PartialEq, Eq)]
+/// Why a call is refused (profile). Places are those of the nodes, from 0, counted through the branches as one list.
+#[derive(Clone, Copy, Debug, PartialEq, Eq, Error)]
 pub enum Refused {
     /// The name doesn't have the form of a name.
     BadName,
@@ -19,16 +20,19 @@ pub enum Refused {
     BadOctets,
     /// The domain lacks the node at this place.
     UnknownNode(usize),
-    /// At this place the nodes are no path: none at all or a station first, no link from the node before, a bridge last,
-    /// or a bridge too many.
+    /// At this place the nodes of a branch are no path: none at all or a station first, no link from the node before, a
+    /// bridge last, or a bridge too many. A request without a branch is broken at 0.
     BrokenPath(usize),
-    /// The node at this place stood earlier.
+    /// The node at this place stood earlier in its branch.
     LoopingPath(usize),
+    /// The branch of this number, from 0, makes no tree with those before it: it begins at another bridge, is one of them
+    /// again, or has a node of one of them behind another beginning.
+    NotATree(usize),
     /// A held stream has the name.
     NameHeld,
     /// As many streams are held as may be.
     TooManyStreams,
-    /// The first link of the path whose budget has fewer octets left than the stream costs, and how many.
+    /// The first link of the tree, in its order, whose budget has fewer octets left than the stream costs, and how many.
     BudgetShort { link: u8, left: u32 },
     /// No held stream has the name.
     NotHeld,

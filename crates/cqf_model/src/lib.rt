@@ -3,20 +3,23 @@
 //! `specs/` says what a gate list opens, which starts of a port are legal, what a stream gate lets pass, what a domain
 //! and a history of admissions are, and what the network of a domain does: one module a subject, each with its clause
 //! of IEEE Std 802.1Q-2018 or IEEE Std 802.3, or the word 'profile' where the rule is this project's own. `src/` has
-//! the data, with public fields and no logic. The crate that works with a type hands it on to its users.
+//! the data, with public fields; of a [`Row`] it also answers what bodies ask of a stream's life and way, so that none of
+//! them reads a [`Hop`]. The crate that works with a type hands it on to its users.
 //!
-//! Read the modules of `specs/` in this order: `GateList`, `Port`, `StreamGate`, `Domain`, `Table`, `Traffic`, `Network`,
-//! `Shift`, `Book`, `History`, `HistoryBook`. The value of a text stands with the crate that reads or writes it.
+//! Read the modules of `specs/` in this order: `GateList`, `Port`, `StreamGate`, `Domain`, `Table`, `Run`, `Traffic`,
+//! `Network`, `Shift`, `Book`, `History`, `Refusals`, `HistoryBook`. The value of a text stands with the crate that reads or writes it.
 #![tactic(auto)]
 
 mod frames;
 mod gates;
 mod history;
 mod ports;
+mod refusals;
+mod rows;
 mod topology;
 
-pub use frames::{Book, Dropped, Offer, Offered, Page, Reason, Sent, Started};
+pub use frames::{Backed, Background, Book, Dropped, Offer, Offered, Page, Reason, Sent, Started};
 pub use gates::{OpenFor, StreamEntry};
 pub use history::{Receipt, Refused, Reply};
 pub use ports::{Arrival, Start};
-pub use topology::{Link, Node, Row};
+pub use topology::{Hop, Link, Node, Row};

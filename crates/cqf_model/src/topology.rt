@@ -22,6 +22,17 @@ pub struct Link {
     pub delay: u32,
 }
 
+/// A link of a stream's tree (profile).
+#[derive(Clone, Copy, Debug, Default, PartialEq, Eq)]
+pub struct Hop {
+    /// The link's number.
+    pub link: u8,
+    /// How many links it is from the stream's first bridge to the link's end, from 1.
+    pub depth: u8,
+    /// The link before it, by which frames come to the bridge that this one leaves; none at depth 1.
+    pub from: Option<u8>,
+}
+
 /// A stream that is held in a cycle (profile).
 #[derive(Debug, Drop)]
 pub struct Row {
@@ -30,8 +41,8 @@ pub struct Row {
     pub name: Name,
     /// The reservation, in octets a cycle.
     pub octets: u32,
-    /// The path, by the numbers of its links.
-    pub path: ArrayVec<u8, 16>,
+    /// The hops of its tree, in the order in which their links first stand in the branches.
+    pub tree: ArrayVec<Hop, 64>,
     /// The first cycle in which the stream is live.
     pub admitted: Cycle,
     /// The first cycle in which it is live no more, where it was withdrawn.

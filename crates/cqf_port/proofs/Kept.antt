@@ -3,12 +3,13 @@ use Rattle.std.proofs.Common.{ℕ, ◌≡◌, ◌≢◌, ◌+◌, ◌^◌, ◌�
 use Rattle.std.specs.Prelude.{All, map}
 use Rattle.std.proofs.lemmas.Bool.{cases_lt}
 use Rattle.std.proofs.lemmas.List.{get_or-set_same, get_or-set_other, length-set}
-use Rattle.std.proofs.Math.Seq.{drop-append_seam}
+use Rattle.std.proofs.Math.Seq.{drop-append_seam, take-append_seam}
 use Rattle.std.proofs.lemmas.List.Elements.{Contains-get_or, All-take, All-drop}
 use Rattle.cqf_units.specs.declared.timing.Nanos.{Nanos}
 use Rattle.cqf_model.specs.declared.ports.Arrival.{Arrival}
 use Rattle.cqf_model.specs.declared.ports.Start.{Start}
 use Rattle.cqf_model.specs.Port.{Transmission, PortRules, AreLegal, no_arrival, instant_of, class_of}
+use Rattle.cqf_laws_port.specs.PortLaws.{LegalStartsAreUnique}
 use Rattle.cqf_port.specs.PortState.{PortState, AreTaken, IsPort, IsLast, WasOpen, Advances, start_of}
 use Rattle.cqf_port.specs.Progress.{IsNewest, AreNewest, IsAfterArrival, IsKept, AreMore}
 use Rattle.cqf_port.specs.declared.progress.Progress.{Progress}
@@ -19,6 +20,15 @@ use Rattle.cqf_port.proofs.Steps.{abreast_arrival, cases_same}
 -- a port is what its fields keep
 pub kept_port : (rules : PortRules) (arrivals : List Arrival) (reached : ℕ) (starts : List Transmission) (progress : Progress) (newest : List Nanos) → IsKept rules arrivals reached starts progress newest → IsPort (record { rules = rules; reached = reached; arrivals = arrivals; starts = starts })
 kept_port rules arrivals reached starts progress newest kept = record { legal = kept.abreast.legal; taken = kept.taken; early = kept.early }
+
+-- starts that are legal are the only ones
+pub only_legal : (rules : PortRules) (arrivals : List Arrival) (reached : ℕ) (starts shown : List Transmission) → LegalStartsAreUnique → AreLegal rules arrivals reached starts → shown ≡ starts → (others : List Transmission) → AreLegal rules arrivals reached others → others ≡ shown
+only_legal rules arrivals reached starts shown unique legal same others also = unique rules arrivals reached others starts also legal ∙ sym same
+
+-- what was added to a list is cut off again
+pub cut_back : (before after cut : List Transmission) (kept lowest : ℕ) → AreMore before after lowest → kept ≡ length before → cut ≡ take kept after → cut ≡ before
+cut_back before after cut kept lowest more at_end is =
+    is ∙ ap (λ (xs : List Transmission). take kept xs) more.value ∙ ap (λ (n : ℕ). take n (before ++ more.made)) at_end ∙ take-append_seam before more.made
 
 module _ (arrivals : List Arrival) (arrival : Arrival) where
   -- one place more

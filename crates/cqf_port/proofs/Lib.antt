@@ -4,4 +4,9 @@ pub mod Steps
 pub mod Wire
 pub mod More
 pub mod Counts
+pub mod Written
+pub mod Staying
+pub mod Chosen
+pub mod Waiting
+pub mod Coming
 pub mod Kept

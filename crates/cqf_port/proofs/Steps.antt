@@ -13,25 +13,24 @@ use Rattle.cqf_port.specs.declared.progress.Progress.{Progress}
 use Rattle.cqf_port.proofs.Legal.{IsDue, legal_skip, legal_start, legal_arrival, start_cases, same_arrival, last_arrival, arrival_after, arrival_before, longer}
 use Rattle.cqf_port.proofs.Heads.{cases_order, none_is_due, chosen_is_due, head_at}
 
--- an instant passes at which nothing starts
-pub abreast_skip : (rules : PortRules) (arrivals : List Arrival) (t : ℕ) (starts : List Transmission) (progress : Progress) → IsAbreast rules arrivals t starts progress → (IsIdle rules arrivals starts t → (other : ℕ) → IsFirst arrivals starts other t → ¬ IsEligible rules arrivals other t) → IsAbreast rules arrivals (t + 1) starts progress
-abreast_skip rules arrivals t starts progress abreast nothing = record {
-  legal = legal_skip rules arrivals t (t + 1) starts abreast.legal (omega arith) (λ s other from_there soon idle first eligible.
-      let same : s ≡ t = omega arith in
-      nothing (subst (λ (n : ℕ). IsIdle rules arrivals starts n) same idle) other (subst (λ (n : ℕ). IsFirst arrivals starts other n) same first) (subst (λ (n : ℕ). IsEligible rules arrivals other n) same eligible));
-  idle = λ s later. abreast.idle s (omega arith);
-  idle_again = λ s later. abreast.idle_again s (omega arith);
+-- instants pass at which nothing starts
+pub abreast_skip : (rules : PortRules) (arrivals : List Arrival) (t e : ℕ) (starts : List Transmission) (progress : Progress) → IsAbreast rules arrivals t starts progress → t ≤ e → ((s : ℕ) → t ≤ s → s < e → IsIdle rules arrivals starts s → (other : ℕ) → IsFirst arrivals starts other s → ¬ IsEligible rules arrivals other s) → IsAbreast rules arrivals e starts progress
+abreast_skip rules arrivals t e starts progress abreast later nothing = record {
+  legal = legal_skip rules arrivals t e starts abreast.legal later (λ s other from_there soon idle first. nothing s from_there soon idle other first);
+  idle = λ s after. abreast.idle s (omega arith);
+  idle_again = λ s after. abreast.idle_again s (omega arith);
+  soon = abreast.soon;
   eight = abreast.eight;
   heads = abreast.heads;
 }
 
 -- the port isn't idle yet
-pub abreast_busy : (rules : PortRules) (arrivals : List Arrival) (t : ℕ) (starts : List Transmission) (progress : Progress) → IsAbreast rules arrivals t starts progress → t < progress.idle_from.0 → IsAbreast rules arrivals (t + 1) starts progress
-abreast_busy rules arrivals t starts progress abreast busy = abreast_skip rules arrivals t starts progress abreast (λ idle other first. absurd (omega (arith, abreast.idle t (omega arith) idle)))
+pub abreast_busy : (rules : PortRules) (arrivals : List Arrival) (t e : ℕ) (starts : List Transmission) (progress : Progress) → IsAbreast rules arrivals t starts progress → t ≤ e → e ≤ progress.idle_from.0 → IsAbreast rules arrivals e starts progress
+abreast_busy rules arrivals t e starts progress abreast later busy = abreast_skip rules arrivals t e starts progress abreast later (λ s from_there soon idle other first. absurd (omega (arith, abreast.idle s from_there idle)))
 
 -- no head is ready
-pub abreast_none : (rules : PortRules) (arrivals : List Arrival) (t : ℕ) (starts : List Transmission) (progress : Progress) → AreTaken arrivals → IsAbreast rules arrivals t starts progress → NoneReady rules arrivals progress.heads t 0 → IsAbreast rules arrivals (t + 1) starts progress
-abreast_none rules arrivals t starts progress taken abreast none_ready = abreast_skip rules arrivals t starts progress abreast (λ idle. none_is_due rules arrivals t starts progress taken abreast none_ready)
+pub abreast_none : (rules : PortRules) (arrivals : List Arrival) (t e : ℕ) (starts : List Transmission) (progress : Progress) → AreTaken arrivals → IsAbreast rules arrivals t starts progress → t ≤ e → ((s : ℕ) → t ≤ s → s < e → NoneReady rules arrivals progress.heads s 0) → IsAbreast rules arrivals e starts progress
+abreast_none rules arrivals t e starts progress taken abreast later none_ready = abreast_skip rules arrivals t e starts progress abreast later (λ s from_there soon idle. none_is_due rules arrivals t s starts progress taken abreast from_there (none_ready s from_there soon))
 
 -- what had started still has
 started_still : (starts : List Transmission) (place t other : ℕ) → HasStarted starts other → HasStarted (starts ++ (place, t) ∷ []) other
@@ -111,6 +110,7 @@ abreast_start rules arrivals t starts place before after taken abreast free chos
         | inl old ↦ abreast.idle_again s (omega arith) (omega arith) other u old earlier
         | inr same ↦ subst (λ (n : ℕ). free_from rules arrivals n u ≤ s) same.0 (subst (λ (n : ℕ). free_from rules arrivals place n ≤ s) same.1 (omega (arith, step.idle_from)))
       ];
+      soon = step.soon;
       eight = step.eight ∙ abreast.eight;
       heads = λ class low. elim (cases_same class (class_of arrivals place)) [
         | inl same ↦ subst (λ (c : ℕ). IsHeadOf arrivals (starts ++ (place, t) ∷ []) c (get_or after.heads c None)) (sym same) (next_head rules arrivals t starts place taken abreast.legal due (get_or after.heads (class_of arrivals place) None) head step.next)
@@ -163,6 +163,7 @@ abreast_arrival rules arrivals t starts arrival before after some abreast closed
       legal = legal_arrival rules arrivals t starts arrival some abreast.legal closed;
       idle = λ s later idle. omega (arith, step.idle_from, abreast.idle s later (λ place u started earlier. arrival_before arrivals arrival (λ x. idle_after u x.octets rules.octet_time ≤ s) place (inside place u started) (idle place u started earlier)));
       idle_again = λ s later free place u started earlier. arrival_after arrivals arrival (λ x. idle_after u x.octets rules.octet_time ≤ s) place (inside place u started) (abreast.idle_again s later (omega (arith, step.idle_from)) place u started earlier);
+      soon = omega (arith, step.idle_from, abreast.soon);
       eight = step.eight ∙ abreast.eight;
       heads = λ class low. elim (cases_same class arrival.class) [
         | inl same ↦ subst (λ (c : ℕ). IsHeadOf (arrivals ++ arrival ∷ []) starts c (get_or after.heads c None)) (sym same) (own_head arrivals arrival starts rules t before after abreast.legal step (get_or before.heads arrival.class None) refl (abreast.heads arrival.class low_class))

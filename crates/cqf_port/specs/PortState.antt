@@ -32,6 +32,10 @@ pub record IsPort (p : PortState) : Type 0 where
   pub taken : AreTaken p.arrivals
   pub early : p.reached < 2 ^ 62
 
+-- no other starts are legal up to the instant that it has reached, for the arrivals that it has taken
+abbrev pub AreOnly : PortState → Type 0
+AreOnly p = (others : List Transmission) → AreLegal p.rules p.arrivals p.reached others → others ≡ p.starts
+
 -- the class was open at an instant from the first one up to and without the last
 pub record WasOpen (entries : List Entry) (class first last : ℕ) : Type 0 where
   pub instant : ℕ

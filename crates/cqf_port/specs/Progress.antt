@@ -29,6 +29,7 @@ pub record IsAbreast (rules : PortRules) (arrivals : List Arrival) (t : ℕ) (st
   pub legal : AreLegal rules arrivals t starts
   pub idle : (s : ℕ) → t ≤ s → IsIdle rules arrivals starts s → progress.idle_from.0 ≤ s
   pub idle_again : (s : ℕ) → t ≤ s → progress.idle_from.0 ≤ s → IsIdle rules arrivals starts s
+  pub soon : progress.idle_from.0 < 2 ^ 63
   pub eight : length progress.heads ≡ 8
   pub heads : (class : ℕ) → class < 8 → IsHeadOf arrivals starts class (slice_index_or progress.heads class None)
 
@@ -78,6 +79,7 @@ IsNextOf arrivals first class (Some place) = IsNext arrivals first class place
 -- what a port knows behind a start at t: it is idle once the gap is over, and its class has the next head
 pub record IsAfterStart (octet_time : ℕ) (arrivals : List Arrival) (place t : ℕ) (before after : Progress) : Type 0 where
   pub idle_from : after.idle_from.0 ≡ idle_after t (octets_of arrivals place) octet_time
+  pub soon : after.idle_from.0 < 2 ^ 63
   pub eight : length after.heads ≡ length before.heads
   pub next : IsNextOf arrivals (place + 1) (class_of arrivals place) (slice_index_or after.heads (class_of arrivals place) None)
   pub others : (class : ℕ) → class ≢ class_of arrivals place → slice_index_or after.heads class None ≡ slice_index_or before.heads class None
@@ -100,6 +102,11 @@ pub record AreMore (before after : List Transmission) (lowest : ℕ) : Type 0 wh
   pub made : List Transmission
   pub value : after ≡ before ++ made
   pub not_before : (place s : ℕ) → Contains made (place, s) → lowest ≤ s
+
+-- what a port knows once it has looked at an instant: it is abreast of each later one up to the next
+pub record StepsTo (rules : PortRules) (arrivals : List Arrival) (t : ℕ) (starts : List Transmission) (progress : Progress) (next : ℕ) : Type 0 where
+  pub later : t < next
+  pub abreast : (e : ℕ) → t < e → e ≤ next → IsAbreast rules arrivals e starts progress
 
 -- what a port is by its fields
 pub record IsKept (rules : PortRules) (arrivals : List Arrival) (reached : ℕ) (starts : List Transmission) (progress : Progress) (newest : List Nanos) : Type 0 where

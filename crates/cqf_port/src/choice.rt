@@ -1,70 +1,102 @@
 //! Which frame starts at an instant (IEEE Std 802.1Q-2018, 8.6.8.1 and 8.6.8.4).
-ghost use Rattle.std.specs.Prelude.{◌≡◌, ◌+◌, ◌^◌, ◌<◌, ◌↔◌, IsTrue, MatchOption, length};
-ghost use Rattle.cqf_units.specs.Timing.{nanos_of_octet, ending_of};
-ghost use Rattle.cqf_model.specs.GateList.{IsOpenThrough};
+ghost use Rattle.std.specs.Prelude.{◌≡◌, ◌+◌, ◌^◌, ◌<◌, ◌≤◌, ◌↔◌, ◌*◌, ℕ, Some, MatchOption, length, slice_index_or};
+ghost use Rattle.cqf_units.specs.Timing.{nanos_of_octet};
 ghost use Rattle.cqf_port.specs.PortState.{AreTaken, rules_of};
-ghost use Rattle.cqf_port.specs.Progress.{AreInside, IsReady, NoneReadyOf, NoneReady, IsChosen};
+ghost use Rattle.cqf_port.specs.Progress.{AreInside, NoneReady, IsChosen};
+ghost use Rattle.cqf_port.specs.Asked.{AreAsked, HeadFits, IsShort, NoHeadFits};
 
-use cqf_gates::{OpenFor, TxList};
+use crate::spans::Schedule;
+use cqf_lanes::{eligible, highest};
 use cqf_model::Arrival;
-use cqf_units::{Nanos, Octets, Rate, end_of};
+use cqf_units::{Nanos, Rate, octet_time};
 
-/// Whether a frame of so many octets that starts at the instant is sent before its class's gate closes.
-fn is_eligible(list: &TxList, rate: Rate, class: u8, octets: u32, t: Nanos) -> bool
-    requires class { class < 8 }
-    requires early { t.0 < 2 ^ 62 }
-    ensures { IsTrue result ↔ IsOpenThrough list.now class t.0 (ending_of t.0 octets (nanos_of_octet rate)) }
-{
-    let end = end_of(t, Octets(octets), rate);
-    match list.open_for(t, class) {
-        OpenFor::Closed => false,
-        OpenFor::Always => true,
-        OpenFor::Until(closed) => end <= closed,
-    }
+/// What the classes ask for: those with a frame that waits behind an open gate, how long each takes, and how long the
+/// gate stays open. What is left is at most 4,294,967,295 ns, also where it is more or the class never closes; a frame
+/// that takes longer asks only where it fits.
+#[derive(Clone, Copy)]
+struct Asked {
+    classes: u8,
+    need: [u32; 8],
+    left: [u32; 8],
 }
 
-/// The head of the class, where it has come by the instant and is eligible then.
-fn ready_of(
-    list: &TxList,
-    rate: Rate,
-    arrivals: &[Arrival],
-    heads: &[Option<usize>; 8],
-    class: u8,
-    t: Nanos,
-) -> Option<usize>
-    requires class { class < 8 }
-    requires early { t.0 < 2 ^ 62 }
-    requires taken { AreTaken arrivals.now }
-    requires inside { AreInside arrivals.now heads.now }
-    ensures { let rules = rules_of list.now rate in
-        MatchOption result (NoneReadyOf rules arrivals.now heads.now t.0 class) (IsReady rules arrivals.now heads.now t.0 class) }
+/// How long a frame of so many octets takes on the wire, in nanoseconds, with preamble and start delimiter (IEEE 802.3).
+fn need_of(octets: u32, rate: Rate) -> u64
+    ensures value { result ≡ (octets + 8) * nanos_of_octet rate }
+    ensures short { result < 2 ^ 43 }
+    ensures some { 0 < result }
 {
-    let place = heads[usize::from(class)]?;
-    let arrival = arrivals[place];
-    if arrival.at <= t && is_eligible(list, rate, arrival.class, arrival.octets, t) {
-        return Some(place);
-    }
-    None
+    (u64::from(octets) + 8) * octet_time(rate)
 }
 
-/// The head that starts at the instant: the ready one of the highest class that has one (strict priority).
-pub(crate) fn choose(
-    list: &TxList,
-    rate: Rate,
+/// How long the head of the class takes and how long its gate stays open, at most 4,294,967,295 ns each, where the head
+/// has come by the instant and its gate is open.
+fn asked_of(
     arrivals: &[Arrival],
+    rate: Rate,
+    head: Option<usize>,
+    t: Nanos,
+    left: u64,
+) -> Option<(u32, u32)>
+    requires { (place : ℕ) → head ≡ Some place → place < length arrivals.now }
+    ensures short { IsShort (nanos_of_octet rate) arrivals.now head }
+    ensures asked { let octet_time = nanos_of_octet rate in
+        MatchOption result (NoHeadFits octet_time arrivals.now head t.0 left) (λ asked. (asked.0 ≤ asked.1) ↔ HeadFits octet_time arrivals.now head t.0 left) }
+{
+    let arrival = arrivals[head?];
+    let need = need_of(arrival.octets, rate);
+    if t < arrival.at || left == 0 {
+        return None;
+    }
+    let most = u64::from(u32::MAX);
+    if need > most && need > left {
+        return None;
+    }
+    Some((need.min(most) as u32, left.min(most) as u32))
+}
+
+/// What the classes ask for at the instant, where each stays open for so long.
+fn ask(
+    arrivals: &[Arrival],
+    rate: Rate,
     heads: &[Option<usize>; 8],
     t: Nanos,
-) -> Option<usize>
-    requires early { t.0 < 2 ^ 62 }
-    requires taken { AreTaken arrivals.now }
-    requires inside { AreInside arrivals.now heads.now }
-    ensures { let rules = rules_of list.now rate in
-        MatchOption result (NoneReady rules arrivals.now heads.now t.0 0) (IsChosen rules arrivals.now heads.now t.0) }
+    left: &[u64; 8],
+) -> Asked
+    requires { AreInside arrivals.now heads.now }
+    ensures { AreAsked (nanos_of_octet rate) arrivals.now heads.now t.0 left.now 8 result.classes result.need result.left }
 {
-    for above in 0..8u8 {
-        if let Some(place) = ready_of(list, rate, arrivals, heads, 7 - above, t) {
-            return Some(place);
+    let mut asked = Asked {
+        classes: 0,
+        need: [0; 8],
+        left: [0; 8],
+    };
+    for class in 0..8 {
+        if let Some((need, open)) = asked_of(arrivals, rate, heads[class], t, left[class]) {
+            asked.classes |= 1 << class;
+            asked.need[class] = need;
+            asked.left[class] = open;
         }
     }
-    None
+    asked
+}
+
+/// The head that starts at the instant: that of the highest class that has an eligible one (strict priority).
+pub(crate) fn choose(
+    schedule: &Schedule,
+    rate: Rate,
+    arrivals: &[Arrival],
+    heads: &[Option<usize>; 8],
+    t: Nanos,
+) -> Option<usize>
+    requires taken { AreTaken arrivals.now }
+    requires inside { AreInside arrivals.now heads.now }
+    ensures { let rules = rules_of schedule.now rate in
+        MatchOption result (NoneReady rules arrivals.now heads.now t.0 0) (IsChosen rules arrivals.now heads.now t.0) }
+{
+    let asked = ask(arrivals, rate, heads, t, &schedule.left_at(t));
+    match highest(eligible(asked.classes, &asked.need, &asked.left)) {
+        Some(class) => heads[usize::from(class)],
+        None => None,
+    }
 }

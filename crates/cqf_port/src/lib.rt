@@ -2,7 +2,7 @@
 //! 8.6.6, 8.6.8.1 and 8.6.8.4).
 //!
 //! - A [`Port`] goes by a gate control list on a link of a rate. It takes arrivals with [`Port::offer`] and runs to an
-//!   instant with [`Port::advance`], which hands out the starts on the way. In `specs/` it is its `PortState`: what it
+//!   instant with [`Port::advance`], which hands out the starts on the way; [`Port::next_start`] tells the next one. In `specs/` it is its `PortState`: what it
 //!   goes by, the instant that it has reached, the arrivals that it has taken, and the starts that it has handed out.
 //! - An [`Arrival`] is a frame that waits from an instant on; a [`Start`] is one that the port transmits.
 //! - A [`PortFault`] says why an arrival isn't taken.
@@ -19,9 +19,12 @@
 
 mod choice;
 mod late;
+mod next;
 mod port;
 mod progress;
+mod quiet;
 mod run;
+mod spans;
 
 pub use cqf_model::{Arrival, Start};
 pub use port::{Port, PortFault};

@@ -1,12 +1,16 @@
 //! An output port.
-ghost use Rattle.std.specs.Prelude.{◌≡◌, ◌+◌, ◌++◌, ◌^◌, ◌<◌, ◌≤◌, ◌↔◌, [], ◌∷◌, ◌==◌, count_by, IsOk, IsErrOf, OnErr, OnOk};
+ghost use Rattle.std.specs.Prelude.{◌≡◌, ◌+◌, ◌++◌, ◌^◌, ◌<◌, ◌≤◌, ◌↔◌, [], ◌∷◌, ◌==◌, count_by, MatchOption, IsOk, IsErrOf, OnErr, OnOk};
 ghost use Rattle.cqf_model.specs.declared.ports.Arrival.{Arrival};
-ghost use Rattle.cqf_port.specs.PortState.{Advances, IsLate, IsOutOfOrder, IsPort, rules_of, waiting_of};
+ghost use Rattle.cqf_port.specs.NextStart.{StartsNext, StartsNoMore};
+ghost use Rattle.cqf_port.specs.PortState.{Advances, AreOnly, IsLate, IsOutOfOrder, IsPort, rules_of, waiting_of};
 
 use crate::late::was_open;
+use crate::next::next_ready;
 use crate::progress::{Progress, after_arrival};
 use crate::run::{hand_on, run};
+use crate::spans::Schedule;
 use cqf_gates::TxList;
+use cqf_laws_port::legal_starts_are_unique;
 use cqf_model::{Arrival, Start};
 use cqf_units::{Memory, Nanos, Rate};
 use std::alloc::Global;
@@ -30,7 +34,7 @@ pub enum PortFault {
 /// (IEEE 802.1Q, 8.6.8.1 and 8.6.8.4).
 #[derive(Debug, Drop)]
 pub struct Port {
-    list: TxList,
+    schedule: Schedule,
     rate: Rate,
     /// The instant up to which the port has run.
     reached: Nanos,
@@ -48,9 +52,9 @@ impl Model for Port {
 
     ghost Value = { PortState };
 
-    ghost view = { λ p. record { rules = rules_of p.list p.rate; reached = p.reached.0; arrivals = p.arrivals.items; starts = p.starts.items } };
+    ghost view = { λ p. record { rules = rules_of p.schedule p.rate; reached = p.reached.0; arrivals = p.arrivals.items; starts = p.starts.items } };
 
-    ghost invariant = { λ p. IsKept (rules_of p.list p.rate) p.arrivals.items p.reached.0 p.starts.items p.progress p.newest };
+    ghost invariant = { λ p. IsKept (rules_of p.schedule p.rate) p.arrivals.items p.reached.0 p.starts.items p.progress p.newest };
 }
 
 impl Port {
@@ -60,7 +64,7 @@ impl Port {
         ensures { result ≡ record { rules = rules_of list rate; reached = 0; arrivals = []; starts = [] } }
     {
         Port {
-            list,
+            schedule: Schedule::new(list),
             rate,
             reached: Nanos(0),
             progress: Progress {
@@ -80,6 +84,21 @@ impl Port {
         ensures facts { IsPort self.now }
     {
         self.reached
+    }
+
+    /// The instant of the next start from now on, if nothing more is offered, or `None` where none would come. It takes
+    /// no memory, and what is looked at grows with the time until then and not with what was handed out.
+    pub fn next_start(&self) -> Option<Nanos>
+        ensures { MatchOption result (StartsNoMore self.now) (λ t. StartsNext self.now t.0) }
+    {
+        let from = Nanos(self.reached.0.max(self.progress.idle_from.0));
+        next_ready(
+            &self.schedule,
+            self.rate,
+            self.arrivals.as_slice(),
+            &self.progress.heads,
+            from,
+        )
     }
 
     /// How many arrivals of the class, 0 to 7, haven't started.
@@ -105,7 +124,7 @@ impl Port {
         ensures err { OnErr result (self.new ≡ self.old) }
         ensures facts { IsPort self.new }
     {
-        if was_open(&self.list, arrival.class, arrival.at, self.reached) {
+        if was_open(&self.schedule, arrival.class, arrival.at, self.reached) {
             return Err(PortFault::Late);
         }
         let class = usize::from(arrival.class);
@@ -130,13 +149,15 @@ impl Port {
         ensures past { until.0 ≤ self.old.reached → IsOk result × (self.new ≡ self.old) × (given.new.items ≡ given.old.items) }
         ensures err { OnErr result ((self.new ≡ self.old) × (given.new.items ≡ given.old.items)) }
         ensures facts { IsPort self.new }
+        ensures only { AreOnly self.new }
     {
+        legal_starts_are_unique();
         if until <= self.reached {
             return Ok(());
         }
         let kept = self.starts.len();
         let ran = run(
-            &self.list,
+            &self.schedule,
             self.rate,
             self.arrivals.as_slice(),
             self.reached,
@@ -231,6 +252,28 @@ mod tests {
                 "from {at}"
             );
         }
+        Ok(())
+    }
+
+    #[test]
+    fn the_next_start_is_told(rt: HostRuntime) -> Result<(), Fail> {
+        let mut port = Port::new(rt.alloc(), TxList::new(&ALTERNATING)?, Rate::Mb1000);
+        let mut given = Vec::new(rt.alloc());
+        assert_eq!(rt; port.next_start(), None);
+        port.offer(arrival(107_761, 7, 1522))?;
+        assert_eq!(rt; port.next_start(), Some(Nanos(250_000)));
+        port.offer(arrival(107_762, 7, 64))?;
+        port.advance(Nanos(250_001), &mut given)?;
+        assert_eq!(rt; port.next_start(), Some(Nanos(262_336)));
+        Ok(())
+    }
+
+    #[test]
+    fn a_frame_that_never_fits_never_starts(rt: HostRuntime) -> Result<(), Fail> {
+        let mut port = Port::new(rt.alloc(), TxList::new(&ALTERNATING)?, Rate::Mb1000);
+        port.offer(arrival(10, 7, 15_000))?;
+        port.offer(arrival(10, 5, 64))?;
+        assert_eq!(rt; port.next_start(), None);
         Ok(())
     }
 

@@ -31,7 +31,8 @@ fn next_of_class(arrivals: &[Arrival], first: usize, class: u8) -> Option<usize>
 /// The instant from which the port may start again behind a frame of so many octets.
 fn idle_behind(octets: u32, rate: Rate, start: Nanos) -> Nanos
     requires { start.0 < 2 ^ 62 }
-    ensures { result.0 ≡ idle_after start.0 octets (nanos_of_octet rate) }
+    ensures value { result.0 ≡ idle_after start.0 octets (nanos_of_octet rate) }
+    ensures soon { result.0 < 2 ^ 63 }
 {
     idle_from(start, Octets(octets), rate)
 }

@@ -1,46 +1,49 @@
 //! A port from one instant to another.
 ghost use Rattle.std.specs.Prelude.{◌≡◌, ◌+◌, ◌++◌, ◌^◌, ◌<◌, ◌≤◌, All, IfOk, OnErr, OnOk, length, map};
 ghost use Rattle.cqf_port.specs.PortState.{AreTaken, rules_of, start_of};
-ghost use Rattle.cqf_port.specs.Progress.{AreMore, IsAbreast};
+ghost use Rattle.cqf_port.specs.Progress.{AreMore, IsAbreast, StepsTo};
 
 use crate::choice::choose;
 use crate::progress::{Progress, after_start};
-use cqf_gates::TxList;
+use crate::quiet::quiet_until;
+use crate::spans::Schedule;
 use cqf_model::{Arrival, Start};
 use cqf_units::{Memory, Nanos, Rate};
 use std::alloc::AllocError;
 
-/// What happens at one instant: the frame that is due starts. It answers what the port remembers then.
+/// What happens at one instant: the frame that is due starts. It answers what the port remembers then, and the next
+/// instant at which anything can happen.
 fn step(
-    list: &TxList,
+    schedule: &Schedule,
     rate: Rate,
     arrivals: &[Arrival],
     t: Nanos,
     before: Progress,
     starts: &mut Vec<(usize, u64)>,
-) -> Result<Progress, Memory>
+) -> Result<(Progress, Nanos), Memory>
     requires early { t.0 < 2 ^ 62 }
     requires taken { AreTaken arrivals.now }
-    requires abreast { IsAbreast (rules_of list.now rate) arrivals.now t.0 starts.old.items before }
+    requires abreast { IsAbreast (rules_of schedule.now rate) arrivals.now t.0 starts.old.items before }
     ensures more { AreMore starts.old.items starts.new.items t.0 }
-    ensures ok { IfOk result (IsAbreast (rules_of list.now rate) arrivals.now (t.0 + 1) starts.new.items) }
+    ensures ok { IfOk result (λ stepped. StepsTo (rules_of schedule.now rate) arrivals.now t.0 starts.new.items stepped.0 stepped.1.0) }
 {
     if t < before.idle_from {
-        return Ok(before);
+        return Ok((before, before.idle_from));
     }
-    match choose(list, rate, arrivals, &before.heads, t) {
+    match choose(schedule, rate, arrivals, &before.heads, t) {
         Some(place) => {
             starts.push((place, t.0))?;
-            Ok(after_start(arrivals, rate, place, t, before))
+            let after = after_start(arrivals, rate, place, t, before);
+            Ok((after, after.idle_from))
         }
-        None => Ok(before),
+        None => Ok((before, quiet_until(schedule, arrivals, &before.heads, t))),
     }
 }
 
 /// What happens from an instant up to and without another. It answers what the port remembers then. Where a growth
 /// is refused, some starts may have been added.
 pub(crate) fn run(
-    list: &TxList,
+    schedule: &Schedule,
     rate: Rate,
     arrivals: &[Arrival],
     reached: Nanos,
@@ -51,13 +54,16 @@ pub(crate) fn run(
     requires in_order { reached.0 ≤ until.0 }
     requires early { until.0 < 2 ^ 62 }
     requires taken { AreTaken arrivals.now }
-    requires abreast { IsAbreast (rules_of list.now rate) arrivals.now reached.0 starts.old.items before }
+    requires abreast { IsAbreast (rules_of schedule.now rate) arrivals.now reached.0 starts.old.items before }
     ensures more { AreMore starts.old.items starts.new.items reached.0 }
-    ensures ok { IfOk result (IsAbreast (rules_of list.now rate) arrivals.now until.0 starts.new.items) }
+    ensures ok { IfOk result (IsAbreast (rules_of schedule.now rate) arrivals.now until.0 starts.new.items) }
 {
     let mut progress = before;
-    for t in reached.0..until.0 {
-        progress = step(list, rate, arrivals, Nanos(t), progress, starts)?;
+    let mut t = reached.0;
+    'instants: while t < until.0 {
+        let (after, next) = step(schedule, rate, arrivals, Nanos(t), progress, starts)?;
+        progress = after;
+        t = next.0.min(until.0);
     }
     Ok(progress)
 }

@@ -5,3 +5,5 @@ pub mod WrittenLemmas
 pub mod ReadTables
 pub mod OfferLemmas
 pub mod ArrivalLemmas
+pub mod BackgroundLemmas
+pub mod FirstRows

@@ -4,7 +4,7 @@ use Rattle.std.proofs.lemmas.List.Quantifiers.{position-Some}
 use Rattle.std.specs.Prelude.{position}
 use Rattle.cqf_model.specs.declared.frames.Offer.{Offer}
 use Rattle.cqf_model.specs.Domain.{Domain, is_text, node_named, node_or}
-use Rattle.cqf_model.specs.Traffic.{AreOffers, IsOffer}
+use Rattle.cqf_model.specs.Run.{AreOffers, IsOffer}
 use Rattle.cqf_report.specs.Records.{Fields, records_of}
 use Rattle.cqf_report.specs.Table.{in_four}
 use Rattle.cqf_report.specs.Offers.{as_bridge, bridge_named, name_in, offer_header, offer_instant, offer_of, offer_with, offers_of}

@@ -58,64 +58,64 @@ behind-err [] fault = refl
 behind-err (first ∷ rows) fault = ap (λ r. with_row first r) (behind-err rows fault)
 
 -- a row that was taken and writes nothing is the first fault
-pub next-bad : {A R : Type 0} (read : Fields → Option A) (instant : A → ℕ) (remaining : R → Option (List ℕ)) (number before : ℕ) (fields : Fields) (rows : List Fields) (after : Reader R)
-    → number ≤ 1000000 → TakesRow remaining (Some 4) after fields rows → read fields ≡ None → rows_from read instant number before rows ≡ Err (BadRow number)
-next-bad read instant remaining number before fields rows after few takes bad =
+pub next-bad : {A R : Type 0} (columns : ℕ) (read : Fields → Option A) (instant : A → ℕ) (remaining : R → Option (List ℕ)) (number before : ℕ) (fields : Fields) (rows : List Fields) (after : Reader R)
+    → number ≤ 1000000 → TakesRow remaining (Some columns) after fields rows → read fields ≡ None → rows_from read instant number before rows ≡ Err (BadRow number)
+next-bad columns read instant remaining number before fields rows after few takes bad =
     rw takes.first (rows_from-bad read instant number before fields takes.rest few bad)
 
 -- a row of another number of fields is the first fault
-pub next-refused : {A : Type 0} (read : Fields → Option A) (instant : A → ℕ) (number before : ℕ) (rows : List Fields)
-    → number ≤ 1000000 → RefusesRow (Some 4) rows → ((fields : Fields) → (4 ≡ length fields → ⊥) → read fields ≡ None) → rows_from read instant number before rows ≡ Err (BadRow number)
-next-refused read instant number before rows few refuses other =
-    let count : 4 ≡ refuses.count = some-inj 4 refuses.count refuses.expects in
+pub next-refused : {A : Type 0} (columns : ℕ) (read : Fields → Option A) (instant : A → ℕ) (number before : ℕ) (rows : List Fields)
+    → number ≤ 1000000 → RefusesRow (Some columns) rows → ((fields : Fields) → (columns ≡ length fields → ⊥) → read fields ≡ None) → rows_from read instant number before rows ≡ Err (BadRow number)
+next-refused columns read instant number before rows few refuses other =
+    let count : columns ≡ refuses.count = some-inj columns refuses.count refuses.expects in
     rw refuses.first (rows_from-bad read instant number before refuses.fields refuses.rest few (other refuses.fields (λ e. refuses.other (sym count ∙ e))))
   where
     some-inj : (a b : ℕ) → ◌≡◌ {A = Option ℕ} (Some a) (Some b) → a ≡ b
     some-inj a b e = cc
 
 -- a row that was taken and is before the one before it is the first fault
-pub next-back : {A R : Type 0} (read : Fields → Option A) (instant : A → ℕ) (remaining : R → Option (List ℕ)) (number before : ℕ) (fields : Fields) (rows : List Fields) (after : Reader R) (row : A)
-    → number ≤ 1000000 → TakesRow remaining (Some 4) after fields rows → read fields ≡ Some row → instant row < before → rows_from read instant number before rows ≡ Err (OutOfOrder number)
-next-back read instant remaining number before fields rows after row few takes good back =
+pub next-back : {A R : Type 0} (columns : ℕ) (read : Fields → Option A) (instant : A → ℕ) (remaining : R → Option (List ℕ)) (number before : ℕ) (fields : Fields) (rows : List Fields) (after : Reader R) (row : A)
+    → number ≤ 1000000 → TakesRow remaining (Some columns) after fields rows → read fields ≡ Some row → instant row < before → rows_from read instant number before rows ≡ Err (OutOfOrder number)
+next-back columns read instant remaining number before fields rows after row few takes good back =
     rw takes.first (rows_from-back read instant number before fields takes.rest row few good back)
 
 -- a row that was taken and stands
-pub next-good : {A R : Type 0} (read : Fields → Option A) (instant : A → ℕ) (remaining : R → Option (List ℕ)) (number before : ℕ) (fields : Fields) (rows : List Fields) (after : Reader R) (row : A)
-    → number ≤ 1000000 → TakesRow remaining (Some 4) after fields rows → read fields ≡ Some row → before ≤ instant row
-    → (rest : List Fields) × StillGives remaining (Some 4) after rest
+pub next-good : {A R : Type 0} (columns : ℕ) (read : Fields → Option A) (instant : A → ℕ) (remaining : R → Option (List ℕ)) (number before : ℕ) (fields : Fields) (rows : List Fields) (after : Reader R) (row : A)
+    → number ≤ 1000000 → TakesRow remaining (Some columns) after fields rows → read fields ≡ Some row → before ≤ instant row
+    → (rest : List Fields) × StillGives remaining (Some columns) after rest
     × (rows_from read instant number before rows ≡ with_row row (rows_from read instant (number + 1) (instant row) rest))
-next-good read instant remaining number before fields rows after row few takes good in_order =
-    let four : 4 ≡ length fields = takes.fits in
-    (takes.rest, rw (← four) at takes.goes_on, rw takes.first (rows_from-good read instant number before fields takes.rest row few good in_order))
+next-good columns read instant remaining number before fields rows after row few takes good in_order =
+    let as_many : columns ≡ length fields = takes.fits in
+    (takes.rest, rw (← as_many) at takes.goes_on, rw takes.first (rows_from-good read instant number before fields takes.rest row few good in_order))
 
 -- these rows were taken, up to and without the row of this number, and the reader still gives the others
-abbrev pub Taken : {A R : Type 0} → (Fields → Option A) → (A → ℕ) → (R → Option (List ℕ)) → Reader R → ℕ → ℕ → List A → Reader R → Type 0
-Taken read instant remaining first number before taken after = (rows : List Fields) → StillGives remaining (Some 4) first rows
-    → (rest : List Fields) × StillGives remaining (Some 4) after rest
+abbrev pub Taken : {A R : Type 0} → ℕ → (Fields → Option A) → (A → ℕ) → (R → Option (List ℕ)) → Reader R → ℕ → ℕ → List A → Reader R → Type 0
+Taken columns read instant remaining first number before taken after = (rows : List Fields) → StillGives remaining (Some columns) first rows
+    → (rest : List Fields) × StillGives remaining (Some columns) after rest
     × (rows_from read instant 1 0 rows ≡ behind taken (rows_from read instant number before rest))
 
 -- where the reader gives no further row, the table is what was taken
-pub taken-end : {A R : Type 0} (read : Fields → Option A) (instant : A → ℕ) (remaining : R → Option (List ℕ)) (first : Reader R) (number before : ℕ) (taken : List A) (after : Reader R)
-    → Taken read instant remaining first number before taken after → ((rest : List Fields) → StillGives remaining (Some 4) after rest → rest ≡ [])
-    → (rows : List Fields) → StillGives remaining (Some 4) first rows → rows_from read instant 1 0 rows ≡ Ok taken
-taken-end read instant remaining first number before taken after so_far none rows gives =
+pub taken-end : {A R : Type 0} (columns : ℕ) (read : Fields → Option A) (instant : A → ℕ) (remaining : R → Option (List ℕ)) (first : Reader R) (number before : ℕ) (taken : List A) (after : Reader R)
+    → Taken columns read instant remaining first number before taken after → ((rest : List Fields) → StillGives remaining (Some columns) after rest → rest ≡ [])
+    → (rows : List Fields) → StillGives remaining (Some columns) first rows → rows_from read instant 1 0 rows ≡ Ok taken
+taken-end columns read instant remaining first number before taken after so_far none rows gives =
     let (rest, still, is) = so_far rows gives in
     let ended : rows_from read instant number before rest ≡ Ok [] = rw (none rest still) refl in
     is ∙ ap (behind taken) ended ∙ behind-ok taken [] ∙ ap Ok (append-nil taken)
 
 -- where the next row has a fault, it is the table's
-pub taken-fault : {A R : Type 0} (read : Fields → Option A) (instant : A → ℕ) (remaining : R → Option (List ℕ)) (first : Reader R) (number before : ℕ) (taken : List A) (after : Reader R) (fault : TableFault)
-    → Taken read instant remaining first number before taken after → ((rest : List Fields) → StillGives remaining (Some 4) after rest → rows_from read instant number before rest ≡ Err fault)
-    → (rows : List Fields) → StillGives remaining (Some 4) first rows → rows_from read instant 1 0 rows ≡ Err fault
-taken-fault read instant remaining first number before taken after fault so_far bad rows gives =
+pub taken-fault : {A R : Type 0} (columns : ℕ) (read : Fields → Option A) (instant : A → ℕ) (remaining : R → Option (List ℕ)) (first : Reader R) (number before : ℕ) (taken : List A) (after : Reader R) (fault : TableFault)
+    → Taken columns read instant remaining first number before taken after → ((rest : List Fields) → StillGives remaining (Some columns) after rest → rows_from read instant number before rest ≡ Err fault)
+    → (rows : List Fields) → StillGives remaining (Some columns) first rows → rows_from read instant 1 0 rows ≡ Err fault
+taken-fault columns read instant remaining first number before taken after fault so_far bad rows gives =
     let (rest, still, is) = so_far rows gives in
     is ∙ ap (behind taken) (bad rest still) ∙ behind-err taken fault
 
 -- one row more was taken
-pub taken-more : {A R : Type 0} (read : Fields → Option A) (instant : A → ℕ) (remaining : R → Option (List ℕ)) (first : Reader R) (number before : ℕ) (taken : List A) (after next : Reader R) (row : A)
-    → Taken read instant remaining first number before taken after → ((rest : List Fields) → StillGives remaining (Some 4) after rest → TakesNext read instant remaining number before rest next (Ok (Some row)))
-    → Taken read instant remaining first (number + 1) (instant row) (taken ++ row ∷ []) next
-taken-more read instant remaining first number before taken after next row so_far goes rows gives =
+pub taken-more : {A R : Type 0} (columns : ℕ) (read : Fields → Option A) (instant : A → ℕ) (remaining : R → Option (List ℕ)) (first : Reader R) (number before : ℕ) (taken : List A) (after next : Reader R) (row : A)
+    → Taken columns read instant remaining first number before taken after → ((rest : List Fields) → StillGives remaining (Some columns) after rest → TakesNext columns read instant remaining number before rest next (Ok (Some row)))
+    → Taken columns read instant remaining first (number + 1) (instant row) (taken ++ row ∷ []) next
+taken-more columns read instant remaining first number before taken after next row so_far goes rows gives =
     let (rest, still, is) = so_far rows gives in
     let (more, on, follows) = goes rest still in
     (more, on, is ∙ ap (behind taken) follows ∙ sym (behind-more taken row (rows_from read instant (number + 1) (instant row) more)))
@@ -132,11 +132,10 @@ passed-on (Err e) fault P passed h = subst P (sym passed) h
 
 -- a record with the header's fields is the header
 pub header-taken : {R : Type 0} (remaining : R → Option (List ℕ)) (names fields : Fields) (rows : List Fields) (after : Reader R)
-    → length names ≡ 4 → TakesRow remaining None after fields rows → is_header names fields ≡ true → TakesHeader remaining names rows after
-header-taken remaining names fields rows after four takes named =
+    → TakesRow remaining None after fields rows → is_header names fields ≡ true → TakesHeader remaining names rows after
+header-taken remaining names fields rows after takes named =
     let as_many : length names ≡ length fields = pointwise_long bytes_eq names fields named in
-    let size : length fields ≡ 4 = sym as_many ∙ four in
-    record { first = fields; rest = takes.rest; begins = takes.first; named = named; goes_on = rw size at takes.goes_on }
+    record { first = fields; rest = takes.rest; begins = takes.first; named = named; goes_on = rw (← as_many) at takes.goes_on }
 
 -- rows that begin with another record have no header
 pub header-other : {R : Type 0} (remaining : R → Option (List ℕ)) (names fields : Fields) (rows : List Fields) (after : Reader R)
@@ -170,7 +169,7 @@ ok-of (Err fault) P Q h follows = tt
 -- the table's rows, from the rows under its header
 pub table-ok : {A V R : Type 0} (read : Fields → Option A) (instant : A → ℕ) (remaining : R → Option (List ℕ)) (items : V → List A) (names : Fields) (rows : List Fields) (after : Reader R) (result : Result V TableFault)
     → TakesHeader remaining names rows after
-    → IfOk result (λ v. (rest : List Fields) → StillGives remaining (Some 4) after rest → rows_from read instant 1 0 rest ≡ Ok (items v))
+    → IfOk result (λ v. (rest : List Fields) → StillGives remaining (Some (length names)) after rest → rows_from read instant 1 0 rest ≡ Ok (items v))
     → IfOk result (λ v. rows_under names read instant rows ≡ Ok (items v))
 table-ok read instant remaining items names rows after result begins h =
     ok-of result _ (λ v. rows_under names read instant rows ≡ Ok (items v)) h (λ v is. under-header read instant remaining names rows after begins ∙ is begins.rest begins.goes_on)
@@ -178,7 +177,7 @@ table-ok read instant remaining items names rows after result begins h =
 -- the table's fault, from the fault of the rows under its header
 pub table-err : {A V R : Type 0} (read : Fields → Option A) (instant : A → ℕ) (remaining : R → Option (List ℕ)) (names : Fields) (rows : List Fields) (after : Reader R) (result : Result V TableFault)
     → TakesHeader remaining names rows after
-    → IfErr result (λ fault. (rest : List Fields) → StillGives remaining (Some 4) after rest → IsFaultOf (rows_from read instant 1 0 rest) fault)
+    → IfErr result (λ fault. (rest : List Fields) → StillGives remaining (Some (length names)) after rest → IsFaultOf (rows_from read instant 1 0 rest) fault)
     → IfErr result (λ fault. IsFaultOf (rows_under names read instant rows) fault)
 table-err read instant remaining names rows after result begins h =
     err-of result _ (λ fault. IsFaultOf (rows_under names read instant rows) fault) h (λ fault is other. under-header read instant remaining names rows after begins ∙ is begins.rest begins.goes_on other)

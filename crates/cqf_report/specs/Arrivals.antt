@@ -3,7 +3,7 @@ use Rattle.std.specs.Prelude.{ℕ, ◌≤◌, ◌-◌, ◌^◌, All, AllPairs, L
 use Rattle.cqf_model.specs.declared.ports.Arrival.{Arrival}
 use Rattle.cqf_text.specs.Decimal.{decimal_in}
 use Rattle.cqf_report.specs.Records.{Fields}
-use Rattle.cqf_report.specs.Table.{table_of}
+use Rattle.cqf_report.specs.Table.{in_four, table_of}
 use Rattle.cqf_report.specs.declared.tables.TableFault.{TableFault}
 
 abbrev pub arrival_header : Fields
@@ -27,7 +27,7 @@ arrival_instant arrival = arrival.at.0
 
 -- the arrivals that a text writes, in order, or its first fault
 abbrev pub arrivals_of : List ℕ → Result (List Arrival) TableFault
-arrivals_of text = table_of arrival_header arrival_of arrival_instant text
+arrivals_of text = table_of arrival_header (in_four arrival_of) arrival_instant text
 
 -- what an arrival that is read is like, and all of them: no one is before one that stands before it
 pub record IsArrival (arrival : Arrival) : Type 0 where

@@ -2,6 +2,7 @@
 use Rattle.std.specs.Prelude.{ℕ, ◌++◌, List, [], ◌∷◌, codes, decimal, slice_get, slice_index_or}
 use Rattle.std.specs.List.{flat_map}
 use Rattle.std.specs.Option.{option_map_or}
+use Rattle.cqf_model.specs.declared.frames.Book.{Book}
 use Rattle.cqf_model.specs.declared.frames.Dropped.{Dropped}
 use Rattle.cqf_model.specs.declared.frames.Reason.{Reason}
 use Rattle.cqf_model.specs.declared.frames.Reason.TheVariants.{Octets, OtherBridge, Unknown, Withdrawn}
@@ -9,6 +10,7 @@ use Rattle.cqf_model.specs.declared.frames.Started.{Started}
 use Rattle.cqf_model.specs.declared.topology.Link.{Link}
 use Rattle.cqf_model.specs.declared.topology.Node.{Node}
 use Rattle.cqf_model.specs.declared.topology.Node.TheVariants.{Bridge, Station}
+use Rattle.cqf_model.specs.Book.{Contents}
 use Rattle.cqf_model.specs.Domain.{Domain}
 use Rattle.cqf_report.specs.Records.{Fields}
 use Rattle.cqf_report.specs.Written.{line_of}
@@ -37,17 +39,31 @@ name_of_reason Withdrawn = codes "withdrawn"
 name_of_reason OtherBridge = codes "other-bridge"
 name_of_reason Octets = codes "octets"
 
--- a transmission's cycle, link, frame, size and first instant
-abbrev pub started_fields : Domain → Started → Fields
-started_fields d started =
-    codes "start" ∷ decimal started.cycle.0 ∷ name_of_link d started.link ∷ decimal started.frame ∷ decimal started.octets ∷ decimal started.start.0 ∷ []
+-- a transmission: the word for what it is, its cycle, link, frame, size and first instant
+abbrev pub started_fields : List ℕ → Domain → Started → Fields
+started_fields what d started =
+    what ∷ decimal started.cycle.0 ∷ name_of_link d started.link ∷ decimal started.frame ∷ decimal started.octets ∷ decimal started.start.0 ∷ []
 
 -- a drop's cycle, bridge, frame, size and reason
 abbrev pub dropped_fields : Domain → Dropped → Fields
 dropped_fields d dropped =
     codes "drop" ∷ decimal dropped.cycle.0 ∷ name_of_bridge d dropped.bridge ∷ decimal dropped.frame ∷ decimal dropped.octets ∷ name_of_reason dropped.reason ∷ []
 
--- the text of a book: the header, one line a transmission, and then one line a drop, in their orders
-abbrev pub text_of_book : Domain → List Started → List Dropped → List ℕ
-text_of_book d starts drops =
-    line_of book_header ++ flat_map (λ (started : Started). line_of (started_fields d started)) starts ++ flat_map (λ (dropped : Dropped). line_of (dropped_fields d dropped)) drops
+-- what a book has
+abbrev pub contents_of : Book → Contents
+contents_of book = record { starts = book.starts.items; background = book.background.items; drops = book.drops.items }
+
+-- one line a transmission, and one line a drop, in their orders
+abbrev pub lines_of_starts : List ℕ → Domain → List Started → List ℕ
+lines_of_starts what d starts = flat_map (λ (started : Started). line_of (started_fields what d started)) starts
+
+abbrev pub lines_of_drops : Domain → List Dropped → List ℕ
+lines_of_drops d drops = flat_map (λ (dropped : Dropped). line_of (dropped_fields d dropped)) drops
+
+-- the text of a book: the header, the transmissions of streams' frames, those of background frames, and then the drops
+abbrev pub text_of_book : Domain → Contents → List ℕ
+text_of_book d book =
+    line_of book_header
+    ++ lines_of_starts (codes "start") d book.starts
+    ++ lines_of_starts (codes "background") d book.background
+    ++ lines_of_drops d book.drops

@@ -5,4 +5,7 @@ pub mod Written
 pub mod Starts
 pub mod Offers
 pub mod Books
-pub mod Refusals
+pub mod Faults
+pub mod BackgroundFrames
+pub mod OtherColumns
+pub mod TableLaws

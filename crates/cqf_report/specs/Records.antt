@@ -1,5 +1,5 @@
 -- What a text of comma-separated values holds, as the reader of the crate `csv` reads it, and what a reader still gives.
-use Rattle.std.specs.Prelude.{ℕ, ◌≡◌, ◌≢◌, ◌<◌, List, [], ◌∷◌, Option, Some, IfSome, false, length}
+use Rattle.std.specs.Prelude.{ℕ, ◌≡◌, ◌≢◌, ◌<◌, ⊤, List, [], ◌∷◌, Option, Some, IfSome, false, length}
 use Rattle.csv.specs.Machine.{ends_at_end}
 use Rattle.csv.specs.Reading.{Ready, default_config, expected_len, is_flexible, reader_config, reader_state, reader_trim, records, records_from, source_of, strip_bom}
 use Rattle.csv.specs.declared.reader.Reader.{Reader}
@@ -44,6 +44,12 @@ pub record RefusesRow (expected : Option ℕ) (rows : List Fields) : Type 0 wher
   pub count : ℕ
   pub expects : expected ≡ Some count
   pub other : count ≢ length fields
+
+-- the next read is of one record again, unless there was none
+abbrev pub StaysReady : {R : Type 0} → Taken → Reader R → Type 0
+StaysReady Row reader = Ready reader
+StaysReady End reader = ⊤
+StaysReady Refused reader = Ready reader
 
 -- what was taken of the rows
 abbrev pub Takes : {R : Type 0} → (R → Option (List ℕ)) → Option ℕ → Taken → Reader R → Fields → List Fields → Type 0

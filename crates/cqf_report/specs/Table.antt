@@ -1,5 +1,5 @@
 -- Tables: a header, and under it rows in order of instant (profile). Rows count from 1.
-use Rattle.std.specs.Prelude.{ℕ, ◌≡◌, ◌≢◌, ◌+◌, List, [], ◌∷◌, Bool, true, false, Option, Some, None, Result, Ok, Err, if◌then◌else◌, nat_lt}
+use Rattle.std.specs.Prelude.{ℕ, ◌≡◌, ◌≢◌, ◌+◌, List, [], ◌∷◌, Bool, true, false, Option, Some, None, Result, Ok, Err, if◌then◌else◌, length, nat_lt}
 use Rattle.std.specs.Cmp.Lexicographic.{pointwise}
 use Rattle.std.specs.Str.{bytes_eq}
 use Rattle.csv.specs.declared.reader.Reader.{Reader}
@@ -15,15 +15,23 @@ most_rows = 1000000
 abbrev pub is_header : Fields → Fields → Bool
 is_header names fields = pointwise bytes_eq names fields
 
--- the four fields of a record that has four
+-- the four fields of a record that has four, and the five of one that has five
 abbrev pub four_of : Fields → Option (List ℕ × List ℕ × List ℕ × List ℕ)
 four_of (first ∷ second ∷ third ∷ fourth ∷ []) = Some (first, second, third, fourth)
 four_of _ = None
 
--- what a record of four fields writes. One of another number of fields writes nothing
+abbrev pub five_of : Fields → Option (List ℕ × List ℕ × List ℕ × List ℕ × List ℕ)
+five_of (first ∷ second ∷ third ∷ fourth ∷ fifth ∷ []) = Some (first, second, third, fourth, fifth)
+five_of _ = None
+
+-- what a record of four fields writes, and one of five. One of another number of fields writes nothing
 abbrev pub in_four : {A : Type 0} → (List ℕ → List ℕ → List ℕ → List ℕ → Option A) → Fields → Option A
 in_four read (first ∷ second ∷ third ∷ fourth ∷ []) = read first second third fourth
 in_four read _ = None
+
+abbrev pub in_five : {A : Type 0} → (List ℕ → List ℕ → List ℕ → List ℕ → List ℕ → Option A) → Fields → Option A
+in_five read (first ∷ second ∷ third ∷ fourth ∷ fifth ∷ []) = read first second third fourth fifth
+in_five read _ = None
 
 -- a row in front of the others
 abbrev pub with_row : {A : Type 0} → A → Result (List A) TableFault → Result (List A) TableFault
@@ -50,22 +58,23 @@ rows_under names read instant [] = Err BadHeader
 rows_under names read instant (first ∷ rows) =
     if is_header names first then rows_from read instant 1 0 rows else Err BadHeader
 
--- the rows of a text of four columns, or its first fault
-abbrev pub table_of : {A : Type 0} → Fields → (List ℕ → List ℕ → List ℕ → List ℕ → Option A) → (A → ℕ) → List ℕ → Result (List A) TableFault
-table_of names read instant text = rows_under names (in_four read) instant (records_of text)
+-- the rows of a text with this header, or its first fault
+abbrev pub table_of : {A : Type 0} → Fields → (Fields → Option A) → (A → ℕ) → List ℕ → Result (List A) TableFault
+table_of names read instant text = rows_under names read instant (records_of text)
 
 -- the fault is the table's first. Nothing is said of want of memory
 abbrev pub IsFaultOf : {A : Type 0} → Result (List A) TableFault → TableFault → Type 0
 IsFaultOf table fault = fault ≢ Memory → table ≡ Err fault
 
--- what taking the next row does, of the rows from this number on: there is none; or it is taken, and the reader still
--- gives the others; or it is the first fault
-abbrev pub TakesNext : {A R : Type 0} → (Fields → Option A) → (A → ℕ) → (R → Option (List ℕ)) → ℕ → ℕ → List Fields → Reader R → Result (Option A) TableFault → Type 0
-TakesNext read instant remaining number before rows after (Ok None) = rows ≡ []
-TakesNext read instant remaining number before rows after (Ok (Some row)) =
-    (rest : List Fields) × StillGives remaining (Some 4) after rest
+-- what taking the next row does, of the rows of so many columns from this number on: there is none; or it is taken, and the
+-- reader still gives the others; or it is the first fault
+abbrev pub TakesNext : {A R : Type 0} → ℕ → (Fields → Option A) → (A → ℕ) → (R → Option (List ℕ)) → ℕ → ℕ → List Fields → Reader R
+    → Result (Option A) TableFault → Type 0
+TakesNext columns read instant remaining number before rows after (Ok None) = rows ≡ []
+TakesNext columns read instant remaining number before rows after (Ok (Some row)) =
+    (rest : List Fields) × StillGives remaining (Some columns) after rest
     × (rows_from read instant number before rows ≡ with_row row (rows_from read instant (number + 1) (instant row) rest))
-TakesNext read instant remaining number before rows after (Err fault) = IsFaultOf (rows_from read instant number before rows) fault
+TakesNext columns read instant remaining number before rows after (Err fault) = IsFaultOf (rows_from read instant number before rows) fault
 
 -- the rows begin with the header
 abbrev pub has_header : Fields → List Fields → Bool
@@ -78,4 +87,4 @@ pub record TakesHeader {R : Type 0} (remaining : R → Option (List ℕ)) (names
   pub rest : List Fields
   pub begins : rows ≡ first ∷ rest
   pub named : is_header names first ≡ true
-  pub goes_on : StillGives remaining (Some 4) after rest
+  pub goes_on : StillGives remaining (Some (length names)) after rest

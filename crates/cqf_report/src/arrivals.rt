@@ -1,18 +1,41 @@
 //! The arrivals of a port, read from a text.
 
-ghost use Rattle.std.specs.Prelude.{ℕ, ◌≡◌, ◌≤◌, List, Option, Some, IfOk, IfErr, Ok, length};
-ghost use Rattle.csv.specs.Records.{fields_of};
-ghost use Rattle.cqf_report.specs.Records.{Fields, StillGives};
-ghost use Rattle.cqf_report.specs.Table.{IsFaultOf, TakesNext, rows_from};
-ghost use Rattle.cqf_report.specs.Arrivals.{arrival_instant, arrival_of, arrivals_of, AreArrivals};
+ghost use Rattle.std.specs.Prelude.{◌≡◌, ◌≤◌, IfOk, IfErr, Ok, length};
+ghost use Rattle.cqf_report.specs.OtherColumns.{in_four-other};
+ghost use Rattle.cqf_report.specs.Table.{IsFaultOf, in_four};
+ghost use Rattle.cqf_report.specs.Arrivals.{arrival_header, arrival_instant, arrival_of, arrivals_of, AreArrivals};
 
-use crate::rows::{RowFormat, read_rows};
-use crate::tables::{TableFault, open_table, read_number, take_header};
+use crate::rows::{RowFormat, read_table};
+use crate::tables::{TableFault, four_fields, is_header_of, read_number};
 use cqf_model::Arrival;
 use cqf_text::read_decimal;
 use cqf_units::Nanos;
 use csv::ByteRecord;
 use std::alloc::Global;
+
+/// The arrival that four fields write.
+fn read_arrival(at: &[u8], class: &[u8], octets: &[u8], frame: &[u8]) -> Option<Arrival>
+    ensures { result ≡ arrival_of at.now class.now octets.now frame.now }
+{
+    let Some(at) = read_decimal(at, 0, 100_000_000) else {
+        return None;
+    };
+    let Some(class) = read_number(class, 0, 7) else {
+        return None;
+    };
+    let Some(octets) = read_number(octets, 64, 1522) else {
+        return None;
+    };
+    let Some(frame) = read_number(frame, 0, u32::MAX) else {
+        return None;
+    };
+    Some(Arrival {
+        at: Nanos(at),
+        class: class as u8,
+        octets,
+        frame,
+    })
+}
 
 /// The rows of arrivals.
 struct ArrivalRows;
@@ -20,29 +43,29 @@ struct ArrivalRows;
 impl RowFormat for ArrivalRows {
     type Row = Arrival;
 
-    ghost row_of = { λ _. arrival_of };
+    ghost header = { arrival_header };
+
+    ghost row_of = { λ _. in_four arrival_of };
 
     ghost instant_of = { arrival_instant };
 
-    fn read_row(&self, at: &[u8], class: &[u8], octets: &[u8], frame: &[u8]) -> Option<Arrival> {
-        let Some(at) = read_decimal(at, 0, 100_000_000) else {
+    ghost no_row_of_others = { λ _. in_four-other arrival_of };
+
+    fn names_columns(record: &ByteRecord) -> bool {
+        let names = (
+            b"at".as_slice(),
+            b"class".as_slice(),
+            b"octets".as_slice(),
+            b"frame".as_slice(),
+        );
+        is_header_of(record, names)
+    }
+
+    fn read_row(&self, record: &ByteRecord) -> Option<Arrival> {
+        let Some((at, class, octets, frame)) = four_fields(record) else {
             return None;
         };
-        let Some(class) = read_number(class, 0, 7) else {
-            return None;
-        };
-        let Some(octets) = read_number(octets, 64, 1522) else {
-            return None;
-        };
-        let Some(frame) = read_number(frame, 0, u32::MAX) else {
-            return None;
-        };
-        Some(Arrival {
-            at: Nanos(at),
-            class: class as u8,
-            octets,
-            frame,
-        })
+        read_arrival(at, class, octets, frame)
     }
 
     fn instant(row: &Arrival) -> Nanos {
@@ -65,16 +88,7 @@ pub fn read_arrivals(alloc: Global, text: &[u8]) -> Result<Vec<Arrival>, TableFa
     ensures few { IfOk result (λ arrivals. length arrivals.items ≤ 1000000) }
     ensures err { IfErr result (λ fault. IsFaultOf (arrivals_of text.now) fault) }
 {
-    let mut reader = open_table(alloc, text);
-    let mut row = ByteRecord::new(alloc);
-    let names = (
-        b"at".as_slice(),
-        b"class".as_slice(),
-        b"octets".as_slice(),
-        b"frame".as_slice(),
-    );
-    take_header(&mut reader, &mut row, names)?;
-    read_rows(alloc, &ArrivalRows, &mut reader, &mut row)
+    read_table(alloc, &ArrivalRows, text)
 }
 
 #[cfg(test)]

@@ -3,7 +3,7 @@
 ghost use Rattle.std.specs.Prelude.{ℕ, ◌≡◌, ◌++◌, ◌∷◌, List, [], IfOk, Some};
 ghost use Rattle.std.specs.String.{string_bytes};
 ghost use Rattle.cqf_report.specs.Written.{ArePlain, HasWritten, IsPlain, line_of};
-ghost use Rattle.cqf_report.specs.Books.{dropped_fields, ends_of, name_of_bridge, name_of_link, name_of_node, name_of_reason, started_fields, text_of_book};
+ghost use Rattle.cqf_report.specs.Books.{book_header, contents_of, dropped_fields, ends_of, lines_of_drops, lines_of_starts, name_of_bridge, name_of_link, name_of_node, name_of_reason, started_fields, text_of_book};
 
 use crate::lines::{open_writer, write_line, written_text};
 use cqf_model::{Book, Dropped, Link, Node, Reason, Started};
@@ -100,14 +100,16 @@ fn write_event<'f, W: Write + Drop>(
     write_line(writer, &[what, cycle, place, frame, octets, detail])
 }
 
-/// Writes a transmission's line.
+/// Writes a transmission's line, which begins with the word for what it is.
 fn write_started<W: Write + Drop>(
     alloc: Global,
     writer: &mut Writer<W>,
+    what: &[u8],
     domain: &Domain,
     started: &Started,
 ) -> Result<(), Memory>
-    ensures { IfOk result (λ _. (text : List ℕ) → HasWritten W.contents writer.old text → HasWritten W.contents writer.new (text ++ line_of (started_fields domain.now started.now))) }
+    requires { IsPlain what.now }
+    ensures { IfOk result (λ _. (text : List ℕ) → HasWritten W.contents writer.old text → HasWritten W.contents writer.new (text ++ line_of (started_fields what.now domain.now started.now))) }
 {
     let link = link_name(alloc, domain, started.link)?;
     let mut cycle = Buffer::new();
@@ -116,13 +118,30 @@ fn write_started<W: Write + Drop>(
     let mut first = Buffer::new();
     write_event(
         writer,
-        b"start".as_slice(),
+        what,
         cycle.format(started.cycle.0).as_bytes(),
         link.as_bytes(),
         frame.format(started.frame).as_bytes(),
         octets.format(started.octets).as_bytes(),
         first.format(started.start.0).as_bytes(),
     )
+}
+
+/// Writes a line for each transmission.
+fn write_starts<W: Write + Drop>(
+    alloc: Global,
+    writer: &mut Writer<W>,
+    what: &[u8],
+    domain: &Domain,
+    starts: &[Started],
+) -> Result<(), Memory>
+    requires { IsPlain what.now }
+    ensures { IfOk result (λ _. (text : List ℕ) → HasWritten W.contents writer.old text → HasWritten W.contents writer.new (text ++ lines_of_starts what.now domain.now starts.now)) }
+{
+    for started in starts {
+        write_started(alloc, writer, what, domain, started)?;
+    }
+    Ok(())
 }
 
 /// Writes a drop's line.
@@ -147,14 +166,24 @@ fn write_dropped<W: Write + Drop>(
     )
 }
 
-/// The text of a book: the header `what,cycle,where,frame,octets,detail`; then one line a transmission,
-/// `start,CYCLE,FROM>TO,FRAME,OCTETS,INSTANT`; and then one line a drop, `drop,CYCLE,BRIDGE,FRAME,OCTETS,REASON`, each in
-/// the book's order (profile). The reasons are `unknown`, `withdrawn`, `other-bridge` and `octets`; a link, bridge or
-/// station that the domain lacks has an empty name. The error is want of memory.
-pub fn write_book(alloc: Global, domain: &Domain, book: &Book) -> Result<Vec<u8>, Memory>
-    ensures { IfOk result (λ text. text.items ≡ text_of_book domain.now book.now.starts.items book.now.drops.items) }
+/// Writes a line for each drop.
+fn write_drops<W: Write + Drop>(
+    writer: &mut Writer<W>,
+    domain: &Domain,
+    drops: &[Dropped],
+) -> Result<(), Memory>
+    ensures { IfOk result (λ _. (text : List ℕ) → HasWritten W.contents writer.old text → HasWritten W.contents writer.new (text ++ lines_of_drops domain.now drops.now)) }
 {
-    let mut writer = open_writer(alloc);
+    for dropped in drops {
+        write_dropped(writer, domain, dropped)?;
+    }
+    Ok(())
+}
+
+/// Writes the header of a book.
+fn write_header<W: Write + Drop>(writer: &mut Writer<W>) -> Result<(), Memory>
+    ensures { IfOk result (λ _. (text : List ℕ) → HasWritten W.contents writer.old text → HasWritten W.contents writer.new (text ++ line_of book_header)) }
+{
     let names = [
         b"what".as_slice(),
         b"cycle".as_slice(),
@@ -163,30 +192,39 @@ pub fn write_book(alloc: Global, domain: &Domain, book: &Book) -> Result<Vec<u8>
         b"octets".as_slice(),
         b"detail".as_slice(),
     ];
-    write_line(&mut writer, &names)?;
-    for started in &book.starts {
-        write_started(alloc, &mut writer, domain, started)?;
-    }
-    for dropped in &book.drops {
-        write_dropped(&mut writer, domain, dropped)?;
-    }
+    write_line(writer, &names)
+}
+
+/// The text of a book: the header `what,cycle,where,frame,octets,detail`; then one line a transmission of a stream's frame,
+/// `start,CYCLE,FROM>TO,FRAME,OCTETS,INSTANT`; then one line a transmission of a background frame,
+/// `background,CYCLE,FROM>TO,FRAME,OCTETS,INSTANT`; and then one line a drop, `drop,CYCLE,BRIDGE,FRAME,OCTETS,REASON`, each
+/// in the book's order (profile). The reasons are `unknown`, `withdrawn`, `other-bridge` and `octets`; a link, bridge or
+/// station that the domain lacks has an empty name. The error is want of memory.
+pub fn write_book(alloc: Global, domain: &Domain, book: &Book) -> Result<Vec<u8>, Memory>
+    ensures { IfOk result (λ text. text.items ≡ text_of_book domain.now (contents_of book.now)) }
+{
+    let mut writer = open_writer(alloc);
+    write_header(&mut writer)?;
+    let start = b"start".as_slice();
+    write_starts(alloc, &mut writer, start, domain, book.starts.as_slice())?;
+    let background = b"background".as_slice();
+    write_starts(
+        alloc,
+        &mut writer,
+        background,
+        domain,
+        book.background.as_slice(),
+    )?;
+    write_drops(&mut writer, domain, book.drops.as_slice())?;
     written_text(writer)
 }
 
 #[cfg(test)]
 mod tests {
     use super::*;
+    use cqf_fixtures::{one_link, ring};
     use cqf_units::{Cycle, Nanos};
     use std::test::Fail;
-
-    /// Three bridges, each but the last with a link to the next and the last one with a link to the station; link 3 leads
-    /// from the first bridge to the last.
-    const FORK: &[u8] =
-        b"cycle = 125000\nguard = 5000\nbridges = [\"a\", \"b\", \"c\"]\nstations = [\"s\"]\n
-[[links]]\nfrom = \"a\"\nto = \"b\"\nrate = 1000\ndelay = 500\n
-[[links]]\nfrom = \"b\"\nto = \"c\"\nrate = 1000\ndelay = 500\n
-[[links]]\nfrom = \"c\"\nto = \"s\"\nrate = 1000\ndelay = 500\n
-[[links]]\nfrom = \"a\"\nto = \"c\"\nrate = 1000\ndelay = 500\n";
 
     fn started(cycle: u32, link: u8, frame: u32, start: u64) -> Started {
         Started {
@@ -211,7 +249,7 @@ mod tests {
     #[test]
     fn transmissions_are_written_with_the_ends_of_their_links(rt: HostRuntime) -> Result<(), Fail> {
         let alloc = rt.alloc();
-        let domain = Domain::read(alloc, FORK)?;
+        let domain = Domain::read(alloc, ring().as_bytes())?;
         let starts = vec![in alloc;
             started(1, 1, 2, 125_000),
             started(1, 3, 1, 125_000),
@@ -220,6 +258,7 @@ mod tests {
         ]?;
         let book = Book {
             starts,
+            background: Vec::new(alloc),
             drops: Vec::new(alloc),
         };
         let text = write_book(alloc, &domain, &book)?;
@@ -238,7 +277,7 @@ start,2,c>s,1,64,250672
         rt: HostRuntime,
     ) -> Result<(), Fail> {
         let alloc = rt.alloc();
-        let domain = Domain::read(alloc, FORK)?;
+        let domain = Domain::read(alloc, ring().as_bytes())?;
         let starts = vec![in alloc; started(3, 2, 1, 375_000)]?;
         let drops = vec![in alloc;
             dropped(0, 1, 2, Reason::OtherBridge),
@@ -246,13 +285,45 @@ start,2,c>s,1,64,250672
             dropped(1, 0, 3, Reason::Withdrawn),
             dropped(4, 0, 4, Reason::Unknown),
         ]?;
-        let book = Book { starts, drops };
+        let book = Book {
+            starts,
+            background: Vec::new(alloc),
+            drops,
+        };
         let text = write_book(alloc, &domain, &book)?;
         let expected = b"what,cycle,where,frame,octets,detail
 start,3,c>s,1,64,375000
 drop,0,b,2,64,other-bridge
 drop,0,a,6,64,octets
 drop,1,a,3,64,withdrawn
+drop,4,a,4,64,unknown
+";
+        assert!(rt; text.as_slice() == expected.as_slice());
+        Ok(())
+    }
+
+    #[test]
+    fn background_frames_are_written_behind_those_of_streams(rt: HostRuntime) -> Result<(), Fail> {
+        let alloc = rt.alloc();
+        let domain = Domain::read(alloc, one_link().as_bytes())?;
+        let background = vec![in alloc;
+            Started {
+                cycle: Cycle(1),
+                link: 0,
+                frame: 1,
+                octets: 1522,
+                start: Nanos(125_672),
+            },
+        ]?;
+        let book = Book {
+            starts: vec![in alloc; started(1, 0, 1, 125_000)]?,
+            background,
+            drops: vec![in alloc; dropped(4, 0, 4, Reason::Unknown)]?,
+        };
+        let text = write_book(alloc, &domain, &book)?;
+        let expected = b"what,cycle,where,frame,octets,detail
+start,1,a>s,1,64,125000
+background,1,a>s,1,1522,125672
 drop,4,a,4,64,unknown
 ";
         assert!(rt; text.as_slice() == expected.as_slice());

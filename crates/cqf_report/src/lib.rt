@@ -1,12 +1,13 @@
-//! Tables as comma-separated values, read and written by the crate `csv`: offers and arrivals in, starts and books out.
+//! Tables as comma-separated values, read and written by the crate `csv`: offers, background frames and arrivals in, starts
+//! and books out.
 //!
-//! - [`read_offers`] reads the offers of a run, [`read_arrivals`] the arrivals of a port.
+//! - [`read_offers`] reads the offers of a run, [`read_background`] its background frames, and [`read_arrivals`] the
+//!   arrivals of a port.
 //! - [`TableFault`] says why a table is refused, and at which row.
 //! - [`write_book`] writes the book of a run, [`write_starts`] the starts of a port.
-//! - [`refusal_text`] is a refusal of an admission as texts have it.
 //!
-//! `specs/` says what a text holds (`Records`, by what `csv` reads), what its rows mean (`Table`, `Offers`, `Arrivals`),
-//! and which text is written (`Written`, `Starts`, `Books`, `Refusals`).
+//! `specs/` says what a text holds (`Records`, by what `csv` reads), what its rows mean (`Table`, `Offers`,
+//! `BackgroundFrames`, `Arrivals`), how a fault prints (`Faults`), and which text is written (`Written`, `Starts`, `Books`).
 //!
 //! ```text
 //! read_arrivals(alloc, b"at,class,octets,frame\n10,6,64,1\n")
@@ -17,18 +18,20 @@
 #![tactic(auto)]
 
 mod arrivals;
+mod background;
 mod books;
+mod laws;
 mod lines;
 mod offers;
 mod records;
-mod refusals;
 mod rows;
 mod starts;
 mod tables;
 
 pub use arrivals::read_arrivals;
+pub use background::read_background;
 pub use books::write_book;
+pub use laws::first_fault_is_told;
 pub use offers::read_offers;
-pub use refusals::refusal_text;
 pub use starts::write_starts;
 pub use tables::{OfferFault, TableFault};

@@ -1,12 +1,14 @@
 //! The offers of a run, read from a text.
 
 ghost use Rattle.std.specs.Prelude.{◌≡◌, ◌≤◌, IfOk, IfErr, Ok, length};
-ghost use Rattle.cqf_model.specs.Traffic.{AreOffers};
-ghost use Rattle.cqf_report.specs.Table.{IsFaultOf};
-ghost use Rattle.cqf_report.specs.Offers.{bridge_named, name_in, offer_instant, offer_of, offers_of};
+ghost use Rattle.cqf_model.specs.Run.{AreOffers};
+ghost use Rattle.cqf_report.specs.OtherColumns.{in_four-other};
+ghost use Rattle.csv.specs.Records.{fields_of};
+ghost use Rattle.cqf_report.specs.Table.{IsFaultOf, in_four, is_header};
+ghost use Rattle.cqf_report.specs.Offers.{bridge_named, name_in, offer_header, offer_instant, offer_of, offers_of};
 
-use crate::rows::{RowFormat, read_rows};
-use crate::tables::{OfferFault, open_table, read_number, take_header};
+use crate::rows::{RowFormat, read_table};
+use crate::tables::{OfferFault, four_fields, is_header_of, read_number};
 use cqf_model::{Node, Offer};
 use cqf_text::read_decimal;
 use cqf_topology::Domain;
@@ -35,6 +37,36 @@ fn read_name(field: &[u8]) -> Option<Name>
     Name::new(field)
 }
 
+/// The offer to a domain that four fields write.
+fn read_offer(
+    domain: &Domain,
+    at: &[u8],
+    bridge: &[u8],
+    stream: &[u8],
+    octets: &[u8],
+) -> Option<Offer>
+    ensures { result ≡ offer_of domain.now at.now bridge.now stream.now octets.now }
+{
+    let Some(at) = read_decimal(at, 0, 999_999_999_999) else {
+        return None;
+    };
+    let Some(bridge) = read_bridge(domain, bridge) else {
+        return None;
+    };
+    let Some(stream) = read_name(stream) else {
+        return None;
+    };
+    let Some(octets) = read_number(octets, 64, 1522) else {
+        return None;
+    };
+    Some(Offer {
+        at: Nanos(at),
+        bridge,
+        stream,
+        octets,
+    })
+}
+
 /// The rows of offers to a domain.
 #[derive(Clone, Copy)]
 struct OfferRows<'d> {
@@ -44,29 +76,31 @@ struct OfferRows<'d> {
 impl RowFormat for OfferRows<'_> {
     type Row = Offer;
 
-    ghost row_of = { λ rows. offer_of rows.domain.now };
+    ghost header = { offer_header };
+
+    ghost row_of = { λ rows. in_four (offer_of rows.domain.now) };
 
     ghost instant_of = { offer_instant };
 
-    fn read_row(&self, at: &[u8], bridge: &[u8], stream: &[u8], octets: &[u8]) -> Option<Offer> {
-        let Some(at) = read_decimal(at, 0, 999_999_999_999) else {
+    ghost no_row_of_others = { λ rows. in_four-other (offer_of rows.domain.now) };
+
+    fn names_columns(record: &ByteRecord) -> bool
+        ensures { result ≡ is_header offer_header (fields_of record.now) }
+    {
+        let names = (
+            b"at".as_slice(),
+            b"bridge".as_slice(),
+            b"stream".as_slice(),
+            b"octets".as_slice(),
+        );
+        is_header_of(record, names)
+    }
+
+    fn read_row(&self, record: &ByteRecord) -> Option<Offer> {
+        let Some((at, bridge, stream, octets)) = four_fields(record) else {
             return None;
         };
-        let Some(bridge) = read_bridge(self.domain, bridge) else {
-            return None;
-        };
-        let Some(stream) = read_name(stream) else {
-            return None;
-        };
-        let Some(octets) = read_number(octets, 64, 1522) else {
-            return None;
-        };
-        Some(Offer {
-            at: Nanos(at),
-            bridge,
-            stream,
-            octets,
-        })
+        read_offer(self.domain, at, bridge, stream, octets)
     }
 
     fn instant(row: &Offer) -> Nanos
@@ -92,34 +126,19 @@ pub fn read_offers(alloc: Global, domain: &Domain, text: &[u8]) -> Result<Vec<Of
     ensures few { IfOk result (λ offers. length offers.items ≤ 1000000) }
     ensures err { IfErr result (λ fault. IsFaultOf (offers_of domain.now text.now) fault) }
 {
-    let mut reader = open_table(alloc, text);
-    let mut row = ByteRecord::new(alloc);
-    let names = (
-        b"at".as_slice(),
-        b"bridge".as_slice(),
-        b"stream".as_slice(),
-        b"octets".as_slice(),
-    );
-    take_header(&mut reader, &mut row, names)?;
-    read_rows(alloc, &OfferRows { domain }, &mut reader, &mut row)
+    read_table(alloc, &OfferRows { domain }, text)
 }
 
 #[cfg(test)]
 mod tests {
     use super::*;
     use crate::TableFault;
+    use cqf_fixtures::line;
     use std::test::Fail;
-
-    /// Three bridges in a line, and a station behind the last.
-    const LINE: &[u8] =
-        b"cycle = 125000\nguard = 5000\nbridges = [\"a\", \"b\", \"c\"]\nstations = [\"s\"]\n
-[[links]]\nfrom = \"a\"\nto = \"b\"\nrate = 1000\ndelay = 500\n
-[[links]]\nfrom = \"b\"\nto = \"c\"\nrate = 1000\ndelay = 500\n
-[[links]]\nfrom = \"c\"\nto = \"s\"\nrate = 1000\ndelay = 500\n";
 
     #[test]
     fn offers_are_read_with_the_numbers_of_their_bridges(rt: HostRuntime) -> Result<(), Fail> {
-        let domain = Domain::read(rt.alloc(), LINE)?;
+        let domain = Domain::read(rt.alloc(), line().as_bytes())?;
         let text = b"at,bridge,stream,octets\n0,a,y,64\n0,b,x,1522\n999999999999,c,x,64\n";
         let offers = read_offers(rt.alloc(), &domain, text)?;
         assert_eq!(rt; offers.len(), 3);
@@ -140,7 +159,7 @@ mod tests {
 
     #[test]
     fn the_first_fault_of_offers_is_told(rt: HostRuntime) -> Result<(), Fail> {
-        let domain = Domain::read(rt.alloc(), LINE)?;
+        let domain = Domain::read(rt.alloc(), line().as_bytes())?;
         for (text, fault) in [
             (
                 b"at,bridge,stream,octets\n0,a,x\n".as_slice(),
@@ -165,6 +184,14 @@ mod tests {
             (
                 b"at,bridge,stream,octets\n5,a,x,64\n4,a,x,64\n".as_slice(),
                 TableFault::OutOfOrder(2),
+            ),
+            (
+                b"at,bridge,stream,octets\n0,a,\xff,64\n".as_slice(),
+                TableFault::BadRow(1),
+            ),
+            (
+                b"at,bridge,stream,octets\n0,\"a,x,64\n".as_slice(),
+                TableFault::BadRow(1),
             ),
             (b"at,octets\n".as_slice(), TableFault::BadHeader),
         ] {

@@ -1,8 +1,9 @@
 //! The records of a text, one at a time.
 
 ghost use Rattle.std.specs.Prelude.{ℕ, List, Option, IfOk};
+ghost use Rattle.csv.specs.Reading.{Ready};
 ghost use Rattle.csv.specs.Records.{fields_of};
-ghost use Rattle.cqf_report.specs.Records.{Fields, StillGives, Takes};
+ghost use Rattle.cqf_report.specs.Records.{Fields, StaysReady, StillGives, Takes};
 
 use cqf_units::Memory;
 use csv::{ByteRecord, Error, ErrorKind, Reader};
@@ -20,20 +21,26 @@ pub(crate) enum Taken {
     Refused,
 }
 
-/// Takes the reader's next record into `row`. An error of anything but lengths is want of memory, since the text
-/// lies in memory.
+/// Takes the reader's next record into `row`. The reader underneath reads from memory and doesn't fail, which the contract of
+/// the crate `csv` doesn't say; so such an error is told as want of memory. Nothing else is refused of a record of bytes.
 pub(crate) fn take_record<R: Read>(
     reader: &mut Reader<R>,
     row: &mut ByteRecord,
 ) -> Result<Taken, Memory>
-    ensures { IfOk result (λ taken. (expected : Option ℕ) (rows : List Fields) → StillGives R.remaining expected reader.old rows → Takes R.remaining expected taken reader.new (fields_of row.new) rows) }
+    requires { Ready reader.old }
+    ensures ready { IfOk result (λ taken. StaysReady taken reader.new) }
+    ensures taken { IfOk result (λ taken. (expected : Option ℕ) (rows : List Fields) → StillGives R.remaining expected reader.old rows → Takes R.remaining expected taken reader.new (fields_of row.new) rows) }
 {
     match reader.read_byte_record(row) {
         Ok(true) => Ok(Taken::Row),
         Ok(false) => Ok(Taken::End),
         Err(error) => match error.kind() {
             ErrorKind::UnequalLengths { .. } => Ok(Taken::Refused),
-            _ => Err(AllocError),
+            ErrorKind::Io(_) => Err(AllocError),
+            ErrorKind::OutOfMemory => Err(AllocError),
+            ErrorKind::Utf8 { .. } => unreachable!(),
+            ErrorKind::Serialize(_) => unreachable!(),
+            ErrorKind::Deserialize { .. } => unreachable!(),
         },
     }
 }

@@ -1,60 +1,88 @@
 //! The rows of a table, one after the other.
 
-ghost use Rattle.std.specs.Prelude.{ℕ, ◌≡◌, ◌≤◌, List, Option, Some, Ok, IfOk, IfErr};
+ghost use Rattle.std.specs.Prelude.{ℕ, ◌≡◌, ◌≢◌, ◌≤◌, List, Option, Some, None, Ok, IfOk, IfErr, IfSome, OnOk, length, false};
+ghost use Rattle.csv.specs.Reading.{Ready};
 ghost use Rattle.csv.specs.Records.{fields_of};
 ghost use Rattle.cqf_report.specs.Records.{Fields, StillGives};
-ghost use Rattle.cqf_report.specs.Table.{IsFaultOf, TakesNext, in_four, rows_from};
+ghost use Rattle.cqf_report.specs.Table.{IsFaultOf, TakesHeader, TakesNext, has_header, is_header, rows_from, table_of};
+ghost use Rattle.cqf_report.specs.declared.tables.TableFault.TheVariants as fault_kind;
 
 use crate::records::{Taken, take_record};
-use crate::tables::{MOST_ROWS, TableFault, four_fields};
+use crate::tables::{MOST_ROWS, TableFault, open_table};
 use cqf_units::Nanos;
 use csv::{ByteRecord, Reader};
 use std::alloc::Global;
 use std::io::Read;
 
-/// What the rows of a table of four columns write.
+/// A kind of table: its header, and what its rows write.
 pub(crate) trait RowFormat {
     /// What a row writes.
     type Row: Drop;
 
-    ghost row_of: { Self → List ℕ → List ℕ → List ℕ → List ℕ → Option Self.Row };
+    ghost header: { List (List ℕ) };
+
+    ghost row_of: { Self → List (List ℕ) → Option Self.Row };
 
     ghost instant_of: { Self.Row → ℕ };
 
-    /// What the four fields write, if they have the form of a row.
-    fn read_row(
-        &self,
-        first: &[u8],
-        second: &[u8],
-        third: &[u8],
-        fourth: &[u8],
-    ) -> Option<Self::Row>
-        ensures { result ≡ row_of self.now first.now second.now third.now fourth.now };
+    /// Whether the record is the header.
+    fn names_columns(record: &ByteRecord) -> bool
+        ensures { result ≡ is_header header (fields_of record.now) };
+
+    /// What the record writes, if it has the form of a row.
+    fn read_row(&self, record: &ByteRecord) -> Option<Self::Row>
+        ensures { result ≡ row_of self.now (fields_of record.now) };
 
     /// The row's instant, by which rows are in order.
     fn instant(row: &Self::Row) -> Nanos
         ensures { result.0 ≡ instant_of row.now };
+
+    ghost no_row_of_others: { (format : Self) (fields : List (List ℕ)) → (length header ≡ length fields → ⊥) → row_of format fields ≡ None };
+}
+
+/// Takes the first record, which has to be the header.
+fn take_header<F: RowFormat, R: Read>(
+    _format: &F,
+    reader: &mut Reader<R>,
+    record: &mut ByteRecord,
+) -> Result<(), TableFault>
+    requires { Ready reader.old }
+    ensures ready { OnOk result (Ready reader.new) }
+    ensures ok { IfOk result (λ _. (rows : List Fields) → StillGives R.remaining None reader.old rows → TakesHeader R.remaining F.header rows reader.new) }
+    ensures err { IfErr result (λ fault. (rows : List Fields) → StillGives R.remaining None reader.old rows → fault ≢ fault_kind.Memory → (fault ≡ fault_kind.BadHeader) × (has_header F.header rows ≡ false)) }
+{
+    match take_record(reader, record) {
+        Ok(Taken::Row) => {
+            if F::names_columns(record) {
+                Ok(())
+            } else {
+                Err(TableFault::BadHeader)
+            }
+        }
+        Ok(Taken::End) => Err(TableFault::BadHeader),
+        Ok(Taken::Refused) => Err(TableFault::BadHeader),
+        Err(_) => Err(TableFault::Memory),
+    }
 }
 
 /// Takes the row of this number, behind a row at `before`; `None` where there is no further row.
 fn next_row<F: RowFormat, R: Read>(
     format: &F,
     reader: &mut Reader<R>,
-    fields: &mut ByteRecord,
+    record: &mut ByteRecord,
     number: u32,
     before: Nanos,
 ) -> Result<Option<F::Row>, TableFault>
-    requires { number ≤ 1000000 }
-    ensures { (rows : List Fields) → StillGives R.remaining (Some 4) reader.old rows → TakesNext (in_four (F.row_of format.now)) F.instant_of R.remaining number before.0 rows reader.new result }
+    requires few { number ≤ 1000000 }
+    requires ready { Ready reader.old }
+    ensures ready { IfOk result (λ row. IfSome row (λ _. Ready reader.new)) }
+    ensures taken { (rows : List Fields) → StillGives R.remaining (Some (length F.header)) reader.old rows → TakesNext (length F.header) (F.row_of format.now) F.instant_of R.remaining number before.0 rows reader.new result }
 {
-    match take_record(reader, fields) {
+    match take_record(reader, record) {
         Ok(Taken::End) => Ok(None),
         Ok(Taken::Refused) => Err(TableFault::BadRow(number)),
         Ok(Taken::Row) => {
-            let Some((first, second, third, fourth)) = four_fields(fields) else {
-                return Err(TableFault::BadRow(number));
-            };
-            let Some(row) = format.read_row(first, second, third, fourth) else {
+            let Some(row) = format.read_row(record) else {
                 return Err(TableFault::BadRow(number));
             };
             if F::instant(&row) < before {
@@ -67,19 +95,20 @@ fn next_row<F: RowFormat, R: Read>(
 }
 
 /// The rows that the reader still gives, from row 1 on.
-pub(crate) fn read_rows<F: RowFormat, R: Read>(
+fn read_rows<F: RowFormat, R: Read>(
     alloc: Global,
     format: &F,
     reader: &mut Reader<R>,
-    fields: &mut ByteRecord,
+    record: &mut ByteRecord,
 ) -> Result<Vec<F::Row>, TableFault>
-    ensures ok { IfOk result (λ taken. (rows : List Fields) → StillGives R.remaining (Some 4) reader.old rows → rows_from (in_four (F.row_of format.now)) F.instant_of 1 0 rows ≡ Ok taken.items) }
-    ensures err { IfErr result (λ fault. (rows : List Fields) → StillGives R.remaining (Some 4) reader.old rows → IsFaultOf (rows_from (in_four (F.row_of format.now)) F.instant_of 1 0 rows) fault) }
+    requires { Ready reader.old }
+    ensures ok { IfOk result (λ taken. (rows : List Fields) → StillGives R.remaining (Some (length F.header)) reader.old rows → rows_from (F.row_of format.now) F.instant_of 1 0 rows ≡ Ok taken.items) }
+    ensures err { IfErr result (λ fault. (rows : List Fields) → StillGives R.remaining (Some (length F.header)) reader.old rows → IsFaultOf (rows_from (F.row_of format.now) F.instant_of 1 0 rows) fault) }
 {
     let mut rows = Vec::new(alloc);
     let mut before = Nanos(0);
     for number in 1..=MOST_ROWS {
-        let Some(row) = next_row(format, reader, fields, number, before)? else {
+        let Some(row) = next_row(format, reader, record, number, before)? else {
             return Ok(rows);
         };
         before = F::instant(&row);
@@ -87,10 +116,25 @@ pub(crate) fn read_rows<F: RowFormat, R: Read>(
             return Err(TableFault::Memory);
         }
     }
-    match take_record(reader, fields) {
+    match take_record(reader, record) {
         Ok(Taken::End) => Ok(rows),
         Ok(Taken::Row) => Err(TableFault::TooMany),
         Ok(Taken::Refused) => Err(TableFault::TooMany),
         Err(_) => Err(TableFault::Memory),
     }
+}
+
+/// The rows of a text, or its first fault.
+pub(crate) fn read_table<F: RowFormat>(
+    alloc: Global,
+    format: &F,
+    text: &[u8],
+) -> Result<Vec<F::Row>, TableFault>
+    ensures ok { IfOk result (λ rows. table_of F.header (F.row_of format.now) F.instant_of text.now ≡ Ok rows.items) }
+    ensures err { IfErr result (λ fault. IsFaultOf (table_of F.header (F.row_of format.now) F.instant_of text.now) fault) }
+{
+    let mut reader = open_table(alloc, text);
+    let mut record = ByteRecord::new(alloc);
+    take_header(format, &mut reader, &mut record)?;
+    read_rows(alloc, format, &mut reader, &mut record)
 }

@@ -1,37 +1,48 @@
 //! What is common to the tables that are read: their header, their fields and their faults.
 
-ghost use Rattle.std.specs.Prelude.{ℕ, ◌≡◌, ◌≢◌, ◌≤◌, ◌∷◌, [], List, Option, IfOk, IfErr, IfSome, MatchOption, length, Some, None, false};
+ghost use Rattle.std.specs.Prelude.{ℕ, ◌≡◌, ◌≤◌, ◌∷◌, [], List, IfSome, MatchOption, Some, None};
 ghost use Rattle.cqf_text.specs.Decimal.{decimal_in};
+ghost use Rattle.csv.specs.Reading.{Ready};
 ghost use Rattle.csv.specs.Records.{fields_of};
-ghost use Rattle.cqf_report.specs.Records.{Fields, StillGives, records_of};
-ghost use Rattle.cqf_report.specs.Table.{TakesHeader, four_of, has_header, is_header};
-ghost use Rattle.cqf_report.specs.declared.tables.TableFault.TheVariants as fault_kind;
+ghost use Rattle.cqf_report.specs.Records.{StillGives, records_of};
+ghost use Rattle.cqf_report.specs.Table.{five_of, four_of, is_header};
+ghost use Rattle.cqf_report.specs.Faults.{table_fault_text};
 
-use crate::records::{Taken, take_record};
 use cqf_text::read_decimal;
 use csv::{ByteRecord, Reader, ReaderBuilder};
 use std::alloc::Global;
+use std::fmt;
 use std::io::Read;
 use thiserror::Error;
 
-/// Why a table is refused. Rows are the records after the header, counted from 1.
+/// Why a table is refused. Rows are the records after the header, counted from 1. A fault prints as its name, and then
+/// its row.
 #[derive(Clone, Copy, Debug, PartialEq, Eq, Error)]
 pub enum TableFault {
     /// The first record is not the header, or there is no record.
-    #[error("BadHeader")]
     BadHeader,
     /// There are more than 1,000,000 rows.
-    #[error("TooMany")]
     TooMany,
     /// A field of this row is not as it has to be, or it has another number of fields.
-    #[error("BadRow {0}")]
     BadRow(u32),
     /// This row's instant is before that of the row before it.
-    #[error("OutOfOrder {0}")]
     OutOfOrder(u32),
     /// A growth was refused.
-    #[error("Memory")]
     Memory,
+}
+
+impl fmt::Display for TableFault {
+    ghost output = { λ fault. Some (table_fault_text fault) };
+
+    fn fmt<W: fmt::Write>(&self, f: &mut fmt::Formatter<W>) -> fmt::Result {
+        match self {
+            TableFault::BadHeader => f.write_str("BadHeader"),
+            TableFault::TooMany => f.write_str("TooMany"),
+            TableFault::BadRow(row) => write!(f, "BadRow {row}"),
+            TableFault::OutOfOrder(row) => write!(f, "OutOfOrder {row}"),
+            TableFault::Memory => f.write_str("Memory"),
+        }
+    }
 }
 
 /// Why a table of offers is refused.
@@ -62,6 +73,31 @@ pub(crate) fn four_fields(row: &ByteRecord) -> Option<(&[u8], &[u8], &[u8], &[u8
     Some((first, second, third, fourth))
 }
 
+/// A record's five fields, where it has exactly five.
+pub(crate) fn five_fields(row: &ByteRecord) -> Option<(&[u8], &[u8], &[u8], &[u8], &[u8])>
+    ensures { MatchOption result (five_of (fields_of row.now) ≡ None) (λ fields. five_of (fields_of row.now) ≡ Some (fields.0.now, fields.1.now, fields.2.now, fields.3.now, fields.4.now)) }
+{
+    if row.len() != 5 {
+        return None;
+    }
+    let Some(first) = row.get(0) else {
+        return None;
+    };
+    let Some(second) = row.get(1) else {
+        return None;
+    };
+    let Some(third) = row.get(2) else {
+        return None;
+    };
+    let Some(fourth) = row.get(3) else {
+        return None;
+    };
+    let Some(fifth) = row.get(4) else {
+        return None;
+    };
+    Some((first, second, third, fourth, fifth))
+}
+
 /// Whether the record has exactly these four fields.
 pub(crate) fn is_header_of(row: &ByteRecord, names: (&[u8], &[u8], &[u8], &[u8])) -> bool
     ensures { result ≡ is_header (names.entry.0.now ∷ names.entry.1.now ∷ names.entry.2.now ∷ names.entry.3.now ∷ []) (fields_of row.now) }
@@ -70,6 +106,23 @@ pub(crate) fn is_header_of(row: &ByteRecord, names: (&[u8], &[u8], &[u8], &[u8])
         return false;
     };
     names.0 == first && names.1 == second && names.2 == third && names.3 == fourth
+}
+
+/// Whether the record has exactly these five fields.
+pub(crate) fn is_header_of_five(
+    row: &ByteRecord,
+    names: (&[u8], &[u8], &[u8], &[u8], &[u8]),
+) -> bool
+    ensures { result ≡ is_header (names.entry.0.now ∷ names.entry.1.now ∷ names.entry.2.now ∷ names.entry.3.now ∷ names.entry.4.now ∷ []) (fields_of row.now) }
+{
+    let Some((first, second, third, fourth, fifth)) = five_fields(row) else {
+        return false;
+    };
+    names.0 == first
+        && names.1 == second
+        && names.2 == third
+        && names.3 == fourth
+        && names.4 == fifth
 }
 
 /// The decimal number of a field, if it is one of this range.
@@ -85,32 +138,10 @@ pub(crate) fn read_number(field: &[u8], least: u32, most: u32) -> Option<u32>
 
 /// A reader that gives each record of the text, the header too.
 pub(crate) fn open_table<R: Read>(alloc: Global, text: R) -> Reader<R>
-    ensures { (bytes : List ℕ) → R.remaining text ≡ Some bytes → StillGives R.remaining None result (records_of bytes) }
+    ensures ready { Ready result }
+    ensures gives { (bytes : List ℕ) → R.remaining text ≡ Some bytes → StillGives R.remaining None result (records_of bytes) }
 {
     ReaderBuilder::new()
         .has_headers(false)
         .from_reader(alloc, text)
-}
-
-/// Takes the first record, which has to have exactly these four fields.
-pub(crate) fn take_header<R: Read>(
-    reader: &mut Reader<R>,
-    row: &mut ByteRecord,
-    names: (&[u8], &[u8], &[u8], &[u8]),
-) -> Result<(), TableFault>
-    ensures ok { IfOk result (λ _. (rows : List Fields) → StillGives R.remaining None reader.old rows → TakesHeader R.remaining (names.entry.0.now ∷ names.entry.1.now ∷ names.entry.2.now ∷ names.entry.3.now ∷ []) rows reader.new) }
-    ensures err { IfErr result (λ fault. (rows : List Fields) → StillGives R.remaining None reader.old rows → fault ≢ fault_kind.Memory → (fault ≡ fault_kind.BadHeader) × (has_header (names.entry.0.now ∷ names.entry.1.now ∷ names.entry.2.now ∷ names.entry.3.now ∷ []) rows ≡ false)) }
-{
-    match take_record(reader, row) {
-        Ok(Taken::Row) => {
-            if is_header_of(row, names) {
-                Ok(())
-            } else {
-                Err(TableFault::BadHeader)
-            }
-        }
-        Ok(Taken::End) => Err(TableFault::BadHeader),
-        Ok(Taken::Refused) => Err(TableFault::BadHeader),
-        Err(_) => Err(TableFault::Memory),
-    }
 }

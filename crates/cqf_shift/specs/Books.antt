@@ -1,31 +1,43 @@
 -- What a book says.
-use Rattle.std.specs.Prelude.{ℕ, ◌≡◌, ◌*◌, List, length, Contains}
+use Rattle.std.specs.Prelude.{ℕ, ◌≡◌, ◌<◌, List, length, Contains}
+use Rattle.cqf_model.specs.declared.frames.Background.{Background}
 use Rattle.cqf_model.specs.declared.frames.Dropped.{Dropped}
-use Rattle.cqf_model.specs.declared.frames.Offer.{Offer}
+use Rattle.cqf_model.specs.declared.frames.Offered.{Offered}
 use Rattle.cqf_model.specs.declared.frames.Started.{Started}
-use Rattle.cqf_model.specs.declared.topology.Row.{Row}
-use Rattle.cqf_model.specs.Domain.{Domain, IsAccepted, cycle_of}
+use Rattle.cqf_model.specs.Domain.{IsAccepted}
+use Rattle.cqf_model.specs.Run.{AreBackground, AreOffers, Run}
 use Rattle.cqf_model.specs.Table.{AreOrderly}
-use Rattle.cqf_model.specs.Traffic.{AreOffers, Received}
-use Rattle.cqf_model.specs.Shift.{InShift, IsUncovered}
-use Rattle.cqf_model.specs.Book.{IsOneThreadBook}
+use Rattle.cqf_model.specs.Shift.{InShift, IsUncovered, offer_cycle}
+use Rattle.cqf_model.specs.Book.{Contents, IsOneThreadBook}
+use Rattle.cqf_shift.specs.Run.{with_background}
 
 -- the drop is of an offer of the run that isn't covered, at its bridge, in its cycle, with the first reason that fits
-pub record IsOfUncovered (d : Domain) (tables : List (List Row)) (offers : List Offer) (dropped : Dropped) : Type 0 where
-  pub x : Received
-  pub uncovered : IsUncovered d tables offers (length tables * d.cycle_time) dropped.bridge x dropped.reason
-  pub cycle : dropped.cycle.0 ≡ cycle_of d x.at
+pub record IsOfUncovered (run : Run) (dropped : Dropped) : Type 0 where
+  pub x : Offered
+  pub uncovered : IsUncovered run x dropped.reason
+  pub within_run : dropped.cycle.0 < length run.tables
+  pub cycle : dropped.cycle.0 ≡ offer_cycle run.domain x
+  pub bridge : dropped.bridge ≡ x.offer.bridge
   pub frame : dropped.frame ≡ x.frame
-  pub octets : dropped.octets ≡ x.octets
+  pub octets : dropped.octets ≡ x.offer.octets
 
 -- the starts are exactly the shift, and the drops exactly the offers that aren't covered
-pub record SaysTheShift (d : Domain) (tables : List (List Row)) (offers : List Offer) (starts : List Started) (drops : List Dropped) : Type 0 where
-  pub only : (s : Started) → Contains starts s → InShift d tables offers (length tables) s.frame s.link s.cycle.0
-  pub each : (frame link cycle : ℕ) → InShift d tables offers (length tables) frame link cycle → (s : Started) × Contains starts s × (s.frame ≡ frame) × (s.link ≡ link) × (s.cycle.0 ≡ cycle)
-  pub only_drops : (x : Dropped) → Contains drops x → IsOfUncovered d tables offers x
-  pub each_drop : (x : Dropped) → IsOfUncovered d tables offers x → Contains drops x
+pub record SaysTheShift (run : Run) (book : Contents) : Type 0 where
+  pub only : (s : Started) → Contains book.starts s → InShift run (length run.tables) s.frame s.link s.cycle.0
+  pub each : (frame link cycle : ℕ) → InShift run (length run.tables) frame link cycle →
+      (s : Started) × Contains book.starts s × (s.frame ≡ frame) × (s.link ≡ link) × (s.cycle.0 ≡ cycle)
+  pub only_drops : (x : Dropped) → Contains book.drops x → IsOfUncovered run x
+  pub each_drop : (x : Dropped) → IsOfUncovered run x → Contains book.drops x
 
--- for every accepted domain, the tables of a history, and whatever is offered, the one-thread book says the shift
+-- for every accepted domain, the tables of a history, whatever is offered, and beside any background frames, the one-thread
+-- book says the shift
 abbrev pub BookSaysTheShift : Type 0
-BookSaysTheShift = (d : Domain) (tables : List (List Row)) (offers : List Offer) (starts : List Started) (drops : List Dropped) → IsAccepted d → AreOrderly d tables → AreOffers d offers →
-    IsOneThreadBook d tables offers starts drops → SaysTheShift d tables offers starts drops
+BookSaysTheShift = (run : Run) (book : Contents) → IsAccepted run.domain → AreOrderly run.domain run.tables → AreOffers run.domain run.offers →
+    AreBackground run.domain run.background → IsOneThreadBook run book → SaysTheShift run book
+
+-- and background frames change neither the starts nor the drops
+abbrev pub BackgroundChangesOneList : Type 0
+BackgroundChangesOneList = (run : Run) (background : List Background) (book other : Contents) → IsAccepted run.domain → AreOrderly run.domain run.tables →
+    AreOffers run.domain run.offers → AreBackground run.domain run.background → AreBackground run.domain background →
+    IsOneThreadBook run book → IsOneThreadBook (with_background run background) other →
+    (book.starts ≡ other.starts) × (book.drops ≡ other.drops)

@@ -1,35 +1,55 @@
 -- The edge: what the stream gates of a bridge decide there is what the reservations alone decide.
-use Rattle.std.specs.Prelude.{ℕ, ◌≡◌, ◌<◌, List, Bool, true, false, filter}
-use Rattle.cqf_model.specs.declared.frames.Offer.{Offer}
+use Rattle.std.specs.Prelude.{true, ℕ, ◌≡◌, ◌+◌, ◌<◌, List, ◌==◌, ◌&&◌, if◌then◌else◌, nat_le, sum_by, Contains}
+use Rattle.cqf_model.specs.declared.frames.Offered.{Offered}
 use Rattle.cqf_model.specs.declared.topology.Row.{Row}
-use Rattle.cqf_model.specs.Domain.{Domain, enters}
-use Rattle.cqf_model.specs.Table.{AreOrderly}
-use Rattle.cqf_model.specs.Traffic.{Way, AtEdge, Relayed, Received, Policed, Network, within_gate, within_reservation, policed_before}
-use Rattle.cqf_model.specs.Shift.{judged_before}
+use Rattle.cqf_model.specs.Domain.{Domain, cycle_of}
+use Rattle.cqf_model.specs.Run.{Run}
+use Rattle.cqf_model.specs.Table.{AreOrderly, is_live, table_of}
+use Rattle.cqf_model.specs.Traffic.{Carried, Received, Policed, Verdict, Queued, DroppedFor, LacksRow, ExceedsGate, is_queued_of, numbered, offer_received, policed_before, within_gate}
+use Rattle.cqf_model.specs.Shift.{IsCovered, IsUncovered, offer_cycle, offers_before, taken_by}
+
+-- the octets of a row's frames in a cycle that went on, among the frames before
+abbrev pub octets_before : Domain → ℕ → ℕ → List Policed → ℕ
+octets_before d number cycle earlier =
+    sum_by (λ (p : Policed). if is_queued_of number p.verdict && (cycle_of d p.received.at == cycle) then p.received.octets else 0) earlier
 
 -- behind whatever came before, the gate of a reservation lets a frame pass exactly where so many octets are left of the
 -- reservation in the frame's cycle
 abbrev pub GateIsReservation : Type 0
-GateIsReservation = (d : Domain) (earlier : List Policed) (row : Row) (x : Received) → 0 < d.cycle_time → within_gate d earlier row x ≡ within_reservation d earlier row x
+GateIsReservation = (d : Domain) (earlier : List Policed) (row : Row) (x : Received) → 0 < d.cycle_time →
+    within_gate d earlier row x ≡ nat_le (octets_before d row.no (cycle_of d x.at) earlier + x.octets) row.octets
 
--- no link ends in the bridge
-abbrev pub NoLinkEnters : Domain → ℕ → Type 0
-NoLinkEnters d bridge = (m : ℕ) → enters d m bridge ≡ false
+-- what a verdict on an offer has to be: it goes on where it is covered, with the row that covers it, and else it is dropped
+-- for the first reason that fits
+abbrev pub IsDecided : Run → Offered → Verdict → Type 0
+IsDecided run x (Queued row) = IsCovered run x row
+IsDecided run x (DroppedFor reason) = IsUncovered run x reason
+IsDecided run x LacksRow = ⊥
+IsDecided run x ExceedsGate = ⊥
 
--- at a bridge that no link enters, what becomes of all that comes is what the reservations decide, reasons included
-abbrev pub EdgeAlone : Type 0
-EdgeAlone = (d : Domain) (tables : List (List Row)) (offers : List Offer) (net : Network) (bridge end : ℕ) → 0 < d.cycle_time → NoLinkEnters d bridge →
-    policed_before d tables offers net bridge end ≡ judged_before d tables offers bridge end
-
--- the frame was offered at the edge
-abbrev pub is_offered : Way → Bool
-is_offered (AtEdge name) = true
-is_offered (Relayed m number) = false
-
-abbrev pub comes_at_edge : Policed → Bool
-comes_at_edge p = is_offered p.received.way
+-- an offer comes to its bridge before the end, and the gates there give it this verdict, which is so
+pub record IsPolicedAs (run : Run) (carried : Carried) (end : ℕ) (x : Offered) (verdict : Verdict) : Type 0 where
+  pub come : Contains (policed_before run carried x.offer.bridge end) (record { received = offer_received x; verdict = verdict })
+  pub decided : IsDecided run x verdict
 
 -- at any bridge, whatever the links bring, what becomes of each offer is what the reservations decide, reasons included
 abbrev pub EdgeIsCovered : Type 0
-EdgeIsCovered = (d : Domain) (tables : List (List Row)) (offers : List Offer) (net : Network) (bridge end : ℕ) → 0 < d.cycle_time → AreOrderly d tables →
-    filter comes_at_edge (policed_before d tables offers net bridge end) ≡ judged_before d tables offers bridge end
+EdgeIsCovered = (run : Run) (carried : Carried) (end : ℕ) (x : Offered) → 0 < run.domain.cycle_time → AreOrderly run.domain run.tables →
+    Contains (numbered run.offers) x → x.offer.at.0 < end → (verdict : Verdict) × IsPolicedAs run carried end x verdict
+
+-- the row covers the offer in this cycle
+pub record IsCoveredIn (run : Run) (row : Row) (cycle : ℕ) (x : Offered) : Type 0 where
+  pub covered : IsCovered run x row
+  pub in_cycle : offer_cycle run.domain x ≡ cycle
+
+-- a count of the octets of the offers that a row covers in a cycle, and of no others
+pub record CountsCovered (run : Run) (row : Row) (cycle : ℕ) (counts : Offered → ℕ) : Type 0 where
+  pub covered : (x : Offered) → IsCoveredIn run row cycle x → counts x ≡ x.offer.octets
+  pub others : (x : Offered) → Contains (numbered run.offers) x → ¬ IsCoveredIn run row cycle x → counts x ≡ 0
+
+-- what is taken of a reservation before an offer is the octets of the covered offers before it: the one number by which
+-- "covered" is defined is the sum over those that are covered
+abbrev pub TakenIsCovered : Type 0
+TakenIsCovered = (run : Run) (row : Row) (cycle : ℕ) (x : Offered) (counts : Offered → ℕ) → AreOrderly run.domain run.tables →
+    Contains (table_of run.tables cycle) row → is_live row cycle ≡ true → Contains (numbered run.offers) x → CountsCovered run row cycle counts →
+    taken_by run.domain row cycle (offers_before run.offers x) ≡ sum_by counts (offers_before run.offers x)

@@ -1,7 +1,6 @@
-pub mod Compiled
 pub mod Cost
-pub mod OnePort
 pub mod Edge
+pub mod Alone
 pub mod Run
 pub mod Books
 pub mod MainLaw

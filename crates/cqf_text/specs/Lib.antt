@@ -1,4 +1,3 @@
 pub mod Decimal
 pub mod Lines
 pub mod Parts
-pub mod GateListText

@@ -1,23 +1,16 @@
 //! Decimal numbers in texts (profile).
-ghost use Rattle.std.specs.Prelude.{◌≡◌};
-ghost use Rattle.std.specs.Char.{is_ascii_digit};
-ghost use Rattle.std.specs.List.{list_all};
-ghost use Rattle.cqf_text.specs.Decimal.{is_decimal, decimal_in};
+ghost use Rattle.std.specs.Prelude.{◌≡◌, ◌+◌, ◌*◌, ◌^◌, ◌≤◌, ◌<◌, MatchOption};
+ghost use Rattle.cqf_text.specs.Decimal.{decimal_in};
 
-/// Whether each of the bytes is a digit.
-fn are_digits(bytes: &[u8]) -> bool
-    ensures { result ≡ list_all is_ascii_digit bytes.now }
-{
-    bytes.iter().all(|byte| byte.is_ascii_digit())
-}
+/// How many digits a number has at most, leading zeros included.
+const MOST_DIGITS: usize = 20;
 
-/// Whether the bytes have the form of a decimal number: one to twenty digits.
-fn has_form(bytes: &[u8]) -> bool
-    ensures { result ≡ is_decimal bytes.now }
+/// The number that a digit more makes of a number, where 64 bits hold it.
+fn with_digit(number: u64, digit: u8) -> Option<u64>
+    requires { digit < 10 }
+    ensures { MatchOption result (2 ^ 64 ≤ number * 10 + digit) (λ more. more ≡ number * 10 + digit) }
 {
-    let not_empty = 1 <= bytes.len();
-    let not_too_long = bytes.len() <= 20;
-    not_empty && not_too_long && are_digits(bytes)
+    number.checked_mul(10)?.checked_add(u64::from(digit))
 }
 
 /// The decimal number that the bytes write: one to twenty ASCII digits, leading zeros allowed, and in the range
@@ -25,15 +18,19 @@ fn has_form(bytes: &[u8]) -> bool
 pub fn read_decimal(bytes: &[u8], least: u64, most: u64) -> Option<u64>
     ensures { result ≡ decimal_in least most bytes.now }
 {
-    if !has_form(bytes) {
+    if bytes.is_empty() || bytes.len() > MOST_DIGITS {
         return None;
     }
-    let Ok(text) = std::str::from_utf8(bytes) else {
-        return None;
-    };
-    let Ok(number) = text.parse::<u64>() else {
-        return None;
-    };
+    let mut number = 0;
+    for byte in bytes {
+        if !byte.is_ascii_digit() {
+            return None;
+        }
+        match with_digit(number, *byte - b'0') {
+            Some(more) => number = more,
+            None => return None,
+        }
+    }
     if least <= number && number <= most {
         Some(number)
     } else {

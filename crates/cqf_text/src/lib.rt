@@ -1,27 +1,22 @@
-//! The forms that every text of this repository shares: decimal numbers, lines, the parts of an input, and the
-//! entries of a gate list.
+//! The forms that every text of this repository shares: decimal numbers, lines, and the parts of an input.
 //!
 //! - [`read_decimal`] reads a number in a range.
 //! - [`split_line`] gives a text's first line and what stands behind it.
 //! - [`parts`] divides an input at the lines that are `%%`.
-//! - [`read_entry`] reads one line of a gate list.
 //!
 //! ```text
 //! read_decimal(b"007", 0, 7)      is Some(7)
 //! split_line(b"80 1000\n40 1000") is Some((b"80 1000", b"40 1000"))
 //! parts(alloc, b"a\n%%\nb")       is Ok([b"a\n", b"b"])
-//! read_entry(b"c0 1000")          is Some((0xC0, 1000))
 //! ```
 //!
 //! A reader of lines is a loop `while let Some((line, rest)) = split_line(text)` that goes on with `text = rest`.
 #![tactic(auto)]
 
 mod decimals;
-mod entries;
 mod inputs;
 mod lines;
 
 pub use decimals::read_decimal;
-pub use entries::read_entry;
 pub use inputs::parts;
 pub use lines::split_line;

@@ -14,11 +14,12 @@ use Rattle.cqf_model.specs.declared.topology.Node.{Node}
 use Rattle.cqf_model.specs.declared.topology.Node.TheVariants.{Bridge, Station}
 use Rattle.cqf_model.specs.Domain.{Domain, IsNode, node_or, same_node}
 use Rattle.cqf_topology.specs.declared.draft.DraftLink.{DraftLink}
-use Rattle.cqf_topology.specs.declared.faults.Key.TheVariants.{Cycle, Guard, Bridges, Stations, Links}
+use Rattle.cqf_fields.specs.declared.keys.Key.TheVariants.{Cycle, Guard, Bridges, Stations, Links}
 use Rattle.cqf_topology.specs.declared.faults.DomainFault.{DomainFault}
 use Rattle.cqf_topology.specs.declared.faults.DomainFault.TheVariants as fault
-use Rattle.cqf_topology.specs.Fields.{and_then, and_first, refuse, read_at, whole_document, tables_at, number_from}
-use Rattle.cqf_topology.specs.DomainText.{DomainText, IsReadable, IsNumbered, IsDomain, is_among, first_taken, place_of, apart, joined_link, joined, first_long_delay, first_long_gap, names_at, if_some, link_from, link_keys, domain_keys, domain_from, read_text, checked, with_links}
+use Rattle.cqf_lists.specs.Results.{and_then, refuse}
+use Rattle.cqf_fields.specs.Fields.{and_first, read_at, whole_document, tables_at, number_from, names_at}
+use Rattle.cqf_topology.specs.DomainText.{DomainText, IsReadable, IsNumbered, IsDomain, NoLinkTwice, is_among, first_taken, place_of, apart, joined_link, joined, first_long_delay, first_long_gap, if_some, link_from, link_keys, domain_keys, domain_from, read_text, checked, with_links}
 use Rattle.cqf_topology.specs.JoinedLink.{HasSmallEnds, IsSmallNode}
 use Rattle.cqf_topology.proofs.Distinct.{first_taken-None}
 use Rattle.cqf_topology.proofs.Refusals.{and_then-Ok, refuse-Ok, ok_or-Ok, number-range, names-named, if_some-Ok}
@@ -230,9 +231,9 @@ joined-small t bridges stations links n few few_too k link inside =
 
 -- the domain of a text that passed its checks is accepted, and its names are names, each once
 pub checked-accepted : (t : DomainText) (d : Domain) → IsNumbered t d.bridges d.stations d.links → d.cycle_time ≡ t.cycle_time → d.guard ≡ t.guard
-    → d.guard < d.cycle_time → first_long_delay d.guard d.links ≡ None → first_long_gap d.guard d.links ≡ None
+    → NoLinkTwice d.links → d.guard < d.cycle_time → first_long_delay d.guard d.links ≡ None → first_long_gap d.guard d.links ≡ None
     → length d.bridges ≤ 32 → length d.stations ≤ 64 → length d.links ≤ 64 → IsDomain d
-checked-accepted t d n same_cycle same_guard short no_delay no_gap few_bridges few_stations few_links =
+checked-accepted t d n same_cycle same_guard once short no_delay no_gap few_bridges few_stations few_links =
     record {
       accepted = record {
         cycle_least = omega (arith, n.readable.cycle_least);
@@ -256,6 +257,7 @@ checked-accepted t d n same_cycle same_guard short no_delay no_gap few_bridges f
       bridges_named = subst (All (λ name. IsTrue (is_name name))) (sym n.bridges_are) n.readable.bridges_named;
       stations_named = subst (All (λ name. IsTrue (is_name name))) (sym n.stations_are) n.readable.stations_named;
       distinct = (first_taken-None [] (d.bridges ++ d.stations) (ap (first_taken []) (sym names) ∙ n.distinct)).1;
+      no_link_twice = once;
     }
   where
     there : joined d.bridges d.stations t.links ≡ Ok d.links

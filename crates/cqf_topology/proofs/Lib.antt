@@ -1,7 +1,8 @@
-pub mod Arrays
 pub mod HeldEnds
 pub mod SameText
 pub mod Refusals
 pub mod Accepted
 pub mod Nodes
 pub mod Distinct
+pub mod Repeats
+pub mod Told

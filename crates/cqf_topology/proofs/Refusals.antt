@@ -7,10 +7,11 @@ use Rattle.std.proofs.lemmas.Bool.Decides.{nat_tests}
 use Rattle.std.proofs.lemmas.List.Elements.{All-cons, All-nil}
 use Rattle.toml.specs.Data.{Data, Items, no_items, item, Members, as_integer, as_array, as_str}
 use Rattle.cqf_units.specs.Name.{is_name}
-use Rattle.cqf_topology.specs.declared.faults.Key.{Key}
-use Rattle.cqf_topology.specs.declared.faults.StreamsFault.TheVariants.{BadValue}
-use Rattle.cqf_topology.specs.Fields.{Gives, and_then, and_first, refuse, value_at, read_at, each_from, within_range, number_from, if_name, name_from}
-use Rattle.cqf_topology.specs.DomainText.{names_at, if_some}
+use Rattle.cqf_fields.specs.declared.keys.Key.{Key}
+use Rattle.cqf_fields.specs.declared.faults.TomlFault.TheVariants.{BadValue}
+use Rattle.cqf_lists.specs.Results.{and_then, refuse}
+use Rattle.cqf_fields.specs.Fields.{Gives, and_first, value_at, read_at, each_from, within_range, number_from, if_name, name_from, names_at}
+use Rattle.cqf_topology.specs.DomainText.{if_some}
 
 -- two steps that went well
 pub and_then-Ok : {A B E : Type 0} (r : Result A E) (next : A → Result B E) (y : B) → and_then r next ≡ Ok y → (x : A) × (r ≡ Ok x) × (next x ≡ Ok y)

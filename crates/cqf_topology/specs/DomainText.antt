@@ -1,7 +1,7 @@
 -- The domain that a text means, or the first fault of the text (profile).
-use Rattle.std.specs.Prelude.{ℕ, ◌≡◌, ◌*◌, ◌<◌, ◌≤◌, ◌≢◌, ℤ, pos, negsuc, List, [], ◌∷◌, ◌++◌, ◌==◌, ◌&&◌, ◌||◌, Bool, true, false, if◌then◌else◌, length, nat_le, nat_lt, position, AllPairs, Option, Some, None, option_and_then, ok_or, Result, Ok, Err, All, IsTrue}
+use Rattle.std.specs.Prelude.{ℕ, ◌≡◌, ◌*◌, ◌<◌, ◌≤◌, ◌≢◌, ℤ, pos, negsuc, List, [], ◌∷◌, ◌++◌, ◌==◌, ◌&&◌, ◌||◌, Bool, true, false, if◌then◌else◌, length, nat_le, nat_lt, position, slice_get, AllPairs, Option, Some, None, option_and_then, ok_or, Result, Ok, Err, All, IsTrue}
 use Rattle.std.specs.List.{list_any}
-use Rattle.toml.specs.Data.{Data, as_integer, as_array, Members}
+use Rattle.toml.specs.Data.{Data, as_integer, Members}
 use Rattle.cqf_units.specs.Name.{is_name}
 use Rattle.cqf_units.specs.Timing.{nanos_of_octet}
 use Rattle.cqf_units.specs.declared.timing.Rate.{Rate as LinkRate}
@@ -11,13 +11,14 @@ use Rattle.cqf_model.specs.declared.topology.Node.{Node}
 use Rattle.cqf_model.specs.declared.topology.Node.TheVariants.{Bridge}
 use Rattle.cqf_model.specs.Domain.{Domain, IsAccepted, is_text, node_or, same_node}
 use Rattle.cqf_topology.specs.declared.draft.DraftLink.{DraftLink}
-use Rattle.cqf_topology.specs.declared.faults.Key.{Key}
-use Rattle.cqf_topology.specs.declared.faults.Key.TheVariants.{Cycle, Guard, Bridges, Stations, Links, From, To, Rate, Delay}
-use Rattle.cqf_topology.specs.declared.faults.StreamsFault.{StreamsFault}
-use Rattle.cqf_topology.specs.declared.faults.StreamsFault.TheVariants as early
+use Rattle.cqf_fields.specs.declared.keys.Key.{Key}
+use Rattle.cqf_fields.specs.declared.keys.Key.TheVariants.{Cycle, Guard, Bridges, Stations, Links, From, To, Rate, Delay}
+use Rattle.cqf_fields.specs.declared.faults.TomlFault.{TomlFault}
+use Rattle.cqf_fields.specs.declared.faults.TomlFault.TheVariants as early
 use Rattle.cqf_topology.specs.declared.faults.DomainFault.{DomainFault}
 use Rattle.cqf_topology.specs.declared.faults.DomainFault.TheVariants as fault
-use Rattle.cqf_topology.specs.Fields.{and_then, and_first, refuse, whole_document, read_at, each_from, tables_at, number_from, name_from}
+use Rattle.cqf_lists.specs.Results.{and_then, refuse}
+use Rattle.cqf_fields.specs.Fields.{and_first, whole_document, read_at, tables_at, number_from, name_from, names_at}
 
 -- the keys of a domain text, and those of each of its links, in reading order
 abbrev pub domain_keys : List Key
@@ -46,16 +47,13 @@ rate_of (pos n) =
 abbrev pub rate_from : Data → Option LinkRate
 rate_from d = option_and_then rate_of (as_integer d)
 
--- an array of names, and one of at least one name
-abbrev pub names_at : Key → Members → Result (List (List ℕ)) StreamsFault
-names_at key table = and_then (read_at key as_array table) (each_from (λ d. ok_or (name_from d) (early.BadValue key)))
-
-abbrev pub if_some : {A : Type 0} → Key → List A → Result (List A) StreamsFault
+-- an array of at least one name
+abbrev pub if_some : {A : Type 0} → Key → List A → Result (List A) TomlFault
 if_some key [] = Err (early.BadValue key)
 if_some key (x ∷ xs) = Ok (x ∷ xs)
 
 -- a link's table
-abbrev pub link_from : Members → Result DraftLink StreamsFault
+abbrev pub link_from : Members → Result DraftLink TomlFault
 link_from table =
     and_then (read_at From name_from table) (λ from.
     and_then (read_at To name_from table) (λ to.
@@ -64,7 +62,7 @@ link_from table =
     Ok (record { from = from; to = to; rate = rate; delay = delay })))))
 
 -- a domain's table
-abbrev pub domain_from : Members → Result DomainText StreamsFault
+abbrev pub domain_from : Members → Result DomainText TomlFault
 domain_from table =
     and_then (read_at Cycle (number_from 10000 10000000) table) (λ cycle_time.
     and_then (read_at Guard (number_from 1 10000000) table) (λ guard.
@@ -141,18 +139,18 @@ checked d =
     and_then (joined d.bridges d.stations d.links) (with_links d))
 
 -- a fault in reading, as one of the domain's
-abbrev pub domain_fault : StreamsFault → DomainFault
+abbrev pub domain_fault : TomlFault → DomainFault
 domain_fault early.NotToml = fault.NotToml
 domain_fault (early.Missing key) = fault.Missing key
 domain_fault (early.BadValue key) = fault.BadValue key
 domain_fault early.Memory = fault.Memory
 
-abbrev pub as_domain_fault : {A : Type 0} → Result A StreamsFault → Result A DomainFault
+abbrev pub as_domain_fault : {A : Type 0} → Result A TomlFault → Result A DomainFault
 as_domain_fault (Ok x) = Ok x
 as_domain_fault (Err e) = Err (domain_fault e)
 
 -- what a domain text says, or its first fault in being read
-abbrev pub read_text : List ℕ → Result DomainText StreamsFault
+abbrev pub read_text : List ℕ → Result DomainText TomlFault
 read_text text = and_then (whole_document domain_keys Links link_keys text) domain_from
 
 -- the domain that a text means, or its first fault
@@ -176,9 +174,19 @@ pub record IsNumbered (d : DomainText) (bridges stations : List (List ℕ)) (lin
   pub distinct : first_taken [] (d.bridges ++ d.stations) ≡ None
   pub joined_are : joined d.bridges d.stations d.links ≡ Ok links
 
--- what a domain's text gives beyond being accepted: each name has the form of a name, and no two are equal
+-- no two links have the same ends
+abbrev pub NoLinkTwice : List Link → Type 0
+NoLinkTwice links = AllPairs (λ (a b : Link). ¬ ((a.from ≡ b.from) × (a.to ≡ b.to))) links
+
+-- where a link leads from the bridge to the node, it is what is found
+abbrev pub IsOnlyLink : Domain → ℕ → Node → Option ℕ → Type 0
+IsOnlyLink d from to found = (number : ℕ) (link : Link) → slice_get d.links number ≡ Some link → link.from ≡ from → link.to ≡ to → found ≡ Some number
+
+-- what a domain's text gives beyond being accepted: each name has the form of a name, no two are equal, and no two links
+-- have the same ends
 pub record IsDomain (d : Domain) : Type 0 where
   pub accepted : IsAccepted d
   pub bridges_named : All (λ name. IsTrue (is_name name)) d.bridges
   pub stations_named : All (λ name. IsTrue (is_name name)) d.stations
   pub distinct : AllPairs (λ a b. a ≢ b) (d.bridges ++ d.stations)
+  pub no_link_twice : NoLinkTwice d.links

@@ -1,4 +1,6 @@
-pub mod Fields
+pub use Rattle.cqf_fields.specs.Fields
 pub mod DomainText
 pub mod JoinedLink
 pub mod StreamsText
+pub mod Faults
+pub mod FirstFaults

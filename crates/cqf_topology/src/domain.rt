@@ -1,8 +1,8 @@
 //! A domain of bridges and stations.
 ghost use Rattle.std.specs.Prelude.{◌≡◌, ◌<◌, ◌==◌, ◌&&◌, length, slice_get, position, Some, IfOk};
 ghost use Rattle.cqf_model.specs.Domain.{IsAccepted, node_named, link_between, same_node};
-ghost use Rattle.cqf_topology.specs.Fields.{Gives};
-ghost use Rattle.cqf_topology.specs.DomainText.{IsDomain, IsReadable, IsNumbered, with_links, checked, domain_of_text};
+ghost use Rattle.cqf_fields.specs.Fields.{Gives};
+ghost use Rattle.cqf_topology.specs.DomainText.{IsDomain, IsOnlyLink, IsReadable, IsNumbered, with_links, checked, domain_of_text};
 
 use crate::DomainFault;
 use crate::draft::{Draft, read_draft};
@@ -175,9 +175,11 @@ impl Domain {
         }
     }
 
-    /// The number of the link from a bridge to a node, or `None` where the domain has none.
+    /// The number of the link from a bridge to a node, or `None` where the domain has none. There is no other from that
+    /// bridge to that node.
     pub fn find_link(&self, from: u8, to: Node) -> Option<u8>
-        ensures { result ≡ link_between self.now from to }
+        ensures number { result ≡ link_between self.now from to }
+        ensures only { IsOnlyLink self.now from to result }
     {
         let link = place_of_link(self.links.as_slice(), from, to)?;
         Some(link as u8)

@@ -2,11 +2,13 @@
 ghost use Rattle.std.specs.Prelude.{◌≡◌, option_and_then, ok_or};
 ghost use Rattle.toml.specs.View.{view, table_view, items_view};
 ghost use Rattle.toml.specs.Data.{as_table};
-ghost use Rattle.cqf_topology.specs.Fields.{Gives, and_then, read_at, each_from, tables_at};
-ghost use Rattle.cqf_topology.specs.DomainText.{rate_of, rate_from, link_from, names_at, if_some, domain_from, read_text};
+ghost use Rattle.cqf_lists.specs.Results.{and_then};
+ghost use Rattle.cqf_fields.specs.Fields.{Gives, read_at, each_from, tables_at, names_at};
+ghost use Rattle.cqf_topology.specs.DomainText.{rate_of, rate_from, link_from, if_some, domain_from, read_text};
 
-use crate::fields::{are_all_tables, array_at, entry, name_at, names_in, number_at, read_document};
-use crate::{Key, StreamsFault};
+use cqf_fields::{
+    Key, TomlFault, are_all_tables, array_at, name_at, names_at, number_at, read_document, value_at,
+};
 use cqf_units::{Name, Rate};
 use std::alloc::Global;
 use std::marker::Model;
@@ -107,17 +109,17 @@ fn rate_of_value(value: &Value) -> Option<Rate>
 }
 
 /// The rate at a key.
-fn rate_at(table: &Table) -> Result<Rate, StreamsFault>
+fn rate_at(table: &Table) -> Result<Rate, TomlFault>
     ensures { result ≡ read_at Key.Rate rate_from (table_view table.now) }
 {
-    match entry(table, Key::Rate).and_then(rate_of_value) {
+    match value_at(table, Key::Rate).and_then(rate_of_value) {
         Some(rate) => Ok(rate),
-        None => Err(StreamsFault::BadValue(Key::Rate)),
+        None => Err(TomlFault::BadValue(Key::Rate)),
     }
 }
 
 /// A link's table.
-fn read_link(table: &Table) -> Result<DraftLink, StreamsFault>
+fn read_link(table: &Table) -> Result<DraftLink, TomlFault>
     ensures { result ≡ link_from (table_view table.now) }
 {
     let from = name_at(table, Key::From)?;
@@ -133,50 +135,50 @@ fn read_link(table: &Table) -> Result<DraftLink, StreamsFault>
 }
 
 /// A link, as an element of the array of links.
-fn link_in(value: &Value) -> Result<DraftLink, StreamsFault>
-    ensures { result ≡ and_then (ok_or (as_table (view value.now)) (StreamsFault.BadValue Key.Links)) link_from }
+fn link_in(value: &Value) -> Result<DraftLink, TomlFault>
+    ensures { result ≡ and_then (ok_or (as_table (view value.now)) (TomlFault.BadValue Key.Links)) link_from }
 {
     match value.as_table() {
         Some(table) => read_link(table),
-        None => Err(StreamsFault::BadValue(Key::Links)),
+        None => Err(TomlFault::BadValue(Key::Links)),
     }
 }
 
 /// The links of a domain's table.
-fn read_links(alloc: Global, table: &Table) -> Result<Vec<DraftLink>, StreamsFault>
-    ensures { Gives StreamsFault.Memory (λ links. links.items) result (tables_at Key.Links link_from (table_view table.now)) }
+fn read_links(alloc: Global, table: &Table) -> Result<Vec<DraftLink>, TomlFault>
+    ensures { Gives TomlFault.Memory (λ links. links.items) result (tables_at Key.Links link_from (table_view table.now)) }
 {
     let values = array_at(table, Key::Links)?;
     if !are_all_tables(values) {
-        return Err(StreamsFault::BadValue(Key::Links));
+        return Err(TomlFault::BadValue(Key::Links));
     }
     let mut links = Vec::new(alloc);
     for value in values {
         let link = link_in(value)?;
-        links.push(link).map_err(|_| StreamsFault::Memory)?;
+        links.push(link).map_err(|_| TomlFault::Memory)?;
     }
     Ok(links)
 }
 
 /// The bridges of a domain's table, of which there is at least one.
-fn read_bridges(alloc: Global, table: &Table) -> Result<Vec<Name>, StreamsFault>
-    ensures { Gives StreamsFault.Memory (λ names. names.items) result (and_then (names_at Key.Bridges (table_view table.now)) (if_some Key.Bridges)) }
+fn read_bridges(alloc: Global, table: &Table) -> Result<Vec<Name>, TomlFault>
+    ensures { Gives TomlFault.Memory (λ names. names.items) result (and_then (names_at Key.Bridges (table_view table.now)) (if_some Key.Bridges)) }
 {
-    let bridges = names_in(alloc, table, Key::Bridges)?;
+    let bridges = names_at(alloc, table, Key::Bridges)?;
     if bridges.is_empty() {
-        return Err(StreamsFault::BadValue(Key::Bridges));
+        return Err(TomlFault::BadValue(Key::Bridges));
     }
     Ok(bridges)
 }
 
 /// A domain's table.
-fn read_table(alloc: Global, table: &Table) -> Result<Draft, StreamsFault>
-    ensures { Gives StreamsFault.Memory (λ draft. draft) result (domain_from (table_view table.now)) }
+fn read_table(alloc: Global, table: &Table) -> Result<Draft, TomlFault>
+    ensures { Gives TomlFault.Memory (λ draft. draft) result (domain_from (table_view table.now)) }
 {
     let cycle_time = number_at(table, Key::Cycle, 10_000, 10_000_000)?;
     let guard = number_at(table, Key::Guard, 1, 10_000_000)?;
     let bridges = read_bridges(alloc, table)?;
-    let stations = names_in(alloc, table, Key::Stations)?;
+    let stations = names_at(alloc, table, Key::Stations)?;
     let links = read_links(alloc, table)?;
     Ok(Draft {
         cycle_time,
@@ -188,8 +190,8 @@ fn read_table(alloc: Global, table: &Table) -> Result<Draft, StreamsFault>
 }
 
 /// What a domain text says.
-pub(crate) fn read_draft(alloc: Global, text: &[u8]) -> Result<Draft, StreamsFault>
-    ensures { Gives StreamsFault.Memory (λ draft. draft) result (read_text text.now) }
+pub(crate) fn read_draft(alloc: Global, text: &[u8]) -> Result<Draft, TomlFault>
+    ensures { Gives TomlFault.Memory (λ draft. draft) result (read_text text.now) }
 {
     let table = read_document(alloc, text, &KEYS, Key::Links, &LINK_KEYS)?;
     read_table(alloc, &table)

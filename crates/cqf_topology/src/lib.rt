@@ -25,14 +25,16 @@
 mod domain;
 mod draft;
 mod faults;
-mod fields;
 mod joined;
+mod laws;
 mod names;
 mod streams;
 #[cfg(test)]
 mod tests;
 
+pub use cqf_fields::{Key, TomlFault as StreamsFault};
 pub use cqf_model::{Link, Node};
 pub use domain::Domain;
-pub use faults::{DomainFault, Key, StreamsFault};
+pub use faults::DomainFault;
+pub use laws::{taken_is_first_repeated, twice_is_first_twin};
 pub use streams::{Request, read_streams};

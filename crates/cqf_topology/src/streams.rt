@@ -1,12 +1,15 @@
 //! Requests for streams.
-ghost use Rattle.std.specs.Prelude.{◌≡◌, map, ok_or, string_bytes, IfOk};
+ghost use Rattle.std.specs.Prelude.{◌≡◌, ◌∷◌, [], map, ok_or, string_bytes, IfOk, Ok};
 ghost use Rattle.toml.specs.Data.{as_str, as_table};
 ghost use Rattle.toml.specs.View.{view, table_view};
-ghost use Rattle.cqf_topology.specs.Fields.{Gives, and_then, read_at, tables_at};
-ghost use Rattle.cqf_topology.specs.StreamsText.{texts_at, request_from, request_text, streams_of_text};
+ghost use Rattle.cqf_lists.specs.Results.{and_then};
+ghost use Rattle.cqf_fields.specs.Fields.{Gives, read_at, tables_at};
+ghost use Rattle.cqf_topology.specs.StreamsText.{branches_from, request_from, request_text, streams_of_text};
 
-use crate::fields::{are_all_tables, array_at, entry, number_at, read_document};
 use crate::{Key, StreamsFault};
+use cqf_fields::{
+    are_all_tables, array_at, number_at, read_document, text_at, text_lists_at, texts_at, value_at,
+};
 use cqf_units::Memory;
 use std::alloc::Global;
 use toml::{Table, Value};
@@ -18,8 +21,9 @@ pub struct Request {
     pub name: String,
     /// The reservation, in octets a cycle.
     pub octets: u32,
-    /// The names of the bridges of its path, in order, and then of the listener's station.
-    pub path: Vec<String>,
+    /// The branches of its tree, one a listener: each the names of its bridges, in order, and then of the listener's
+    /// station.
+    pub paths: Vec<Vec<String>>,
 }
 
 /// The keys of a streams text.
@@ -33,49 +37,50 @@ impl Request {
     pub fn try_copy(&self, alloc: Global) -> Result<Request, Memory>
         ensures { IfOk result (λ copy. request_text copy ≡ request_text self.now) }
     {
-        let mut path = Vec::new(alloc);
-        for node in &self.path {
-            path.push(String::from_str(alloc, node.as_str())?)?;
+        let mut paths = Vec::new(alloc);
+        for path in &self.paths {
+            paths.push(copied(alloc, path.as_slice())?)?;
         }
         Ok(Request {
             name: String::from_str(alloc, self.name.as_str())?,
             octets: self.octets,
-            path,
+            paths,
         })
     }
 }
 
-/// A text, as an element of the array at a key.
-fn text_in(alloc: Global, value: &Value, key: Key) -> Result<String, StreamsFault>
-    ensures { Gives StreamsFault.Memory string_bytes result (ok_or (as_str (view value.now)) (StreamsFault.BadValue key)) }
+/// The same texts again.
+fn copied(alloc: Global, texts: &[String]) -> Result<Vec<String>, Memory>
+    ensures { IfOk result (λ copies. map string_bytes copies.items ≡ map string_bytes texts.now) }
 {
-    match value.as_str() {
-        Some(text) => String::from_str(alloc, text).map_err(|_| StreamsFault::Memory),
-        None => Err(StreamsFault::BadValue(key)),
+    let mut copies = Vec::new(alloc);
+    for text in texts {
+        copies.push(String::from_str(alloc, text.as_str())?)?;
     }
+    Ok(copies)
 }
 
-/// An array of texts at a key.
-fn texts_in(alloc: Global, table: &Table, key: Key) -> Result<Vec<String>, StreamsFault>
-    ensures { Gives StreamsFault.Memory (λ texts. map string_bytes texts.items) result (texts_at key (table_view table.now)) }
+/// The branches of a stream's table: the one of `path`, or those of `paths`.
+fn branches_of(alloc: Global, table: &Table) -> Result<Vec<Vec<String>>, StreamsFault>
+    ensures { Gives StreamsFault.Memory (λ paths. map (λ path. map string_bytes path.items) paths.items) result (branches_from (table_view table.now)) }
 {
-    let values = array_at(table, key)?;
-    let mut texts = Vec::new(alloc);
-    for value in values {
-        let text = text_in(alloc, value, key)?;
-        texts.push(text).map_err(|_| StreamsFault::Memory)?;
+    if value_at(table, Key::Path).is_none() {
+        return text_lists_at(alloc, table, Key::Paths);
     }
-    Ok(texts)
+    let path = texts_at(alloc, table, Key::Path)?;
+    if value_at(table, Key::Paths).is_some() {
+        return Err(StreamsFault::BadValue(Key::Paths));
+    }
+    one_branch(alloc, path)
 }
 
-/// A text at a key.
-fn text_at(alloc: Global, table: &Table, key: Key) -> Result<String, StreamsFault>
-    ensures { Gives StreamsFault.Memory string_bytes result (read_at key as_str (table_view table.now)) }
+/// A branch as the only one.
+fn one_branch(alloc: Global, path: Vec<String>) -> Result<Vec<Vec<String>>, StreamsFault>
+    ensures { Gives StreamsFault.Memory (λ paths. map (λ path. map string_bytes path.items) paths.items) result (Ok (map string_bytes path.items ∷ [])) }
 {
-    match entry(table, key) {
-        Some(value) => text_in(alloc, value, key),
-        None => Err(StreamsFault::BadValue(key)),
-    }
+    let mut paths = Vec::new(alloc);
+    paths.push(path).map_err(|_| StreamsFault::Memory)?;
+    Ok(paths)
 }
 
 /// A stream's table.
@@ -84,8 +89,12 @@ fn read_request(alloc: Global, table: &Table) -> Result<Request, StreamsFault>
 {
     let name = text_at(alloc, table, Key::Name)?;
     let octets = number_at(table, Key::Octets, 0, u32::MAX)?;
-    let path = texts_in(alloc, table, Key::Path)?;
-    Ok(Request { name, octets, path })
+    let paths = branches_of(alloc, table)?;
+    Ok(Request {
+        name,
+        octets,
+        paths,
+    })
 }
 
 /// A stream, as an element of the array of streams.
@@ -114,7 +123,16 @@ fn read_requests(alloc: Global, table: &Table) -> Result<Vec<Request>, StreamsFa
     Ok(requests)
 }
 
-/// The requests of a streams text, in its order, or its first fault. Keys that mean nothing here are passed over.
+/// The requests of a streams text, in its order. Keys that mean nothing here are passed over.
+///
+/// `streams` is an array of tables, each with `name`, a text; `octets`, an integer from 0 to 4,294,967,295; and either
+/// `path`, an array of texts, which is its one branch, or `paths`, an array of such arrays (profile). They are read in this
+/// order.
+///
+/// # Errors
+/// `NotToml` where the text isn't TOML; `Missing` of the first key that is absent, and that is `path` where a stream has
+/// neither `path` nor `paths`; `BadValue` of the first key with another value, and that is `paths` where a stream has a
+/// good `path` and `paths` too; `Memory` where a growth is refused.
 pub fn read_streams(alloc: Global, text: &[u8]) -> Result<Vec<Request>, StreamsFault>
     ensures { Gives StreamsFault.Memory (λ requests. map request_text requests.items) result (streams_of_text text.now) }
 {

@@ -1,147 +1,125 @@
-use crate::{Domain, DomainFault, Key, Link, Node, Request, StreamsFault, read_streams};
-use cqf_units::{Memory, Name, Nanos, Rate};
-use std::alloc::Global;
+use crate::{Domain, Link, Node, Request, read_streams};
+use cqf_fixtures::{line, line_and_link, one_link_with, ring};
+use cqf_units::{Nanos, Rate};
+use std::alloc::{AllocError, Global};
 use std::process::Abort;
 use std::test::Fail;
-
-/// Three bridges in a line, and a station at its end.
-const LINE: &str = r#"
-cycle = 125000
-guard = 5000
-bridges = ["a", "b", "c"]
-stations = ["s"]
-links = [
-    { from = "a", to = "b", rate = 1000, delay = 500 },
-    { from = "b", to = "c", rate = 1000, delay = 500 },
-    { from = "c", to = "s", rate = 1000, delay = 500 },
-]
-"#;
-
-/// Three bridges, of which the first and the last have links to each other too.
-const RING: &str = r#"
-cycle = 125000
-guard = 5000
-bridges = ["a", "b", "c"]
-stations = ["s"]
-
-[[links]]
-from = "a"
-to = "b"
-rate = 1000
-delay = 500
-
-[[links]]
-from = "b"
-to = "c"
-rate = 1000
-delay = 500
-
-[[links]]
-from = "c"
-to = "s"
-rate = 1000
-delay = 500
-
-[[links]]
-from = "a"
-to = "c"
-rate = 1000
-delay = 500
-
-[[links]]
-from = "c"
-to = "a"
-rate = 1000
-delay = 500
-"#;
-
-/// The head of the line's text.
-const HEAD: &str =
-    "cycle = 125000\nguard = 5000\nbridges = [\"a\", \"b\", \"c\"]\nstations = [\"s\"]\n";
-
-/// Its links.
-const LINKS: &str = r#"
-[[links]]
-from = "a"
-to = "b"
-rate = 1000
-delay = 500
-
-[[links]]
-from = "b"
-to = "c"
-rate = 1000
-delay = 500
-
-[[links]]
-from = "c"
-to = "s"
-rate = 1000
-delay = 500
-"#;
-
-/// A link that the line has.
-const LINK_TO_B: &str = "\n[[links]]\nfrom = \"a\"\nto = \"b\"\nrate = 1000\ndelay = 500\n";
-
-/// A link to a node that the line lacks.
-const LINK_TO_Q: &str = "\n[[links]]\nfrom = \"a\"\nto = \"q\"\nrate = 1000\ndelay = 500\n";
 
 /// The text of 32 bridges, but for the end of their array.
 const MANY: &str = "cycle = 125000\nguard = 5000\nstations = []\nlinks = []\nbridges = [\
     \"0\", \"1\", \"2\", \"3\", \"4\", \"5\", \"6\", \"7\", \"8\", \"9\", \"10\", \"11\", \"12\", \"13\", \"14\", \"15\", \"16\", \
     \"17\", \"18\", \"19\", \"20\", \"21\", \"22\", \"23\", \"24\", \"25\", \"26\", \"27\", \"28\", \"29\", \"30\", \"31\"";
 
-/// Whether a text is refused with this fault.
-fn is_refused(alloc: Global, text: &[u8], wanted: &DomainFault) -> bool {
+/// What a domain text is answered with: its fault as it prints, or that it is read.
+fn answer(alloc: Global, text: &[u8]) -> Result<String, AllocError> {
     match Domain::read(alloc, text) {
-        Ok(_domain) => false,
-        Err(fault) => fault == *wanted,
+        Ok(_domain) => String::from_str(alloc, "read"),
+        Err(fault) => {
+            let line = format!(in alloc; "{fault}")?;
+            Ok(line)
+        }
     }
 }
 
-/// Whether a text in parts is refused with this fault.
-fn are_refused(alloc: Global, head: &str, links: &str, more: &str, wanted: &DomainFault) -> bool {
-    match format!(in alloc; "{head}{links}{more}") {
-        Ok(text) => is_refused(alloc, text.as_bytes(), wanted),
+/// Whether a domain text is answered with this.
+fn answers(alloc: Global, text: &[u8], wanted: &str) -> bool {
+    match answer(alloc, text) {
+        Ok(line) => line.as_str() == wanted,
         Err(_) => false,
     }
 }
 
-/// Whether a text in two parts is read.
-fn are_read(alloc: Global, head: &str, more: &str) -> bool {
-    match format!(in alloc; "{head}{more}") {
-        Ok(text) => Domain::read(alloc, text.as_bytes()).is_ok(),
+/// Whether a text that was made is answered with this.
+fn text_answers(alloc: Global, text: Result<String, AllocError>, wanted: &str) -> bool {
+    match text {
+        Ok(text) => answers(alloc, text.as_bytes(), wanted),
         Err(_) => false,
     }
 }
 
-/// The text of one bridge and one station with this guard, rate and delay.
-fn text_with(alloc: Global, guard: u32, rate: u32, delay: u32) -> Result<String, Memory> {
-    let text = format!(in alloc;
-        "cycle = 125000\nguard = {guard}\nbridges = [\"a\"]\nstations = [\"s\"]\n[[links]]\nfrom = \"a\"\nto = \"s\"\nrate = {rate}\ndelay = {delay}\n"
-    )?;
-    Ok(text)
+/// Whether the line with another text at one place is answered with this.
+fn changed_line_answers(alloc: Global, old: &str, new: &str, wanted: &str) -> bool {
+    text_answers(alloc, line().replacen(alloc, old, new, 1), wanted)
 }
 
-/// Whether that text is read.
-fn is_read_with(alloc: Global, guard: u32, rate: u32, delay: u32) -> bool {
-    match text_with(alloc, guard, rate, delay) {
-        Ok(text) => Domain::read(alloc, text.as_bytes()).is_ok(),
-        Err(_) => false,
+#[test]
+fn a_changed_line_is_refused_by_its_first_fault(rt: HostRuntime) {
+    for (old, new, wanted) in [
+        ("", "", "read"),
+        ("delay = 500", "delay = 4999", "read"),
+        ("delay = 500", "delay = 5000", "DelayTooLong 0"),
+        ("guard = 5000", "guard = 125000", "GuardTooLong"),
+        ("guard = 5000\n", "", "Missing guard"),
+        (
+            "guard = 5000\nbridges = [\"a\"",
+            "bridges = [\"A\"",
+            "Missing guard",
+        ),
+        ("to = \"s\"", "", "Missing to"),
+        ("\"a\", \"b\"", "\"A\", \"b\"", "BadValue bridges"),
+        ("cycle = 125000", "cycle = 125000.0", "BadValue cycle"),
+        ("\"s\"", "\"a\"", "NameTaken a"),
+        ("cycle = 125000", "cycle =", "NotToml"),
+        ("[\"a\", \"b\", \"c\"]", "[]", "BadValue bridges"),
+        ("rate = 1000", "rate = 100", "read"),
+    ] {
+        assert!(rt;
+            changed_line_answers(rt.alloc(), old, new, wanted),
+            "{new}: {wanted}"
+        );
     }
 }
 
-/// Whether that text is refused with this fault.
-fn is_refused_with(alloc: Global, guard: u32, rate: u32, delay: u32, wanted: &DomainFault) -> bool {
-    match text_with(alloc, guard, rate, delay) {
-        Ok(text) => is_refused(alloc, text.as_bytes(), wanted),
-        Err(_) => false,
+#[test]
+fn one_link_more_is_refused_where_it_leads_wrong(rt: HostRuntime) {
+    let alloc = rt.alloc();
+    for (from, to, wanted) in [
+        ("b", "s", "read"),
+        ("a", "q", "UnknownName q"),
+        ("s", "a", "UnknownName s"),
+        ("b", "b", "UnknownName b"),
+        ("a", "b", "LinkTwice 3"),
+    ] {
+        assert!(rt;
+            text_answers(alloc, line_and_link(alloc, from, to), wanted),
+            "{from}>{to}"
+        );
     }
 }
 
-/// A name of one letter.
-fn name_of(letter: u8) -> Result<Name, Fail> {
-    Ok(Name::new(&[letter]).ok_or("a name was refused")?)
+#[test]
+fn a_gap_is_within_the_guard_time(rt: HostRuntime) {
+    let alloc = rt.alloc();
+    for (guard, rate, wanted) in [
+        (9600, 10, "read"),
+        (9599, 10, "GapTooLong 0"),
+        (5000, 11, "BadValue rate"),
+    ] {
+        assert!(rt;
+            text_answers(alloc, one_link_with(alloc, guard, rate), wanted),
+            "{wanted}"
+        );
+    }
+}
+
+/// Whether the text of 32 bridges with this end is answered with this.
+fn many_answer(alloc: Global, end: &str, wanted: &str) -> bool {
+    let text = match format!(in alloc; "{MANY}{end}") {
+        Ok(text) => text,
+        Err(_) => return false,
+    };
+    answers(alloc, text.as_bytes(), wanted)
+}
+
+#[test]
+fn other_texts_are_refused_by_their_first_fault(rt: HostRuntime) {
+    let alloc = rt.alloc();
+    assert!(rt; answers(alloc, b"", "Missing cycle"));
+    assert!(rt; answers(alloc, b"bridges = [\"\xff\"]", "NotToml"));
+    let no_table = "cycle = 125000\nguard = 5000\nbridges = [\"a\"]\nstations = []\nlinks = [7]\n";
+    assert!(rt; answers(alloc, no_table.as_bytes(), "BadValue links"));
+    assert!(rt; many_answer(alloc, "]", "read"));
+    assert!(rt; many_answer(alloc, ", \"32\"]", "TooMany"));
 }
 
 /// Asserts the times and names of the line.
@@ -156,14 +134,18 @@ fn has_times_and_names_of_line(rt: &impl Abort, domain: &Domain) {
 
 /// Asserts the nodes of the line.
 fn has_nodes_of_line(rt: &impl Abort, domain: &Domain) {
-    assert_eq!(rt; domain.find("b"), Some(Node::Bridge(1)));
-    assert_eq!(rt; domain.find("s"), Some(Node::Station(0)));
-    assert_eq!(rt; domain.find("q"), None);
-    assert_eq!(rt; domain.find("A"), None);
+    for (name, wanted) in [
+        ("b", Some(Node::Bridge(1))),
+        ("s", Some(Node::Station(0))),
+        ("q", None),
+        ("A", None),
+    ] {
+        assert_eq!(rt; domain.find(name), wanted, "{name}");
+    }
 }
 
-/// Asserts the links of the line.
-fn has_links_of_line(rt: &impl Abort, domain: &Domain) {
+/// Asserts the last link of the line.
+fn has_last_link_of_line(rt: &impl Abort, domain: &Domain) {
     assert_eq!(rt; domain.links(), 3);
     let last = Link {
         from: 2,
@@ -172,29 +154,19 @@ fn has_links_of_line(rt: &impl Abort, domain: &Domain) {
         delay: 500,
     };
     assert_eq!(rt; domain.link(2), last);
-    assert_eq!(rt; domain.find_link(0, Node::Bridge(1)), Some(0));
-    assert_eq!(rt; domain.find_link(1, Node::Bridge(0)), None);
 }
 
 /// Asserts all that is asked of the line.
 fn is_line(rt: &impl Abort, domain: &Domain) {
     has_times_and_names_of_line(rt, domain);
     has_nodes_of_line(rt, domain);
-    has_links_of_line(rt, domain);
+    has_last_link_of_line(rt, domain);
 }
 
 #[test]
-fn a_line_of_bridges_is_read(rt: HostRuntime) -> Result<(), Fail> {
-    let domain = Domain::read(rt.alloc(), LINE.as_bytes())?;
-    is_line(&rt, &domain);
-    Ok(())
-}
-
-#[test]
-fn a_copy_of_a_line_is_that_line(rt: HostRuntime) -> Result<(), Fail> {
-    let alloc = rt.alloc();
-    let domain = Domain::read(alloc, LINE.as_bytes())?;
-    let copy = domain.try_copy(alloc)?;
+fn a_line_of_bridges_is_read_and_copied(rt: HostRuntime) -> Result<(), Fail> {
+    let domain = Domain::read(rt.alloc(), line().as_bytes())?;
+    let copy = domain.try_copy(rt.alloc())?;
     is_line(&rt, &copy);
     is_line(&rt, &domain);
     Ok(())
@@ -202,185 +174,120 @@ fn a_copy_of_a_line_is_that_line(rt: HostRuntime) -> Result<(), Fail> {
 
 #[test]
 fn links_are_numbered_in_their_order(rt: HostRuntime) -> Result<(), Fail> {
-    let domain = Domain::read(rt.alloc(), RING.as_bytes())?;
+    let domain = Domain::read(rt.alloc(), ring().as_bytes())?;
     assert_eq!(rt; domain.links(), 5);
-    assert_eq!(rt; domain.find_link(0, Node::Bridge(2)), Some(3));
-    assert_eq!(rt; domain.find_link(2, Node::Bridge(0)), Some(4));
-    assert_eq!(rt; domain.find_link(2, Node::Station(0)), Some(2));
+    for (from, to, wanted) in [
+        (0, Node::Bridge(1), Some(0)),
+        (2, Node::Station(0), Some(2)),
+        (0, Node::Bridge(2), Some(3)),
+        (2, Node::Bridge(0), Some(4)),
+        (1, Node::Bridge(0), None),
+    ] {
+        assert_eq!(rt; domain.find_link(from, to), wanted);
+    }
     Ok(())
 }
 
-#[test]
-fn a_delay_is_within_the_guard_time(rt: HostRuntime) {
-    let alloc = rt.alloc();
-    assert!(rt; is_read_with(alloc, 5000, 1000, 4999));
-    assert!(rt; is_refused_with(alloc, 5000, 1000, 5000, &DomainFault::DelayTooLong(0)));
+/// Whether the request is for 1,500 octets of the stream x, in so many branches, of which the last has this length and ends
+/// in this node.
+fn is_request(request: &Request, branches: usize, nodes: usize, listener: &str) -> bool {
+    if request.name.as_str() != "x" || request.octets != 1500 || request.paths.len() != branches {
+        return false;
+    }
+    match request.paths.last() {
+        Some(path) => path.len() == nodes && ends_in(path.as_slice(), listener),
+        None => false,
+    }
 }
 
-#[test]
-fn a_gap_is_within_the_guard_time(rt: HostRuntime) {
-    let alloc = rt.alloc();
-    assert!(rt; is_read_with(alloc, 9600, 10, 500));
-    assert!(rt; is_refused_with(alloc, 9599, 10, 500, &DomainFault::GapTooLong(0)));
-    assert!(rt; is_refused_with(alloc, 125_000, 1000, 500, &DomainFault::GuardTooLong));
+/// Whether the last of the nodes is this one.
+fn ends_in(path: &[String], listener: &str) -> bool {
+    match path.last() {
+        Some(node) => node.as_str() == listener,
+        None => false,
+    }
 }
 
-#[test]
-fn what_is_not_toml_is_refused(rt: HostRuntime) {
-    let alloc = rt.alloc();
-    assert!(rt; is_refused(alloc, b"cycle =", &DomainFault::NotToml));
-    assert!(rt; is_refused(alloc, b"bridges = [\"\xff\"]", &DomainFault::NotToml));
+/// Whether the text's only request, copied, is that.
+fn asks_for(alloc: Global, text: &str, branches: usize, nodes: usize, listener: &str) -> bool {
+    let Ok(requests) = read_streams(alloc, text.as_bytes()) else {
+        return false;
+    };
+    match requests.first() {
+        Some(request) => is_copied(alloc, request, branches, nodes, listener),
+        None => false,
+    }
 }
 
-#[test]
-fn keys_are_asked_for_in_order(rt: HostRuntime) {
-    let alloc = rt.alloc();
-    let no_guard = "cycle = 125000\nbridges = [\"A\"]\nstations = [\"s\"]\n";
-    assert!(rt;
-        are_refused(
-            alloc,
-            no_guard,
-            LINKS,
-            "",
-            &DomainFault::Missing(Key::Guard)
-        )
-    );
-    assert!(rt; is_refused(alloc, b"", &DomainFault::Missing(Key::Cycle)));
-    let no_to = "[[links]]\nfrom = \"a\"";
-    assert!(rt; are_refused(alloc, HEAD, LINKS, no_to, &DomainFault::Missing(Key::To)));
-}
-
-#[test]
-fn values_are_asked_for_in_order(rt: HostRuntime) {
-    let alloc = rt.alloc();
-    let no_name = "cycle = 125000\nguard = 5000\nbridges = [\"a\", \"A\"]\nstations = [\"s\"]\n";
-    assert!(rt;
-        are_refused(
-            alloc,
-            no_name,
-            LINKS,
-            "",
-            &DomainFault::BadValue(Key::Bridges)
-        )
-    );
-    let float =
-        "cycle = 125000.0\nguard = 5000\nbridges = [\"a\"]\nstations = [\"s\"]\nlinks = []\n";
-    assert!(rt; is_refused(alloc, float.as_bytes(), &DomainFault::BadValue(Key::Cycle)));
-    let no_table = "cycle = 125000\nguard = 5000\nbridges = [\"a\"]\nstations = []\nlinks = [7]\n";
-    assert!(rt;
-        is_refused(
-            alloc,
-            no_table.as_bytes(),
-            &DomainFault::BadValue(Key::Links)
-        )
-    );
-}
-
-#[test]
-fn a_name_that_is_taken_is_refused(rt: HostRuntime) -> Result<(), Fail> {
-    let taken =
-        "cycle = 125000\nguard = 5000\nbridges = [\"a\", \"b\", \"c\"]\nstations = [\"a\"]\n";
-    let wanted = DomainFault::NameTaken(name_of(b'a')?);
-    assert!(rt; are_refused(rt.alloc(), taken, LINKS, "", &wanted));
-    Ok(())
-}
-
-#[test]
-fn a_link_to_an_unknown_node_is_refused(rt: HostRuntime) -> Result<(), Fail> {
-    let wanted = DomainFault::UnknownName(name_of(b'q')?);
-    assert!(rt; are_refused(rt.alloc(), HEAD, LINKS, LINK_TO_Q, &wanted));
-    Ok(())
-}
-
-#[test]
-fn a_link_that_stands_twice_is_refused(rt: HostRuntime) {
-    let wanted = DomainFault::LinkTwice(3);
-    assert!(rt; are_refused(rt.alloc(), HEAD, LINKS, LINK_TO_B, &wanted));
-}
-
-#[test]
-fn there_are_at_most_32_bridges(rt: HostRuntime) {
-    let alloc = rt.alloc();
-    assert!(rt; are_read(alloc, MANY, "]"));
-    assert!(rt; are_refused(alloc, MANY, ", \"32\"]", "", &DomainFault::TooMany));
-}
-
-/// Whether the fault prints as this text.
-fn prints(alloc: Global, fault: &DomainFault, wanted: &str) -> bool {
-    match format!(in alloc; "{fault}") {
-        Ok(text) => text.as_str() == wanted,
+/// Whether a copy of the request is that.
+fn is_copied(
+    alloc: Global,
+    request: &Request,
+    branches: usize,
+    nodes: usize,
+    listener: &str,
+) -> bool {
+    match request.try_copy(alloc) {
+        Ok(copy) => is_request(&copy, branches, nodes, listener),
         Err(_) => false,
     }
 }
 
 #[test]
-fn faults_of_domains_print_their_names_and_values(rt: HostRuntime) -> Result<(), Fail> {
-    let alloc = rt.alloc();
-    assert!(rt; prints(alloc, &DomainFault::Missing(Key::Guard), "Missing guard"));
-    let taken = DomainFault::NameTaken(name_of(b'a')?);
-    assert!(rt; prints(alloc, &taken, "NameTaken a"));
-    assert!(rt; prints(alloc, &DomainFault::LinkTwice(3), "LinkTwice 3"));
-    Ok(())
+fn streams_have_one_branch_or_several(rt: HostRuntime) {
+    let one = "[[streams]]\nname = \"x\"\noctets = 1500\npath = [\"a\", \"b\", \"c\", \"s\"]\n";
+    assert!(rt; asks_for(rt.alloc(), one, 1, 4, "s"));
+    let two =
+        "[[streams]]\nname = \"x\"\noctets = 1500\npaths = [[\"a\", \"b\", \"c\", \"s\"], [\"a\", \"b\", \"t\"]]\n";
+    assert!(rt; asks_for(rt.alloc(), two, 2, 3, "t"));
 }
 
-#[test]
-fn faults_of_streams_print_their_names_and_values(rt: HostRuntime) -> Result<(), Fail> {
-    let bad = StreamsFault::BadValue(Key::Octets);
-    let text = format!(in rt.alloc(); "{bad}")?;
-    assert_eq!(rt; text.as_str(), "BadValue octets");
-    Ok(())
-}
-
-/// Asserts that it is the request of the text below.
-fn is_request(rt: &impl Abort, request: &Request) {
-    assert_eq!(rt; request.name.as_str(), "x");
-    assert_eq!(rt; request.octets, 1500);
-    assert_eq!(rt; request.path.len(), 4);
-    assert_eq!(rt; request.path[3].as_str(), "s");
-}
-
-#[test]
-fn streams_are_read(rt: HostRuntime) -> Result<(), Fail> {
-    let alloc = rt.alloc();
-    let text = "[[streams]]\nname = \"x\"\noctets = 1500\npath = [\"a\", \"b\", \"c\", \"s\"]\n";
-    let requests = read_streams(alloc, text.as_bytes())?;
-    assert_eq!(rt; requests.len(), 1);
-    let copy = requests[0].try_copy(alloc)?;
-    is_request(&rt, &copy);
-    Ok(())
-}
-
-#[test]
-fn no_streams_are_read(rt: HostRuntime) -> Result<(), Fail> {
-    let requests = read_streams(rt.alloc(), b"streams = []")?;
-    assert_eq!(rt; requests.len(), 0);
-    Ok(())
-}
-
-/// Whether a streams text is refused with this fault.
-fn are_streams_refused(alloc: Global, text: &str, wanted: StreamsFault) -> bool {
+/// What a streams text is answered with: its fault as it prints, or that it is read.
+fn answer_to_streams(alloc: Global, text: &str) -> Result<String, AllocError> {
     match read_streams(alloc, text.as_bytes()) {
-        Ok(_requests) => false,
-        Err(fault) => fault == wanted,
+        Ok(_requests) => String::from_str(alloc, "read"),
+        Err(fault) => {
+            let line = format!(in alloc; "{fault}")?;
+            Ok(line)
+        }
+    }
+}
+
+/// Whether a streams text is answered with this.
+fn streams_answer(alloc: Global, text: &str, wanted: &str) -> bool {
+    match answer_to_streams(alloc, text) {
+        Ok(line) => line.as_str() == wanted,
+        Err(_) => false,
     }
 }
 
 #[test]
 fn streams_texts_are_refused_by_their_first_fault(rt: HostRuntime) {
-    let alloc = rt.alloc();
     for (text, wanted) in [
-        ("", StreamsFault::Missing(Key::Streams)),
-        ("streams =", StreamsFault::NotToml),
-        (
-            "[[streams]]\noctets = -1\npath = []",
-            StreamsFault::Missing(Key::Name),
-        ),
-        ("streams = [7]", StreamsFault::BadValue(Key::Streams)),
+        ("streams = []", "read"),
+        ("", "Missing streams"),
+        ("streams =", "NotToml"),
+        ("[[streams]]\noctets = -1\npath = []", "Missing name"),
+        ("streams = [7]", "BadValue streams"),
         (
             "[[streams]]\nname = \"x\"\noctets = -1\npath = 7",
-            StreamsFault::BadValue(Key::Octets),
+            "BadValue octets",
+        ),
+        ("[[streams]]\nname = \"x\"\noctets = 64", "Missing path"),
+        ("[[streams]]\nname = \"x\"\noctets = 64\npaths = []", "read"),
+        (
+            "[[streams]]\nname = \"x\"\noctets = 64\npaths = [7]",
+            "BadValue paths",
+        ),
+        (
+            "[[streams]]\nname = \"x\"\noctets = 64\npath = []\npaths = []",
+            "BadValue paths",
+        ),
+        (
+            "[[streams]]\nname = \"x\"\noctets = 64\npath = 7\npaths = []",
+            "BadValue path",
         ),
     ] {
-        assert!(rt; are_streams_refused(alloc, text, wanted), "{text}");
+        assert!(rt; streams_answer(rt.alloc(), text, wanted), "{text}");
     }
 }

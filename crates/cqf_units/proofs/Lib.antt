@@ -1,1 +1,2 @@
 pub mod NameText
+pub mod Cycles

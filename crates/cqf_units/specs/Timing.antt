@@ -22,7 +22,7 @@ ending_of start octets octet_time = start + (octets + 8) * octet_time
 abbrev pub idle_after : ℕ → ℕ → ℕ → ℕ
 idle_after start octets octet_time = start + wire_of octets * octet_time
 
--- what a reservation costs of each link of its path, in octets a cycle (profile): as many frames of the shortest
+-- what a reservation costs once, of each link of its tree, in octets a cycle (profile): as many frames of the shortest
 -- size as it can hold have preamble and gap
 abbrev pub cost_of : ℕ → ℕ
 cost_of reserved = reserved + 20 * (reserved / 64)

@@ -8,7 +8,7 @@ use crate::{Nanos, Octets, Rate, octet_time};
 #[derive(Clone, Copy, Debug, PartialEq, Eq, PartialOrd, Ord, Hash)]
 pub struct Cycle(pub u32);
 
-/// What a reservation of so many octets a cycle costs on each link of its path, in octets: the reservation, and 20
+/// What a reservation of so many octets a cycle costs once, on each link of its tree, in octets: the reservation, and 20
 /// octets of preamble, start delimiter and gap for each shortest frame of 64 octets that it can hold (profile). The
 /// caller keeps the cost below 2^32.
 pub fn cost(reserved: Octets) -> Octets

@@ -1,5 +1,5 @@
-use Rattle.cqf_laws_history.proofs.Orderly.{tables_orderly}
-use Rattle.cqf_laws_history.proofs.Lists.{length-singles}
+use Rattle.cqf_laws_history.proofs.Orderly.{rows_ascend, tables_orderly}
+use Rattle.cqf_lists.proofs.Below.{length-singles}
 use Rattle.cqf_model.specs.History.{table_at}
 use Rattle.cqf_laws_history.proofs.tables_are_orderly.Goals as goal
 
@@ -8,3 +8,6 @@ returns-clause-count c d entries cycles = length-singles (table_at d entries) cy
 
 pub returns-clause-orderly : goal.returns-clause-orderly
 returns-clause-orderly c d entries cycles legal few = tables_orderly d entries cycles legal few
+
+pub returns-clause-ascend : goal.returns-clause-ascend
+returns-clause-ascend c d entries cycles cycle legal few = rows_ascend d entries cycles legal few cycle

@@ -1,16 +1,32 @@
-use Rattle.std.proofs.Common.{◌≡◌, ◌∙◌, ◌<◌, ◌≤◌, ap, sym, refl, arith, subst, ℕ, List, length, map, true, false, None}
-use Rattle.std.specs.Prelude.{All, is_some, string_bytes}
+use Rattle.std.proofs.Common.{◌≡◌, ◌∙◌, ◌<◌, ◌≤◌, Option, ap, sym, refl, arith, subst, ℕ, List, length, true, false, None}
+use Rattle.std.specs.Prelude.{All, is_some}
 use Rattle.std.specs.List.{list_any}
+use Rattle.std.proofs.lemmas.Result.{err_from_is_err_and}
 use Rattle.cqf_units.specs.Name.{is_name}
 use Rattle.cqf_units.specs.Timing.{cost_of}
 use Rattle.cqf_model.specs.declared.topology.Row.{Row}
+use Rattle.cqf_lists.specs.Lists.{or_else}
+use Rattle.cqf_model.specs.declared.history.Refused.{Refused}
 use Rattle.cqf_model.specs.Domain.{is_text}
-use Rattle.cqf_model.specs.History.{links_along}
+use Rattle.cqf_model.specs.declared.topology.Hop.{Hop}
+use Rattle.cqf_model.specs.History.{tree_of}
 use Rattle.cqf_admission.specs.Asking.{asked_of}
 use Rattle.cqf_admission.specs.Grants.{short_refusal}
-use Rattle.cqf_admission.specs.Paths.{path_refusal}
-use Rattle.cqf_admission.proofs.GrantLemmas.{links_inside, position_any, refusal_held, refusal_last, refusal_later, refusal_many, row_granted}
+use Rattle.cqf_admission.specs.Branches.{branches_of, tree_refusal}
+use Rattle.cqf_lists.proofs.Any.{position_any}
+use Rattle.cqf_admission.proofs.TreeLemmas.{hops_inside}
+use Rattle.cqf_admission.proofs.GrantLemmas.{later_refusal, refusal_by_tree, refusal_held, refusal_last, refusal_later, refusal_many, row_granted}
 use Rattle.cqf_admission.proofs.refusals.grant.Goals as goal
+
+pub returns-in_err-tree : goal.returns-in_err-tree
+returns-in_err-tree c =
+    let d = c.args.domain.now in
+    let rows = c.args.held.now.rows in
+    let asked = asked_of c.args.request.now in
+    let form : is_name asked.name ≡ true = ap is_name (sym c.as_bytes.ensures.value) ∙ c.in-Some.ensures.form.0 refl in
+    let p = err_from_is_err_and c.from_residual.result c.from_residual.ensures.1 in
+    let first = refusal_by_tree d rows asked form c.if-request-lt-LEAST_OCTETS.false c.if-request-gt-MOST_OCTETS.false in
+    rw (p.1, p.2) (first ∙ ap (λ (o : Option Refused). or_else o (later_refusal d rows asked)) (ap (λ xs. tree_refusal d (branches_of xs)) (sym c.as_slice.ensures.value) ∙ c.in_err-tree.ensures))
 
 pub returns-then-is_some : goal.returns-then-is_some
 returns-then-is_some c =
@@ -19,7 +35,7 @@ returns-then-is_some c =
     let asked = asked_of c.args.request.now in
     let named : c.in-Some.name ≡ asked.name = c.in-Some.ensures.value ∙ c.as_bytes.ensures.value in
     let form : is_name asked.name ≡ true = ap is_name (sym c.as_bytes.ensures.value) ∙ c.in-Some.ensures.form.0 refl in
-    let whole : path_refusal d asked.path ≡ None = ap (λ xs. path_refusal d (map string_bytes xs)) (sym c.as_slice.ensures.value) ∙ c.in_ok-path.ensures.0 in
+    let whole : tree_refusal d asked.paths ≡ None = ap (λ xs. tree_refusal d (branches_of xs)) (sym c.as_slice.ensures.value) ∙ c.in_ok-tree.ensures.0 in
     let later = refusal_later d rows asked form c.if-request-lt-LEAST_OCTETS.false c.if-request-gt-MOST_OCTETS.false whole in
     let found : list_any (λ (row : Row). is_text row.name asked.name) rows ≡ true =
     ap (λ (n : List ℕ). list_any (λ (row : Row). is_text row.name n) rows) (sym named) ∙ sym (position_any (λ (row : Row). is_text row.name c.in-Some.name) rows) ∙ ap is_some (sym c.place_of.ensures) ∙ sym c.is_some.ensures ∙ c.if-is_some.true in
@@ -32,7 +48,7 @@ returns-then-rows-ge-MOST_STREAMS c =
     let asked = asked_of c.args.request.now in
     let named : c.in-Some.name ≡ asked.name = c.in-Some.ensures.value ∙ c.as_bytes.ensures.value in
     let form : is_name asked.name ≡ true = ap is_name (sym c.as_bytes.ensures.value) ∙ c.in-Some.ensures.form.0 refl in
-    let whole : path_refusal d asked.path ≡ None = ap (λ xs. path_refusal d (map string_bytes xs)) (sym c.as_slice.ensures.value) ∙ c.in_ok-path.ensures.0 in
+    let whole : tree_refusal d asked.paths ≡ None = ap (λ xs. tree_refusal d (branches_of xs)) (sym c.as_slice.ensures.value) ∙ c.in_ok-tree.ensures.0 in
     let later = refusal_later d rows asked form c.if-request-lt-LEAST_OCTETS.false c.if-request-gt-MOST_OCTETS.false whole in
     let found : list_any (λ (row : Row). is_text row.name asked.name) rows ≡ false =
     ap (λ (n : List ℕ). list_any (λ (row : Row). is_text row.name n) rows) (sym named) ∙ sym (position_any (λ (row : Row). is_text row.name c.in-Some.name) rows) ∙ ap is_some (sym c.place_of.ensures) ∙ sym c.is_some.ensures ∙ c.if-is_some.false in
@@ -43,8 +59,8 @@ pub short_of-requires-clause-inside : goal.short_of-requires-clause-inside
 short_of-requires-clause-inside c =
     let d = c.args.domain.now in
     let asked = asked_of c.args.request.now in
-    let linked : c.in_ok-path.path.items ≡ links_along d asked.path = c.in_ok-path.ensures.1 ∙ ap (λ xs. links_along d (map string_bytes xs)) c.as_slice.ensures.value in
-    subst (λ (xs : List ℕ). All (λ l. l < length d.links) xs) (sym (c.as_slice-2.ensures.value ∙ linked)) (links_inside d asked.path)
+    let linked : c.in_ok-tree.tree.items ≡ tree_of d asked.paths = c.in_ok-tree.ensures.1 ∙ ap (λ xs. tree_of d (branches_of xs)) c.as_slice.ensures.value in
+    subst (λ (xs : List Hop). All (λ (hop : Hop). hop.link < length d.links) xs) (sym (c.as_slice-2.ensures.value ∙ linked)) (hops_inside d asked.paths)
 
 pub returns-in-Some-short_of : goal.returns-in-Some-short_of
 returns-in-Some-short_of c =
@@ -53,17 +69,16 @@ returns-in-Some-short_of c =
     let asked = asked_of c.args.request.now in
     let named : c.in-Some.name ≡ asked.name = c.in-Some.ensures.value ∙ c.as_bytes.ensures.value in
     let form : is_name asked.name ≡ true = ap is_name (sym c.as_bytes.ensures.value) ∙ c.in-Some.ensures.form.0 refl in
-    let whole : path_refusal d asked.path ≡ None = ap (λ xs. path_refusal d (map string_bytes xs)) (sym c.as_slice.ensures.value) ∙ c.in_ok-path.ensures.0 in
+    let whole : tree_refusal d asked.paths ≡ None = ap (λ xs. tree_refusal d (branches_of xs)) (sym c.as_slice.ensures.value) ∙ c.in_ok-tree.ensures.0 in
     let later = refusal_later d rows asked form c.if-request-lt-LEAST_OCTETS.false c.if-request-gt-MOST_OCTETS.false whole in
     let found : list_any (λ (row : Row). is_text row.name asked.name) rows ≡ false =
     ap (λ (n : List ℕ). list_any (λ (row : Row). is_text row.name n) rows) (sym named) ∙ sym (position_any (λ (row : Row). is_text row.name c.in-Some.name) rows) ∙ ap is_some (sym c.place_of.ensures) ∙ sym c.is_some.ensures ∙ c.if-is_some.false in
-    let linked : c.in_ok-path.path.items ≡ links_along d asked.path = c.in_ok-path.ensures.1 ∙ ap (λ xs. links_along d (map string_bytes xs)) c.as_slice.ensures.value in
+    let linked : c.in_ok-tree.tree.items ≡ tree_of d asked.paths = c.in_ok-tree.ensures.1 ∙ ap (λ xs. tree_of d (branches_of xs)) c.as_slice.ensures.value in
     let few : length rows < 1024 = omega (arith, c.if-rows-ge-MOST_STREAMS.false, ap (λ (xs : List Row). length xs) c.rows.ensures) in
-    let asked_same : short_refusal d rows (cost_of asked.octets) (links_along d asked.path) ≡ c.short_of.result =
+    let asked_same : short_refusal d rows (cost_of asked.octets) (tree_of d asked.paths) ≡ c.short_of.result =
     sym (c.short_of.ensures
-    ∙ ap (λ (xs : List Row). short_refusal d xs c.cost-octets.result.0 c.as_slice-2.result.now) c.rows-2.ensures
     ∙ ap (λ (n : ℕ). short_refusal d rows n c.as_slice-2.result.now) c.cost-octets.ensures
-    ∙ ap (λ (xs : List ℕ). short_refusal d rows (cost_of asked.octets) xs) (c.as_slice-2.ensures.value ∙ linked)) in
+    ∙ ap (λ (xs : List Hop). short_refusal d rows (cost_of asked.octets) xs) (c.as_slice-2.ensures.value ∙ linked)) in
     later ∙ refusal_last d rows asked found few ∙ asked_same ∙ c.in-Some-short_of.is
 
 pub returns : goal.returns
@@ -73,17 +88,19 @@ returns c =
     let asked = asked_of c.args.request.now in
     let named : c.in-Some.name ≡ asked.name = c.in-Some.ensures.value ∙ c.as_bytes.ensures.value in
     let form : is_name asked.name ≡ true = ap is_name (sym c.as_bytes.ensures.value) ∙ c.in-Some.ensures.form.0 refl in
-    let whole : path_refusal d asked.path ≡ None = ap (λ xs. path_refusal d (map string_bytes xs)) (sym c.as_slice.ensures.value) ∙ c.in_ok-path.ensures.0 in
+    let whole : tree_refusal d asked.paths ≡ None = ap (λ xs. tree_refusal d (branches_of xs)) (sym c.as_slice.ensures.value) ∙ c.in_ok-tree.ensures.0 in
     let later = refusal_later d rows asked form c.if-request-lt-LEAST_OCTETS.false c.if-request-gt-MOST_OCTETS.false whole in
     let found : list_any (λ (row : Row). is_text row.name asked.name) rows ≡ false =
     ap (λ (n : List ℕ). list_any (λ (row : Row). is_text row.name n) rows) (sym named) ∙ sym (position_any (λ (row : Row). is_text row.name c.in-Some.name) rows) ∙ ap is_some (sym c.place_of.ensures) ∙ sym c.is_some.ensures ∙ c.if-is_some.false in
-    let linked : c.in_ok-path.path.items ≡ links_along d asked.path = c.in_ok-path.ensures.1 ∙ ap (λ xs. links_along d (map string_bytes xs)) c.as_slice.ensures.value in
+    let linked : c.in_ok-tree.tree.items ≡ tree_of d asked.paths = c.in_ok-tree.ensures.1 ∙ ap (λ xs. tree_of d (branches_of xs)) c.as_slice.ensures.value in
     let few : length rows < 1024 = omega (arith, c.if-rows-ge-MOST_STREAMS.false, ap (λ (xs : List Row). length xs) c.rows.ensures) in
-    let asked_same : short_refusal d rows (cost_of asked.octets) (links_along d asked.path) ≡ c.short_of.result =
+    let asked_same : short_refusal d rows (cost_of asked.octets) (tree_of d asked.paths) ≡ c.short_of.result =
     sym (c.short_of.ensures
-    ∙ ap (λ (xs : List Row). short_refusal d xs c.cost-octets.result.0 c.as_slice-2.result.now) c.rows-2.ensures
     ∙ ap (λ (n : ℕ). short_refusal d rows n c.as_slice-2.result.now) c.cost-octets.ensures
-    ∙ ap (λ (xs : List ℕ). short_refusal d rows (cost_of asked.octets) xs) (c.as_slice-2.ensures.value ∙ linked)) in (
-      later ∙ refusal_last d rows asked found few ∙ asked_same ∙ c.in_default-short_of.is,
-      row_granted d c.args.no c.args.effect asked c.in-Some.name c.in_ok-path.path named linked,
-    )
+    ∙ ap (λ (xs : List Hop). short_refusal d rows (cost_of asked.octets) xs) (c.as_slice-2.ensures.value ∙ linked)) in record {
+      none = later ∙ refusal_last d rows asked found few ∙ asked_same ∙ c.in_default-short_of.is;
+      is = row_granted d c.args.no c.args.effect asked c.in-Some.name c.in_ok-tree.tree named linked;
+      free = ap (λ (n : List ℕ). list_any (λ (row : Row). is_text row.name n) rows) named ∙ found;
+      few = few;
+      most_octets = c.if-request-gt-MOST_OCTETS.false;
+    }

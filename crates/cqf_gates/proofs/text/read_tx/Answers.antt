@@ -1,7 +1,7 @@
 -- Each line adds its entry to what has been read.
 use Rattle.std.proofs.Common.{◌≡◌, ◌<◌, ◌≤◌, ◌++◌, [], ◌∷◌, Some, length, arith}
 use Rattle.cqf_text.specs.Lines.{lines_of}
-use Rattle.cqf_text.specs.GateListText.{entry_of_line}
+use Rattle.cqf_gates.specs.GateListText.{entry_of_line}
 use Rattle.cqf_gates.proofs.ReadLines.{read-one_more}
 use Rattle.cqf_gates.proofs.text.read_tx.Goals as goal
 use Rattle.cqf_gates.proofs.text.read_tx.Goals.{then-len-lt-TOO_MANY, else-len-lt-TOO_MANY}

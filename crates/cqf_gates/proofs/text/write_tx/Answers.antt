@@ -3,7 +3,7 @@ use Rattle.std.proofs.Common.{◌≡◌, All, take, ◌<◌, ◌^◌, ap, ◌∙
 use Rattle.std.proofs.lemmas.List.Elements.{All-more}
 use Rattle.cqf_model.specs.GateList.{Entry}
 use Rattle.std.proofs.lemmas.List.{take_all}
-use Rattle.cqf_text.specs.GateListText.{text_of_entries}
+use Rattle.cqf_gates.specs.GateListText.{text_of_entries}
 use Rattle.cqf_gates.proofs.RoundTrip.{list_of_text-text}
 use Rattle.cqf_gates.proofs.Written.{text_of_entries-more}
 use Rattle.cqf_gates.proofs.text.write_tx.Goals as goal

@@ -1,7 +1,7 @@
 -- The entries so far are written, each in the range of its type.
 use Rattle.std.proofs.Common.{◌≡◌, ◌<◌, ◌^◌, All, take}
 use Rattle.cqf_model.specs.GateList.{Entry}
-use Rattle.cqf_text.specs.GateListText.{text_of_entries}
+use Rattle.cqf_gates.specs.GateListText.{text_of_entries}
 use Rattle.cqf_gates.proofs.text.write_tx.Given as goal
 
 abbrev pub invariant-loop-entry : goal.invariant-loop-entry

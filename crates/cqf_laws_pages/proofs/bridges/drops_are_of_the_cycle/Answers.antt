@@ -1,4 +1,4 @@
-use Rattle.cqf_laws_pages.proofs.ByFrame.{sorted_are_drops}
+use Rattle.cqf_laws_pages.proofs.ByFrame.{by_frame}
 use Rattle.cqf_laws_pages.proofs.Continued.{drops_of_the_cycle}
 use Rattle.cqf_laws_pages.proofs.bridges.drops_are_of_the_cycle.Goals as goal
 
@@ -6,4 +6,4 @@ pub returns-clause-among : goal.returns-clause-among
 returns-clause-among c = drops_of_the_cycle
 
 pub returns-clause-sorted : goal.returns-clause-sorted
-returns-clause-sorted c = sorted_are_drops
+returns-clause-sorted c = by_frame

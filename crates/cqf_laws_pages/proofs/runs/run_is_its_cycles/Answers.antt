@@ -5,7 +5,7 @@ pub returns-clause-cycles : goal.returns-clause-cycles
 returns-clause-cycles c = run_is_cycles
 
 pub returns-clause-losses : goal.returns-clause-losses
-returns-clause-losses c d tables offers net cycles bridge policed = (
-  lost_in_cycle d tables offers net cycles bridge policed,
-  lost_in_run d tables offers net cycles bridge policed,
+returns-clause-losses c run carried cycles bridge policed = (
+  lost_in_cycle run carried cycles bridge policed,
+  lost_in_run run carried cycles bridge policed,
 )

@@ -1,9 +1,11 @@
-use Rattle.std.proofs.Common.{◌<◌, sym, subst, List, arith}
+use Rattle.std.proofs.Common.{◌<◌, sym, subst, List, length, arith}
 use Rattle.std.specs.List.{All}
-use Rattle.std.proofs.lemmas.List.Elements.{All-weaker}
+use Rattle.std.proofs.lemmas.List.Elements.{All-nil, All-weaker}
 use Rattle.cqf_model.specs.declared.ports.Start.{Start}
 use Rattle.cqf_line.proofs.Running.{starts-early, book-of-calls}
-use Rattle.cqf_line.specs.Line.{line_domain, line_tables}
+use Rattle.cqf_model.specs.Network.{compiled_lists}
+use Rattle.cqf_model.specs.Run.{IsBackground}
+use Rattle.cqf_line.specs.Line.{line_domain, line_run}
 use Rattle.cqf_line.proofs.Orderly.{line-accepted, line-orderly}
 use Rattle.cqf_line.proofs.book.line_book.Goals as goal
 
@@ -16,7 +18,12 @@ started-requires c =
 
 pub returns : goal.returns
 returns c =
-    let book = book-of-calls c.args.cycles c.end_of_run-end.result c.args.offers.now _ _ _ _ _ _ _ _ _ _ _
-    c.end_of_run-end.ensures c.as_slice.ensures.value c.run.ensures.drops c.as_slice-2.ensures.value c.into_drops.ensures
+    let run = line_run c.args.cycles c.args.offers.now in
+    let book = book-of-calls c.args.cycles c.end_of_run-end.result c.args.offers.now _ _ _ _ _ _ _ _ _ _ _ _
+    c.end_of_run-end.ensures c.as_slice.ensures.value c.run.ensures.drops c.as_slice-2.ensures.value c.into_drops.ensures c.new.ensures.items
     c.in_ok-dues.ensures.each c.in_ok-dues.ensures.order c.in_ok-edge.ensures c.in_ok-starts.ensures.ok c.in_ok-started.ensures c.in_ok-sort_drops.ensures.ok in
-    record { book = book; shift = c.book_says_the_shift.ensures line_domain (line_tables c.args.cycles) c.args.offers.now _ _ line-accepted (line-orderly c.args.cycles) c.requires.offers book }
+    record {
+      book = book;
+      only = λ other is. c.book_is_unique.ensures run (compiled_lists line_domain) (length run.tables) other _ is book;
+      shift = c.book_says_the_shift.ensures run _ line-accepted (line-orderly c.args.cycles) c.requires.offers (All-nil (IsBackground line_domain)) book;
+    }

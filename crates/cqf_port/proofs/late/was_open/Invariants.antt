@@ -4,8 +4,8 @@ use Rattle.cqf_port.proofs.late.was_open.Given as goal
 
 -- the class was closed at each instant that has been looked at
 abbrev pub invariant-loop-t : goal.invariant-loop-t
-invariant-loop-t l = WasClosed l.list l.class l.fn.first.0 l.t
+invariant-loop-t l = WasClosed l.schedule l.class l.fn.first.0 l.t
 
--- what is left up to the last instant
+-- what is left up to the end
 abbrev pub decreases-loop-t : goal.decreases-loop-t
-decreases-loop-t l = l.last.0 - l.t
+decreases-loop-t l = l.end - l.t

@@ -1,27 +1,37 @@
-use Rattle.std.proofs.Common.{arith, ℕ, ◌≡◌, ◌≤◌, subst}
+use Rattle.std.proofs.Common.{ℕ, ◌≡◌, subst, arith}
 use Rattle.cqf_port.specs.PortState.{rules_of}
 use Rattle.cqf_port.specs.Progress.{IsAbreast}
 use Rattle.cqf_port.proofs.More.{none_more, more_again}
 use Rattle.cqf_port.proofs.run.run.Goals as goal
 
 -- at first nothing was added
-pub loop-t-init : goal.loop-t-init
-loop-t-init c = (c.requires.abreast, none_more c.args.starts.now.items c.args.reached.0)
+pub instants-init : goal.instants-init
+instants-init c = record {
+  abreast = c.requires.abreast;
+  more = none_more c.args.starts.now.items c.args.reached.0;
+  from_reached = omega arith;
+  in_time = omega arith;
+}
 
 -- what a refused instant added
-pub returns-in_err-progress-clause-more : goal.returns-in_err-progress-clause-more
-returns-in_err-progress-clause-more c =
-    let past : c.args.reached.0 ≤ c.loop-t.t = omega arith in
-    more_again c.args.starts.now.items c.loop-t.starts.items c.step.new.starts.items c.args.reached.0 c.loop-t.t c.loop-t.invariant.1 c.step.ensures.more past
+pub returns-in_err-after-clause-more : goal.returns-in_err-after-clause-more
+returns-in_err-after-clause-more c = more_again c.args.starts.now.items c.instants.starts.items c.step.new.starts.items c.args.reached.0 c.instants.t c.instants.invariant.more c.step.ensures.more c.instants.invariant.from_reached
 
--- an instant further
-pub loop-t-preserved : goal.loop-t-preserved
-loop-t-preserved c =
-    let past : c.args.reached.0 ≤ c.loop-t.t = omega arith in
-    (c.in_ok-progress.ensures.ok, more_again c.args.starts.now.items c.loop-t.starts.items c.step.new.starts.items c.args.reached.0 c.loop-t.t c.loop-t.invariant.1 c.step.ensures.more past)
+-- the next instant at which anything can happen, or the end
+pub instants-preserved : goal.instants-preserved
+instants-preserved c = record {
+  abreast = c.in_ok-after.ensures.ok.abreast _ (omega (arith, c.in_ok-after.ensures.ok.later)) (omega arith);
+  more = more_again c.args.starts.now.items c.instants.starts.items c.step.new.starts.items c.args.reached.0 c.instants.t c.instants.invariant.more c.step.ensures.more c.instants.invariant.from_reached;
+  from_reached = omega (arith, c.in_ok-after.ensures.ok.later);
+  in_time = omega arith;
+}
 
--- the last instant is reached
+-- nearer to the end
+pub instants-smaller : goal.instants-smaller
+instants-smaller c = omega (arith, c.in_ok-after.ensures.ok.later)
+
+-- the end is reached
 pub returns-clause-ok : goal.returns-clause-ok
 returns-clause-ok c =
-    let at_end : c.loop-t.t ≡ c.args.until.0 = omega arith in
-    subst (λ (t : ℕ). IsAbreast (rules_of c.args.list.now c.args.rate) c.args.arrivals.now t c.loop-t.starts.items c.loop-t.progress) at_end c.loop-t.invariant.0
+    let at_end : c.instants.t ≡ c.args.until.0 = omega arith in
+    subst (λ (t : ℕ). IsAbreast (rules_of c.args.schedule.now c.args.rate) c.args.arrivals.now t c.instants.starts.items c.instants.progress) at_end c.instants.invariant.abreast

@@ -1,10 +1,10 @@
-use Rattle.std.proofs.Common.{◌∙◌, refl, rules}
+use Rattle.std.proofs.Common.{◌∙◌, rules}
 use Rattle.cqf_report.proofs.WrittenLemmas.{decimal-plain}
 use Rattle.cqf_report.proofs.books.write_started.Goals as goal
 
 pub write_event-requires : goal.write_event-requires
 write_event-requires g c = (
-  rw c.as_slice.ensures refl,
+  c.requires,
   (
     rw (c.as_bytes.ensures.value ∙ c.format.ensures.text) (decimal-plain c.args.started.now.cycle.0 (search rules)),
     (
@@ -26,7 +26,6 @@ write_event-requires g c = (
 pub returns : goal.returns
 returns g c =
     rw (
-      c.as_slice.ensures,
       c.as_bytes.ensures.value ∙ c.format.ensures.text,
       c.as_bytes-2.ensures.value ∙ c.in_ok-link.ensures.name,
       c.as_bytes-3.ensures.value ∙ c.format-2.ensures.text,

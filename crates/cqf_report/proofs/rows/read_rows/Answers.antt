@@ -1,50 +1,52 @@
-use Rattle.std.proofs.Common.{◌≡◌, List, Some, arith, rules, true}
+use Rattle.std.proofs.Common.{◌≡◌, List, Some, length, arith, rules, true}
 use Rattle.std.specs.Result.{is_ok}
 use Rattle.cqf_report.specs.Records.{Fields, StillGives}
 use Rattle.cqf_report.specs.Table.{IsFaultOf, rows_from}
 use Rattle.cqf_report.specs.declared.tables.TableFault.{TableFault}
 use Rattle.cqf_report.specs.declared.tables.TableFault.TheVariants.{TooMany}
-use Rattle.cqf_report.specs.Table.{in_four}
 use Rattle.cqf_report.proofs.TableLemmas.{next-beyond, passed-on, taken-end, taken-fault, taken-more}
 use Rattle.cqf_report.proofs.rows.read_rows.Goals as goal
 
 pub returns-in_err-row-clause-err : goal.returns-in_err-row-clause-err
 returns-in_err-row-clause-err g c =
     passed-on c.from_residual.result c.in_err-row.field-0.0
-    (λ (fault : TableFault). (rows : List Fields) → StillGives g.R.Read.remaining (Some 4) c.args.reader.now rows → IsFaultOf (rows_from (in_four (g.F.RowFormat.row_of c.args.format.now)) g.F.RowFormat.instant_of 1 0 rows) fault)
+    (λ (fault : TableFault). (rows : List Fields) → StillGives g.R.Read.remaining (Some (length g.F.RowFormat.header)) c.args.reader.now rows → IsFaultOf (rows_from (g.F.RowFormat.row_of c.args.format.now) g.F.RowFormat.instant_of 1 0 rows) fault)
     c.from_residual.ensures.1
-    (λ rows gives other. taken-fault (in_four (g.F.RowFormat.row_of c.args.format.now)) g.F.RowFormat.instant_of g.R.Read.remaining c.args.reader.now c.loop-number.number c.loop-number.before.0 c.loop-number.rows.items c.loop-number.reader
-    c.in_err-row.field-0.0 c.loop-number.invariant (λ rest still. c.in_err-row.ensures rest still other) rows gives)
+    (λ rows gives other. taken-fault (length g.F.RowFormat.header) (g.F.RowFormat.row_of c.args.format.now) g.F.RowFormat.instant_of g.R.Read.remaining c.args.reader.now c.loop-number.number c.loop-number.before.0 c.loop-number.rows.items c.loop-number.reader
+    c.in_err-row.field-0.0 c.loop-number.invariant.taken (λ rest still. c.in_err-row.ensures.taken rest still other) rows gives)
 
 pub returns-in_default-clause-ok : goal.returns-in_default-clause-ok
 returns-in_default-clause-ok g c =
-    taken-end (in_four (g.F.RowFormat.row_of c.args.format.now)) g.F.RowFormat.instant_of g.R.Read.remaining c.args.reader.now c.loop-number.number c.loop-number.before.0 c.loop-number.rows.items c.loop-number.reader
-    c.loop-number.invariant (λ rest still. rw c.in_default.is at (c.in_ok-row.ensures rest still))
+    taken-end (length g.F.RowFormat.header) (g.F.RowFormat.row_of c.args.format.now) g.F.RowFormat.instant_of g.R.Read.remaining c.args.reader.now c.loop-number.number c.loop-number.before.0 c.loop-number.rows.items c.loop-number.reader
+    c.loop-number.invariant.taken (λ rest still. rw c.in_default.is at (c.in_ok-row.ensures.taken rest still))
 
 pub loop-number-preserved : goal.loop-number-preserved
 loop-number-preserved g c =
     let good : is_ok c.push.result ≡ true = search rules in
-    rw (c.push.ensures.items, good, c.instant-before.ensures) (
-    taken-more (in_four (g.F.RowFormat.row_of c.args.format.now)) g.F.RowFormat.instant_of g.R.Read.remaining c.args.reader.now c.loop-number.number c.loop-number.before.0 c.loop-number.rows.items c.loop-number.reader c.next_row.new.reader c.in-Some.row
-    c.loop-number.invariant (λ rest still. rw c.in-Some.is at (c.in_ok-row.ensures rest still)))
+    record {
+      ready = rw c.in-Some.is at c.in_ok-row.ensures.ready;
+      taken = rw (c.push.ensures.items, good, c.instant-before.ensures) (
+          taken-more (length g.F.RowFormat.header) (g.F.RowFormat.row_of c.args.format.now) g.F.RowFormat.instant_of g.R.Read.remaining c.args.reader.now c.loop-number.number c.loop-number.before.0 c.loop-number.rows.items c.loop-number.reader c.next_row.new.reader c.in-Some.row
+          c.loop-number.invariant.taken (λ rest still. rw c.in-Some.is at (c.in_ok-row.ensures.taken rest still)));
+    }
 
 pub returns-in-Ok-End-clause-ok : goal.returns-in-Ok-End-clause-ok
 returns-in-Ok-End-clause-ok g c =
-    taken-end (in_four (g.F.RowFormat.row_of c.args.format.now)) g.F.RowFormat.instant_of g.R.Read.remaining c.args.reader.now c.loop-number.number c.loop-number.before.0 c.loop-number.rows.items c.loop-number.reader
-    c.loop-number.invariant (λ rest still. rw c.in-Ok-End.field-0-is at (c.in-Ok-End.ensures (Some 4) rest still))
+    taken-end (length g.F.RowFormat.header) (g.F.RowFormat.row_of c.args.format.now) g.F.RowFormat.instant_of g.R.Read.remaining c.args.reader.now c.loop-number.number c.loop-number.before.0 c.loop-number.rows.items c.loop-number.reader
+    c.loop-number.invariant.taken (λ rest still. rw c.in-Ok-End.field-0-is at (c.in-Ok-End.ensures.taken (Some (length g.F.RowFormat.header)) rest still))
 
 pub returns-in-Ok-Row-clause-err : goal.returns-in-Ok-Row-clause-err
 returns-in-Ok-Row-clause-err g c rows gives other =
-    taken-fault (in_four (g.F.RowFormat.row_of c.args.format.now)) g.F.RowFormat.instant_of g.R.Read.remaining c.args.reader.now c.loop-number.number c.loop-number.before.0 c.loop-number.rows.items c.loop-number.reader TooMany
-    c.loop-number.invariant
-    (λ rest still. let row = rw c.in-Ok-Row.field-0-is at (c.in-Ok-Row.ensures (Some 4) rest still) in
-    next-beyond (in_four (g.F.RowFormat.row_of c.args.format.now)) g.F.RowFormat.instant_of c.loop-number.number c.loop-number.before.0 _ row.rest rest (omega arith) row.first)
+    taken-fault (length g.F.RowFormat.header) (g.F.RowFormat.row_of c.args.format.now) g.F.RowFormat.instant_of g.R.Read.remaining c.args.reader.now c.loop-number.number c.loop-number.before.0 c.loop-number.rows.items c.loop-number.reader TooMany
+    c.loop-number.invariant.taken
+    (λ rest still. let row = rw c.in-Ok-Row.field-0-is at (c.in-Ok-Row.ensures.taken (Some (length g.F.RowFormat.header)) rest still) in
+    next-beyond (g.F.RowFormat.row_of c.args.format.now) g.F.RowFormat.instant_of c.loop-number.number c.loop-number.before.0 _ row.rest rest (omega arith) row.first)
     rows gives
 
 pub returns-in-Ok-Refused-clause-err : goal.returns-in-Ok-Refused-clause-err
 returns-in-Ok-Refused-clause-err g c rows gives other =
-    taken-fault (in_four (g.F.RowFormat.row_of c.args.format.now)) g.F.RowFormat.instant_of g.R.Read.remaining c.args.reader.now c.loop-number.number c.loop-number.before.0 c.loop-number.rows.items c.loop-number.reader TooMany
-    c.loop-number.invariant
-    (λ rest still. let row = rw c.in-Ok-Refused.field-0-is at (c.in-Ok-Refused.ensures (Some 4) rest still) in
-    next-beyond (in_four (g.F.RowFormat.row_of c.args.format.now)) g.F.RowFormat.instant_of c.loop-number.number c.loop-number.before.0 row.fields row.rest rest (omega arith) row.first)
+    taken-fault (length g.F.RowFormat.header) (g.F.RowFormat.row_of c.args.format.now) g.F.RowFormat.instant_of g.R.Read.remaining c.args.reader.now c.loop-number.number c.loop-number.before.0 c.loop-number.rows.items c.loop-number.reader TooMany
+    c.loop-number.invariant.taken
+    (λ rest still. let row = rw c.in-Ok-Refused.field-0-is at (c.in-Ok-Refused.ensures.taken (Some (length g.F.RowFormat.header)) rest still) in
+    next-beyond (g.F.RowFormat.row_of c.args.format.now) g.F.RowFormat.instant_of c.loop-number.number c.loop-number.before.0 row.fields row.rest rest (omega arith) row.first)
     rows gives

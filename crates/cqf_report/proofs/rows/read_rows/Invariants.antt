@@ -1,7 +1,8 @@
-use Rattle.cqf_report.specs.Table.{in_four}
+use Rattle.std.proofs.Common.{length}
+use Rattle.csv.specs.Reading.{Ready}
 use Rattle.cqf_report.proofs.TableLemmas.{Taken}
 use Rattle.cqf_report.proofs.rows.read_rows.Given as goal
 
--- each row so far is an arrival, and the reader gives the others
+-- each row so far was taken, and the reader gives the others
 abbrev pub invariant-loop-number : goal.invariant-loop-number
-invariant-loop-number g l = Taken (in_four (g.F.RowFormat.row_of l.format)) g.F.RowFormat.instant_of g.R.Read.remaining l.fn.reader l.number l.before.0 l.rows.items l.reader
+invariant-loop-number g l = record { ready : Ready l.reader; taken : Taken (length g.F.RowFormat.header) (g.F.RowFormat.row_of l.format) g.F.RowFormat.instant_of g.R.Read.remaining l.fn.reader l.number l.before.0 l.rows.items l.reader }

@@ -1,9 +1,15 @@
-use Rattle.std.proofs.Common.{◌∙◌}
+use Rattle.std.proofs.Common.{◌∙◌, inr}
 use Rattle.cqf_report.proofs.Turns.{opened}
 use Rattle.cqf_report.proofs.tables.open_table.Goals as goal
 
-pub returns : goal.returns
-returns g c bytes is =
+pub returns-clause-ready : goal.returns-clause-ready
+returns-clause-ready g c =
+    let set = c.from_reader.ensures in
+    let builder = c.has_headers.ensures in
+    inr (inr (rw builder at set.has_headers, set.headers))
+
+pub returns-clause-gives : goal.returns-clause-gives
+returns-clause-gives g c bytes is =
     let set = c.from_reader.ensures in
     let start = c.new.ensures in
     let builder = c.has_headers.ensures in

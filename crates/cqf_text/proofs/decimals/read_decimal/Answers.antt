@@ -1,13 +1,28 @@
-use Rattle.std.proofs.Common.{sym, arith}
-use Rattle.cqf_text.proofs.DecimalLemmas.{IsUtf8-decimal, decimal_in-unreadable}
+use Rattle.std.proofs.Common.{◌≡◌, ◌+◌, ◌-◌, ◌*◌, ◌<◌, ◌&&◌, true, take, get_or, ap₂, ◌∙◌, arith, rules}
+use Rattle.std.specs.Char.{digit_value, is_ascii_digit}
+use Rattle.std.specs.Str.Parse.{digits_value}
+use Rattle.std.proofs.lemmas.List.Folds.{list_all_more}
+use Rattle.std.proofs.lemmas.Int.Digits.{digits_value_more}
+use Rattle.std.proofs.lemmas.Str.{digit_value_digit}
+use Rattle.cqf_text.proofs.DecimalLemmas.{none_by_size}
 use Rattle.cqf_text.proofs.decimals.read_decimal.Goals as goal
 
--- digits are text
-pub returns-in_default : goal.returns-in_default
-returns-in_default c = absurd (c.in_default.ensures.cases.0 (IsUtf8-decimal c.args.bytes.now (sym c.if-not-has_form.ensures)))
+-- one more digit
+pub loop-byte-preserved : goal.loop-byte-preserved
+loop-byte-preserved c =
+    let bytes = c.args.bytes.now in
+    let place = c.loop-byte.byte-index in
+    let digit : is_ascii_digit (get_or bytes place 0) ≡ true = search rules in
+    let worth = digit_value_digit (get_or bytes place 0) (search rules) in
+    record {
+      digits = list_all_more is_ascii_digit bytes place 0 c.loop-byte-test.true ∙ ap₂ (λ a b. a && b) c.loop-byte.invariant.digits digit;
+      value = omega (arith, digits_value_more 10 bytes place c.loop-byte-test.true, worth, c.loop-byte.invariant.value, c.in-Some.ensures);
+    }
 
--- digits that 64 bits can't hold write no number of the range
-pub returns-in_default-parse : goal.returns-in_default-parse
-returns-in_default-parse c = decimal_in-unreadable c.args.bytes.now c.in-Ok.text.now c.parse.result
-    c.in_default-parse.field-0 c.args.least c.args.most (sym c.if-not-has_form.ensures) (omega arith)
-    c.in-Ok.ensures.cases.0 c.in_default-parse.is c.parse.ensures.value.0
+-- 64 bits can't hold the digits so far
+pub returns-in-None : goal.returns-in-None
+returns-in-None c =
+    let bytes = c.args.bytes.now in
+    let place = c.loop-byte.byte-index in
+    let worth = digit_value_digit (get_or bytes place 0) (search rules) in
+    none_by_size c.args.least c.args.most (place + 1) bytes (omega (arith, digits_value_more 10 bytes place c.loop-byte-test.true, worth, c.loop-byte.invariant.value, c.in-None.ensures))

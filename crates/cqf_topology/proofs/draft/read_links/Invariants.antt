@@ -1,11 +1,12 @@
 use Rattle.std.proofs.Common.{◌≡◌, drop, ok_or}
 use Rattle.toml.specs.Data.{as_table}
 use Rattle.toml.specs.View.{items_view}
-use Rattle.cqf_topology.specs.declared.faults.Key.TheVariants.{Links}
-use Rattle.cqf_topology.specs.declared.faults.StreamsFault.TheVariants.{BadValue}
-use Rattle.cqf_topology.specs.Fields.{and_then, each_from}
+use Rattle.cqf_fields.specs.declared.keys.Key.TheVariants.{Links}
+use Rattle.cqf_fields.specs.declared.faults.TomlFault.TheVariants.{BadValue}
+use Rattle.cqf_lists.specs.Results.{and_then}
+use Rattle.cqf_fields.specs.Fields.{each_from}
 use Rattle.cqf_topology.specs.DomainText.{link_from}
-use Rattle.cqf_topology.proofs.Arrays.{with_front}
+use Rattle.cqf_fields.proofs.Arrays.{with_front}
 use Rattle.cqf_topology.proofs.draft.read_links.Given as goal
 
 abbrev pub invariant-loop-value : goal.invariant-loop-value

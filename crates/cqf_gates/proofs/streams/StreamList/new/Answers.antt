@@ -1,7 +1,7 @@
 -- What is made has the form of a list.
 use Rattle.std.proofs.Common.{arith}
 use Rattle.std.proofs.lemmas.Bool.Decides.{nat_tests}
-use Rattle.cqf_gates.proofs.Entries.{IsStreamList-from_tests}
+use Rattle.cqf_gates.proofs.EntryTests.{IsStreamList-from_tests}
 use Rattle.cqf_gates.proofs.streams.StreamList.new.Goals as goal
 
 pub invariant_of-result : goal.invariant_of-result

@@ -1,6 +1,6 @@
 use Rattle.std.proofs.Common.{◌∙◌, [], Ok, Err, refl, ap, sym, subst}
 use Rattle.cqf_topology.specs.declared.faults.DomainFault.TheVariants.{Memory}
-use Rattle.cqf_topology.specs.Fields.{Gives}
+use Rattle.cqf_fields.specs.Fields.{Gives}
 use Rattle.cqf_topology.specs.DomainText.{joined}
 use Rattle.cqf_topology.proofs.Refusals.{Gives-residual}
 use Rattle.cqf_topology.proofs.Accepted.{taken-at, numbered, checked-bridge_taken, checked-station_taken, checked-unknown, checked-numbered}

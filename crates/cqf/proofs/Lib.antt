@@ -1,5 +1,0 @@
-pub mod WordLemmas
-pub mod BytesLemmas
-pub mod PortLemmas
-pub mod RunLemmas
-pub mod CompileLemmas

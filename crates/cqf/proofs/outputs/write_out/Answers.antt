@@ -1,6 +1,0 @@
-use Rattle.cqf.proofs.BytesLemmas.{WrittenSoFar-range}
-use Rattle.cqf.proofs.outputs.write_out.Goals as goal
-
-pub loop-rest-preserved : goal.loop-rest-preserved
-loop-rest-preserved g c = WrittenSoFar-range (g.W.Write.contents c.args.output.now) (g.W.Write.contents c.loop-rest.output) (g.W.Write.contents c.write.new.self)
-    c.args.text.now c.loop-rest.rest.now c.in-Ok.count c.loop-rest.invariant c.in-Ok.ensures.bytes

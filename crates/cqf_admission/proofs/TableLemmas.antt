@@ -1,0 +1,56 @@
+-- The row of a name and of a number is the one that there is.
+use Rattle.std.proofs.Common.{◌≡◌, ◌≢◌, ℕ, ◌<◌, Bool, true, cond, List, Some, [], ◌∷◌, ◌==◌, length, ap, ◌∙◌, sym, arith, inl, inr}
+use Rattle.std.specs.Prelude.{AllPairs, Contains, find}
+use Rattle.std.proofs.lemmas.Bool.{both_ways, cases_Bool, eq-eqb, eqb-true}
+use Rattle.std.proofs.lemmas.List.Elements.{All-map}
+use Rattle.std.proofs.lemmas.Option.{same_Some}
+use Rattle.cqf_lists.proofs.Contained.{contains_cons, contains_here, contains_nil, contains_there, pairs_head, pairs_tail}
+use Rattle.cqf_model.proofs.Texts.{is_text_itself, is_text_same}
+use Rattle.cqf_model.specs.declared.topology.Hop.{Hop}
+use Rattle.cqf_model.specs.declared.topology.Row.{Row}
+use Rattle.cqf_model.specs.Domain.{Domain, is_text}
+use Rattle.cqf_model.specs.Table.{row_named, row_of}
+use Rattle.cqf_admission.specs.Tables.{AreAlongLinks, AreInOrder, AreTrees, IsRowNamed, IsRowOf}
+
+-- what is found stands there and passes
+find_member : (test : Row → Bool) (rows : List Row) (row : Row) → find test rows ≡ Some row → Contains rows row × (test row ≡ true)
+find_member test [] row e = absurd cc
+find_member test (x ∷ rows) row e = elim (cases_Bool (test x)) [
+  | inl t ↦ (let is : x ≡ row = same_Some x row (ap (λ (b : Bool). cond b (Some x) (find test rows)) (sym t) ∙ e) in (contains_here x row rows is, ap test (sym is) ∙ t))
+  | inr f ↦ (let w = find_member test rows row (ap (λ (b : Bool). cond b (Some x) (find test rows)) (sym f) ∙ e) in (contains_there x row rows w.0, w.1))
+]
+
+-- what stands there and passes is found, where no two pass
+find_only : (test : Row → Bool) (R : Row → Row → Type 0) → ((a b : Row) → test a ≡ true → test b ≡ true → R a b → ⊥) → (rows : List Row) (row : Row) → AllPairs R rows → Contains rows row → test row ≡ true → find test rows ≡ Some row
+find_only test R apart [] row pairs c t = absurd (contains_nil row c)
+find_only test R apart (x ∷ rows) row pairs c t = elim (cases_Bool (test x)) [
+  | inl u ↦ ap (λ (b : Bool). cond b (Some x) (find test rows)) u ∙ elim (contains_cons x row rows c) [
+    | inl e ↦ ap (λ (r : Row). Some r) e
+    | inr k ↦ absurd (apart x row u t (pairs_head R x row rows pairs k))
+  ]
+  | inr f ↦ ap (λ (b : Bool). cond b (Some x) (find test rows)) f ∙ elim (contains_cons x row rows c) [
+    | inl e ↦ absurd (both_ways (test x) f (ap test e ∙ t))
+    | inr k ↦ find_only test R apart rows row (pairs_tail R x rows pairs) k t
+  ]
+]
+
+pub the_row_named : (rows : List Row) (name : List ℕ) → AreInOrder rows → IsRowNamed rows name (row_named rows name)
+the_row_named rows name order row = (
+  λ e. let w = find_member (λ (r : Row). is_text r.name name) rows row e in (w.0, is_text_same row.name name w.1),
+  λ w.
+      find_only (λ (r : Row). is_text r.name name) (λ (a b : Row). a.name ≢ b.name)
+      (λ a b t u other. other (is_text_same a.name name t ∙ sym (is_text_same b.name name u))) rows row order.names w.0
+      (ap (λ (n : List ℕ). is_text n name) w.1 ∙ is_text_itself name),
+)
+
+pub the_row_of : (rows : List Row) (number : ℕ) → AreInOrder rows → IsRowOf rows number (row_of rows number)
+the_row_of rows number order row = (
+  λ e. let w = find_member (λ (r : Row). r.no == number) rows row e in (w.0, eqb-true row.no number w.1),
+  λ w.
+      find_only (λ (r : Row). r.no == number) (λ (a b : Row). a.no < b.no)
+      (λ a b t u less. absurd (omega (arith, less, eqb-true a.no number t, eqb-true b.no number u))) rows row order.numbers w.0 (eq-eqb row.no number w.1),
+)
+
+-- trees of the domain go along its links
+pub trees_go_along_links : (d : Domain) (rows : List Row) → AreTrees d rows → AreAlongLinks d rows
+trees_go_along_links d rows trees row c = All-map (λ l. l < length d.links) (λ (hop : Hop). hop.link) row.tree.items (trees row c).inside

@@ -1,0 +1,14 @@
+use Rattle.std.proofs.Common.{◌≡◌, ◌∙◌, ap, sym, subst, List, Option}
+use Rattle.std.specs.Prelude.{option_copied}
+use Rattle.cqf_model.specs.declared.topology.Row.{Row}
+use Rattle.cqf_model.specs.Table.{row_of}
+use Rattle.cqf_admission.specs.Tables.{CycleTable, IsRowOf}
+use Rattle.cqf_admission.proofs.TableLemmas.{the_row_of}
+use Rattle.cqf_admission.proofs.table.Table.row_of.Goals as goal
+
+pub returns-clause-the_row : goal.returns-clause-the_row
+returns-clause-the_row c =
+    let rows = c.self.inside.rows.items in
+    let found : option_copied c.row_with_number.result ≡ row_of rows c.args.no = c.row_with_number.ensures ∙ ap (λ (rs : List Row). row_of rs c.args.no) c.as_slice.ensures.value in
+    subst (λ (t : CycleTable). IsRowOf t.rows c.args.no (option_copied c.row_with_number.result)) c.self.view_is
+    (subst (λ (o : Option Row). IsRowOf rows c.args.no o) (sym found) (the_row_of rows c.args.no c.self.invariant))

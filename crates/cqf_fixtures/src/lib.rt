@@ -1,0 +1,116 @@
+//! Texts of domains that the tests of several crates read. Only tests use this crate.
+//!
+//! - [`line`] is a domain of three bridges in a line, [`one_link`] one of a single bridge, and [`ring`] one whose first
+//!   and last bridge have links to each other too.
+//! - [`line_and_link`] and [`one_link_with`] are changed forms of them; a test makes others with `replacen`.
+//!
+//! All have a cycle time of 125,000 ns, and links of 1,000 Mb/s with a delay of 500 ns. The guard time is 5,000 ns.
+#![tactic(auto)]
+
+use std::alloc::{AllocError, Global};
+
+/// Bridges a, b and c, and station s.
+const LINE: &str = r#"cycle = 125000
+guard = 5000
+bridges = ["a", "b", "c"]
+stations = ["s"]
+
+[[links]]
+from = "a"
+to = "b"
+rate = 1000
+delay = 500
+
+[[links]]
+from = "b"
+to = "c"
+rate = 1000
+delay = 500
+
+[[links]]
+from = "c"
+to = "s"
+rate = 1000
+delay = 500
+"#;
+
+/// Bridge a and station s.
+const ONE_LINK: &str = r#"cycle = 125000
+guard = 5000
+bridges = ["a"]
+stations = ["s"]
+
+[[links]]
+from = "a"
+to = "s"
+rate = 1000
+delay = 500
+"#;
+
+/// Bridges a, b and c, and station s.
+const RING: &str = r#"cycle = 125000
+guard = 5000
+bridges = ["a", "b", "c"]
+stations = ["s"]
+
+[[links]]
+from = "a"
+to = "b"
+rate = 1000
+delay = 500
+
+[[links]]
+from = "b"
+to = "c"
+rate = 1000
+delay = 500
+
+[[links]]
+from = "c"
+to = "s"
+rate = 1000
+delay = 500
+
+[[links]]
+from = "a"
+to = "c"
+rate = 1000
+delay = 500
+
+[[links]]
+from = "c"
+to = "a"
+rate = 1000
+delay = 500
+"#;
+
+/// Bridges a, b and c in a line to station s: links 0 a>b, 1 b>c and 2 c>s.
+pub fn line() -> &'static str {
+    LINE
+}
+
+/// Bridge a and station s: link 0 a>s.
+pub fn one_link() -> &'static str {
+    ONE_LINK
+}
+
+/// The line, and links between its ends: links 0 a>b, 1 b>c, 2 c>s, 3 a>c and 4 c>a.
+pub fn ring() -> &'static str {
+    RING
+}
+
+/// The line with a link more: link 3, from one node to another by their names.
+pub fn line_and_link(alloc: Global, from: &str, to: &str) -> Result<String, AllocError> {
+    let text = format!(in alloc;
+        "{LINE}\n[[links]]\nfrom = \"{from}\"\nto = \"{to}\"\nrate = 1000\ndelay = 500\n"
+    )?;
+    Ok(text)
+}
+
+/// The one link with another guard time in nanoseconds, and another rate in Mb/s.
+pub fn one_link_with(alloc: Global, guard: u32, rate: u32) -> Result<String, AllocError> {
+    let text = format!(in alloc;
+        "cycle = 125000\nguard = {guard}\nbridges = [\"a\"]\nstations = [\"s\"]\n\n[[links]]\nfrom = \"a\"\nto = \"s\"\nrate = {rate}\ndelay = 500\n"
+    )?;
+    Ok(text)
+}

@@ -1,0 +1,59 @@
+//! One line of a gate list's text (profile).
+ghost use Rattle.std.specs.Prelude.{◌≡◌, ◌<◌, IfSome};
+ghost use Rattle.std.specs.Char.{digit_value};
+ghost use Rattle.std.specs.Option.{SomeIff};
+ghost use Rattle.cqf_gates.specs.GateListText.{entry_of_line};
+
+use cqf_text::read_decimal;
+
+/// The value of a hexadecimal digit of either case, or `None` where the byte is none.
+fn hex_value(byte: u8) -> Option<u8>
+    ensures { SomeIff result (digit_value byte < 16) (digit_value byte) }
+{
+    match byte {
+        b'0'..=b'9' => Some(byte - b'0'),
+        b'A'..=b'F' => Some(byte - b'A' + 10),
+        b'a'..=b'f' => Some(byte - b'a' + 10),
+        _ => None,
+    }
+}
+
+/// The entry that the line writes: its gate states as two hexadecimal digits of either case, one space, and its
+/// interval as a decimal number up to 4,294,967,295. `None` where the line has another form (profile).
+pub(crate) fn read_entry(line: &[u8]) -> Option<(u8, u32)>
+    ensures { result ≡ entry_of_line line.now }
+{
+    let (form, digits) = line.split_first_chunk::<3>()?;
+    let high = hex_value(form[0])?;
+    let low = hex_value(form[1])?;
+    if form[2] != b' ' {
+        return None;
+    }
+    let interval = read_decimal(digits, 0, u64::from(u32::MAX))?;
+    Some((16 * high + low, interval as u32))
+}
+
+#[cfg(test)]
+mod tests {
+    use super::*;
+
+    #[test]
+    fn an_entry_is_two_hexadecimal_digits_and_an_interval(rt: HostRuntime) {
+        assert_eq!(rt; read_entry(b"80 120000"), Some((0x80, 120_000)));
+        assert_eq!(rt; read_entry(b"c0 007"), Some((0xC0, 7)));
+        assert_eq!(rt; read_entry(b"fF 4294967295"), Some((0xFF, 4_294_967_295)));
+        assert_eq!(rt; read_entry(b"80 0"), Some((0x80, 0)));
+        for line in [
+            b"".as_slice(),
+            b"80".as_slice(),
+            b"80 ".as_slice(),
+            b"0G 5000".as_slice(),
+            b"8 5000".as_slice(),
+            b"80  5000".as_slice(),
+            b"80 5000\r".as_slice(),
+            b"80 4294967296".as_slice(),
+        ] {
+            assert_eq!(rt; read_entry(line), None);
+        }
+    }
+}

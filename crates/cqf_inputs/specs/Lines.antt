@@ -1,0 +1,21 @@
+-- The lines that tell why a part of an input is refused (profile): `cqf:`, the part, and the fault by its text.
+use Rattle.std.specs.Prelude.{ℕ, List, codes}
+use Rattle.cqf_report.specs.Faults.{table_fault_text}
+use Rattle.cqf_report.specs.declared.tables.TableFault.{TableFault}
+use Rattle.cqf_stop.specs.Stops.{fault_line}
+use Rattle.cqf_fields.specs.Faults.{toml_fault_text}
+use Rattle.cqf_topology.specs.Faults.{domain_fault_text}
+use Rattle.cqf_topology.specs.declared.faults.DomainFault.{DomainFault}
+use Rattle.cqf_fields.specs.declared.faults.TomlFault.{TomlFault}
+
+-- why a domain is refused
+abbrev pub domain_line : DomainFault → List ℕ
+domain_line fault = fault_line (codes "domain") (domain_fault_text fault)
+
+-- why streams are refused
+abbrev pub streams_line : TomlFault → List ℕ
+streams_line fault = fault_line (codes "streams") (toml_fault_text fault)
+
+-- why offers are refused
+abbrev pub offers_line : TableFault → List ℕ
+offers_line fault = fault_line (codes "offers") (table_fault_text fault)

@@ -1,0 +1,17 @@
+-- The parts of a command's input (profile).
+use Rattle.std.specs.Prelude.{ℕ, List, [], ◌∷◌, Result, Ok, Err, codes}
+use Rattle.cqf_stop.specs.Stops.{line_of}
+
+-- the line where the input has another number of parts than the command takes
+abbrev pub parts_line : List ℕ
+parts_line = line_of (codes "cqf: parts")
+
+-- the one part of an input that has one; else the line that tells so
+abbrev pub one_part : List (List ℕ) → Result (List ℕ) (List ℕ)
+one_part (part ∷ []) = Ok part
+one_part _ = Err parts_line
+
+-- the two parts of an input that has two; else the line that tells so
+abbrev pub two_parts : List (List ℕ) → Result (List ℕ × List ℕ) (List ℕ)
+two_parts (first ∷ second ∷ []) = Ok (first, second)
+two_parts _ = Err parts_line

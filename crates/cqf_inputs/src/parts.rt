@@ -1,0 +1,45 @@
+//! The parts of an input (profile).
+ghost use Rattle.std.specs.Prelude.{◌≡◌, Ok, IfOk, IfErr};
+ghost use Rattle.cqf_text.specs.Parts.{parts_of};
+ghost use Rattle.cqf_stop.specs.Stops.{EndsWith, IsRefused};
+ghost use Rattle.cqf_inputs.specs.Parts.{one_part, parts_line, two_parts};
+
+use cqf_stop::{REFUSED, Stop};
+use cqf_text::parts;
+use std::alloc::Global;
+
+/// The end where the input has another number of parts than the command takes.
+fn parts_stop(alloc: Global) -> Stop
+    ensures { EndsWith 1 parts_line result }
+{
+    Stop::with_line(alloc, REFUSED, "cqf: parts\n")
+}
+
+/// The one part of the input. `Err` with status 1 where it has another number of parts, and with status 3 for want of
+/// memory.
+pub fn one_part(alloc: Global, input: &[u8]) -> Result<&[u8], Stop>
+    ensures ok { IfOk result (λ part. one_part (parts_of input.now) ≡ Ok part.now) }
+    ensures err { IfErr result (IsRefused (one_part (parts_of input.now))) }
+{
+    let Ok(found) = parts(alloc, input) else {
+        return Err(Stop::memory(alloc));
+    };
+    match found.as_slice() {
+        [part] => Ok(*part),
+        _ => Err(parts_stop(alloc)),
+    }
+}
+
+/// The two parts of the input. `Err` as [`one_part`].
+pub fn two_parts(alloc: Global, input: &[u8]) -> Result<(&[u8], &[u8]), Stop>
+    ensures ok { IfOk result (λ found. two_parts (parts_of input.now) ≡ Ok (found.0.now, found.1.now)) }
+    ensures err { IfErr result (IsRefused (two_parts (parts_of input.now))) }
+{
+    let Ok(found) = parts(alloc, input) else {
+        return Err(Stop::memory(alloc));
+    };
+    match found.as_slice() {
+        [first, second] => Ok((*first, *second)),
+        _ => Err(parts_stop(alloc)),
+    }
+}

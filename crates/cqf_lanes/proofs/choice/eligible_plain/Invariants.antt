@@ -1,0 +1,6 @@
+-- The classes that have been looked at are in time.
+use Rattle.cqf_lanes.proofs.Bits.{AreLeft}
+use Rattle.cqf_lanes.proofs.choice.eligible_plain.Given as goal
+
+abbrev pub invariant-loop-class : goal.invariant-loop-class
+invariant-loop-class l = AreLeft l.gates l.need l.left l.class l.classes

@@ -1,0 +1,11 @@
+-- The sum is that of the places so far.
+use Rattle.std.proofs.Common.{◌≡◌, ◌≤◌, ◌*◌, ◌^◌, take, sum_by}
+use Rattle.std.specs.List.{zip}
+use Rattle.cqf_lanes.proofs.Masked.{masked_cost}
+use Rattle.cqf_lanes.proofs.sums.masked_sum_plain.Given as goal
+
+abbrev pub invariant-loop-place : goal.invariant-loop-place
+invariant-loop-place l = record {
+  value : l.total ≡ sum_by (masked_cost l.bit) (take l.place (zip l.costs l.masks));
+  short : l.total ≤ l.place * 2 ^ 32;
+}

@@ -1,0 +1,48 @@
+//! How many entries open a class.
+ghost use Rattle.std.specs.Prelude.{◌≡◌, ◌+◌, ◌^◌, ◌<◌, ◌≤◌, length, map, not};
+ghost use Rattle.std.specs.Simd.Lanes.{chunk, mask_l};
+ghost use Rattle.cqf_lanes.specs.Kernels.{has_bit, open_run_of};
+
+use std::simd::prelude::*;
+
+/// How many gate states are looked at at a time.
+const LANES: usize = 16;
+
+/// How many of the gate states, from the first on, open the class, 0 to 7; class 7 has the highest bit.
+pub fn open_run(states: &[u8], class: u8) -> usize
+    requires { class < 8 }
+    ensures { result ≡ open_run_of class states.now }
+{
+    let mut done = 0;
+    while states.len() - done >= LANES {
+        let closed = closed_from(states, done, class);
+        if closed != 0 {
+            return done + closed.trailing_zeros() as usize;
+        }
+        done += LANES;
+    }
+    done + open_run_plain(&states[done..], class)
+}
+
+/// [`open_run`], one after the other.
+pub fn open_run_plain(states: &[u8], class: u8) -> usize
+    requires { class < 8 }
+    ensures { result ≡ open_run_of class states.now }
+{
+    for (place, gates) in states.iter().enumerate() {
+        if *gates & (1 << class) == 0 {
+            return place;
+        }
+    }
+    states.len()
+}
+
+/// Of sixteen entries, those that close the class: bit 0 stands for the first.
+fn closed_from(states: &[u8], place: usize, class: u8) -> u64
+    requires inside { place + 16 ≤ length states.now }
+    requires gate { class < 8 }
+    ensures { result ≡ mask_l (map (λ gates. not (has_bit gates class)) (chunk place 16 states.now)) }
+{
+    let opened = u8x16::from_slice(&states[place..]) & u8x16::splat(1 << class);
+    opened.simd_eq(u8x16::splat(0)).to_bitmask()
+}

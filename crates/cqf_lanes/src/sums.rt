@@ -1,0 +1,91 @@
+//! Sums of octets and of costs.
+ghost use Rattle.std.specs.Prelude.{◌≡◌, ◌+◌, ◌-◌, ◌*◌, ◌^◌, ◌<◌, ◌≤◌, ℕ, length, map, sum, if◌then◌else◌};
+ghost use Rattle.std.specs.List.{zip};
+ghost use Rattle.std.specs.Simd.Lanes.{chunk, sum_l};
+ghost use Rattle.cqf_lanes.specs.Kernels.{has_bit, masked_total};
+
+use std::simd::prelude::*;
+
+/// How many lanes are added at a time.
+const LANES: usize = 8;
+
+/// The sum of the octets, of at most 4,294,967,295 frames.
+pub fn octet_sum(octets: &[u32]) -> u64
+    requires { length octets.now < 2 ^ 32 }
+    ensures { result ≡ sum octets.now }
+{
+    let mut lanes = u64x8::splat(0);
+    let mut done = 0;
+    while octets.len() - done >= LANES {
+        lanes = lanes.strict_add(eight_from(octets, done));
+        done += LANES;
+    }
+    lanes.strict_reduce_sum() + octet_sum_plain(&octets[done..])
+}
+
+/// [`octet_sum`], one after the other.
+pub fn octet_sum_plain(octets: &[u32]) -> u64
+    requires { length octets.now < 2 ^ 32 }
+    ensures { result ≡ sum octets.now }
+{
+    let mut total: u64 = 0;
+    for frame in octets {
+        total += u64::from(*frame);
+    }
+    total
+}
+
+/// The sum of the costs at the places whose mask has the bit, 0 to 63, the lowest being bit 0. Costs and masks stand
+/// side by side, at most 4,294,967,295 of them.
+pub fn masked_sum(costs: &[u32], masks: &[u64], bit: u32) -> u64
+    requires side_by_side { length costs.now ≡ length masks.now }
+    requires few { length costs.now < 2 ^ 32 }
+    requires low { bit < 64 }
+    ensures { result ≡ masked_total bit costs.now masks.now }
+{
+    let mut lanes = u64x8::splat(0);
+    let mut done = 0;
+    while costs.len() - done >= LANES {
+        lanes = lanes.strict_add(eight_masked(costs, masks, bit, done));
+        done += LANES;
+    }
+    lanes.strict_reduce_sum() + masked_sum_plain(&costs[done..], &masks[done..], bit)
+}
+
+/// [`masked_sum`], one after the other.
+pub fn masked_sum_plain(costs: &[u32], masks: &[u64], bit: u32) -> u64
+    requires side_by_side { length costs.now ≡ length masks.now }
+    requires few { length costs.now < 2 ^ 32 }
+    requires low { bit < 64 }
+    ensures { result ≡ masked_total bit costs.now masks.now }
+{
+    let mut total: u64 = 0;
+    for place in 0..costs.len() {
+        if masks[place] & (1 << bit) != 0 {
+            total += u64::from(costs[place]);
+        }
+    }
+    total
+}
+
+/// The values at eight places, each in a lane of 64 bits.
+fn eight_from(values: &[u32], place: usize) -> u64x8
+    requires { place + 8 ≤ length values.now }
+    ensures lanes { result ≡ chunk place 8 values.now }
+    ensures small { sum_l result ≤ 8 * (2 ^ 32 - 1) }
+{
+    u32x8::from_slice(&values[place..]).cast::<u64>()
+}
+
+/// The costs at eight places, each in a lane of 64 bits, and 0 where the mask hasn't the bit.
+fn eight_masked(costs: &[u32], masks: &[u64], bit: u32, place: usize) -> u64x8
+    requires inside { place + 8 ≤ length costs.now }
+    requires side_by_side { length costs.now ≡ length masks.now }
+    requires low { bit < 64 }
+    ensures lanes { result ≡ map (λ (x : ℕ × ℕ). if has_bit x.1 bit then x.0 else 0) (zip (chunk place 8 costs.now) (chunk place 8 masks.now)) }
+    ensures small { sum_l result ≤ 8 * (2 ^ 32 - 1) }
+{
+    let marked = u64x8::from_slice(&masks[place..]) & u64x8::splat(1 << bit);
+    let unmarked = marked.simd_eq(u64x8::splat(0));
+    unmarked.select(u64x8::splat(0), eight_from(costs, place))
+}

@@ -1,5 +1,0 @@
-use Rattle.cqf_laws.proofs.Late.{late_legal}
-use Rattle.cqf_laws.proofs.late_arrival_changes_nothing.Goals as goal
-
-pub returns : goal.returns
-returns c = late_legal

@@ -1,0 +1,238 @@
+-- What the compiled gate lists do in a cycle.
+use Rattle.std.proofs.Common.{◌≡◌, ℕ, ◌+◌, ◌-◌, ◌*◌, ◌/◌, ◌%◌, ◌<◌, ◌≤◌, ◌↔◌, ◌⊎◌, ◌∷◌, [], Bool, true, false, ltb, inl, inr, sym, refl, ap, ap₂, ◌∙◌, subst, arith, lt-ltb, le-ltb, eq-eqb, ne_eqb, eqb-true}
+use Rattle.cqf_model.specs.declared.gates.StreamEntry.{StreamEntry}
+use Rattle.cqf_model.specs.StreamGate.{stream_list, place_in, place_at, round_at}
+use Rattle.std.proofs.lemmas.Bool.{and_from, and_parts, agree_below, agree_below_at, cases_eq, cases_lt, false_from_ne_true, ltb-true, or_cases, or_left, or_right}
+use Rattle.std.proofs.lemmas.Nat.{and_le_l, bit_set_by_shift}
+use Rattle.std.proofs.lemmas.Nat.Bits.{bit_at_above, shr_and_one}
+use Rattle.std.specs.Int.{bit_at}
+use Rattle.std.specs.Prelude.{IsBitSet, if◌then◌else◌, ◌==◌, ◌^◌, ◌&&◌, ◌||◌, slice_get}
+use Rattle.std.specs.Option.{option_map_or}
+use Rattle.cqf_model.specs.GateList.{states_in, states_at, round_of, port_list, IsOpenThrough}
+use Rattle.cqf_laws_cycle.specs.Compiled.{PortListIsOpen, PortListSends, GateGivesClass, GateCountsCycles, ClassesAlternate, IsSentIn, given_class, guard_from, IsIn, open_class}
+use Rattle.cqf_units.proofs.Cycles.{in_round, round_is, parity, cycle_from, cycle_upto}
+
+-- the states so long after the beginning of a round
+before_guard : (w g o : ℕ) → o < w → states_in ((191, w) ∷ (0, g) ∷ (127, w) ∷ (0, g) ∷ []) o ≡ 191
+before_guard w g o h = let e : ltb o w ≡ true = lt-ltb o w h in rw e
+
+-- the guard time of an even cycle
+in_guard : (w g o : ℕ) → w ≤ o → o < w + g → states_in ((191, w) ∷ (0, g) ∷ (127, w) ∷ (0, g) ∷ []) o ≡ 0
+in_guard w g o from upto =
+    let e : ltb o w ≡ false = le-ltb o w from in
+    let f : ltb (o - w) g ≡ true = lt-ltb (o - w) g (omega arith) in
+    rw (e, f)
+
+-- an odd cycle
+before_second : (w g o : ℕ) → w + g ≤ o → o < w + g + w → states_in ((191, w) ∷ (0, g) ∷ (127, w) ∷ (0, g) ∷ []) o ≡ 127
+before_second w g o from upto =
+    let e : ltb o w ≡ false = le-ltb o w (omega arith) in
+    let f : ltb (o - w) g ≡ false = le-ltb (o - w) g (omega arith) in
+    let h : ltb (o - w - g) w ≡ true = lt-ltb (o - w - g) w (omega arith) in
+    rw (e, f, h)
+
+-- the guard time of an odd cycle
+in_second : (w g o : ℕ) → w + g + w ≤ o → o < w + g + w + g → states_in ((191, w) ∷ (0, g) ∷ (127, w) ∷ (0, g) ∷ []) o ≡ 0
+in_second w g o from upto =
+    let e : ltb o w ≡ false = le-ltb o w (omega arith) in
+    let f : ltb (o - w) g ≡ false = le-ltb (o - w) g (omega arith) in
+    let h : ltb (o - w - g) w ≡ false = le-ltb (o - w - g) w (omega arith) in
+    let k : ltb (o - w - g - w) g ≡ true = lt-ltb (o - w - g - w) g (omega arith) in
+    rw (e, f, h, k)
+
+-- the place in the round, of the list as it is compiled
+place_in_round : (n g c t : ℕ) → g < n → IsIn n c t → t % round_of (port_list n g) ≡ (c % 2) * n + (t - c * n)
+place_in_round n g c t short inside =
+    let whole : 0 + (n - g) + g + (n - g) + g ≡ n + n = omega arith in
+    ap (λ x. t % x) whole ∙ in_round n c t inside.0 inside.1
+
+-- in a cycle the states are those of its class, up to the guard time
+pub states_sending : (n g c t : ℕ) → g < n → IsIn n c t → t < guard_from n g c → states_at (port_list n g) t ≡ (if c % 2 == 0 then 191 else 127)
+states_sending n g c t short inside early =
+    let place = place_in_round n g c t short inside in
+    elim (parity c) [
+      | inl e ↦
+          let o : t % round_of (port_list n g) ≡ t - c * n = place ∙ even n (c % 2) (t - c * n) e in
+          ap (λ x. states_in (port_list n g) x) o ∙ before_guard (n - g) g (t - c * n) (omega arith) ∙ rw e
+      | inr e ↦
+          let o : t % round_of (port_list n g) ≡ n + (t - c * n) = place ∙ odd n (c % 2) (t - c * n) e in
+          ap (λ x. states_in (port_list n g) x) o ∙ before_second (n - g) g (n + (t - c * n)) (omega arith) (omega arith) ∙ rw e
+    ]
+  where
+    even : (n b r : ℕ) → b ≡ 0 → b * n + r ≡ r
+    even n b r e = rw e (omega arith)
+
+    odd : (n b r : ℕ) → b ≡ 1 → b * n + r ≡ n + r
+    odd n b r e = rw e (omega arith)
+
+-- in the guard time all gates are closed
+pub states_in_guard : (n g c t : ℕ) → g < n → IsIn n c t → guard_from n g c ≤ t → states_at (port_list n g) t ≡ 0
+states_in_guard n g c t short inside late =
+    let place = place_in_round n g c t short inside in
+    elim (parity c) [
+      | inl e ↦
+          let o : t % round_of (port_list n g) ≡ t - c * n = place ∙ even n (c % 2) (t - c * n) e in
+          ap (λ x. states_in (port_list n g) x) o ∙ in_guard (n - g) g (t - c * n) (omega arith) (omega arith)
+      | inr e ↦
+          let o : t % round_of (port_list n g) ≡ n + (t - c * n) = place ∙ odd n (c % 2) (t - c * n) e in
+          ap (λ x. states_in (port_list n g) x) o ∙ in_second (n - g) g (n + (t - c * n)) (omega arith) (omega arith)
+    ]
+  where
+    even : (n b r : ℕ) → b ≡ 0 → b * n + r ≡ r
+    even n b r e = rw e (omega arith)
+
+    odd : (n b r : ℕ) → b ≡ 1 → b * n + r ≡ n + r
+    odd n b r e = rw e (omega arith)
+
+-- no states, no open class
+no_bit : (class : ℕ) → IsBitSet 0 class → ⊥
+no_bit class set = set (omega (arith, and_le_l 0 (2 ^ class)))
+
+-- whether a class is the one of streams, or one of background frames
+abbrev is_sent : ℕ → ℕ → Bool
+is_sent stream_class class = (class == stream_class) || ltb class 6
+
+-- states of eight gates open the class of streams and those of background frames, where each of the eight bits says so
+bits_are_sent : (states stream_class class : ℕ) → states < 2 ^ 8 → stream_class < 8 → agree_below (λ k. bit_at states k == 1) (is_sent stream_class) 8 ≡ true → IsBitSet states class ↔ ((class ≡ stream_class) ⊎ (class < 6))
+bits_are_sent states stream_class class small few agree = (
+  λ set. is_one (sym (shr_and_one states class) ∙ (bit_set_by_shift states class).1 set),
+  λ either. (bit_set_by_shift states class).0 (shr_and_one states class ∙ eqb-true (bit_at states class) 1 (same_test (low either) ∙ passes either)),
+)
+  where
+    same_test : class < 8 → (bit_at states class == 1) ≡ is_sent stream_class class
+    same_test below = agree_below_at (λ k. bit_at states k == 1) (is_sent stream_class) 8 class agree below
+
+    is_one : bit_at states class ≡ 1 → (class ≡ stream_class) ⊎ (class < 6)
+    is_one one = elim (cases_lt class 8) [
+      | inl below ↦ elim (or_cases (class == stream_class) (ltb class 6) (sym (same_test below) ∙ eq-eqb (bit_at states class) 1 one)) [
+        | inl same ↦ inl (eqb-true class stream_class same)
+        | inr less ↦ inr (ltb-true class 6 less)
+      ]
+      | inr above ↦ absurd (omega (arith, bit_at_above states 8 class small above, one))
+    ]
+
+    low : (class ≡ stream_class) ⊎ (class < 6) → class < 8
+    low either = elim either [ inl same ↦ omega (arith, same, few) | inr less ↦ omega (arith, less) ]
+
+    passes : (class ≡ stream_class) ⊎ (class < 6) → is_sent stream_class class ≡ true
+    passes either = elim either [
+      | inl same ↦ or_left (class == stream_class) (ltb class 6) (eq-eqb class stream_class same)
+      | inr less ↦ or_right (class == stream_class) (ltb class 6) (lt-ltb class 6 less)
+    ]
+
+-- what a cycle's states open, by its parity
+bit_of : (b class : ℕ) → IsBitSet (if b == 0 then 191 else 127) class ↔ ((class ≡ (if b == 0 then 7 else 6)) ⊎ (class < 6))
+bit_of b class = elim (b == 0) as (λ x. IsBitSet (if x then 191 else 127) class ↔ ((class ≡ (if x then 7 else 6)) ⊎ (class < 6))) [ true ↦ bits_are_sent 191 7 class (omega arith) (omega arith) refl | false ↦ bits_are_sent 127 6 class (omega arith) (omega arith) refl ]
+
+-- the laws
+pub port_list_opens : PortListIsOpen
+port_list_opens n g c t class short inside = elim (cases_lt t (guard_from n g c)) [
+  | inl early ↦
+      let s = states_sending n g c t short inside early in
+      (λ set. ((bit_of (c % 2) class).0 (subst (λ x. IsBitSet x class) s set), early), λ both. subst (λ x. IsBitSet x class) (sym s) ((bit_of (c % 2) class).1 both.0))
+  | inr late ↦
+      let s = states_in_guard n g c t short inside late in
+      (λ set. absurd (no_bit class (subst (λ x. IsBitSet x class) s set)), λ both. absurd (omega (arith, both.1)))
+]
+
+-- a gate is open to an end exactly where that is not after the guard time's first instant
+pub port_list_sends_until : PortListSends
+port_list_sends_until n g c t end class some short inside more = (there, back)
+  where
+    there : IsOpenThrough (port_list n g) class t end → IsSentIn c class × (end ≤ guard_from n g c)
+    there through =
+        let here = (port_list_opens n g c t class short inside).0 (through t (omega arith) more) in
+        let early = here.1 in
+        elim (cases_lt (guard_from n g c) end) [
+          | inl past ↦
+              let late : IsIn n c (guard_from n g c) = (omega arith, omega arith) in
+              let closed = (port_list_opens n g c (guard_from n g c) class short late).0 (through (guard_from n g c) (omega arith) past) in
+              absurd (omega (arith, closed.1))
+          | inr fits ↦ (here.0, fits)
+        ]
+
+    back : IsSentIn c class × (end ≤ guard_from n g c) → IsOpenThrough (port_list n g) class t end
+    back both s from upto =
+        let s_inside : IsIn n c s = (omega (arith, inside.0), omega (arith, both.1)) in
+        (port_list_opens n g c s class short s_inside).1 (both.0, omega (arith, both.1))
+
+-- the round of a reservation's gate is two cycles
+whole : (n : ℕ) → 0 + n + n ≡ n + n
+whole n = omega arith
+
+-- the place of the entry of a reservation's gate that is in force, and its round
+pub gate_place : (n r t : ℕ) → 0 < n → place_at (stream_list n r) t ≡ (t / n) % 2
+gate_place n r t some =
+    let place : t % (0 + n + n) ≡ (t / n) % 2 * n + (t - t / n * n) = ap (λ x. t % x) (whole n) ∙ in_round n (t / n) t (cycle_from n t) (cycle_upto n t some) in
+    let upto = cycle_upto n t some in
+    elim (parity (t / n)) [
+      | inl e ↦
+          let o : t % (0 + n + n) ≡ t - t / n * n = place ∙ even n ((t / n) % 2) (t - t / n * n) e in
+          ap (λ x. place_in (stream_list n r) x) o ∙ first n r (t - t / n * n) (omega arith) ∙ sym e
+      | inr e ↦
+          let o : t % (0 + n + n) ≡ n + (t - t / n * n) = place ∙ odd n ((t / n) % 2) (t - t / n * n) e in
+          ap (λ x. place_in (stream_list n r) x) o ∙ second n r (n + (t - t / n * n)) (omega arith) (omega arith) ∙ sym e
+    ]
+  where
+    even : (n b r : ℕ) → b ≡ 0 → b * n + r ≡ r
+    even n b r e = rw e (omega arith)
+
+    odd : (n b r : ℕ) → b ≡ 1 → b * n + r ≡ n + r
+    odd n b r e = rw e (omega arith)
+
+    first : (n r o : ℕ) → o < n → place_in (stream_list n r) o ≡ 0
+    first n r o h = let e : ltb o n ≡ true = lt-ltb o n h in rw e
+
+    second : (n r o : ℕ) → n ≤ o → o < n + n → place_in (stream_list n r) o ≡ 1
+    second n r o from upto =
+        let e : ltb o n ≡ false = le-ltb o n from in
+        let f : ltb (o - n) n ≡ true = lt-ltb (o - n) n (omega arith) in
+        rw (e, f)
+
+-- the gate gives the cycle's class
+pub gate_gives : GateGivesClass
+gate_gives n r t some = elim (parity (t / n)) [
+  | inl e ↦ ap (λ x. at_place n r x) (gate_place n r t some ∙ e) ∙ rw e
+  | inr e ↦ ap (λ x. at_place n r x) (gate_place n r t some ∙ e) ∙ rw e
+]
+  where
+    at_place : (n r place : ℕ) → ℕ
+    at_place n r place = option_map_or (λ (entry : StreamEntry). entry.ipv) (slice_get (stream_list n r) place) 0
+
+-- the gate counts by the cycle: one round and one place are one cycle
+pub gate_counts : GateCountsCycles
+gate_counts n r s t some =
+    let places = ap₂ (λ x y. x == y) (gate_place n r s some) (gate_place n r t some) in
+    let rounds = ap₂ (λ x y. x == y) (gate_round_is n r s some) (gate_round_is n r t some) in
+    ap₂ (λ x y. x && y) rounds places ∙ halves (s / n) (t / n)
+  where
+    gate_round_is : (n r t : ℕ) → 0 < n → round_at (stream_list n r) t ≡ (t / n) / 2
+    gate_round_is n r t some = ap (λ x. t / x) (whole n) ∙ round_is n (t / n) t (cycle_from n t) (cycle_upto n t some)
+
+    halves : (c e : ℕ) → ((c / 2 == e / 2) && (c % 2 == e % 2)) ≡ (c == e)
+    halves c e = elim (cases_eq c e) [
+      | inl same ↦ and_from (c / 2 == e / 2) (c % 2 == e % 2) (eq-eqb (c / 2) (e / 2) (ap (λ x. x / 2) same)) (eq-eqb (c % 2) (e % 2) (ap (λ x. x % 2) same)) ∙ sym (eq-eqb c e same)
+      | inr differ ↦ false_from_ne_true ((c / 2 == e / 2) && (c % 2 == e % 2)) (λ both.
+          let p = and_parts (c / 2 == e / 2) (c % 2 == e % 2) both in
+          differ (omega (arith, eqb-true (c / 2) (e / 2) p.0, eqb-true (c % 2) (e % 2) p.1))) ∙ sym (ne_eqb c e differ)
+    ]
+
+-- the next cycle sends what this one gives
+pub classes_take_turns : ClassesAlternate
+classes_take_turns c = elim (parity c) [
+  | inl e ↦ let f : (c + 1) % 2 ≡ 1 = omega arith in rw (e, f)
+  | inr e ↦ let f : (c + 1) % 2 ≡ 0 = omega arith in rw (e, f)
+]
+
+-- a cycle's frames aren't of the class that it sends
+pub sends_no_own : (c : ℕ) → open_class c ≡ given_class c → ⊥
+sends_no_own c same = elim (parity c) [
+  | inl e ↦
+      let own : open_class c ≡ 7 = rw e in
+      let given : given_class c ≡ 6 = rw e in
+      omega (arith, own, given, same)
+  | inr e ↦
+      let own : open_class c ≡ 6 = rw e in
+      let given : given_class c ≡ 7 = rw e in
+      omega (arith, own, given, same)
+]

@@ -1,0 +1,4 @@
+pub mod GateLists
+pub mod OnePorts
+pub mod Besides
+pub mod SentAlone

@@ -1,0 +1,3 @@
+pub mod Beside
+pub mod Compiled
+pub mod OnePort

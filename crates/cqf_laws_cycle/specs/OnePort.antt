@@ -1,0 +1,110 @@
+-- One port whose streams' frames come in cycles, with background frames among them in any order of places.
+use Rattle.std.specs.Prelude.{ℕ, ◌≡◌, ◌+◌, ◌*◌, ◌<◌, ◌≤◌, Bool, List, length, take, sum_by, AllPairs, Contains, if◌then◌else◌, nat_le, ◌==◌}
+use Rattle.cqf_units.specs.Timing.{wire_of, ending_of, idle_after, budget_of, cycle_at}
+use Rattle.cqf_model.specs.declared.ports.Arrival.{Arrival}
+use Rattle.cqf_model.specs.GateList.{port_list}
+use Rattle.cqf_model.specs.Port.{Transmission, AreLegal, Waits, instant_of, class_of, octets_of}
+use Rattle.cqf_laws_cycle.specs.Compiled.{given_class, guard_from}
+
+-- a stream's frame: it has class 6 or 7, and a background frame one of 0 to 5
+abbrev pub IsStreams : Arrival → Type 0
+IsStreams a = 6 ≤ a.class
+
+-- the same as a test
+abbrev pub is_streams : Arrival → Bool
+is_streams a = nat_le 6 a.class
+
+-- the arrival at a place is a stream's frame
+abbrev pub StreamsAt : List Arrival → ℕ → Type 0
+StreamsAt arrivals place = 6 ≤ class_of arrivals place
+
+-- it is a background frame
+abbrev pub BackgroundAt : List Arrival → ℕ → Type 0
+BackgroundAt arrivals place = class_of arrivals place < 6
+
+-- what a stream's frame of a cycle takes of the wire, in octets: one of another cycle and a background frame count for
+-- nothing
+abbrev pub wire_in : ℕ → ℕ → Arrival → ℕ
+wire_in cycle_time cycle a = if cycle_at cycle_time a.at.0 == cycle then (if is_streams a then wire_of a.octets else 0) else 0
+
+-- what the streams' frames of a cycle take
+abbrev pub load : ℕ → ℕ → List Arrival → ℕ
+load cycle_time cycle arrivals = sum_by (wire_in cycle_time cycle) arrivals
+
+-- the cycle of the arrival at a place
+abbrev pub cycle_of_place : ℕ → List Arrival → ℕ → ℕ
+cycle_of_place cycle_time arrivals place = cycle_at cycle_time (instant_of arrivals place)
+
+-- the streams' frames come in order of instant, each with the class that the stream gates give in its cycle. Background
+-- frames come when they like
+pub record ComeInCycles (cycle_time : ℕ) (arrivals : List Arrival) : Type 0 where
+  pub in_order : AllPairs (λ (a b : Arrival). IsStreams a → IsStreams b → a.at.0 ≤ b.at.0) arrivals
+  pub classes : (place : ℕ) → place < length arrivals → StreamsAt arrivals place →
+      class_of arrivals place ≡ given_class (cycle_of_place cycle_time arrivals place)
+
+-- when a stream's frame is due: in the next cycle, behind the streams' frames that came before it in its own
+abbrev pub due : ℕ → ℕ → List Arrival → ℕ → ℕ
+due cycle_time octet_time arrivals place = let cycle = cycle_of_place cycle_time arrivals place in
+    (cycle + 1) * cycle_time + octet_time * load cycle_time cycle (take place arrivals)
+
+-- when the wire is free again behind a stream's frame that starts when it is due
+abbrev pub free_behind : ℕ → ℕ → List Arrival → ℕ → ℕ
+free_behind cycle_time octet_time arrivals place =
+    idle_after (due cycle_time octet_time arrivals place) (octets_of arrivals place) octet_time
+
+-- the streams' frames of each cycle before one start when they are due, as far as the run goes, and up to that cycle no
+-- other stream's frame starts
+pub record AreDue (cycle_time guard octet_time : ℕ) (arrivals : List Arrival) (cycles upto : ℕ) (starts : List Transmission) : Type 0 where
+  pub each : (place : ℕ) → place < length arrivals → StreamsAt arrivals place → cycle_of_place cycle_time arrivals place < upto →
+      cycle_of_place cycle_time arrivals place + 1 < cycles → Contains starts (place, due cycle_time octet_time arrivals place)
+  pub only : (place s : ℕ) → Contains starts (place, s) → StreamsAt arrivals place → cycle_at cycle_time s ≤ upto →
+      (cycle_of_place cycle_time arrivals place < upto) × (s ≡ due cycle_time octet_time arrivals place)
+  -- that is in the next cycle, and the gap behind the frame is over by the guard time
+  pub next : (place : ℕ) → place < length arrivals → StreamsAt arrivals place → cycle_of_place cycle_time arrivals place < upto →
+      cycle_at cycle_time (due cycle_time octet_time arrivals place) ≡ cycle_of_place cycle_time arrivals place + 1
+  pub over : (place : ℕ) → place < length arrivals → StreamsAt arrivals place → cycle_of_place cycle_time arrivals place < upto →
+      free_behind cycle_time octet_time arrivals place ≤ guard_from cycle_time guard (cycle_of_place cycle_time arrivals place + 1)
+
+-- each background frame keeps behind the streams'
+pub record KeepsBehind (cycle_time guard octet_time : ℕ) (arrivals : List Arrival) (upto : ℕ) (starts : List Transmission) : Type 0 where
+  -- it starts only when every stream's frame of an earlier cycle is sent, and the gap behind that is over
+  pub behind : (place s other : ℕ) → Contains starts (place, s) → BackgroundAt arrivals place → cycle_at cycle_time s ≤ upto →
+      other < length arrivals → StreamsAt arrivals other → cycle_of_place cycle_time arrivals other < cycle_at cycle_time s →
+      free_behind cycle_time octet_time arrivals other ≤ s
+  -- so a stream's frame that waits then came in that very cycle, in which its class is closed
+  pub none_waits : (place s other : ℕ) → Contains starts (place, s) → BackgroundAt arrivals place → cycle_at cycle_time s ≤ upto →
+      StreamsAt arrivals other → Waits arrivals starts other s → cycle_of_place cycle_time arrivals other ≡ cycle_at cycle_time s
+  -- it is sent before the guard time, and the gap behind it is over when the next cycle begins
+  pub sent : (place s : ℕ) → Contains starts (place, s) → BackgroundAt arrivals place →
+      ending_of s (octets_of arrivals place) octet_time ≤ guard_from cycle_time guard (cycle_at cycle_time s)
+  pub over : (place s : ℕ) → Contains starts (place, s) → BackgroundAt arrivals place →
+      idle_after s (octets_of arrivals place) octet_time ≤ (cycle_at cycle_time s + 1) * cycle_time
+
+-- what the laws of one port ask: a guard time in which a least gap fits, and streams' frames that come in cycles, in each
+-- cycle before one within the link's budget. Of background frames nothing is asked
+pub record IsWithinBudget (cycle_time guard octet_time : ℕ) (arrivals : List Arrival) (upto : ℕ) : Type 0 where
+  pub some_guard : 0 < guard
+  pub guard_short : guard < cycle_time
+  pub some_octet : 0 < octet_time
+  pub gap_short : 12 * octet_time ≤ guard
+  pub come : ComeInCycles cycle_time arrivals
+  pub loads : (cycle : ℕ) → cycle < upto → load cycle_time cycle arrivals ≤ budget_of cycle_time guard octet_time
+
+-- the transmissions are legal under the compiled gate list, up to the end of so many cycles
+abbrev pub AreSent : ℕ → ℕ → ℕ → List Arrival → ℕ → List Transmission → Type 0
+AreSent cycle_time guard octet_time arrivals cycles starts =
+    AreLegal (record { entries = port_list cycle_time guard; octet_time = octet_time }) arrivals (cycles * cycle_time) starts
+
+-- a port is one cycle late: where what comes of streams in each cycle is within the link's budget, it leaves in the next
+abbrev pub PortIsOneCycleLate : Type 0
+PortIsOneCycleLate = (cycle_time guard octet_time : ℕ) (arrivals : List Arrival) (cycles upto : ℕ) (starts : List Transmission) →
+    IsWithinBudget cycle_time guard octet_time arrivals upto →
+    AreSent cycle_time guard octet_time arrivals cycles starts →
+    AreDue cycle_time guard octet_time arrivals cycles upto starts
+
+-- and there no background frame is in a stream's way
+abbrev pub BackgroundKeepsBehind : Type 0
+BackgroundKeepsBehind = (cycle_time guard octet_time : ℕ) (arrivals : List Arrival) (cycles upto : ℕ) (starts : List Transmission) →
+    IsWithinBudget cycle_time guard octet_time arrivals upto →
+    AreSent cycle_time guard octet_time arrivals cycles starts →
+    KeepsBehind cycle_time guard octet_time arrivals upto starts

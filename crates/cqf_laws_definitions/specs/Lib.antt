@@ -1,0 +1,4 @@
+pub mod TrafficLaws
+pub mod TableLaws
+pub mod TimingLaws
+pub mod TreeLaws

@@ -1,3 +1,0 @@
-pub mod TrafficLaws
-pub mod TableLaws
-pub mod TimingLaws

@@ -1,0 +1,128 @@
+-- What holds of each earlier and each later element of a list.
+use Rattle.std.proofs.Common.{◌≡◌, ℕ, zero, suc, ◌<◌, ◌≤◌, ◌∷◌, [], ◌++◌, List, length, get_or, map, flat_map, ◌-◌, length-append, inl, inr, sym, ap, ◌∙◌, subst, arith, refl, AllPairs, Contains, Bool, true, filter, ap₂}
+use Rattle.std.proofs.lemmas.Bool.{cases_lt, cases_order, cases_Bool, cond-true, cond-false, false≢true}
+use Rattle.std.proofs.lemmas.List.{get_or_append_left, get_or-append_right, get_or-map, get_or_default, length-map}
+use Rattle.std.proofs.lemmas.List.Elements.{Contains-get_or, Contains-append_right}
+use Rattle.cqf_lists.specs.Lists.{each_below}
+use Rattle.cqf_lists.proofs.Members.{contains_from_flat, contains_none, contains_here, contains_later, contains_cases, contains_filter}
+use Rattle.cqf_lists.proofs.EachBelow.{contains_from_below}
+
+-- pairs of an earlier and a later element
+pub pairs_none : {X : Type 0} (R : X → X → Type 0) → AllPairs R []
+pairs_none R i j d l inside = absurd (omega (arith, inside))
+
+-- the pairs of two lists end to end are those of each, and those across
+pub pairs_append : {X : Type 0} (R : X → X → Type 0) (xs ys : List X) → AllPairs R xs → AllPairs R ys → ((x y : X) → Contains xs x → Contains ys y → R x y) → AllPairs R (xs ++ ys)
+pairs_append {X} R xs ys first second across i j d l inside = elim (cases_lt j (length xs)) [
+  | inl j_in ↦ subst (λ z. R z (get_or (xs ++ ys) j d)) (sym (get_or_append_left xs ys d i (omega (arith, l, j_in)))) (subst (λ z. R (get_or xs i d) z) (sym (get_or_append_left xs ys d j j_in)) (first i j d l j_in))
+  | inr j_out ↦ elim (cases_lt i (length xs)) [
+    | inl i_in ↦ subst (λ z. R z (get_or (xs ++ ys) j d)) (sym (get_or_append_left xs ys d i i_in)) (subst (λ z. R (get_or xs i d) z) (sym (get_or-append_right xs ys (length xs) j d refl j_out)) (across (get_or xs i d) (get_or ys (j - length xs) d) (Contains-get_or xs i d i_in) (Contains-get_or ys (j - length xs) d (behind j j_out inside))))
+    | inr i_out ↦ subst (λ z. R z (get_or (xs ++ ys) j d)) (sym (get_or-append_right xs ys (length xs) i d refl i_out)) (subst (λ z. R (get_or ys (i - length xs) d) z) (sym (get_or-append_right xs ys (length xs) j d refl j_out)) (second (i - length xs) (j - length xs) d (omega (arith, l, i_out)) (behind j j_out inside)))
+  ]
+]
+  where
+    behind : (j : ℕ) → length xs ≤ j → j < length (xs ++ ys) → j - length xs < length ys
+    behind j from upto = omega (arith, from, upto, length-append xs ys)
+
+-- the pairs of many lists end to end
+pub pairs_below : {X : Type 0} (R : X → X → Type 0) (f : ℕ → List X) (n : ℕ) → ((k : ℕ) → k < n → AllPairs R (f k)) → ((j k : ℕ) (x y : X) → j < k → k < n → Contains (f j) x → Contains (f k) y → R x y) → AllPairs R (each_below f n)
+pairs_below R f zero each across = pairs_none R
+pairs_below {X} R f (suc n) each across =
+    pairs_append R (each_below f n) (f n)
+    (pairs_below R f n (λ k l. each k (omega (arith, l))) (λ j k x y l m. across j k x y l (omega (arith, m))))
+    (each n (omega arith))
+    (λ x y c e. let r = contains_from_below f n x c in across r.0 n x y r.1 (omega arith) r.2 e)
+
+-- a pair of the first element and a later one, and pairs of later ones
+pub pairs_head : {X : Type 0} (R : X → X → Type 0) (x : X) (xs : List X) (y : X) → AllPairs R (x ∷ xs) → Contains xs y → R x y
+pairs_head R x xs y all c = subst (λ z. R x z) c.2 (all zero (suc c.0) y (omega arith) (omega (arith, c.1)))
+
+-- the pairs of later ones
+pub pairs_tail : {X : Type 0} (R : X → X → Type 0) (x : X) (xs : List X) → AllPairs R (x ∷ xs) → AllPairs R xs
+pairs_tail R x xs all i j d l inside = all (suc i) (suc j) d (omega (arith, l)) (omega (arith, inside))
+
+-- one element has no pairs
+pub pairs_one : {X : Type 0} (R : X → X → Type 0) (x : X) → AllPairs R (x ∷ [])
+pairs_one R x i j d l inside = absurd (omega (arith, l, inside))
+
+-- the pairs of a mapped list
+pub pairs_map : {X Y : Type 0} (R : Y → Y → Type 0) (f : X → Y) (d : X) (xs : List X) → AllPairs (λ a b. R (f a) (f b)) xs → AllPairs R (map f xs)
+pairs_map R f d xs all i j e l inside =
+    let j_in : j < length xs = omega (arith, inside, length-map xs f) in
+    subst (λ z. R z (get_or (map f xs) j e)) (sym (get_or-map f xs i d e (omega (arith, l, j_in)))) (subst (λ z. R (f (get_or xs i d)) z) (sym (get_or-map f xs j d e j_in)) (all i j d l j_in))
+
+-- and back
+pub pairs_from_map : {X Y : Type 0} (R : Y → Y → Type 0) (f : X → Y) (xs : List X) → AllPairs R (map f xs) → AllPairs (λ a b. R (f a) (f b)) xs
+pairs_from_map R f xs all i j d l inside =
+    subst (λ z. R z (f (get_or xs j d))) (get_or-map f xs i d (f d) (omega (arith, l, inside))) (subst (λ z. R (get_or (map f xs) i (f d)) z) (get_or-map f xs j d (f d) inside) (all i j (f d) l (omega (arith, inside, length-map xs f))))
+
+-- the pairs of lists end to end, one of each element
+pub pairs_flat : {X Y : Type 0} (S : X → X → Type 0) (R : Y → Y → Type 0) (f : X → List Y) (xs : List X) → ((x : X) → AllPairs R (f x)) → ((x z : X) (a b : Y) → S x z → Contains (f x) a → Contains (f z) b → R a b) → AllPairs S xs → AllPairs R (flat_map f xs)
+pairs_flat S R f [] each across all = pairs_none R
+pairs_flat S R f (x ∷ xs) each across all =
+    pairs_append R (f x) (flat_map f xs) (each x) (pairs_flat S R f xs each across (pairs_tail S x xs all))
+    (λ a b first second. let r = contains_from_flat f xs b second in across x r.0 a b (pairs_head S x xs r.0 all r.1) first r.2)
+
+-- from members alone
+pub pairs_members : {X : Type 0} (R : X → X → Type 0) (xs : List X) → ((x y : X) → Contains xs x → Contains xs y → R x y) → AllPairs R xs
+pairs_members R [] each = pairs_none R
+pairs_members {X} R (x ∷ xs) each =
+    pairs_append R (x ∷ []) xs (pairs_one R x) (pairs_members R xs (λ a b ca cb. each a b (contains_later x xs a ca) (contains_later x xs b cb)))
+    (λ a b ca cb. each a b (subst (λ z. Contains (x ∷ xs) z) (only_one x a ca) (contains_here x xs)) (contains_later x xs b cb))
+  where
+    only_one : (x a : X) → Contains (x ∷ []) a → x ≡ a
+    only_one x a c = elim (contains_cases x [] a c) [ inl e ↦ e | inr h ↦ absurd (contains_none a h) ]
+
+-- two members that stand in no such order are one
+pub one_of_pairs : {X : Type 0} (R : X → X → Type 0) (xs : List X) (a b : X) → AllPairs R xs → Contains xs a → Contains xs b → (R a b → ⊥) → (R b a → ⊥) → a ≡ b
+one_of_pairs R xs a b all ina inb not_first not_second = elim (cases_order ina.0 inb.0) [
+  | inl e ↦ sym ina.2 ∙ ap (λ z. get_or xs z a) e ∙ get_or_default xs inb.0 a b inb.1 ∙ inb.2
+  | inr o ↦ elim o [
+    | inl less ↦ absurd (not_first (subst (λ z. R z b) ina.2 (subst (λ z. R (get_or xs ina.0 a) z) (get_or_default xs inb.0 a b inb.1 ∙ inb.2) (all ina.0 inb.0 a less inb.1))))
+    | inr more ↦ absurd (not_second (subst (λ z. R z a) inb.2 (subst (λ z. R (get_or xs inb.0 b) z) (get_or_default xs ina.0 b a ina.1 ∙ ina.2) (all inb.0 ina.0 b more ina.1))))
+  ]
+]
+
+-- an element of the first of two lists end to end stands before each of the second
+pub pairs_across : {X : Type 0} (R : X → X → Type 0) (xs ys : List X) (a b : X) → AllPairs R (xs ++ ys) → Contains xs a → Contains ys b → R a b
+pairs_across R [] ys a b all first second = absurd (contains_none a first)
+pairs_across R (x ∷ xs) ys a b all first second = elim (contains_cases x xs a first) [
+  | inl e ↦ subst (λ z. R z b) e (pairs_head R x (xs ++ ys) b all (Contains-append_right xs ys b second))
+  | inr h ↦ pairs_across R xs ys a b (pairs_tail R x (xs ++ ys) all) h second
+]
+
+-- the pairs of the second of two lists end to end
+pub pairs_second : {X : Type 0} (R : X → X → Type 0) (xs ys : List X) → AllPairs R (xs ++ ys) → AllPairs R ys
+pairs_second R [] ys all = all
+pairs_second R (x ∷ xs) ys all = pairs_second R xs ys (pairs_tail R x (xs ++ ys) all)
+
+-- one element more in front
+pub pairs_cons : {X : Type 0} (R : X → X → Type 0) (x : X) (xs : List X) → ((y : X) → Contains xs y → R x y) → AllPairs R xs → AllPairs R (x ∷ xs)
+pairs_cons R x xs first all =
+    pairs_append R (x ∷ []) xs (pairs_one R x) all
+    (λ a b ca cb. subst (λ z. R z b) (elim (contains_cases x [] a ca) [ inl e ↦ e | inr h ↦ absurd (contains_none a h) ]) (first b cb))
+
+-- what holds of the pairs of those that a filter keeps holds of the pairs of them among all
+pub pairs_of_kept : {X : Type 0} (R : X → X → Type 0) (p : X → Bool) (xs : List X) → AllPairs R (filter p xs) → AllPairs (λ a b. p a ≡ true → p b ≡ true → R a b) xs
+pairs_of_kept R p [] all = pairs_none (λ a b. p a ≡ true → p b ≡ true → R a b)
+pairs_of_kept R p (x ∷ xs) all = elim (cases_Bool (p x)) [
+  | inl t ↦
+      let kept = subst (λ z. AllPairs R z) (cond-true (p x) (x ∷ filter p xs) (filter p xs) t) all in
+      pairs_cons (λ a b. p a ≡ true → p b ≡ true → R a b) x xs (λ y c px py. pairs_head R x (filter p xs) y kept (contains_filter p xs y c py)) (pairs_of_kept R p xs (pairs_tail R x (filter p xs) kept))
+  | inr f ↦
+      pairs_cons (λ a b. p a ≡ true → p b ≡ true → R a b) x xs (λ y c px py. absurd (false≢true (sym f ∙ px))) (pairs_of_kept R p xs (subst (λ z. AllPairs R z) (cond-false (p x) (x ∷ filter p xs) (filter p xs) f) all))
+]
+
+-- where no element stands twice, two partings at one element are the same
+pub one_parting : {X : Type 0} (R : X → X → Type 0) (z : X) (xs us ys vs : List X) → AllPairs R (xs ++ (z ∷ ys)) → (R z z → ⊥) → xs ++ (z ∷ ys) ≡ us ++ (z ∷ vs) → xs ≡ us
+one_parting R z [] [] ys vs all once e = refl
+one_parting R z [] (u ∷ us) ys vs all once e =
+    let rest : ys ≡ us ++ (z ∷ vs) = cc in
+    absurd (once (pairs_head R z ys z all (subst (λ w. Contains w z) (sym rest) (Contains-append_right us (z ∷ vs) z (contains_here z vs)))))
+one_parting R z (x ∷ xs) [] ys vs all once e =
+    let same : x ≡ z = cc in
+    absurd (once (subst (λ w. R w z) same (pairs_head R x (xs ++ (z ∷ ys)) z all (Contains-append_right xs (z ∷ ys) z (contains_here z ys)))))
+one_parting R z (x ∷ xs) (u ∷ us) ys vs all once e =
+    let same : x ≡ u = cc in
+    let rest : xs ++ (z ∷ ys) ≡ us ++ (z ∷ vs) = cc in
+    ap₂ (λ a b. a ∷ b) same (one_parting R z xs us ys vs (pairs_tail R x (xs ++ (z ∷ ys)) all) once rest)

@@ -1,0 +1,37 @@
+-- What a run is given (profile).
+use Rattle.std.specs.Prelude.{◌<◌, ◌≤◌, All, List, length}
+use Rattle.cqf_model.specs.declared.frames.Background.{Background}
+use Rattle.cqf_model.specs.declared.frames.Offer.{Offer}
+use Rattle.cqf_model.specs.declared.topology.Row.{Row}
+use Rattle.cqf_model.specs.Domain.{Domain}
+
+-- a domain, the table of each cycle, what is offered at its bridges, and the background frames of its links
+pub record Run : Type 0 where
+  pub domain : Domain
+  pub tables : List (List Row)
+  pub offers : List Offer
+  pub background : List Background
+
+-- an offer that may be handed to a run: at a bridge of the domain, of a size that Ethernet has (IEEE 802.3), early
+-- enough (profile)
+pub record IsOffer (d : Domain) (offer : Offer) : Type 0 where
+  pub at_bridge : offer.bridge < length d.bridges
+  pub least : 64 ≤ offer.octets
+  pub most : offer.octets ≤ 1522
+  pub early : offer.at.0 < 1000000000000
+
+-- how many there may be is said where they are read
+abbrev pub AreOffers : Domain → List Offer → Type 0
+AreOffers d offers = All (IsOffer d) offers
+
+-- a background frame that may be handed to a run: for a link of the domain, of a class that no stream has, of a size that
+-- Ethernet has (IEEE 802.3), early enough (profile)
+pub record IsBackground (d : Domain) (frame : Background) : Type 0 where
+  pub on_link : frame.link < length d.links
+  pub class_most : frame.class ≤ 5
+  pub least : 64 ≤ frame.octets
+  pub most : frame.octets ≤ 1522
+  pub early : frame.at.0 < 1000000000000
+
+abbrev pub AreBackground : Domain → List Background → Type 0
+AreBackground d background = All (IsBackground d) background

@@ -1,0 +1,41 @@
+use Rattle.std.proofs.Common.{ℕ, ◌≡◌, ◌+◌, ◌≤◌, ◌<◌, inl, inr, subst, sym, ap, ◌∙◌, arith}
+use Rattle.std.proofs.lemmas.Bool.{cases_lt}
+use Rattle.cqf_model.specs.GateList.{round_of}
+use Rattle.cqf_port.specs.PortState.{rules_of}
+use Rattle.cqf_port.proofs.Wire.{octet_takes_time}
+use Rattle.cqf_port.proofs.Waiting.{none_stays_ready}
+use Rattle.cqf_port.proofs.Coming.{never_ready}
+use Rattle.cqf_port.proofs.next.next_ready.Goals as goal
+
+-- a head is ready
+pub returns-in-Some : goal.returns-in-Some
+returns-in-Some c = record {
+  later = c.events.invariant.from;
+  none_before = c.events.invariant.none;
+  place = _;
+  chosen = c.in-Some.ensures;
+}
+
+-- none is up to the next instant at which one can be
+pub events-preserved : goal.events-preserved
+events-preserved c =
+    let goes_by = rules_of c.args.schedule.now c.args.rate in
+    record {
+      from = omega (arith, c.events.invariant.from, c.quiet_until.ensures.later);
+      in_time = omega arith;
+      none = λ s after soon. elim (cases_lt s c.events.t) [
+        | inl before ↦ c.events.invariant.none s after before
+        | inr here ↦ none_stays_ready goes_by c.args.arrivals.now c.args.heads.now c.events.t c.quiet_until.result.0 (octet_takes_time c.args.rate) c.quiet_until.ensures.quiet c.in-None.ensures s here (omega arith)
+      ];
+    }
+
+-- nearer to the horizon
+pub events-smaller : goal.events-smaller
+events-smaller c = omega (arith, c.quiet_until.ensures.later)
+
+-- none is in a whole round
+pub returns : goal.returns
+returns c =
+    let goes_by = rules_of c.args.schedule.now c.args.rate in
+    never_ready c.mask_is_in_force.ensures.states c.mask_is_in_force.ensures.some goes_by c.args.arrivals.now c.args.heads.now c.args.from.0 c.all_come.result.0 (omega (arith, c.round.ensures.some, c.round.ensures.value)) c.all_come.ensures.from c.all_come.ensures.come
+    (λ s after soon. c.events.invariant.none s after (omega (arith, c.round.ensures.value)))

@@ -1,0 +1,59 @@
+//! When the next frame starts.
+ghost use Rattle.std.specs.Prelude.{◌≡◌, ◌+◌, ◌^◌, ◌<◌, ◌≤◌, ℕ, MatchOption};
+ghost use Rattle.cqf_port.specs.PortState.{AreTaken, rules_of};
+ghost use Rattle.cqf_port.specs.Progress.{AreInside};
+ghost use Rattle.cqf_port.specs.NextStart.{HaveCome, IsNextReady, NeverReady};
+
+use crate::choice::choose;
+use crate::quiet::quiet_until;
+use crate::spans::Schedule;
+use cqf_laws_port::mask_is_in_force;
+use cqf_model::Arrival;
+use cqf_units::{Nanos, Rate};
+
+/// The instant by which each head has come, not before a first one.
+fn all_come(arrivals: &[Arrival], heads: &[Option<usize>; 8], from: Nanos) -> Nanos
+    requires early { from.0 < 2 ^ 63 }
+    requires taken { AreTaken arrivals.now }
+    requires inside { AreInside arrivals.now heads.now }
+    ensures from { from.0 ≤ result.0 }
+    ensures soon { result.0 < 2 ^ 63 }
+    ensures come { HaveCome arrivals.now heads.now 8 result.0 }
+{
+    let mut latest = from.0;
+    for class in 0..8 {
+        if let Some(place) = heads[class] {
+            latest = latest.max(arrivals[place].at.0);
+        }
+    }
+    Nanos(latest)
+}
+
+/// The first instant from one on at which a head is ready, if no frame starts before. It looks no further than a round of
+/// the list behind the instant by which all heads have come: from there on the same happens in each round.
+pub(crate) fn next_ready(
+    schedule: &Schedule,
+    rate: Rate,
+    arrivals: &[Arrival],
+    heads: &[Option<usize>; 8],
+    from: Nanos,
+) -> Option<Nanos>
+    requires early { from.0 < 2 ^ 63 }
+    requires taken { AreTaken arrivals.now }
+    requires inside { AreInside arrivals.now heads.now }
+    ensures { let rules = rules_of schedule.now rate in
+        MatchOption result (NeverReady rules arrivals.now heads.now from.0) (λ t. IsNextReady rules arrivals.now heads.now from.0 t.0) }
+{
+    mask_is_in_force();
+    let horizon = all_come(arrivals, heads, from).0 + schedule.round().0;
+    let mut t = from.0;
+    'events: while t < horizon {
+        match choose(schedule, rate, arrivals, heads, Nanos(t)) {
+            Some(_) => return Some(Nanos(t)),
+            None => t = quiet_until(schedule, arrivals, heads, Nanos(t))
+                .0
+                .min(horizon),
+        }
+    }
+    None
+}

@@ -1,0 +1,142 @@
+//! How long the classes of a gate list stay open.
+ghost use Rattle.std.specs.Prelude.{◌≡◌, ◌+◌, ◌^◌, ◌<◌, ◌≤◌, ◌↔◌, IsTrue, ℕ};
+ghost use Rattle.cqf_port.specs.Spans.{AreLess, AreSpans, AreSpansAt, IsSpan};
+ghost use Rattle.cqf_model.specs.GateList.{IsOpen, round_of, states_at};
+
+use cqf_gates::{OpenFor, TxList};
+use cqf_laws_port::mask_is_in_force;
+use cqf_units::Nanos;
+use std::marker::Model;
+
+/// A gate list, and for each of its entries how long each class stays open from the entry's first instant on. To those
+/// who hold it, it is the list.
+#[derive(Debug, Drop)]
+pub(crate) struct Schedule {
+    list: TxList,
+    /// By entry and class, in nanoseconds: 0 where the class is closed, and 2^64 - 1 where it never closes.
+    spans: [[u64; 8]; 16],
+}
+
+impl Model for Schedule {
+    ghost use Rattle.std.specs.Prelude.{ℕ, List};
+    ghost use Rattle.cqf_port.specs.Spans.{AreSpans};
+
+    ghost Value = { List (ℕ × ℕ) };
+
+    ghost view = { λ schedule. schedule.list };
+
+    ghost invariant = { λ schedule. AreSpans schedule.list schedule.spans };
+}
+
+/// For how long the class stays open from the instant on.
+fn span_at(list: &TxList, t: u64, class: u8) -> u64
+    requires gate { class < 8 }
+    requires early { t < 2 ^ 62 }
+    ensures { IsSpan list.now class t (2 ^ 63) result }
+{
+    match list.open_for(Nanos(t), class) {
+        OpenFor::Closed => 0,
+        OpenFor::Always => u64::MAX,
+        OpenFor::Until(closed) => closed.0 - t,
+    }
+}
+
+/// For how long each class stays open from the instant on.
+fn row_at(list: &TxList, t: u64) -> [u64; 8]
+    requires { t < 2 ^ 62 }
+    ensures { AreSpansAt list.now t (2 ^ 63) result }
+{
+    let mut row = [0; 8];
+    for class in 0..8u8 {
+        row[usize::from(class)] = span_at(list, t, class);
+    }
+    row
+}
+
+/// The number with 64 bits.
+fn widened(nanoseconds: u32) -> u64
+    ensures value { result ≡ nanoseconds }
+    ensures short { result < 2 ^ 32 }
+{
+    u64::from(nanoseconds)
+}
+
+/// For how long each class stays open from the beginning of each entry on.
+fn spans_of(list: &TxList) -> [[u64; 8]; 16]
+    ensures { AreSpans list.now result }
+{
+    let entries = list.entries();
+    let mut spans = [[0; 8]; 16];
+    let mut begun: u64 = 0;
+    for (place, entry) in entries.iter().enumerate() {
+        spans[place] = row_at(list, begun);
+        begun += widened(entry.1);
+    }
+    spans
+}
+
+/// The instant so many nanoseconds later.
+fn later_by(t: Nanos, nanoseconds: u32) -> Nanos
+    requires { t.0 < 2 ^ 63 + 2 ^ 62 }
+    ensures { result.0 ≡ t.0 + nanoseconds }
+{
+    Nanos(t.0 + u64::from(nanoseconds))
+}
+
+/// What is left of each of the spans behind so many nanoseconds.
+fn less(row: [u64; 8], nanoseconds: u32) -> [u64; 8]
+    ensures left { AreLess row nanoseconds result }
+    ensures short { nanoseconds < 2 ^ 32 }
+{
+    let mut left = row;
+    for class in 0..8 {
+        left[class] = row[class].saturating_sub(widened(nanoseconds));
+    }
+    left
+}
+
+impl Schedule {
+    /// The schedule of the list.
+    pub(crate) fn new(list: TxList) -> Schedule
+        ensures { result ≡ list }
+    {
+        let spans = spans_of(&list);
+        Schedule { list, spans }
+    }
+
+    /// Whether the class is open at the instant.
+    pub(crate) fn is_open(&self, t: Nanos, class: u8) -> bool
+        requires { class < 8 }
+        ensures { IsTrue result ↔ IsOpen self.now class t.0 }
+    {
+        self.list.mask_at(t) & (1 << class) != 0
+    }
+
+    /// How long the list takes before it repeats.
+    pub(crate) fn round(&self) -> Nanos
+        ensures value { result.0 ≡ round_of self.now }
+        ensures some { 0 < result.0 }
+        ensures short { result.0 < 2 ^ 36 + 1 }
+    {
+        self.list.round()
+    }
+
+    /// For how long each class stays open from the instant on.
+    pub(crate) fn left_at(&self, t: Nanos) -> [u64; 8]
+        ensures { AreSpansAt self.now t.0 (2 ^ 62) result }
+    {
+        mask_is_in_force();
+        let (place, offset) = self.list.entry_at(t);
+        less(self.spans[place], offset)
+    }
+
+    /// The instant at which the entry in force ends.
+    pub(crate) fn next_boundary(&self, t: Nanos) -> Nanos
+        requires { t.0 < 2 ^ 63 + 2 ^ 62 }
+        ensures later { t.0 < result.0 }
+        ensures steady { (s : ℕ) → t.0 ≤ s → s < result.0 → states_at self.now s ≡ states_at self.now t.0 }
+    {
+        let (place, offset) = self.list.entry_at(t);
+        later_by(t, self.list.entries()[place].1 - offset)
+    }
+}

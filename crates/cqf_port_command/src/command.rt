@@ -1,0 +1,211 @@
+//! The command `port`: the starts of one output port before an instant.
+ghost use Rattle.std.specs.Prelude.{◌≡◌, ◌≢◌, ◌<◌, ◌^◌, ◌++◌, [], ◌∷◌, All, Ok, Err, IfOk, IfErr, OnOk, map, string_bytes};
+ghost use Rattle.cqf_model.specs.declared.ports.Arrival.{Arrival};
+ghost use Rattle.cqf_gates.specs.TxText.{list_of_text};
+ghost use Rattle.cqf_report.specs.Arrivals.{arrivals_of};
+ghost use Rattle.cqf_port.specs.PortState.{rules_of, start_of};
+ghost use Rattle.cqf_stop.specs.Stops.{EndsWith, IsRefused, or_line};
+ghost use Rattle.cqf_port_command.specs.PortOutput.{arrivals_line, list_line, port_input, AreOfferable, AreStartsOf, IsStartsText, IsPortOutput};
+
+use cqf_gates::{TextFault, TxList, read_tx};
+use cqf_inputs::two_parts;
+use cqf_port::{Arrival, Port, PortFault, Start};
+use cqf_report::{TableFault, read_arrivals, write_starts};
+use cqf_stop::Stop;
+use cqf_units::{Memory, Nanos, Rate};
+use std::alloc::{AllocError, Global};
+
+/// The end where a gate list is refused.
+fn list_stop(alloc: Global, fault: TextFault) -> Stop
+    ensures { EndsWith 1 (list_line fault) result }
+{
+    Stop::refused(alloc, "list", &fault)
+}
+
+/// The gate list of a part.
+fn list_part(alloc: Global, text: &[u8]) -> Result<TxList, Stop>
+    ensures ok { IfOk result (λ list. list_of_text text.now ≡ Ok list) }
+    ensures err { IfErr result (IsRefused (or_line list_line (list_of_text text.now))) }
+{
+    match read_tx(text) {
+        Ok(list) => Ok(list),
+        Err(fault) => Err(list_stop(alloc, fault)),
+    }
+}
+
+/// The end where arrivals are refused.
+fn arrivals_stop(alloc: Global, fault: TableFault) -> Stop
+    ensures refused { fault ≢ TableFault.Memory → EndsWith 1 (arrivals_line fault) result }
+    ensures memory { fault ≡ TableFault.Memory → EndsWith 3 [] result }
+{
+    match fault {
+        TableFault::Memory => Stop::memory(alloc),
+        _ => Stop::refused(alloc, "arrivals", &fault),
+    }
+}
+
+/// The arrivals of a part.
+fn arrivals_part(alloc: Global, text: &[u8]) -> Result<Vec<Arrival>, Stop>
+    ensures ok { IfOk result (λ arrivals. arrivals_of text.now ≡ Ok arrivals.items) }
+    ensures order { IfOk result (λ arrivals. AreOfferable arrivals.items) }
+    ensures err { IfErr result (IsRefused (or_line arrivals_line (arrivals_of text.now))) }
+{
+    match read_arrivals(alloc, text) {
+        Ok(arrivals) => Ok(arrivals),
+        Err(fault) => Err(arrivals_stop(alloc, fault)),
+    }
+}
+
+/// The gate list and the arrivals of the input.
+fn read_port(alloc: Global, input: &[u8]) -> Result<(TxList, Vec<Arrival>), Stop>
+    ensures ok { IfOk result (λ found. port_input input.now ≡ Ok (found.0, found.1.items)) }
+    ensures order { IfOk result (λ found. AreOfferable found.1.items) }
+    ensures err { IfErr result (IsRefused (port_input input.now)) }
+{
+    let (list_text, arrivals_text) = two_parts(alloc, input)?;
+    let list = list_part(alloc, list_text)?;
+    let arrivals = arrivals_part(alloc, arrivals_text)?;
+    Ok((list, arrivals))
+}
+
+/// A port that was offered the arrivals, none of which is late or out of order.
+fn offered_port(
+    alloc: Global,
+    list: TxList,
+    rate: Rate,
+    arrivals: &[Arrival],
+) -> Result<Port, Memory>
+    requires { AreOfferable arrivals.now }
+    ensures { IfOk result (λ port. port ≡ record { rules = rules_of list rate; reached = 0; arrivals = arrivals.now; starts = [] }) }
+{
+    let mut port = Port::new(alloc, list, rate);
+    for arrival in arrivals {
+        match port.offer(*arrival) {
+            Ok(()) => {}
+            Err(PortFault::Memory) => return Err(AllocError),
+            Err(PortFault::Late | PortFault::OutOfOrder) => unreachable!(),
+        }
+    }
+    Ok(port)
+}
+
+/// The starts before the instant.
+fn starts_before(alloc: Global, port: &mut Port, until: u64) -> Result<Vec<Start>, Memory>
+    requires early { until < 2 ^ 62 }
+    requires fresh { port.old.starts ≡ [] }
+    requires begins { port.old.reached ≡ 0 }
+    ensures { IfOk result (λ found. AreStartsOf port.old.rules port.old.arrivals until found.items) }
+{
+    let mut found = Vec::new(alloc);
+    port.advance(Nanos(until), &mut found)?;
+    Ok(found)
+}
+
+/// The text of the starts before the instant.
+fn starts_text(
+    alloc: Global,
+    list: TxList,
+    rate: Rate,
+    arrivals: &[Arrival],
+    until: u64,
+) -> Result<Vec<u8>, Memory>
+    requires early { until < 2 ^ 62 }
+    requires offerable { AreOfferable arrivals.now }
+    ensures { IfOk result (λ text. IsStartsText (rules_of list rate) arrivals.now until rate text.items) }
+{
+    let mut port = offered_port(alloc, list, rate, arrivals)?;
+    let starts = starts_before(alloc, &mut port, until)?;
+    write_starts(alloc, starts.as_slice(), rate)
+}
+
+/// The output of `port`: the starts before `until`. `Err` with status 1 and the line of the first fault of the input:
+/// of its parts, of the gate list, of the arrivals; and with status 3 for want of memory.
+pub fn port_output(alloc: Global, until: u64, rate: Rate, input: &[u8]) -> Result<Vec<u8>, Stop>
+    requires { until < 2 ^ 62 }
+    ensures ok { IfOk result (λ output. IsPortOutput until rate input.now output.items) }
+    ensures err { IfErr result (IsRefused (port_input input.now)) }
+{
+    let (list, arrivals) = read_port(alloc, input)?;
+    match starts_text(alloc, list, rate, arrivals.as_slice(), until) {
+        Ok(text) => Ok(text),
+        Err(_) => Err(Stop::memory(alloc)),
+    }
+}
+
+#[cfg(test)]
+mod tests {
+    use super::*;
+
+    const LIST: &str = "80 120000\n00 5000\n40 120000\n00 5000\n";
+
+    /// The input of a gate list and arrivals without their header.
+    fn input(alloc: Global, list: &str, arrivals: &str) -> Result<String, AllocError> {
+        format!(in alloc; "{list}%%\nat,class,octets,frame\n{arrivals}")
+    }
+
+    /// Whether these are the starts before 1,000,000, without their header.
+    fn starts(alloc: Global, list: &str, arrivals: &str, starts: &str) -> Result<bool, AllocError> {
+        let input = input(alloc, list, arrivals)?;
+        let output = format!(in alloc; "class,frame,start,end\n{starts}")?;
+        match port_output(alloc, 1_000_000, Rate::Mb1000, input.as_bytes()) {
+            Ok(text) => Ok(text.as_slice() == output.as_bytes()),
+            Err(_) => Ok(false),
+        }
+    }
+
+    /// Whether the input is refused with this line.
+    fn refuses(alloc: Global, input: &str, line: &str) -> bool {
+        match port_output(alloc, 1_000_000, Rate::Mb1000, input.as_bytes()) {
+            Ok(_) => false,
+            Err(stop) => stop.status == 1 && stop.text.as_slice() == line.as_bytes(),
+        }
+    }
+
+    /// Gate lists, arrivals, and the starts for them.
+    const STARTS: &[(&str, &str, &str)] = &[
+        // a frame waits until its class opens
+        (LIST, "10,6,64,1\n", "6,1,125000,125576\n"),
+        // a frame that just fits its gate, and one that doesn't
+        (LIST, "107760,7,1522,1\n", "7,1,107760,120000\n"),
+        (LIST, "107761,7,1522,1\n", "7,1,250000,262240\n"),
+        // a class that is always open goes before one that closes
+        (
+            "C0 1000\n80 1000\n",
+            "425,6,64,1\n900,7,64,2\n",
+            "7,2,900,1476\n6,1,2000,2576\n",
+        ),
+        // no arrivals
+        (LIST, "", ""),
+    ];
+
+    #[test]
+    fn frames_start_when_their_class_is_open_for_them(rt: HostRuntime) -> Result<(), AllocError> {
+        for (list, arrivals, found) in STARTS {
+            assert!(rt; starts(rt.alloc(), list, arrivals, found)?);
+        }
+        Ok(())
+    }
+
+    /// Inputs, and the line of the first fault of each.
+    const FAULTS: &[(&str, &str)] = &[
+        ("80 1000\n", "cqf: parts\n"),
+        ("%%\n", "cqf: list: Empty\n"),
+        ("80 1\n0G 5\n%%\n", "cqf: list: BadLine 2\n"),
+        ("80 1\n%%\n", "cqf: arrivals: BadHeader\n"),
+        (
+            "80 1\n%%\nat,class,octets,frame\n5,6,64,1\n4,6,64,2\n",
+            "cqf: arrivals: OutOfOrder 2\n",
+        ),
+        (
+            "80 1\n%%\nat,class,octets,frame\n5,8,64,1\n",
+            "cqf: arrivals: BadRow 1\n",
+        ),
+    ];
+
+    #[test]
+    fn the_first_fault_of_the_input_is_told(rt: HostRuntime) {
+        for (input, line) in FAULTS {
+            assert!(rt; refuses(rt.alloc(), input, line));
+        }
+    }
+}

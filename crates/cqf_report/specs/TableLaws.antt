@@ -1,0 +1,63 @@
+-- Which fault of a table's rows is told, in words of places alone (profile). Places count from 0, and numbers of rows from 1.
+use Rattle.std.specs.Prelude.{ℕ, ◌≡◌, ◌+◌, ◌≤◌, ◌<◌, List, Option, Some, None, MatchResult, length, slice_get}
+use Rattle.cqf_report.specs.Records.{Fields}
+use Rattle.cqf_report.specs.Table.{most_rows, rows_from}
+use Rattle.cqf_report.specs.declared.tables.TableFault.{TableFault}
+use Rattle.cqf_report.specs.declared.tables.TableFault.TheVariants.{BadHeader, TooMany, BadRow, OutOfOrder, Memory}
+
+-- the record at this place writes this row
+pub record Writes {A : Type 0} (read : Fields → Option A) (rows : List Fields) (place : ℕ) (row : A) : Type 0 where
+  pub fields : Fields
+  pub stands : slice_get rows place ≡ Some fields
+  pub means : read fields ≡ Some row
+
+-- the record at this place writes a row, and not before the row of the place before it
+pub record IsGood {A : Type 0} (read : Fields → Option A) (instant : A → ℕ) (rows : List Fields) (place : ℕ) : Type 0 where
+  pub row : A
+  pub writes : Writes read rows place row
+  pub in_order : (k : ℕ) (earlier : A) → k + 1 ≡ place → Writes read rows k earlier → instant earlier ≤ instant row
+
+-- each record before this place is good
+abbrev pub AreGoodBefore : {A : Type 0} → (Fields → Option A) → (A → ℕ) → List Fields → ℕ → Type 0
+AreGoodBefore read instant rows place = (k : ℕ) → k < place → IsGood read instant rows k
+
+-- the record of this number is the first that isn't good, and it writes no row
+pub record IsFirstBad {A : Type 0} (read : Fields → Option A) (instant : A → ℕ) (rows : List Fields) (number : ℕ) : Type 0 where
+  pub place : ℕ
+  pub numbered : number ≡ place + 1
+  pub few : number ≤ most_rows
+  pub good_before : AreGoodBefore read instant rows place
+  pub fields : Fields
+  pub stands : slice_get rows place ≡ Some fields
+  pub means_nothing : read fields ≡ None
+
+-- the record of this number is the first that isn't good, and it writes a row before that of the place before it
+pub record IsFirstBack {A : Type 0} (read : Fields → Option A) (instant : A → ℕ) (rows : List Fields) (number : ℕ) : Type 0 where
+  pub place : ℕ
+  pub numbered : number ≡ place + 2
+  pub few : number ≤ most_rows
+  pub good_before : AreGoodBefore read instant rows (place + 1)
+  pub row : A
+  pub earlier : A
+  pub writes : Writes read rows (place + 1) row
+  pub writes_earlier : Writes read rows place earlier
+  pub goes_back : instant row < instant earlier
+
+-- there are more records than may be, and as many as may be are good
+pub record IsTooLong {A : Type 0} (read : Fields → Option A) (instant : A → ℕ) (rows : List Fields) : Type 0 where
+  pub many : most_rows < length rows
+  pub good_before : AreGoodBefore read instant rows most_rows
+
+-- the fault is the first of the records
+abbrev pub IsFirstFault : {A : Type 0} → (Fields → Option A) → (A → ℕ) → List Fields → TableFault → Type 0
+IsFirstFault read instant rows BadHeader = ⊥
+IsFirstFault read instant rows TooMany = IsTooLong read instant rows
+IsFirstFault read instant rows (BadRow number) = IsFirstBad read instant rows number
+IsFirstFault read instant rows (OutOfOrder number) = IsFirstBack read instant rows number
+IsFirstFault read instant rows Memory = ⊥
+
+-- the records are read where there are no more than may be and each is good, and else their first fault is told
+abbrev pub TellsFirst : {A : Type 0} → (Fields → Option A) → (A → ℕ) → List Fields → Type 0
+TellsFirst read instant rows = MatchResult (rows_from read instant 1 0 rows)
+    (λ items. (length rows ≤ most_rows) × AreGoodBefore read instant rows (length rows))
+    (λ fault. IsFirstFault read instant rows fault)

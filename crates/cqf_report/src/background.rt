@@ -1,0 +1,228 @@
+//! The background frames of a run, read from a text.
+
+ghost use Rattle.std.specs.Prelude.{◌≡◌, ◌≤◌, IfOk, IfErr, Ok, length};
+ghost use Rattle.cqf_model.specs.Run.{AreBackground};
+ghost use Rattle.cqf_report.specs.OtherColumns.{in_five-other};
+ghost use Rattle.csv.specs.Records.{fields_of};
+ghost use Rattle.cqf_report.specs.Table.{IsFaultOf, in_five, is_header};
+ghost use Rattle.cqf_report.specs.BackgroundFrames.{background_frames_of, background_header, background_instant, background_of, link_named, node_in};
+
+use crate::rows::{RowFormat, read_table};
+use crate::tables::{OfferFault, five_fields, is_header_of_five, read_number};
+use cqf_model::{Background, Node};
+use cqf_text::read_decimal;
+use cqf_topology::Domain;
+use cqf_units::{Name, Nanos};
+use csv::ByteRecord;
+use std::alloc::Global;
+
+/// The node that a field names.
+fn read_node(domain: &Domain, field: &[u8]) -> Option<Node>
+    ensures { result ≡ node_in domain.now field.now }
+{
+    match Name::new(field) {
+        Some(name) => domain.find(name.as_str()),
+        None => None,
+    }
+}
+
+/// The link from one node to another that two fields name.
+fn read_link(domain: &Domain, from: &[u8], to: &[u8]) -> Option<u8>
+    ensures { result ≡ link_named domain.now from.now to.now }
+{
+    let Some(from) = read_node(domain, from) else {
+        return None;
+    };
+    let Some(to) = read_node(domain, to) else {
+        return None;
+    };
+    match from {
+        Node::Bridge(bridge) => domain.find_link(bridge, to),
+        Node::Station(_) => None,
+    }
+}
+
+/// The background frame of a domain that five fields write.
+fn read_frame(
+    domain: &Domain,
+    at: &[u8],
+    from: &[u8],
+    to: &[u8],
+    class: &[u8],
+    octets: &[u8],
+) -> Option<Background>
+    ensures { result ≡ background_of domain.now at.now from.now to.now class.now octets.now }
+{
+    let Some(at) = read_decimal(at, 0, 999_999_999_999) else {
+        return None;
+    };
+    let Some(link) = read_link(domain, from, to) else {
+        return None;
+    };
+    let Some(class) = read_number(class, 0, 5) else {
+        return None;
+    };
+    let Some(octets) = read_number(octets, 64, 1522) else {
+        return None;
+    };
+    Some(Background {
+        at: Nanos(at),
+        link,
+        class: class as u8,
+        octets,
+    })
+}
+
+/// The rows of background frames of a domain.
+#[derive(Clone, Copy)]
+struct BackgroundRows<'d> {
+    domain: &'d Domain,
+}
+
+impl RowFormat for BackgroundRows<'_> {
+    type Row = Background;
+
+    ghost header = { background_header };
+
+    ghost row_of = { λ rows. in_five (background_of rows.domain.now) };
+
+    ghost instant_of = { background_instant };
+
+    ghost no_row_of_others = { λ rows. in_five-other (background_of rows.domain.now) };
+
+    fn names_columns(record: &ByteRecord) -> bool
+        ensures { result ≡ is_header background_header (fields_of record.now) }
+    {
+        let names = (
+            b"at".as_slice(),
+            b"from".as_slice(),
+            b"to".as_slice(),
+            b"class".as_slice(),
+            b"octets".as_slice(),
+        );
+        is_header_of_five(record, names)
+    }
+
+    fn read_row(&self, record: &ByteRecord) -> Option<Background> {
+        let Some((at, from, to, class, octets)) = five_fields(record) else {
+            return None;
+        };
+        read_frame(self.domain, at, from, to, class, octets)
+    }
+
+    fn instant(row: &Background) -> Nanos
+        ensures { result.0 ≡ background_instant row.now }
+    {
+        row.at
+    }
+}
+
+/// The background frames that the text writes for the domain's links, in order.
+///
+/// The header is `at,from,to,class,octets`. A frame's instant is before 1,000,000,000,000 ns, `from` and `to` are the names
+/// of the ends of one of the domain's links, its class is 0 to 5, and its size 64 to 1,522 octets (IEEE 802.3); no row's
+/// instant is before that of the row before it (profile). What the crate `csv` accepts is accepted: quotes, CR LF, and a
+/// last row without its line end.
+///
+/// # Errors
+/// As of `read_offers`: `BadHeader`; then the first fault of the rows in their order, `TooMany` at row 1,000,001, `BadRow`,
+/// `OutOfOrder`; `Memory` where a growth is refused. A pair of names that is no link makes its row `BadRow`.
+pub fn read_background(
+    alloc: Global,
+    domain: &Domain,
+    text: &[u8],
+) -> Result<Vec<Background>, OfferFault>
+    ensures ok { IfOk result (λ frames. background_frames_of domain.now text.now ≡ Ok frames.items) }
+    ensures good { IfOk result (λ frames. AreBackground domain.now frames.items) }
+    ensures few { IfOk result (λ frames. length frames.items ≤ 1000000) }
+    ensures err { IfErr result (λ fault. IsFaultOf (background_frames_of domain.now text.now) fault) }
+{
+    read_table(alloc, &BackgroundRows { domain }, text)
+}
+
+#[cfg(test)]
+mod tests {
+    use super::*;
+    use crate::TableFault;
+    use cqf_fixtures::one_link;
+    use std::test::Fail;
+
+    /// A background frame of the first link.
+    fn frame(at: u64, class: u8, octets: u32) -> Background {
+        Background {
+            at: Nanos(at),
+            link: 0,
+            class,
+            octets,
+        }
+    }
+
+    /// Whether the text has exactly these frames.
+    fn are_frames(alloc: Global, domain: &Domain, text: &[u8], wanted: &[Background]) -> bool {
+        match read_background(alloc, domain, text) {
+            Ok(frames) => frames.as_slice() == wanted,
+            Err(_) => false,
+        }
+    }
+
+    #[test]
+    fn frames_are_read_with_the_numbers_of_their_links(rt: HostRuntime) -> Result<(), Fail> {
+        let domain = Domain::read(rt.alloc(), one_link().as_bytes())?;
+        let text = b"at,from,to,class,octets\n120000,a,s,0,1522\n999999999999,a,s,5,64";
+        let wanted = [frame(120_000, 0, 1522), frame(999_999_999_999, 5, 64)];
+        assert!(rt; are_frames(rt.alloc(), &domain, text, &wanted));
+        assert!(rt; are_frames(rt.alloc(), &domain, b"at,from,to,class,octets\n", &[]));
+        Ok(())
+    }
+
+    #[test]
+    fn the_first_fault_of_background_frames_is_told(rt: HostRuntime) -> Result<(), Fail> {
+        let domain = Domain::read(rt.alloc(), one_link().as_bytes())?;
+        for (text, fault) in [
+            (
+                "at,from,to,class,octets\n200,a,s,6,136\n",
+                TableFault::BadRow(1),
+            ),
+            (
+                "at,from,to,class,octets\n200,s,a,0,136\n",
+                TableFault::BadRow(1),
+            ),
+            (
+                "at,from,to,class,octets\n200,a,a,0,136\n",
+                TableFault::BadRow(1),
+            ),
+            (
+                "at,from,to,class,octets\n200,a,q,0,136\n",
+                TableFault::BadRow(1),
+            ),
+            (
+                "at,from,to,class,octets\n200,a,s,0,63\n",
+                TableFault::BadRow(1),
+            ),
+            (
+                "at,from,to,class,octets\n200,a,s,0,1523\n",
+                TableFault::BadRow(1),
+            ),
+            (
+                "at,from,to,class,octets\n1000000000000,a,s,0,64\n",
+                TableFault::BadRow(1),
+            ),
+            (
+                "at,from,to,class,octets\n200,a,s,0\n",
+                TableFault::BadRow(1),
+            ),
+            (
+                "at,from,to,class,octets\n2,a,s,0,64\n1,a,s,0,64\n",
+                TableFault::OutOfOrder(2),
+            ),
+            ("at,bridge,stream,octets\n", TableFault::BadHeader),
+            ("", TableFault::BadHeader),
+        ] {
+            assert!(rt;
+                read_background(rt.alloc(), &domain, text.as_bytes()).err() == Some(fault),
+                "{text}"
+            );
+        }
+        Ok(())
+    }
+}

@@ -1,0 +1,11 @@
+-- What is taken from the laws of one cycle: each comes from a call of its function.
+use Rattle.cqf_laws_cycle.specs.Beside.{StreamsAreSentAsAlone}
+use Rattle.cqf_laws_cycle.specs.Compiled.{GateCountsCycles, GateGivesClass}
+use Rattle.cqf_laws_cycle.specs.OnePort.{PortIsOneCycleLate}
+
+-- a port is one cycle late, sends of streams beside background frames what it sends of them alone, and a gate gives classes and counts octets by the cycle
+pub record CycleLaws : Type 0 where
+  pub late : PortIsOneCycleLate
+  pub alone : StreamsAreSentAsAlone
+  pub gives : GateGivesClass
+  pub counts : GateCountsCycles

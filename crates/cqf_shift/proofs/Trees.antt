@@ -1,0 +1,272 @@
+-- Links along a tree: which follows which, and how deep each stands.
+use Rattle.std.proofs.Common.{◌≡◌, ℕ, zero, suc, ◌+◌, ◌<◌, ◌≤◌, ◌∷◌, [], List, true, false, Option, Some, None, option_map, inl, inr, sym, ap, ◌∙◌, subst, arith, refl, max, fold, filter, take, slice_get, length, eq-eqb, eqb-true, ◌==◌, Contains}
+use Rattle.std.specs.Option.{option_map_or}
+use Rattle.std.proofs.lemmas.Bool.{false≢true}
+use Rattle.std.proofs.lemmas.List.Elements.{All-contains}
+use Rattle.std.proofs.lemmas.Option.{slice_get_read}
+use Rattle.cqf_model.specs.declared.topology.Hop.{Hop}
+use Rattle.cqf_model.specs.declared.topology.Link.{Link}
+use Rattle.cqf_model.specs.declared.topology.Node.{Node}
+use Rattle.cqf_model.specs.declared.topology.Node.TheVariants.{Bridge, Station}
+use Rattle.cqf_model.specs.declared.topology.Row.{Row}
+use Rattle.cqf_model.specs.Domain.{Domain, bridge_of, end_of, enters, joins, leaves, node_is}
+use Rattle.cqf_model.specs.Table.{Follows, IsHop, IsTree, crosses, goes_on, goes_to, residence, same_way}
+use Rattle.cqf_lists.proofs.Members.{any_member, member_any, contains_map, contains_from_map, contains_filter, contains_from_filter, contains_here, contains_later, contains_cases, contains_none}
+use Rattle.cqf_lists.proofs.Pairs.{one_of_pairs}
+
+-- a link leaves one bridge
+pub its_bridge : (d : Domain) (m bridge : ℕ) → leaves d m bridge ≡ true → bridge_of d m ≡ bridge
+its_bridge d m bridge here = go (slice_get d.links m) here
+  where
+    go : (o : Option Link) → option_map_or (λ (k : Link). k.from == bridge) o false ≡ true → option_map_or (λ (k : Link). k.from) o 0 ≡ bridge
+    go None e = absurd (cc)
+    go (Some link) e = eqb-true link.from bridge e
+
+-- a link ends in one bridge
+pub enters_one : (d : Domain) (m one two : ℕ) → enters d m one ≡ true → enters d m two ≡ true → one ≡ two
+enters_one d m one two = go (slice_get d.links m)
+  where
+    node : (to : Node) → node_is to one ≡ true → node_is to two ≡ true → one ≡ two
+    node (Bridge b) first second = sym (eqb-true b one first) ∙ eqb-true b two second
+    node (Station s) first second = absurd (cc)
+
+    go : (o : Option Link) → option_map_or (λ (link : Link). node_is link.to one) o false ≡ true → option_map_or (λ (link : Link). node_is link.to two) o false ≡ true → one ≡ two
+    go None first second = absurd (cc)
+    go (Some link) first second = node link.to first second
+
+-- a link that enters a bridge ends in that node
+enters_end : (d : Domain) (m bridge : ℕ) → enters d m bridge ≡ true → end_of d m ≡ Some (Bridge bridge)
+enters_end d m bridge = go (slice_get d.links m)
+  where
+    node : (to : Node) → node_is to bridge ≡ true → to ≡ Bridge bridge
+    node (Bridge b) e = ap Bridge (eqb-true b bridge e)
+    node (Station s) e = absurd (cc)
+
+    go : (o : Option Link) → option_map_or (λ (link : Link). node_is link.to bridge) o false ≡ true → option_map (λ (link : Link). link.to) o ≡ Some (Bridge bridge)
+    go None e = absurd (cc)
+    go (Some link) e = ap Some (node link.to e)
+
+-- what joins a link that ends in a bridge leaves that bridge
+pub joined_leaves : (d : Domain) (m l bridge : ℕ) → joins d m l ≡ true → enters d m bridge ≡ true → leaves d l bridge ≡ true
+joined_leaves d m l bridge joined here = go (slice_get d.links l) joined
+  where
+    go : (o : Option Link) → option_map_or (λ (link : Link). enters d m link.from) o false ≡ true → option_map_or (λ (link : Link). link.from == bridge) o false ≡ true
+    go None e = absurd (cc)
+    go (Some link) e = eq-eqb link.from bridge (enters_one d m link.from bridge e here)
+
+-- a link that joins another ends in the bridge that this one leaves
+pub joined_enters : (d : Domain) (m l : ℕ) → joins d m l ≡ true → enters d m (bridge_of d l) ≡ true
+joined_enters d m l joined = go (slice_get d.links l) joined
+  where
+    go : (o : Option Link) → option_map_or (λ (link : Link). enters d m link.from) o false ≡ true → enters d m (option_map_or (λ (link : Link). link.from) o 0) ≡ true
+    go None e = absurd (cc)
+    go (Some link) e = e
+
+-- the test of the way in
+same_way_true : (a b : Option ℕ) → same_way a b ≡ true → a ≡ b
+same_way_true None None e = refl
+same_way_true None (Some m) e = absurd (cc)
+same_way_true (Some l) None e = absurd (cc)
+same_way_true (Some l) (Some m) e = ap Some (eqb-true l m e)
+
+-- and the other way round
+true_same_way : (a b : Option ℕ) → a ≡ b → same_way a b ≡ true
+true_same_way None None e = refl
+true_same_way None (Some m) e = absurd (cc)
+true_same_way (Some l) None e = absurd (cc)
+true_same_way (Some l) (Some m) e = eq-eqb l m (cc)
+
+-- the first elements of a list are members of it
+contains_take : {X : Type 0} (n : ℕ) (xs : List X) (x : X) → Contains (take n xs) x → Contains xs x
+contains_take zero xs x c = absurd (contains_none x c)
+contains_take (suc n) [] x c = absurd (contains_none x c)
+contains_take (suc n) (y ∷ xs) x c = elim (contains_cases y (take n xs) x c) [
+  | inl e ↦ subst (λ z. Contains (y ∷ xs) z) e (contains_here y xs)
+  | inr h ↦ contains_later y xs x (contains_take n xs x h)
+]
+
+-- no member is deeper than the deepest
+deepest : (most : ℕ) (tree : List Hop) → most ≤ fold (λ most (hop : Hop). max most hop.depth) most tree
+deepest most [] = omega arith
+deepest most (hop ∷ tree) = omega (arith, deepest (max most hop.depth) tree)
+
+-- so each is within the residence
+within_deepest : (most : ℕ) (tree : List Hop) (hop : Hop) → Contains tree hop → hop.depth ≤ fold (λ most (hop : Hop). max most hop.depth) most tree
+within_deepest most [] hop c = absurd (contains_none hop c)
+within_deepest most (one ∷ tree) hop c = elim (contains_cases one tree hop c) [
+  | inl e ↦ omega (arith, deepest (max most one.depth) tree, ap (λ (z : Hop). z.depth) e)
+  | inr h ↦ within_deepest (max most one.depth) tree hop h
+]
+
+-- a stream goes on by a link, from the link before or from the edge, by a hop of its tree
+pub record GoesBy (row : Row) (way : Option ℕ) (l : ℕ) : Type 0 where
+  pub hop : Hop
+  pub of_tree : Contains row.tree.items hop
+  pub from : hop.from ≡ way
+  pub is_link : hop.link ≡ l
+
+-- what a frame goes on by are just those links
+pub goes_by : (row : Row) (way : Option ℕ) (l : ℕ) → Contains (goes_to row way) l → GoesBy row way l
+goes_by row way l c =
+    let hop = contains_from_map (λ (hop : Hop). hop.link) (filter (λ (hop : Hop). same_way hop.from way) row.tree.items) l c in
+    let kept = contains_from_filter (λ (hop : Hop). same_way hop.from way) row.tree.items hop.0 hop.1 in
+    record { hop = hop.0; of_tree = kept.0; from = same_way_true hop.0.from way kept.1; is_link = hop.2 }
+
+-- and all of them
+pub by_goes : (row : Row) (way : Option ℕ) (l : ℕ) → GoesBy row way l → Contains (goes_to row way) l
+by_goes row way l by =
+    let kept = contains_filter (λ (hop : Hop). same_way hop.from way) row.tree.items by.hop by.of_tree (true_same_way by.hop.from way by.from) in
+    subst (λ z. Contains (goes_to row way) z) by.is_link (contains_map (λ (hop : Hop). hop.link) (filter (λ (hop : Hop). same_way hop.from way) row.tree.items) by.hop kept)
+
+-- it goes on from a bridge by a link that leaves it
+pub goes_on_by : (d : Domain) (row : Row) (way : Option ℕ) (bridge : ℕ) → goes_on d row way bridge ≡ true → (l : ℕ) × GoesBy row way l × (leaves d l bridge ≡ true)
+goes_on_by d row way bridge e =
+    let r = any_member (λ l. leaves d l bridge) (goes_to row way) e in
+    (r.0, goes_by row way r.0 r.1, r.2)
+
+-- and where there is such a link it goes on
+pub by_goes_on : (d : Domain) (row : Row) (way : Option ℕ) (l bridge : ℕ) → GoesBy row way l → leaves d l bridge ≡ true → goes_on d row way bridge ≡ true
+by_goes_on d row way l bridge by here = member_any (λ l. leaves d l bridge) (goes_to row way) l (by_goes row way l by) here
+
+-- rows with one tree go by the same links, which stand at the same depths
+pub same_goes : (early late : Row) (way : Option ℕ) (l : ℕ) → early.tree.items ≡ late.tree.items → GoesBy early way l → GoesBy late way l
+same_goes early late way l tree by = record { hop = by.hop; of_tree = subst (λ z. Contains z by.hop) tree by.of_tree; from = by.from; is_link = by.is_link }
+
+-- the same of the question whether they go on
+pub same_goes_on : (d : Domain) (early late : Row) (way : Option ℕ) (bridge : ℕ) → early.tree.items ≡ late.tree.items → goes_on d early way bridge ≡ true → goes_on d late way bridge ≡ true
+same_goes_on d early late way bridge tree e =
+    let r = goes_on_by d early way bridge e in
+    by_goes_on d late way r.0 bridge (same_goes early late way r.0 tree r.1) r.2
+
+-- and of the depths
+pub same_hop : (early late : Row) (depth l : ℕ) → early.tree.items ≡ late.tree.items → IsHop early depth l → IsHop late depth l
+same_hop early late depth l tree at = record { hop = at.hop; of_tree = subst (λ z. Contains z at.hop) tree at.of_tree; is_depth = at.is_depth; is_link = at.is_link }
+
+-- a link that is on the tree is crossed
+pub hop_crosses : (row : Row) (depth l : ℕ) → IsHop row depth l → crosses row l ≡ true
+hop_crosses row depth l at =
+    let on = contains_map (λ (hop : Hop). hop.link) row.tree.items at.hop at.of_tree in
+    member_any (λ k. k == l) _ at.hop.link on (eq-eqb at.hop.link l at.is_link)
+
+-- and is no deeper than the residence
+pub hop_within : (row : Row) (depth l : ℕ) → IsHop row depth l → depth ≤ residence row
+hop_within row depth l at = omega (arith, within_deepest 0 row.tree.items at.hop at.of_tree, at.is_depth)
+
+module _ (d : Domain) (row : Row) (good : IsTree d row.tree.items) where
+  -- a link stands in a tree once
+  pub one_hop : (a b : Hop) → Contains row.tree.items a → Contains row.tree.items b → a.link ≡ b.link → a ≡ b
+  one_hop a b ina inb same =
+      one_of_pairs (λ (x y : Hop). end_of d x.link ≡ end_of d y.link → ⊥) row.tree.items a b good.reached_once ina inb
+      (λ apart. apart (ap (end_of d) same)) (λ apart. apart (ap (end_of d) (sym same)))
+
+  -- so it has one depth
+  pub one_depth : (j k l : ℕ) → IsHop row j l → IsHop row k l → j ≡ k
+  one_depth j k l a b = sym a.is_depth ∙ ap (λ (h : Hop). h.depth) (one_hop a.hop b.hop a.of_tree b.of_tree (a.is_link ∙ sym b.is_link)) ∙ b.is_depth
+
+  -- and frames come to it one way
+  pub one_way : (one two : Option ℕ) (l : ℕ) → GoesBy row one l → GoesBy row two l → one ≡ two
+  one_way one two l a b = sym a.from ∙ ap (λ (h : Hop). h.from) (one_hop a.hop b.hop a.of_tree b.of_tree (a.is_link ∙ sym b.is_link)) ∙ b.from
+
+  -- the links of a tree are the domain's
+  pub goes_inside : (way : Option ℕ) (l : ℕ) → GoesBy row way l → l < length d.links
+  goes_inside way l by = subst (λ z. z < length d.links) by.is_link (All-contains (λ (hop : Hop). hop.link < length d.links) row.tree.items by.hop good.inside by.of_tree)
+
+  -- the same by the depth
+  pub hop_inside : (depth l : ℕ) → IsHop row depth l → l < length d.links
+  hop_inside depth l at = subst (λ z. z < length d.links) at.is_link (All-contains (λ (hop : Hop). hop.link < length d.links) row.tree.items at.hop good.inside at.of_tree)
+
+  -- what follows a link follows a hop of the tree
+  followed : (m : ℕ) (hop : Hop) → Contains row.tree.items hop → hop.from ≡ Some m → (before : Hop) × Contains row.tree.items before × (before.link ≡ m) × Follows d before hop
+  followed m hop c from =
+      let r = good.follows c.0 m hop (slice_get_read row.tree.items (length row.tree.items) c.0 hop refl c.1 (sym c.2)) from in
+      let same : Some r.0.link ≡ Some m = sym r.2.from ∙ from in
+      (r.0, contains_take c.0 row.tree.items r.0 r.1, cc, r.2)
+
+  -- no hop has depth 0
+  pub depth_some : (hop : Hop) → Contains row.tree.items hop → 0 < hop.depth
+  depth_some hop c = go hop.from refl
+    where
+      go : (from : Option ℕ) → hop.from ≡ from → 0 < hop.depth
+      go None e = omega (arith, (good.begins hop c e).0)
+      go (Some m) e = omega (arith, (followed m hop c e).3.deeper)
+
+  -- the first links stand at depth 1
+  pub first_hops_begin : (l : ℕ) → GoesBy row None l → IsHop row 1 l
+  first_hops_begin l by = record { hop = by.hop; of_tree = by.of_tree; is_depth = (good.begins by.hop by.of_tree by.from).0; is_link = by.is_link }
+
+  -- what follows a link is one deeper
+  pub hops_follow : (k m l : ℕ) → IsHop row k m → GoesBy row (Some m) l → IsHop row (k + 1) l
+  hops_follow k m l at by =
+      let r = followed m by.hop by.of_tree by.from in
+      let depth : r.0.depth ≡ k = one_depth r.0.depth k m (record { hop = r.0; of_tree = r.1; is_depth = refl; is_link = r.2 }) at in
+      record { hop = by.hop; of_tree = by.of_tree; is_depth = r.3.deeper ∙ ap (λ z. z + 1) depth; is_link = by.is_link }
+
+  -- and what is deeper than 1 follows a link
+  pub hops_are_reached : (k l : ℕ) → 0 < k → IsHop row (k + 1) l → (m : ℕ) × IsHop row k m × GoesBy row (Some m) l
+  hops_are_reached k l some at = go at.hop.from refl
+    where
+      go : (from : Option ℕ) → at.hop.from ≡ from → (m : ℕ) × IsHop row k m × GoesBy row (Some m) l
+      go None e = absurd (omega (arith, (good.begins at.hop at.of_tree e).0, at.is_depth, some))
+      go (Some m) e =
+          let r = followed m at.hop at.of_tree e in
+          (m, record { hop = r.0; of_tree = r.1; is_depth = omega (arith, r.3.deeper, at.is_depth); is_link = r.2 }, record { hop = at.hop; of_tree = at.of_tree; from = e; is_link = at.is_link })
+
+  -- what stands at depth 1 is gone by from the edge
+  pub first_is_begun : (l : ℕ) → IsHop row 1 l → GoesBy row None l
+  first_is_begun l at = go at.hop.from refl
+    where
+      go : (from : Option ℕ) → at.hop.from ≡ from → GoesBy row None l
+      go None e = record { hop = at.hop; of_tree = at.of_tree; from = e; is_link = at.is_link }
+      go (Some m) e =
+          let r = followed m at.hop at.of_tree e in
+          absurd (omega (arith, r.3.deeper, at.is_depth, depth_some r.0 r.1))
+
+  -- a link that is followed ends in the bridge that the next one leaves
+  pub goes_into : (m l : ℕ) → GoesBy row (Some m) l → enters d m (bridge_of d l) ≡ true
+  goes_into m l by =
+      let r = followed m by.hop by.of_tree by.from in
+      joined_enters d m l (subst (λ z. joins d m z ≡ true) by.is_link (subst (λ z. joins d z by.hop.link ≡ true) r.2 r.3.joined))
+
+  -- from a bridge in which a link of the tree ends it goes on behind that link
+  pub goes_on_behind : (k m bridge : ℕ) → IsHop row k m → enters d m bridge ≡ true → goes_on d row (Some m) bridge ≡ true
+  goes_on_behind k m bridge at here =
+      let next = good.ends at.hop bridge at.of_tree (subst (λ z. enters d z bridge ≡ true) (sym at.is_link) here) in
+      let from : next.0.from ≡ Some m = next.2.from ∙ ap Some at.is_link in
+      let there = joined_leaves d m next.0.link bridge (subst (λ z. joins d z next.0.link ≡ true) at.is_link next.2.joined) here in
+      by_goes_on d row (Some m) next.0.link bridge (record { hop = next.0; of_tree = next.1; from = from; is_link = refl }) there
+
+  -- what it goes on by from the edge leaves the first bridge
+  begins_first : (bridge : ℕ) → goes_on d row None bridge ≡ true → good.first ≡ bridge
+  begins_first bridge e =
+      let r = goes_on_by d row None bridge e in
+      let leaving = (good.begins r.1.hop r.1.of_tree r.1.from).1 in
+      sym (its_bridge d r.0 good.first (subst (λ z. leaves d z good.first ≡ true) r.1.is_link leaving)) ∙ its_bridge d r.0 bridge r.2
+
+  -- what it goes on by behind a link leaves the bridge in which that link ends, which is a link of the tree
+  goes_on_enters : (m bridge : ℕ) → goes_on d row (Some m) bridge ≡ true → (before : Hop) × Contains row.tree.items before × (before.link ≡ m) × (enters d before.link bridge ≡ true)
+  goes_on_enters m bridge e =
+      let r = goes_on_by d row (Some m) bridge e in
+      let b = followed m r.1.hop r.1.of_tree r.1.from in
+      (b.0, b.1, b.2, subst (λ z. enters d b.0.link z ≡ true) (its_bridge d r.0 bridge r.2) (subst (λ z. enters d z (bridge_of d r.0) ≡ true) (sym b.2) (goes_into m r.0 r.1)))
+
+  -- no link of the tree ends in the bridge in which it begins
+  not_both : (m bridge : ℕ) → goes_on d row None bridge ≡ true → goes_on d row (Some m) bridge ≡ true → ⊥
+  not_both m bridge a b =
+      let e = goes_on_enters m bridge b in
+      false≢true (sym (All-contains (λ (hop : Hop). enters d hop.link good.first ≡ false) row.tree.items e.0 good.first_not_reached e.1) ∙ subst (λ z. enters d e.0.link z ≡ true) (sym (begins_first bridge a)) e.3)
+
+  -- frames come to a bridge one way
+  pub one_way_at : (one two : Option ℕ) (bridge : ℕ) → goes_on d row one bridge ≡ true → goes_on d row two bridge ≡ true → one ≡ two
+  one_way_at None None bridge a b = refl
+  one_way_at None (Some m) bridge a b = absurd (not_both m bridge a b)
+  one_way_at (Some m) None bridge a b = absurd (not_both m bridge b a)
+  one_way_at (Some m) (Some k) bridge a b =
+      let x = goes_on_enters m bridge a in
+      let y = goes_on_enters k bridge b in
+      let ends : end_of d x.0.link ≡ end_of d y.0.link = enters_end d x.0.link bridge x.3 ∙ sym (enters_end d y.0.link bridge y.3) in
+      let same : x.0 ≡ y.0 = one_of_pairs (λ (x y : Hop). end_of d x.link ≡ end_of d y.link → ⊥) row.tree.items x.0 y.0 good.reached_once x.1 y.1 (λ apart. apart ends) (λ apart. apart (sym ends)) in
+      ap Some (sym x.2 ∙ ap (λ (h : Hop). h.link) same ∙ y.2)
+
+  -- and a tree begins at one bridge
+  pub one_beginning : (one two : ℕ) → goes_on d row None one ≡ true → goes_on d row None two ≡ true → one ≡ two
+  one_beginning one two a b = sym (begins_first one a) ∙ begins_first two b

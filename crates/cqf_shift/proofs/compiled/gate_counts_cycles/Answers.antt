@@ -1,5 +1,0 @@
-use Rattle.cqf_shift.proofs.GateLists.{gate_counts}
-use Rattle.cqf_shift.proofs.compiled.gate_counts_cycles.Goals as goal
-
-pub returns : goal.returns
-returns c = gate_counts

@@ -1,5 +1,0 @@
-use Rattle.cqf_shift.proofs.GateLists.{port_list_opens}
-use Rattle.cqf_shift.proofs.compiled.port_list_is_open.Goals as goal
-
-pub returns : goal.returns
-returns c = port_list_opens

@@ -1,5 +1,0 @@
-use Rattle.cqf_shift.proofs.OnePorts.{port_is_one_cycle_late}
-use Rattle.cqf_shift.proofs.port.port_is_one_cycle_late.Goals as goal
-
-pub returns : goal.returns
-returns c = port_is_one_cycle_late

@@ -1,0 +1,179 @@
+-- The name that is told as taken is the first repeated one, and the link that is told as standing twice the first with an
+-- earlier twin.
+use Rattle.std.proofs.Common.{◌≡◌, ◌<◌, ℕ, List, [], ◌∷◌, ◌++◌, Bool, true, false, ◌==◌, ◌&&◌, cond, Option, Some, None, MatchOption, length, slice_get, get_or, refl, ap, sym, ◌∙◌, append_assoc, inl, inr, arith}
+use Rattle.std.specs.List.{list_any}
+use Rattle.std.proofs.lemmas.Bool.{and_parts, cases_lt, true≢false}
+use Rattle.std.proofs.lemmas.Bool.Decides.{nat_tests}
+use Rattle.std.proofs.lemmas.List.Quantifiers.{position-Some}
+use Rattle.std.proofs.lemmas.Option.{get_or_from_slice_get, slice_get-get_or, slice_get_within}
+use Rattle.cqf_model.specs.declared.topology.Link.{Link}
+use Rattle.cqf_model.specs.declared.topology.Node.{Node}
+use Rattle.cqf_model.specs.declared.topology.Node.TheVariants.{Bridge, Station}
+use Rattle.cqf_model.specs.Domain.{Domain, is_text, link_between, same_node}
+use Rattle.cqf_topology.specs.DomainText.{IsOnlyLink, NoLinkTwice, is_among, first_taken, first_twice, same_ends}
+use Rattle.cqf_topology.specs.FirstFaults.{HasTwin, IsFirstRepeated, IsFirstTwin, StoodEarlier, TakenIsFirstRepeated, TwiceIsFirstTwin}
+use Rattle.cqf_topology.proofs.Accepted.{position-None}
+use Rattle.cqf_topology.proofs.Repeats.{Repeats, at-end, first_repeat, first_repeat-None, first_repeat-Some}
+use Rattle.cqf_topology.proofs.SameText.{is_text-itself, is_text-same}
+
+-- two nodes that the test calls the same are
+same_node-same : (a b : Node) → same_node a b ≡ true → a ≡ b
+same_node-same (Bridge a) (Bridge b) h = let is : a ≡ b = grind (arith, nat_tests) in ap Bridge is
+same_node-same (Bridge a) (Station b) h = absurd (true≢false (sym h))
+same_node-same (Station a) (Bridge b) h = absurd (true≢false (sym h))
+same_node-same (Station a) (Station b) h = let is : a ≡ b = grind (arith, nat_tests) in ap Station is
+
+same_node-itself : (a : Node) → same_node a a ≡ true
+same_node-itself (Bridge a) = grind (arith, nat_tests)
+same_node-itself (Station a) = grind (arith, nat_tests)
+
+-- the test on a link's ends passes where both are those
+leads-there : (from to_from : ℕ) (to to_to : Node) → from ≡ to_from → to ≡ to_to → ((from == to_from) && same_node to to_to) ≡ true
+leads-there from to_from to to_to h e =
+    let same : (from == to_from) ≡ true = grind (arith, nat_tests) in
+    (λ i. same i && same_node to (sym e i)) ∙ same_node-itself to
+
+-- and only there
+leads-only : (from to_from : ℕ) (to to_to : Node) → ((from == to_from) && same_node to to_to) ≡ true → (from ≡ to_from) × (to ≡ to_to)
+leads-only from to_from to to_to h =
+    let parts = and_parts (from == to_from) (same_node to to_to) h in
+    let first : (from == to_from) ≡ true = parts.0 in
+    (grind (arith, nat_tests), same_node-same to to_to parts.1)
+
+-- the definition of the reader, by that of the lemmas
+first_twice-repeat : (earlier links : List Link) → first_twice earlier links ≡ first_repeat same_ends earlier links
+first_twice-repeat earlier [] = refl
+first_twice-repeat earlier (l ∷ links) = ap (λ rest. cond (list_any (same_ends l) earlier) (Some (length earlier)) rest) (first_twice-repeat (earlier ++ l ∷ []) links)
+
+-- a repeated link has a twin, and one with a twin is repeated
+has-twin : (links : List Link) (k : ℕ) → Repeats same_ends links k → HasTwin links k
+has-twin links k r =
+    let ends = leads-only r.b.from r.a.from r.b.to r.a.to r.equal in
+    record { link = r.b; twin = r.a; before = r.twin; earlier = r.earlier; stood = r.at_twin; stands = r.at_place; same_from = ends.0; same_to = ends.1 }
+
+of-twin : (links : List Link) (k : ℕ) → HasTwin links k → Repeats same_ends links k
+of-twin links k t = record {
+  twin = t.before;
+  earlier = t.earlier;
+  a = t.twin;
+  b = t.link;
+  at_twin = t.stood;
+  at_place = t.stands;
+  equal = leads-there t.link.from t.twin.from t.link.to t.twin.to t.same_from t.same_to;
+}
+
+twice-None : (links : List Link) → first_twice [] links ≡ None → (k : ℕ) → ¬ HasTwin links k
+twice-None links none k t = first_repeat-None same_ends [] links (sym (first_twice-repeat [] links) ∙ none) k (omega arith) (of-twin links k t)
+
+-- the link that is told
+pub twice-told : TwiceIsFirstTwin
+twice-told links = by (first_twice [] links) refl
+  where
+    by : (o : Option ℕ) → first_twice [] links ≡ o → MatchOption o ((number : ℕ) → ¬ HasTwin links number) (λ number. IsFirstTwin links number)
+    by None e = twice-None links e
+    by (Some k) e =
+        let f = first_repeat-Some same_ends [] links k (sym (first_twice-repeat [] links) ∙ e) in
+        record { repeats = has-twin links k f.repeats; least = λ i before t. f.least i (omega arith) before (of-twin links i t) }
+
+-- where none is told, no link stands twice
+pub no-link-twice : (links : List Link) → first_twice [] links ≡ None → NoLinkTwice links
+no-link-twice links none i j d before inside both =
+    twice-None links none j (record {
+      link = get_or links j d;
+      twin = get_or links i d;
+      before = i;
+      earlier = before;
+      stood = slice_get-get_or links i d (omega (arith, before, inside));
+      stands = slice_get-get_or links j d inside;
+      same_from = sym both.0;
+      same_to = sym both.1;
+    })
+
+-- the link that is found is the one with these ends
+pub only-link : (d : Domain) → NoLinkTwice d.links → (from : ℕ) (to : Node) → IsOnlyLink d from to (link_between d from to)
+only-link d once from to l link at is_from is_to = by (link_between d from to) refl
+  where
+    leads : Link → Bool
+    leads = λ (x : Link). (x.from == from) && same_node x.to to
+
+    passes : leads link ≡ true
+    passes = leads-there link.from from link.to to is_from is_to
+
+    apart : (k : ℕ) → k < l → slice_get d.links l ≡ Some link → leads (get_or d.links k link) ≡ true → ⊥
+    apart k before there is =
+        let ends = leads-only (get_or d.links k link).from from (get_or d.links k link).to to is in
+        let last : get_or d.links l link ≡ link = get_or_from_slice_get d.links l link link there in
+        once k l link before (slice_get_within d.links l link there) (ends.0 ∙ sym is_from ∙ ap (λ (x : Link). x.from) (sym last), ends.1 ∙ sym is_to ∙ ap (λ (x : Link). x.to) (sym last))
+
+    by : (o : Option ℕ) → link_between d from to ≡ o → o ≡ Some l
+    by None none = absurd (true≢false (sym passes ∙ position-None leads d.links none l link at))
+    by (Some k) found =
+        let (inside, is, least) = position-Some leads d.links k link found in
+        elim (cases_lt k l) [
+          | inl before ↦ absurd (apart k before at is)
+          | inr not_before ↦ elim (cases_lt l k) [
+            | inl later ↦
+                let here : get_or d.links l link ≡ link = get_or_from_slice_get d.links l link link at in
+                absurd (true≢false (sym passes ∙ ap leads (sym here) ∙ least l later))
+            | inr not_later ↦ let same : k ≡ l = omega (arith, not_before, not_later) in ap Some same
+          ]
+        ]
+
+-- names that are the same text, as the lemmas ask it
+abbrev same_text : List ℕ → List ℕ → Bool
+same_text name other = is_text other name
+
+-- where no name is told as taken, none repeats
+taken-None : (earlier names : List (List ℕ)) → first_taken earlier names ≡ None → first_repeat same_text earlier names ≡ None
+taken-None earlier [] h = refl
+taken-None earlier (x ∷ names) h = by (is_among x earlier) (taken-None (earlier ++ x ∷ []) names) h
+  where
+    by : (b : Bool) → (first_taken (earlier ++ x ∷ []) names ≡ None → first_repeat same_text (earlier ++ x ∷ []) names ≡ None)
+        → cond b (Some x) (first_taken (earlier ++ x ∷ []) names) ≡ None → cond b (Some (length earlier)) (first_repeat same_text (earlier ++ x ∷ []) names) ≡ None
+    by true rest h = absurd (cc)
+    by false rest h = rest h
+
+-- and the one that is told stands at the place of the first that repeats
+record IsToldAt (earlier names : List (List ℕ)) (name : List ℕ) : Type 0 where
+  place : ℕ
+  first : first_repeat same_text earlier names ≡ Some place
+  stands : slice_get (earlier ++ names) place ≡ Some name
+
+taken-Some : (earlier names : List (List ℕ)) (name : List ℕ) → first_taken earlier names ≡ Some name → IsToldAt earlier names name
+taken-Some earlier [] name h = cc
+taken-Some earlier (x ∷ names) name h = by (is_among x earlier) refl (taken-Some (earlier ++ x ∷ []) names name) h
+  where
+    by : (b : Bool) → is_among x earlier ≡ b → (first_taken (earlier ++ x ∷ []) names ≡ Some name → IsToldAt (earlier ++ x ∷ []) names name)
+        → cond b (Some x) (first_taken (earlier ++ x ∷ []) names) ≡ Some name → IsToldAt earlier (x ∷ names) name
+    by true e rest h =
+        let same : x ≡ name = cc in
+        record {
+          place = length earlier;
+          first = ap (λ b. cond b (Some (length earlier)) (first_repeat same_text (earlier ++ x ∷ []) names)) e;
+          stands = at-end earlier names x (length earlier) refl ∙ ap Some same;
+        }
+    by false e rest h =
+        let told = rest h in
+        record {
+          place = told.place;
+          first = ap (λ b. cond b (Some (length earlier)) (first_repeat same_text (earlier ++ x ∷ []) names)) e ∙ told.first;
+          stands = ap (λ all. slice_get all told.place) (sym (append_assoc earlier (x ∷ []) names)) ∙ told.stands;
+        }
+
+-- a name that stood earlier repeats, and one that repeats stood earlier
+of-earlier : (names : List (List ℕ)) (k : ℕ) → StoodEarlier names k → Repeats same_text names k
+of-earlier names k s = record { twin = s.before; earlier = s.earlier; a = s.name; b = s.name; at_twin = s.stood; at_place = s.stands; equal = is_text-itself s.name }
+
+stood-earlier : (names : List (List ℕ)) (k : ℕ) → Repeats same_text names k → StoodEarlier names k
+stood-earlier names k r = record { name = r.b; before = r.twin; earlier = r.earlier; stood = r.at_twin ∙ ap Some (is_text-same r.a r.b r.equal); stands = r.at_place }
+
+-- the name that is told
+pub taken-told : TakenIsFirstRepeated
+taken-told names = by (first_taken [] names) refl
+  where
+    by : (o : Option (List ℕ)) → first_taken [] names ≡ o → MatchOption o ((place : ℕ) → ¬ StoodEarlier names place) (λ name. IsFirstRepeated names name)
+    by None e = λ k s. first_repeat-None same_text [] names (taken-None [] names e) k (omega arith) (of-earlier names k s)
+    by (Some name) e =
+        let told = taken-Some [] names name e in
+        let f = first_repeat-Some same_text [] names told.place told.first in
+        record { place = told.place; stands = told.stands; repeats = stood-earlier names told.place f.repeats; least = λ i before s. f.least i (omega arith) before (of-earlier names i s) }

@@ -1,0 +1,115 @@
+-- What the words of a command line mean (profile): clap's reading of them, for the command that is written out here.
+use Rattle.std.specs.Prelude.{ℕ, ◌≡◌, ◌≢◌, ◌⊎◌, ◌≤◌, true, List, [], ◌∷◌, Option, Some, None, codes}
+use Rattle.std.specs.Str.Parse.{IsNumeral, digits_value, without_leading_plus}
+use Rattle.clap.specs.Words.{App, Row, Rule, Text, first_of, fault_of, new_app, new_rule, subcommand_of, with_rule, with_subcommand, IsAmong}
+use Rattle.clap.specs.Simple.{on_top}
+use Rattle.clap.specs.declared.builder.action.ArgAction.TheVariants.{Set}
+use Rattle.clap.specs.declared.builder.value_parser.ValueParser.TheVariants.{Unsigned}
+use Rattle.clap.specs.declared.error.kind.ErrorKind.{ErrorKind}
+use Rattle.clap.specs.declared.error.kind.ErrorKind.TheVariants.{DisplayHelp, DisplayVersion, OutOfMemory}
+use Rattle.cqf_units.specs.declared.timing.Rate.{Rate}
+use Rattle.cqf_units.specs.declared.timing.Rate.TheVariants.{Mb10, Mb100, Mb1000}
+use Rattle.cqf_words.specs.declared.words.Job.{Job}
+use Rattle.cqf_words.specs.declared.words.Job.TheVariants.{Compile, Line, Port}
+use Rattle.cqf_stop.specs.declared.stops.Stop.{Stop}
+
+-- an option `--NAME N` that has to be given, where N is from least to most
+abbrev pub number_rule : Text → ℕ → ℕ → Rule
+number_rule name least most = record (new_rule name) {
+  long = Some name;
+  action = Some Set;
+  required = true;
+  value_names = 1;
+  parser = Some (Unsigned least most);
+}
+
+-- the option `--rate RATE`, 1000 where it isn't given
+abbrev pub rate_rule : Rule
+rate_rule = record (new_rule (codes "rate")) {
+  long = Some (codes "rate");
+  action = Some Set;
+  defaults = codes "1000" ∷ [];
+  value_names = 1;
+}
+
+-- `port --until N [--rate RATE]`
+abbrev pub port_app : App
+port_app = with_rule (with_rule (new_app (codes "port")) (number_rule (codes "until") 1 100000000)) rate_rule
+
+-- `line --cycles N`
+abbrev pub line_app : App
+line_app = with_rule (new_app (codes "line")) (number_rule (codes "cycles") 1 100000)
+
+-- `compile`
+abbrev pub compile_app : App
+compile_app = new_app (codes "compile")
+
+-- the program's name, and settings: the words come without the program's name, and one of the commands has to be given
+abbrev pub named_app : App
+named_app = on_top (λ s. record s { no_binary_name = true; subcommand_required = true }) (new_app (codes "cqf"))
+
+-- the program's commands
+abbrev pub cqf_app : App
+cqf_app = with_subcommand (with_subcommand (with_subcommand named_app port_app.top) line_app.top) compile_app.top
+
+-- the text of a value writes a number from least to most: digits, and a plus may stand first
+abbrev pub IsNumberIn : ℕ → ℕ → ℕ → Option Text → Type 0
+IsNumberIn least most number None = ⊥
+IsNumberIn least most number (Some text) = IsNumeral 10 (without_leading_plus text)
+    × (digits_value 10 (without_leading_plus text) ≡ number) × (least ≤ number) × (number ≤ most)
+
+-- the text of a rate
+abbrev pub rate_text : Rate → Text
+rate_text Mb10 = codes "10"
+rate_text Mb100 = codes "100"
+rate_text Mb1000 = codes "1000"
+
+-- the job of a command with its values
+abbrev pub IsJobOf : Job → Text → List Row → Type 0
+IsJobOf (Port until rate) name rows = (name ≡ codes "port")
+    × IsNumberIn 1 100000000 until (first_of (codes "until") rows)
+    × (first_of (codes "rate") rows ≡ Some (rate_text rate))
+IsJobOf (Line cycles) name rows = (name ≡ codes "line")
+    × IsNumberIn 1 100000 cycles (first_of (codes "cycles") rows)
+IsJobOf Compile name rows = name ≡ codes "compile"
+
+-- the job of the command that the words name, if they name one
+abbrev pub IsJob : Job → Option (Text × List Row) → Type 0
+IsJob job None = ⊥
+IsJob job (Some command) = IsJobOf job command.0 command.1
+
+-- the words mean the job: clap takes them, and the command and the values that it reads are the job's
+pub record Mean (words : List Text) (job : Job) : Type 0 where
+  pub taken : fault_of cqf_app words ≡ []
+  pub read : IsJob job (subcommand_of cqf_app words)
+
+-- the words ask for help
+abbrev pub AskForHelp : List Text → Type 0
+AskForHelp words = IsAmong DisplayHelp (fault_of cqf_app words) ⊎ IsAmong DisplayVersion (fault_of cqf_app words)
+
+-- a kind of error that shows no help
+abbrev pub ShowsNoHelp : ErrorKind → Type 0
+ShowsNoHelp kind = (kind ≢ DisplayHelp) × (kind ≢ DisplayVersion)
+
+-- the words are a mistake: clap refuses them, and not for a request for help; or it takes them, and no job is read of them
+abbrev pub AreMistaken : List Text → Type 0
+AreMistaken words = ((kind : ErrorKind) × IsAmong kind (fault_of cqf_app words) × ShowsNoHelp kind)
+    ⊎ ((fault_of cqf_app words ≡ []) × ((job : Job) → ¬ IsJob job (subcommand_of cqf_app words)))
+
+-- how an error of clap's ends: a request for help with status 0, a mistake with status 2. Without memory the status is
+-- 3, and there is no text
+pub record EndsBy (kind : ErrorKind) (stop : Stop) : Type 0 where
+  pub statuses : (stop.status ≡ 0) ⊎ ((stop.status ≡ 2) ⊎ (stop.status ≡ 3))
+  pub help : stop.status ≡ 0 → (kind ≡ DisplayHelp) ⊎ (kind ≡ DisplayVersion)
+  pub mistake : stop.status ≡ 2 → ShowsNoHelp kind
+  pub known : stop.status ≢ 3 → kind ≢ OutOfMemory
+  pub memory : stop.status ≡ 3 → stop.text.items ≡ []
+
+-- how words that mean no job end: with status 2 where they are a mistake, or with status 0 where they ask for help.
+-- Without memory the status is 3, and there is no text
+pub record EndsWords (words : List Text) (stop : Stop) : Type 0 where
+  pub statuses : (stop.status ≡ 0) ⊎ ((stop.status ≡ 2) ⊎ (stop.status ≡ 3))
+  pub no_job : stop.status ≢ 3 → (job : Job) → ¬ Mean words job
+  pub help : stop.status ≡ 0 → AskForHelp words
+  pub mistake : stop.status ≡ 2 → AreMistaken words
+  pub memory : stop.status ≡ 3 → stop.text.items ≡ []

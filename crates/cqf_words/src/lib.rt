@@ -1,0 +1,17 @@
+//! The words of a command line, read by the crate `clap`.
+//!
+//! - [`read_words`] gives the [`Job`] that some words mean, and else the end of the run: clap's text, with status 2 for a
+//!   mistake and 0 for a request for help.
+//!
+//! `specs/Words.antt` has the commands and their options as a value, and what it is that words `Mean` a job, are a mistake
+//! or ask for help.
+//!
+//! ```text
+//! read_words(alloc, &["port", "--until", "5"]) is Ok(Job::Port { until: 5, rate: Rate::Mb1000 })
+//! read_words(alloc, &["port", "--until", "0"]) ends with status 2
+//! ```
+#![tactic(auto)]
+
+mod words;
+
+pub use words::{Job, read_words};

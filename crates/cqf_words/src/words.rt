@@ -1,0 +1,336 @@
+//! The words of a command line (profile).
+ghost use Rattle.std.specs.Prelude.{◌≡◌, ◌⊎◌, IfOk, IfErr, MatchOption, ℕ, Some, codes, false, map, option_map};
+ghost use Rattle.clap.specs.declared.error.kind.ErrorKind.TheVariants.{InvalidValue};
+ghost use Rattle.cqf_units.specs.declared.timing.Rate.{Rate};
+ghost use Rattle.clap.specs.declared.builder.command.Command.TheViews.{out-Command};
+ghost use Rattle.clap.specs.Words.{app_of, first_of, found_of, kind_of, rows_of, rule_of, subcommand_rows_of};
+ghost use Rattle.cqf_words.specs.declared.words.Job.{Job};
+ghost use Rattle.cqf_words.specs.Words.{cqf_app, compile_app, line_app, named_app, port_app, number_rule, rate_rule, rate_text, IsJob, IsJobOf, IsNumberIn, Mean, EndsBy, EndsWords};
+
+use clap::error::ErrorKind;
+use clap::{Arg, ArgAction, ArgMatches, Command, value_parser};
+use cqf_stop::{DONE, Stop, USAGE};
+use cqf_units::Rate;
+use std::alloc::{AllocError, Global};
+
+/// What the help of `port` says of standard input.
+const PORT_INPUT: &str = r"Standard input has two parts, which a line of %% divides:
+  a gate list    80 120000
+  arrivals       at,class,octets,frame
+                 10,6,64,1";
+
+/// What the help of `line` says of standard input.
+const LINE_INPUT: &str = r"Standard input has one part:
+  offers         at,bridge,stream,octets
+                 0,a,x,1000";
+
+/// What the help of `compile` says of standard input.
+const COMPILE_INPUT: &str = r#"Standard input has two parts, which a line of %% divides:
+  a domain       links = [{ from = "a", to = "s", rate = 1000, delay = 500 }]
+  its streams    streams = [{ name = "x", octets = 1500, path = ["a", "s"] }]"#;
+
+/// What the program is asked to do.
+#[derive(Clone, Copy, Debug, PartialEq, Eq)]
+pub enum Job {
+    /// The starts of one port before an instant.
+    Port { until: u64, rate: Rate },
+    /// The book of one bridge with one stream.
+    Line { cycles: u32 },
+    /// The configuration of a domain and its streams.
+    Compile,
+}
+
+/// The option `--until N`.
+fn until_option<'a>(alloc: Global) -> Arg<'a>
+    ensures rule { rule_of result ≡ number_rule (codes "until") 1 100000000 }
+    ensures own { result.global ≡ false }
+{
+    Arg::new(alloc, "until")
+        .long("until")
+        .action(ArgAction::Set)
+        .required(true)
+        .value_name("N")
+        .help("starts before this instant, in nanoseconds, 1 to 100000000")
+        .value_parser(value_parser!(u64).range(1..100_000_001))
+}
+
+/// The option `--rate RATE`.
+fn rate_option<'a>(alloc: Global) -> Arg<'a>
+    ensures rule { rule_of result ≡ rate_rule }
+    ensures own { result.global ≡ false }
+{
+    Arg::new(alloc, "rate")
+        .long("rate")
+        .action(ArgAction::Set)
+        .default_value("1000")
+        .value_name("RATE")
+        .help("the link's rate in Mb/s: 10, 100 or 1000")
+}
+
+/// The option `--cycles N`.
+fn cycles_option<'a>(alloc: Global) -> Arg<'a>
+    ensures rule { rule_of result ≡ number_rule (codes "cycles") 1 100000 }
+    ensures own { result.global ≡ false }
+{
+    Arg::new(alloc, "cycles")
+        .long("cycles")
+        .action(ArgAction::Set)
+        .required(true)
+        .value_name("N")
+        .help("the number of cycles, 1 to 100000")
+        .value_parser(value_parser!(u64).range(1..100_001))
+}
+
+/// `port --until N [--rate RATE]`.
+fn port_command<'a>(alloc: Global) -> Result<Command<'a>, AllocError>
+    ensures app { IfOk result (λ command. app_of command ≡ port_app) }
+    ensures local { IfOk result (λ command. (out-Command command).has_globals ≡ false) }
+{
+    Command::new(alloc, "port")
+        .about("the starts of one output port")
+        .after_help(PORT_INPUT)
+        .arg(until_option(alloc))?
+        .arg(rate_option(alloc))
+}
+
+/// `line --cycles N`.
+fn line_command<'a>(alloc: Global) -> Result<Command<'a>, AllocError>
+    ensures app { IfOk result (λ command. app_of command ≡ line_app) }
+    ensures local { IfOk result (λ command. (out-Command command).has_globals ≡ false) }
+{
+    Command::new(alloc, "line")
+        .about("the book of one bridge with one stream")
+        .after_help(LINE_INPUT)
+        .arg(cycles_option(alloc))
+}
+
+/// `compile`.
+fn compile_command<'a>(alloc: Global) -> Command<'a>
+    ensures app { app_of result ≡ compile_app }
+    ensures local { (out-Command result).has_globals ≡ false }
+{
+    Command::new(alloc, "compile")
+        .about("the gate lists and stream gates of a domain and its streams")
+        .after_help(COMPILE_INPUT)
+}
+
+/// The program without its commands. Its name stands in the usage of each command.
+fn named_command<'a>(alloc: Global) -> Result<Command<'a>, AllocError>
+    ensures app { IfOk result (λ command. app_of command ≡ named_app) }
+    ensures local { IfOk result (λ command. (out-Command command).has_globals ≡ false) }
+{
+    let named = Command::new(alloc, "cqf").bin_name("cqf")?;
+    Ok(
+        named
+            .about("cyclic queuing and forwarding")
+            .no_binary_name(true)
+            .subcommand_required(true),
+    )
+}
+
+/// The program's commands.
+fn commands<'a>(alloc: Global) -> Result<Command<'a>, AllocError>
+    ensures app { IfOk result (λ command. app_of command ≡ cqf_app) }
+    ensures local { IfOk result (λ command. (out-Command command).has_globals ≡ false) }
+{
+    let port = port_command(alloc)?;
+    let line = line_command(alloc)?;
+    named_command(alloc)?
+        .subcommand(port)?
+        .subcommand(line)?
+        .subcommand(compile_command(alloc))
+}
+
+/// The text of an error of clap's, or what there is of it where memory lacks.
+fn stop_of(alloc: Global, error: &clap::Error) -> Stop
+    ensures { EndsBy (kind_of error.now) result }
+{
+    let status = match error.kind() {
+        ErrorKind::OutOfMemory => return Stop::memory(alloc),
+        ErrorKind::DisplayHelp | ErrorKind::DisplayVersion => DONE,
+        _ => USAGE,
+    };
+    match format!(in alloc; "{error}") {
+        Ok(text) => Stop {
+            status,
+            text: text.into_bytes(),
+        },
+        Err(_) => Stop::memory(alloc),
+    }
+}
+
+/// The number that the text writes, if it writes one from `least` to `most`: a plus may stand first.
+fn number_in(text: Option<&str>, least: u64, most: u64) -> Option<u64>
+    ensures { MatchOption result ((number : ℕ) → ¬ IsNumberIn least most number (option_map (λ text. text.now) text.entry)) (λ number. IsNumberIn least most number (option_map (λ text. text.now) text.entry)) }
+{
+    match text?.parse::<u64>() {
+        Ok(number) if least <= number && number <= most => Some(number),
+        _ => None,
+    }
+}
+
+/// The rate of the text, if it is one of the three.
+fn rate_of(text: Option<&str>) -> Option<Rate>
+    ensures { MatchOption result ((rate : Rate) → ¬ (option_map (λ text. text.now) text.entry ≡ Some (rate_text rate))) (λ rate. option_map (λ text. text.now) text.entry ≡ Some (rate_text rate)) }
+{
+    match text? {
+        "10" => Some(Rate::Mb10),
+        "100" => Some(Rate::Mb100),
+        "1000" => Some(Rate::Mb1000),
+        _ => None,
+    }
+}
+
+/// The text of the value, if it has one.
+fn text_of<'a>(values: &ArgMatches<'a>, id: &str) -> Option<&'a str>
+    ensures { option_map (λ text. text.now) result ≡ first_of id.now (rows_of (found_of values.now)) }
+{
+    values.get_str(id)
+}
+
+/// The job of the command `port` with its values.
+fn port_job(values: &ArgMatches<'_>) -> Option<Job>
+    ensures { MatchOption result ((job : Job) → ¬ IsJobOf job (codes "port") (rows_of (found_of values.now)))
+        (λ job. IsJobOf job (codes "port") (rows_of (found_of values.now))) }
+{
+    let Some(until) = number_in(text_of(values, "until"), 1, 100_000_000) else {
+        return None;
+    };
+    let Some(rate) = rate_of(text_of(values, "rate")) else {
+        return None;
+    };
+    Some(Job::Port { until, rate })
+}
+
+/// The job of the command `line` with its values.
+fn line_job(values: &ArgMatches<'_>) -> Option<Job>
+    ensures { MatchOption result ((job : Job) → ¬ IsJobOf job (codes "line") (rows_of (found_of values.now)))
+        (λ job. IsJobOf job (codes "line") (rows_of (found_of values.now))) }
+{
+    let Some(cycles) = number_in(text_of(values, "cycles"), 1, 100_000) else {
+        return None;
+    };
+    Some(Job::Line {
+        cycles: cycles as u32,
+    })
+}
+
+/// The job of the command that was named.
+fn job_of(matches: &ArgMatches<'_>) -> Option<Job>
+    ensures { MatchOption result ((job : Job) → ¬ IsJob job (subcommand_rows_of matches.now))
+        (λ job. IsJob job (subcommand_rows_of matches.now)) }
+{
+    let (name, values) = matches.subcommand()?;
+    match name {
+        "port" => port_job(values),
+        "line" => line_job(values),
+        "compile" => Some(Job::Compile),
+        _ => None,
+    }
+}
+
+/// The end where the rate is none of the three, with clap's usage.
+fn no_such_rate(alloc: Global, command: &mut Command<'_>) -> Stop
+    ensures { EndsBy InvalidValue result }
+{
+    match command.error(ErrorKind::InvalidValue, "the rate is 10, 100 or 1000") {
+        Ok(error) => stop_of(alloc, &error),
+        Err(_) => Stop::memory(alloc),
+    }
+}
+
+/// The job that the words mean, which come without the program's name. `Err` with status 2 and clap's text where
+/// clap refuses them, with status 0 and clap's text where they ask for help, and with status 3 for want of memory.
+pub fn read_words<'a>(alloc: Global, words: &'a [&'a str]) -> Result<Job, Stop>
+    ensures ok { IfOk result (Mean (map (λ word. word.now) words.now)) }
+    ensures err { IfErr result (EndsWords (map (λ word. word.now) words.now)) }
+{
+    let Ok(mut command) = commands(alloc) else {
+        return Err(Stop::memory(alloc));
+    };
+    match command.try_get_matches_from_mut(words) {
+        Ok(matches) => match job_of(&matches) {
+            Some(job) => Ok(job),
+            None => Err(no_such_rate(alloc, &mut command)),
+        },
+        Err(error) => Err(stop_of(alloc, &error)),
+    }
+}
+
+#[cfg(test)]
+mod tests {
+    use super::*;
+
+    const FIVE: Job = Job::Port {
+        until: 5,
+        rate: Rate::Mb1000,
+    };
+
+    const FIVE_SLOWLY: Job = Job::Port {
+        until: 5,
+        rate: Rate::Mb10,
+    };
+
+    /// Words, the job that they mean, and the status that they end with where they mean none.
+    const CASES: &[(&[&str], Option<Job>, u8)] = &[
+        (&["port", "--until", "5"], Some(FIVE), DONE),
+        (
+            &["port", "--rate", "10", "--until", "5"],
+            Some(FIVE_SLOWLY),
+            DONE,
+        ),
+        (
+            &["line", "--cycles", "100000"],
+            Some(Job::Line { cycles: 100_000 }),
+            DONE,
+        ),
+        (&["compile"], Some(Job::Compile), DONE),
+        (&["port", "--until", "0"], None, USAGE),
+        (&["port", "--until", "100000001"], None, USAGE),
+        (&["port", "--cycles", "5"], None, USAGE),
+        (&["port", "--until", "5", "--rate", "20"], None, USAGE),
+        (&["gate", "--until", "5"], None, USAGE),
+        (&[""], None, USAGE),
+        (&["--help"], None, DONE),
+    ];
+
+    /// Whether the words mean this job, or end with this status.
+    fn is_read(alloc: Global, words: &[&str], job: Option<Job>, status: u8) -> bool {
+        match read_words(alloc, words) {
+            Ok(found) => job == Some(found),
+            Err(stop) => job.is_none() && stop.status == status,
+        }
+    }
+
+    #[test]
+    fn words_mean_a_job_or_are_misuse(rt: HostRuntime) {
+        for (words, job, status) in CASES {
+            assert!(rt; is_read(rt.alloc(), words, *job, *status));
+        }
+    }
+
+    /// Whether the help that the words ask for has this text in it.
+    fn help_has(alloc: Global, words: &[&str], text: &str) -> bool {
+        match read_words(alloc, words) {
+            Ok(_) => false,
+            Err(stop) => match std::str::from_utf8(stop.text.as_slice()) {
+                Ok(help) => help.contains(text),
+                Err(_) => false,
+            },
+        }
+    }
+
+    /// Words that ask for help, and a text in it.
+    const HELP: &[(&[&str], &str)] = &[
+        (&["--help"], "Usage: cqf <COMMAND>"),
+        (&["compile", "--help"], "Usage: cqf compile\n"),
+        (&["port", "--help"], "a gate list    80 120000\n"),
+    ];
+
+    #[test]
+    fn help_names_the_program_and_the_parts_of_its_input(rt: HostRuntime) {
+        for (words, text) in HELP {
+            assert!(rt; help_has(rt.alloc(), words, text));
+        }
+    }
+}
