@@ -1,0 +1,3 @@
+pub mod Adding
+pub mod Posting
+pub mod Whole

@@ -1,0 +1,167 @@
+-- Pages as they are posted: the first ones, and one more.
+use Rattle.std.proofs.Common.{◌≡◌, ℕ, zero, suc, ◌+◌, ◌*◌, ◌<◌, ◌≤◌, ◌++◌, ◌⊎◌, [], ◌∷◌, List, Some, length, get_or, set, sum_by, replicate, All, inl, inr, sym, ap, ◌∙◌, subst, arith, refl}
+use Rattle.std.specs.Prelude.{slice_get}
+use Rattle.std.proofs.lemmas.Bool.{cases_eq, cases_lt}
+use Rattle.std.proofs.lemmas.List.{get_or-set_same, get_or-set_other, get_or-replicate, get_or_default, get_or_past, get_or_read, set-get_or, length-replicate, length-set, length_push}
+use Rattle.std.proofs.lemmas.List.Folds.{sum_by-replicate}
+use Rattle.std.proofs.lemmas.List.Sums.{sum_by-le, sum_by-set, sum_by_push}
+use Rattle.std.proofs.lemmas.Option.{none-some, same_Some}
+use Rattle.cqf_model.specs.declared.frames.Page.{Page}
+use Rattle.cqf_book.specs.Pages.{Posted, ArePosted, IsNext, frames_on, octets_on, pages_of, with_page}
+use Rattle.cqf_book.specs.Totals.{AreAdded, AreFew, AreKept, AreTotals, HaveRoom, count_of_pages}
+
+-- no bridge has a page
+none_at : (bridges bridge : ℕ) → pages_of (record { bridges = bridges; cycles = 0; pages = replicate bridges [] }) bridge ≡ []
+none_at bridges bridge =
+    let nothing : List Page = [] in
+    elim (cases_lt bridge bridges) [
+      | inl below ↦ get_or-replicate bridges bridge nothing nothing below
+      | inr past ↦ get_or_past (replicate bridges nothing) bridge nothing (omega (arith, length-replicate bridges nothing))
+    ]
+
+-- a sum over bridges that have nothing
+none_summed : (f : List Page → ℕ) (bridges : ℕ) → f [] ≡ 0 → sum_by f (replicate bridges []) ≡ 0
+none_summed f bridges nothing = sum_by-replicate f bridges [] ∙ omega (arith, ap (λ (n : ℕ). bridges * n) nothing)
+
+-- the first totals
+none_totals : (bridges : ℕ) → AreTotals (replicate bridges []) (replicate 256 0) (replicate 256 0)
+none_totals bridges = record {
+  all_frames = length-replicate {A = ℕ} 256 0;
+  all_octets = length-replicate {A = ℕ} 256 0;
+  are_frames = λ link below. get_or-replicate {A = ℕ} 256 link 0 0 below ∙ sym (none_summed (λ (row : List Page). sum_by (λ (page : Page). frames_on link page.starts.items) row) bridges refl);
+  are_octets = λ link below. get_or-replicate {A = ℕ} 256 link 0 0 below ∙ sym (none_summed (λ (row : List Page). sum_by (λ (page : Page). octets_on link page.starts.items) row) bridges refl);
+  few_frames = λ link below. omega (arith, get_or-replicate {A = ℕ} 256 link 0 0 below);
+  few_octets = λ link below. omega (arith, get_or-replicate {A = ℕ} 256 link 0 0 below);
+}
+
+-- before the first page
+none_posted : (bridges cycles : ℕ) → bridges ≤ 32 → cycles ≤ 100000 → ArePosted (record { bridges = bridges; cycles = cycles; pages = replicate bridges [] })
+none_posted bridges cycles few_bridges few_cycles = record {
+  few_bridges = few_bridges;
+  few_cycles = few_cycles;
+  each_bridge = length-replicate bridges [];
+  in_cycles = λ bridge. omega (arith, ap length (none_at bridges bridge));
+  in_place = λ bridge cycle page found. absurd (none-some page (sym (ap (λ (row : List Page). slice_get row cycle) (none_at bridges bridge)) ∙ found));
+}
+
+pub none_kept : (bridges cycles : ℕ) (pages : List (List Page)) (frames octets : List ℕ) → bridges ≤ 32 → cycles ≤ 100000
+    → pages ≡ replicate bridges [] → frames ≡ replicate 256 0 → octets ≡ replicate 256 0
+    → AreKept (record { bridges = bridges; cycles = cycles; pages = pages }) frames octets
+none_kept bridges cycles pages frames octets few_bridges few_cycles is_pages is_frames is_octets =
+    subst (λ (rows : List (List Page)). AreKept (record { bridges = bridges; cycles = cycles; pages = rows }) frames octets) (sym is_pages)
+    (subst (λ (fs : List ℕ). AreKept (record { bridges = bridges; cycles = cycles; pages = replicate bridges [] }) fs octets) (sym is_frames)
+    (subst (λ (os : List ℕ). AreKept (record { bridges = bridges; cycles = cycles; pages = replicate bridges [] }) (replicate 256 0) os) (sym is_octets)
+    (record { posted_so = none_posted bridges cycles few_bridges few_cycles; totals = none_totals bridges })))
+
+-- what the rows of pages count together, once one has one more page
+sum_with : (f : Page → ℕ) (rows : List (List Page)) (bridge : ℕ) (page : Page) → bridge < length rows
+    → sum_by (λ (row : List Page). sum_by f row) (set rows bridge (get_or rows bridge [] ++ page ∷ [])) ≡ sum_by (λ (row : List Page). sum_by f row) rows + f page
+sum_with f rows bridge page inside =
+    omega (arith, sum_by-set (λ (row : List Page). sum_by f row) rows bridge (get_or rows bridge [] ++ page ∷ []) [] inside, sum_by_push f (get_or rows bridge []) page)
+
+-- one page more
+count_with : (rows : List (List Page)) (bridge : ℕ) (page : Page) → bridge < length rows
+    → count_of_pages (set rows bridge (get_or rows bridge [] ++ page ∷ [])) ≡ count_of_pages rows + 1
+count_with rows bridge page inside =
+    omega (arith, sum_by-set (λ (row : List Page). length row) rows bridge (get_or rows bridge [] ++ page ∷ []) [] inside, length_push (get_or rows bridge []) page)
+
+-- the totals, once a page's starts are added
+totals_with : (rows : List (List Page)) (bridge : ℕ) (page : Page) (frames octets frames_after octets_after : List ℕ) → bridge < length rows
+    → AreTotals rows frames octets → AreAdded page.starts.items frames octets frames_after octets_after → AreFew page.starts.items
+    → AreTotals (set rows bridge (get_or rows bridge [] ++ page ∷ [])) frames_after octets_after
+totals_with rows bridge page frames octets frames_after octets_after inside before added few = record {
+  all_frames = added.all_frames;
+  all_octets = added.all_octets;
+  are_frames = λ link below. omega (arith, added.frames_add link below, before.are_frames link below, sum_with (λ (p : Page). frames_on link p.starts.items) rows bridge page inside);
+  are_octets = λ link below. omega (arith, added.octets_add link below, before.are_octets link below, sum_with (λ (p : Page). octets_on link p.starts.items) rows bridge page inside);
+  few_frames = λ link below. omega (arith, added.frames_add link below, before.few_frames link below, few.few_frames link, count_with rows bridge page inside);
+  few_octets = λ link below. omega (arith, added.octets_add link below, before.few_octets link below, few.few_octets link, count_with rows bridge page inside);
+}
+
+-- a row's page at a place, once one more stands behind
+pushed_at : (row : List Page) (page other : Page) (place : ℕ) → slice_get (row ++ page ∷ []) place ≡ Some other
+    → (slice_get row place ≡ Some other) ⊎ ((place ≡ length row) × (page ≡ other))
+pushed_at [] page other zero found = inr (refl, same_Some page other found)
+pushed_at [] page other (suc place) found = absurd (none-some other found)
+pushed_at (first ∷ row) page other zero found = inl found
+pushed_at (first ∷ row) page other (suc place) found = elim (pushed_at row page other place found) [
+  | inl there ↦ inl there
+  | inr last ↦ inr (omega (arith, last.0), last.1)
+]
+
+-- the pages of a bridge, once a page is added: its own have one more, the others' are as they were
+row_with : (posted : Posted) (page : Page) (bridge : ℕ) → page.bridge < length posted.pages
+    → ((bridge ≡ page.bridge) × (pages_of (with_page posted page) bridge ≡ pages_of posted page.bridge ++ page ∷ []))
+    ⊎ (pages_of (with_page posted page) bridge ≡ pages_of posted bridge)
+row_with posted page bridge inside = elim (cases_eq bridge page.bridge) [
+  | inl same ↦ inl (same, ap (λ (k : ℕ). pages_of (with_page posted page) k) same ∙ get_or-set_same posted.pages page.bridge (pages_of posted page.bridge ++ page ∷ []) [] inside)
+  | inr differs ↦ inr (get_or-set_other posted.pages page.bridge bridge (pages_of posted page.bridge ++ page ∷ []) [] differs)
+]
+
+-- the next page keeps what pages keep
+pub next_posted : (posted : Posted) (page : Page) → ArePosted posted → IsNext posted page → ArePosted (with_page posted page)
+next_posted posted page before next =
+    let inside : page.bridge < length posted.pages = omega (arith, before.each_bridge, next.0) in
+    record {
+      few_bridges = before.few_bridges;
+      few_cycles = before.few_cycles;
+      each_bridge = length-set posted.pages page.bridge _ ∙ before.each_bridge;
+      in_cycles = λ bridge. elim (row_with posted page bridge inside) [
+        | inl own ↦ omega (arith, ap length own.1, length_push (pages_of posted page.bridge) page, next.1, next.2)
+        | inr same ↦ omega (arith, ap length same, before.in_cycles bridge)
+      ];
+      in_place = λ bridge cycle other found. elim (row_with posted page bridge inside) [
+        | inl own ↦ elim (pushed_at (pages_of posted page.bridge) page other cycle (sym (ap (λ (row : List Page). slice_get row cycle) own.1) ∙ found)) [
+          | inl there ↦ before.in_place bridge cycle other (ap (λ (k : ℕ). slice_get (pages_of posted k) cycle) own.0 ∙ there)
+          | inr last ↦ (sym (ap (λ (p : Page). p.bridge) last.1) ∙ sym own.0, sym (ap (λ (p : Page). p.cycle.0) last.1) ∙ next.2 ∙ sym last.0)
+        ]
+        | inr same ↦ before.in_place bridge cycle other (sym (ap (λ (row : List Page). slice_get row cycle) same) ∙ found)
+      ];
+    }
+
+-- so do they with their totals, where the bridge's row is written anew
+pub next_kept : (posted : Posted) (page : Page) (frames octets frames_after octets_after : List ℕ) (bridge : ℕ) (own row : List Page)
+    → AreKept posted frames octets → bridge ≡ page.bridge → page.bridge < posted.bridges → page.cycle.0 < posted.cycles
+    → own ≡ get_or posted.pages bridge own → length own ≤ page.cycle.0 → page.cycle.0 ≤ length own
+    → row ≡ own ++ page ∷ [] → AreAdded page.starts.items frames octets frames_after octets_after → AreFew page.starts.items
+    → AreKept (record { bridges = posted.bridges; cycles = posted.cycles; pages = set posted.pages bridge row }) frames_after octets_after
+next_kept posted page frames octets frames_after octets_after bridge own row before at of_bridge of_cycle is_own not_before not_behind is_row added few =
+    let inside : page.bridge < length posted.pages = omega (arith, before.posted_so.each_bridge, of_bridge) in
+    let own_pages : own ≡ pages_of posted page.bridge =
+    get_or_read posted.pages bridge own (omega arith) is_own [] ∙ ap (λ (k : ℕ). pages_of posted k) at in
+    let next : IsNext posted page = (of_bridge, of_cycle, omega (arith, ap length own_pages)) in
+    let pages : set posted.pages bridge row ≡ set posted.pages page.bridge (pages_of posted page.bridge ++ page ∷ []) =
+    ap (λ (k : ℕ). set posted.pages k row) at ∙ ap (λ (r : List Page). set posted.pages page.bridge r) (is_row ∙ ap (λ (r : List Page). r ++ page ∷ []) own_pages) in
+    subst (λ (rows : List (List Page)). AreKept (record { bridges = posted.bridges; cycles = posted.cycles; pages = rows }) frames_after octets_after) (sym pages)
+    (record {
+      posted_so = next_posted posted page before.posted_so next;
+      totals = totals_with posted.pages page.bridge page frames octets frames_after octets_after inside before.totals added few;
+    })
+
+-- a row that is written as it was changes nothing
+pub same_kept : (posted : Posted) (frames octets frames_after octets_after : List ℕ) (bridge : ℕ) (own row : List Page)
+    → AreKept posted frames octets → bridge < posted.bridges → own ≡ get_or posted.pages bridge own
+    → row ≡ own → frames_after ≡ frames → octets_after ≡ octets
+    → AreKept (record { bridges = posted.bridges; cycles = posted.cycles; pages = set posted.pages bridge row }) frames_after octets_after
+same_kept posted frames octets frames_after octets_after bridge own row before of_bridge is_own is_row is_frames is_octets =
+    let pages : set posted.pages bridge row ≡ posted.pages =
+    ap (λ (r : List Page). set posted.pages bridge r) (is_row ∙ is_own) ∙ set-get_or posted.pages bridge own in
+    let at : List (List Page) → List ℕ → List ℕ → Type 0 = λ rows fs os. AreKept (record { bridges = posted.bridges; cycles = posted.cycles; pages = rows }) fs os in
+    subst (λ (rows : List (List Page)). at rows frames_after octets_after) (sym pages)
+    (subst (λ (fs : List ℕ). at posted.pages fs octets_after) (sym is_frames)
+    (subst (λ (os : List ℕ). at posted.pages frames os) (sym is_octets) before))
+
+-- the totals of as many pages as there may be have room for one more
+pub room_for_next : (posted : Posted) (frames octets : List ℕ) → AreKept posted frames octets → HaveRoom frames octets
+room_for_next posted frames octets kept =
+    let rows = posted.pages in
+    let facts = kept.posted_so in
+    let each : All (λ (row : List Page). length row ≤ 100000) rows = λ k d inside.
+    omega (arith, facts.in_cycles k, facts.few_cycles, ap length (get_or_default rows k d [] inside)) in
+    let count : count_of_pages rows ≤ 3200000 = omega (arith, sum_by-le (λ (row : List Page). length row) 100000 rows each, facts.each_bridge, facts.few_bridges) in
+    record {
+      all_frames = kept.totals.all_frames;
+      all_octets = kept.totals.all_octets;
+      frames_room = λ link below. omega (arith, kept.totals.few_frames link below, count);
+      octets_room = λ link below. omega (arith, kept.totals.few_octets link below, count);
+    }

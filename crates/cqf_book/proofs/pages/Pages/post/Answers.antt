@@ -1,0 +1,29 @@
+use Rattle.std.proofs.Common.{◌<◌, ◌≤◌, length, ap, arith}
+use Rattle.cqf_book.specs.Pages.{Posted}
+use Rattle.cqf_book.specs.declared.totals.LinkTotals.{LinkTotals}
+use Rattle.cqf_book.proofs.Posting.{next_kept, room_for_next, same_kept}
+use Rattle.cqf_book.proofs.pages.Pages.post.Goals as goal
+use Rattle.cqf_book.proofs.pages.Pages.post.Goals.{in-Ok, in-Err}
+
+-- the totals have room for one more page
+pub push-requires : goal.push-requires
+push-requires c =
+    let posted : Posted = record { bridges = c.self.inside.bridges; cycles = c.self.inside.cycles; pages = c.self.inside.posted.items } in
+    room_for_next posted c.self.inside.totals.frames.items c.self.inside.totals.octets.items c.self.invariant
+
+-- the page is the next one, or nothing has changed
+pub invariant_of-self-2 : goal.invariant_of-self-2
+invariant_of-self-2 c =
+    let posted : Posted = record { bridges = c.self.inside.bridges; cycles = c.self.inside.cycles; pages = c.self.inside.posted.items } in
+    let frames = c.self.inside.totals.frames.items in
+    let octets = c.self.inside.totals.octets.items in
+    let of_bridge : c.args.page.bridge < c.self.inside.bridges = omega arith in
+    let of_cycle : c.args.page.cycle.0 < c.self.inside.cycles = omega arith in
+    let not_before : length c.index_mut-own.result.now ≤ c.args.page.cycle.0 = omega arith in
+    let not_behind : c.args.page.cycle.0 ≤ length c.index_mut-own.result.now = omega arith in
+    elim c.match-push.branch [
+      | in-Ok w ↦ next_kept posted c.args.page frames octets c.push.new.totals.frames.items c.push.new.totals.octets.items c.from.result c.index_mut-own.result.now c.push.new.self
+          c.self.invariant c.from.ensures of_bridge of_cycle c.index_mut-own.ensures.value not_before not_behind w.in-Ok.ensures.ok w.in-Ok.ensures.added w.in-Ok.ensures.few
+      | in-Err w ↦ same_kept posted frames octets c.push.new.totals.frames.items c.push.new.totals.octets.items c.from.result c.index_mut-own.result.now c.push.new.self
+          c.self.invariant (omega arith) c.index_mut-own.ensures.value w.in-Err.ensures.err (ap (λ (t : LinkTotals). t.frames.items) w.in-Err.ensures.same) (ap (λ (t : LinkTotals). t.octets.items) w.in-Err.ensures.same)
+    ]

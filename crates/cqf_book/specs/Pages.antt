@@ -1,0 +1,75 @@
+-- The pages that the bridges have posted, what makes a page the next one, and what the pages have on a link (profile).
+use Rattle.std.specs.Prelude.{ℕ, ◌≡◌, ◌<◌, ◌≤◌, ◌==◌, ◌++◌, List, [], ◌∷◌, Option, Some, length, if◌then◌else◌, count_by, sum_by, slice_get, slice_index_or, slice_set}
+use Rattle.cqf_model.specs.declared.frames.Page.{Page}
+use Rattle.cqf_model.specs.declared.frames.Started.{Started}
+
+-- pages that were posted: of how many bridges and cycles they may be, and by bridge its pages, in order of cycle
+pub record Posted : Type 0 where
+  pub bridges : ℕ
+  pub cycles : ℕ
+  pub pages : List (List Page)
+
+-- the pages of a bridge; there is none of a bridge that isn't one of the bridges
+abbrev pub pages_of : Posted → ℕ → List Page
+pages_of posted bridge = slice_index_or posted.pages bridge []
+
+-- how many pages a bridge has posted: those of as many first cycles
+abbrev pub page_count : Posted → ℕ → ℕ
+page_count posted bridge = length (pages_of posted bridge)
+
+-- a bridge's page of a cycle
+abbrev pub page_at : Posted → ℕ → ℕ → Option Page
+page_at posted bridge cycle = slice_get (pages_of posted bridge) cycle
+
+-- what all pages that were posted keep: no page stands twice and none is missing, since each is of the bridge and of the
+-- cycle at whose place it stands
+pub record ArePosted (posted : Posted) : Type 0 where
+  pub few_bridges : posted.bridges ≤ 32
+  pub few_cycles : posted.cycles ≤ 100000
+  pub each_bridge : length posted.pages ≡ posted.bridges
+  pub in_cycles : (bridge : ℕ) → page_count posted bridge ≤ posted.cycles
+  pub in_place : (bridge cycle : ℕ) (page : Page) → page_at posted bridge cycle ≡ Some page → (page.bridge ≡ bridge) × (page.cycle.0 ≡ cycle)
+
+-- the page's bridge isn't one of the bridges
+abbrev pub IsOfStrangeBridge : Posted → Page → Type 0
+IsOfStrangeBridge posted page = posted.bridges ≤ page.bridge
+
+-- the bridge is, and the cycle isn't one of the cycles
+abbrev pub IsOfStrangeCycle : Posted → Page → Type 0
+IsOfStrangeCycle posted page = (page.bridge < posted.bridges) × (posted.cycles ≤ page.cycle.0)
+
+-- both are, and the bridge has posted its page of that cycle
+abbrev pub IsDouble : Posted → Page → Type 0
+IsDouble posted page = (page.bridge < posted.bridges) × (page.cycle.0 < posted.cycles) × (page.cycle.0 < page_count posted page.bridge)
+
+-- both are, and the bridge hasn't posted its page of the cycle before
+abbrev pub SkipsCycle : Posted → Page → Type 0
+SkipsCycle posted page = (page.bridge < posted.bridges) × (page.cycle.0 < posted.cycles) × (page_count posted page.bridge < page.cycle.0)
+
+-- both are, and the bridge has posted its pages of just the cycles before
+abbrev pub IsNext : Posted → Page → Type 0
+IsNext posted page = (page.bridge < posted.bridges) × (page.cycle.0 < posted.cycles) × (page.cycle.0 ≡ page_count posted page.bridge)
+
+-- the pages with one more of its bridge
+abbrev pub with_page : Posted → Page → Posted
+with_page posted page = record posted { pages = slice_set posted.pages page.bridge (pages_of posted page.bridge ++ page ∷ []) }
+
+-- each bridge has posted its pages of so many first cycles, and not each of more
+pub record AreWhole (posted : Posted) (cycles : ℕ) : Type 0 where
+  pub within : cycles ≤ posted.cycles
+  pub each : (bridge : ℕ) → bridge < posted.bridges → cycles ≤ page_count posted bridge
+  pub most : (more : ℕ) → more ≤ posted.cycles → ((bridge : ℕ) → bridge < posted.bridges → more ≤ page_count posted bridge) → more ≤ cycles
+
+-- how many of some streams' frames are on the link, and their octets
+abbrev pub frames_on : ℕ → List Started → ℕ
+frames_on link starts = count_by (λ (start : Started). start.link == link) starts
+
+abbrev pub octets_on : ℕ → List Started → ℕ
+octets_on link starts = sum_by (λ (start : Started). if start.link == link then start.octets else 0) starts
+
+-- the same of the starts of all pages: the background frames aren't among them
+abbrev pub frames_posted : ℕ → List (List Page) → ℕ
+frames_posted link pages = sum_by (λ (row : List Page). sum_by (λ (page : Page). frames_on link page.starts.items) row) pages
+
+abbrev pub octets_posted : ℕ → List (List Page) → ℕ
+octets_posted link pages = sum_by (λ (row : List Page). sum_by (λ (page : Page). octets_on link page.starts.items) row) pages

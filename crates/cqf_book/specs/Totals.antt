@@ -1,0 +1,42 @@
+-- How the totals of all links are kept.
+use Rattle.std.specs.Prelude.{ℕ, ◌≡◌, ◌+◌, ◌*◌, ◌^◌, ◌<◌, ◌≤◌, List, length, sum_by, slice_index}
+use Rattle.cqf_model.specs.declared.frames.Page.{Page}
+use Rattle.cqf_model.specs.declared.frames.Started.{Started}
+use Rattle.cqf_book.specs.Pages.{Posted, ArePosted, frames_on, octets_on, frames_posted, octets_posted}
+
+-- what was added to the totals of all links is that of the starts
+pub record AreAdded (starts : List Started) (frames octets frames_after octets_after : List ℕ) : Type 0 where
+  pub all_frames : length frames_after ≡ 256
+  pub all_octets : length octets_after ≡ 256
+  pub frames_add : (link : ℕ) → link < 256 → slice_index frames_after link ≡ slice_index frames link + frames_on link starts
+  pub octets_add : (link : ℕ) → link < 256 → slice_index octets_after link ≡ slice_index octets link + octets_on link starts
+
+-- a page's starts are fewer than 2^64, of fewer than 2^32 octets each
+pub record AreFew (starts : List Started) : Type 0 where
+  pub few_frames : (link : ℕ) → frames_on link starts ≤ 2 ^ 64
+  pub few_octets : (link : ℕ) → octets_on link starts ≤ 2 ^ 96
+
+-- there is room for the starts of one more page
+pub record HaveRoom (frames octets : List ℕ) : Type 0 where
+  pub all_frames : length frames ≡ 256
+  pub all_octets : length octets ≡ 256
+  pub frames_room : (link : ℕ) → link < 256 → slice_index frames link + 2 ^ 64 < 2 ^ 128
+  pub octets_room : (link : ℕ) → link < 256 → slice_index octets link + 2 ^ 96 < 2 ^ 128
+
+-- how many pages there are
+abbrev pub count_of_pages : List (List Page) → ℕ
+count_of_pages pages = sum_by (λ (row : List Page). length row) pages
+
+-- by link, the totals are those of the pages, each of which adds no more than it can hold
+pub record AreTotals (pages : List (List Page)) (frames octets : List ℕ) : Type 0 where
+  pub all_frames : length frames ≡ 256
+  pub all_octets : length octets ≡ 256
+  pub are_frames : (link : ℕ) → link < 256 → slice_index frames link ≡ frames_posted link pages
+  pub are_octets : (link : ℕ) → link < 256 → slice_index octets link ≡ octets_posted link pages
+  pub few_frames : (link : ℕ) → link < 256 → slice_index frames link ≤ count_of_pages pages * 2 ^ 64
+  pub few_octets : (link : ℕ) → link < 256 → slice_index octets link ≤ count_of_pages pages * 2 ^ 96
+
+-- what pages keep beside their totals
+pub record AreKept (posted : Posted) (frames octets : List ℕ) : Type 0 where
+  pub posted_so : ArePosted posted
+  pub totals : AreTotals posted.pages frames octets

@@ -1,0 +1,68 @@
+//! The pages of one bridge.
+ghost use Rattle.std.specs.Prelude.{◌≡◌, ◌++◌, [], ◌∷◌, IfErr, OnErr, OnOk, length, option_copied, slice_get};
+ghost use Rattle.cqf_book.specs.Totals.{AreAdded, AreFew, HaveRoom};
+
+use crate::totals::LinkTotals;
+use cqf_model::Page;
+use std::alloc::Global;
+use std::marker::Model;
+
+/// The pages that one bridge has posted, in order of cycle.
+#[derive(Debug, Drop)]
+pub(crate) struct BridgePages {
+    pages: Vec<Page>,
+}
+
+impl Model for BridgePages {
+    ghost use Rattle.std.specs.Prelude.{List};
+    ghost use Rattle.cqf_model.specs.declared.frames.Page.{Page};
+
+    ghost Value = { List Page };
+
+    ghost view = { λ posted. posted.pages.items };
+}
+
+impl BridgePages {
+    /// No page. It takes no memory yet.
+    pub(crate) fn new(alloc: Global) -> BridgePages
+        ensures { result ≡ [] }
+    {
+        BridgePages {
+            pages: Vec::new(alloc),
+        }
+    }
+
+    /// How many pages there are.
+    pub(crate) fn len(&self) -> usize
+        ensures { result ≡ length self.now }
+    {
+        self.pages.len()
+    }
+
+    /// The page at a place, where there is one.
+    pub(crate) fn get(&self, place: usize) -> Option<&Page>
+        ensures { option_copied result ≡ slice_get self.now place }
+    {
+        self.pages.get(place)
+    }
+
+    /// Puts the page behind the others, and adds its starts to the totals. Where a growth is refused, the pages and the
+    /// totals are as they were, and the page comes back.
+    pub(crate) fn push(&mut self, page: Page, totals: &mut LinkTotals) -> Result<(), Page>
+        requires { HaveRoom totals.old.frames.items totals.old.octets.items }
+        ensures ok { OnOk result (self.new ≡ self.old ++ page ∷ []) }
+        ensures added { OnOk result (AreAdded page.starts.items totals.old.frames.items totals.old.octets.items
+            totals.new.frames.items totals.new.octets.items) }
+        ensures few { OnOk result (AreFew page.starts.items) }
+        ensures err { OnErr result (self.new ≡ self.old) }
+        ensures same { OnErr result (totals.new ≡ totals.old) }
+        ensures back { IfErr result (λ refused. refused ≡ page) }
+    {
+        if self.pages.reserve(1).is_err() {
+            return Err(page);
+        }
+        totals.add(page.starts.as_slice());
+        self.pages.push(page).unwrap();
+        Ok(())
+    }
+}

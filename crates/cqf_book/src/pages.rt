@@ -1,0 +1,130 @@
+//! The pages of all bridges.
+ghost use Rattle.std.specs.Prelude.{◌≡◌, ℕ, ◌<◌, ◌≤◌, ◌↔◌, [], IfErr, IfOk, IsErrOf, OnErr, OnOk, length, option_copied, replicate, slice_index_or};
+ghost use Rattle.cqf_book.specs.Pages.{ArePosted, AreWhole, IsDouble, IsNext, IsOfStrangeBridge, IsOfStrangeCycle, SkipsCycle, frames_posted, octets_posted, page_at, with_page};
+
+use crate::bridge_pages::BridgePages;
+use crate::faults::PageFault;
+use crate::totals::{LinkTotals, Totals};
+use cqf_model::Page;
+use cqf_units::{Cycle, Memory};
+use std::alloc::Global;
+use std::marker::Model;
+
+/// The pages that bridges have posted, each bridge's in order of cycle, and the totals of what they have on each link.
+#[derive(Debug, Drop)]
+pub struct Pages {
+    bridges: u8,
+    cycles: u32,
+    /// By bridge.
+    posted: Vec<BridgePages>,
+    totals: LinkTotals,
+}
+
+impl Model for Pages {
+    ghost use Rattle.cqf_book.specs.Pages.{Posted};
+    ghost use Rattle.cqf_book.specs.Totals.{AreKept};
+
+    ghost Value = { Posted };
+
+    ghost view = { λ p. record { bridges = p.bridges; cycles = p.cycles; pages = p.posted.items } };
+
+    ghost invariant = { λ p. AreKept (record { bridges = p.bridges; cycles = p.cycles; pages = p.posted.items }) p.totals.frames.items p.totals.octets.items };
+}
+
+impl Pages {
+    /// No page yet, of so many bridges and cycles: up to 32 bridges and 100,000 cycles.
+    pub fn new(alloc: Global, bridges: u8, cycles: u32) -> Result<Pages, Memory>
+        requires few_bridges { bridges ≤ 32 }
+        requires few_cycles { cycles ≤ 100000 }
+        ensures { IfOk result (λ pages. pages ≡ record { bridges = bridges; cycles = cycles; pages = replicate bridges [] }) }
+    {
+        Ok(Pages {
+            bridges,
+            cycles,
+            posted: no_pages(alloc, bridges)?,
+            totals: LinkTotals::new(alloc)?,
+        })
+    }
+
+    /// Takes a bridge's next page. Each bridge posts its pages in order of cycle, from cycle 0 on, and the bridges in any
+    /// order among one another. A page that isn't taken comes back with the reason, the first of [`PageFault`] that is
+    /// so, and nothing is changed.
+    pub fn post(&mut self, page: Page) -> Result<(), (PageFault, Page)>
+        ensures strange_bridge { IsErrOf result (PageFault.StrangeBridge, page) ↔ IsOfStrangeBridge self.old page }
+        ensures strange_cycle { IsErrOf result (PageFault.StrangeCycle, page) ↔ IsOfStrangeCycle self.old page }
+        ensures double_page { IsErrOf result (PageFault.DoublePage, page) ↔ IsDouble self.old page }
+        ensures cycle_skipped { IsErrOf result (PageFault.CycleSkipped, page) ↔ SkipsCycle self.old page }
+        ensures memory { IsErrOf result (PageFault.Memory, page) → IsNext self.old page }
+        ensures next { OnOk result (IsNext self.old page) }
+        ensures ok { OnOk result (self.new ≡ with_page self.old page) }
+        ensures err { OnErr result (self.new ≡ self.old) }
+        ensures back { IfErr result (λ refused. refused.1 ≡ page) }
+    {
+        if page.bridge >= self.bridges {
+            return Err((PageFault::StrangeBridge, page));
+        }
+        if page.cycle.0 >= self.cycles {
+            return Err((PageFault::StrangeCycle, page));
+        }
+        let own = &mut self.posted[usize::from(page.bridge)];
+        let place = page.cycle.0 as usize;
+        if place < own.len() {
+            return Err((PageFault::DoublePage, page));
+        }
+        if place > own.len() {
+            return Err((PageFault::CycleSkipped, page));
+        }
+        match own.push(page, &mut self.totals) {
+            Ok(()) => Ok(()),
+            Err(page) => Err((PageFault::Memory, page)),
+        }
+    }
+
+    /// Of how many first cycles each bridge has posted its page: the least number of pages that a bridge has, and with no
+    /// bridge all cycles. It takes no memory.
+    pub fn whole_cycles(&self) -> u32
+        ensures value { AreWhole self.now result }
+        ensures facts { ArePosted self.now }
+    {
+        least_count(self.posted.as_slice(), self.cycles)
+    }
+
+    /// How many streams' frames the pages have on the link, and their octets. The sums are kept, and it takes no memory.
+    pub fn totals(&self, link: u8) -> Totals
+        ensures frames { result.frames ≡ frames_posted link self.now.pages }
+        ensures octets { result.octets ≡ octets_posted link self.now.pages }
+    {
+        self.totals.at(link)
+    }
+
+    /// The bridge's page of the cycle, where it has posted it. It takes no memory.
+    pub fn page(&self, bridge: u8, cycle: Cycle) -> Option<&Page>
+        ensures { option_copied result ≡ page_at self.now bridge cycle.0 }
+    {
+        self.posted.get(usize::from(bridge))?.get(cycle.0 as usize)
+    }
+}
+
+/// So many bridges, of which none has posted a page.
+fn no_pages(alloc: Global, bridges: u8) -> Result<Vec<BridgePages>, Memory>
+    ensures { IfOk result (λ posted. posted.items ≡ replicate bridges []) }
+{
+    let mut posted = Vec::new(alloc);
+    for _bridge in 0..bridges {
+        posted.push(BridgePages::new(alloc))?;
+    }
+    Ok(posted)
+}
+
+/// The least number of pages that a bridge has, and no more than there are cycles.
+fn least_count(posted: &[BridgePages], cycles: u32) -> u32
+    ensures within { result ≤ cycles }
+    ensures each { (bridge : ℕ) → bridge < length posted.now → result ≤ length (slice_index_or posted.now bridge []) }
+    ensures most { (more : ℕ) → more ≤ cycles → ((bridge : ℕ) → bridge < length posted.now → more ≤ length (slice_index_or posted.now bridge [])) → more ≤ result }
+{
+    let mut least = cycles as usize;
+    for pages in posted {
+        least = least.min(pages.len());
+    }
+    least as u32
+}

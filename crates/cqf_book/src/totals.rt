@@ -1,0 +1,74 @@
+//! The sums of streams' frames and octets by link.
+ghost use Rattle.std.specs.Prelude.{◌≡◌, ◌+◌, ◌^◌, ◌<◌, IfOk, length, replicate, slice_index, slice_set, vec_len};
+ghost use Rattle.cqf_book.specs.Totals.{AreAdded, AreFew, HaveRoom};
+
+use cqf_model::Started;
+use cqf_units::Memory;
+use std::alloc::Global;
+
+/// How many streams' frames a link has sent, and how many octets they have together.
+#[derive(Clone, Copy, Debug, PartialEq, Eq)]
+pub struct Totals {
+    pub frames: u128,
+    pub octets: u128,
+}
+
+/// The totals of the links 0 to 255.
+#[derive(Debug, Drop)]
+pub(crate) struct LinkTotals {
+    frames: Vec<u128>,
+    octets: Vec<u128>,
+}
+
+impl LinkTotals {
+    /// The totals of links that have sent nothing.
+    pub(crate) fn new(alloc: Global) -> Result<LinkTotals, Memory>
+        ensures frames { IfOk result (λ totals. totals.frames.items ≡ replicate 256 0) }
+        ensures octets { IfOk result (λ totals. totals.octets.items ≡ replicate 256 0) }
+    {
+        Ok(LinkTotals {
+            frames: vec![in alloc; 0; 256]?,
+            octets: vec![in alloc; 0; 256]?,
+        })
+    }
+
+    /// The totals of the link.
+    pub(crate) fn at(&self, link: u8) -> Totals
+        requires frames { length self.now.frames.items ≡ 256 }
+        requires octets { length self.now.octets.items ≡ 256 }
+        ensures frames { result.frames ≡ slice_index self.now.frames.items link }
+        ensures octets { result.octets ≡ slice_index self.now.octets.items link }
+    {
+        let link = usize::from(link);
+        Totals {
+            frames: self.frames[link],
+            octets: self.octets[link],
+        }
+    }
+
+    /// Adds a frame of so many octets on the link.
+    fn add_frame(&mut self, link: u8, octets: u32)
+        requires all_frames { length self.old.frames.items ≡ 256 }
+        requires all_octets { length self.old.octets.items ≡ 256 }
+        requires frames { slice_index self.old.frames.items link + 1 < 2 ^ 128 }
+        requires octets { slice_index self.old.octets.items link + 2 ^ 32 < 2 ^ 128 }
+        ensures frames { self.new.frames.items ≡ slice_set self.old.frames.items link (slice_index self.old.frames.items link + 1) }
+        ensures octets { self.new.octets.items ≡ slice_set self.old.octets.items link (slice_index self.old.octets.items link + octets) }
+        ensures short { octets < 2 ^ 32 }
+    {
+        let link = usize::from(link);
+        self.frames[link] += 1;
+        self.octets[link] += u128::from(octets);
+    }
+
+    /// Adds the frames of a page's starts.
+    pub(crate) fn add(&mut self, starts: &[Started])
+        requires { HaveRoom self.old.frames.items self.old.octets.items }
+        ensures added { AreAdded starts.now self.old.frames.items self.old.octets.items self.new.frames.items self.new.octets.items }
+        ensures few { AreFew starts.now }
+    {
+        for start in starts {
+            self.add_frame(start.link, start.octets);
+        }
+    }
+}
