@@ -4,26 +4,7 @@ use Rattle.std.proofs.lemmas.Bool.{cases_lt}
 use Rattle.std.proofs.lemmas.List.{get_or_read}
 use Rattle.cqf_model.specs.declared.frames.Page.{Page}
 use Rattle.cqf_book.specs.Pages.{Posted, ArePosted, AreWhole}
-
--- the least number of pages over all bridges is that number
-pub least_is_whole : (posted : Posted) (rows : List (List Page)) (least : ℕ) → ArePosted posted → rows ≡ posted.pages → least ≤ posted.cycles
-    → ((bridge : ℕ) → bridge < length rows → least ≤ length (get_or rows bridge []))
-    → ((more : ℕ) → more ≤ posted.cycles → ((bridge : ℕ) → bridge < length rows → more ≤ length (get_or rows bridge [])) → more ≤ least)
-    → AreWhole posted least
-least_is_whole posted rows least facts is_rows within each most =
-    let count : length rows ≡ posted.bridges = ap length is_rows ∙ facts.each_bridge in
-    let has = λ (bridge : ℕ). ap (λ (rs : List (List Page)). length (get_or rs bridge [])) is_rows in
-    record {
-      within = within;
-      each = λ bridge below. omega (arith, each bridge (omega arith), has bridge);
-      most = λ more fits all. most more fits (λ bridge inside. omega (arith, all bridge (omega arith), has bridge));
-    }
-
--- the least number of pages of the bridges below one, and no more than there are cycles
-pub record IsLeastBelow (rows : List (List Page)) (cycles count least : ℕ) : Type 0 where
-  pub within : least ≤ cycles
-  pub each : (bridge : ℕ) → bridge < count → least ≤ length (get_or rows bridge [])
-  pub most : (more : ℕ) → more ≤ cycles → ((bridge : ℕ) → bridge < count → more ≤ length (get_or rows bridge [])) → more ≤ least
+use Rattle.cqf_book.specs.Whole.{IsLeastBelow}
 
 -- one bridge more
 pub least_more : (rows : List (List Page)) (cycles count least next : ℕ) (own : List Page) → IsLeastBelow rows cycles count least
@@ -41,4 +22,27 @@ least_more rows cycles count least next own before inside is_own is_next =
       most = λ more fits all.
           let so_far : more ≤ least = before.most more fits (λ bridge below. all bridge (omega arith)) in
           omega (arith, all count (omega arith));
+      some = elim (cases_lt (length own) least) [
+        | inl fewer ↦ inr (count, omega arith, omega arith)
+        | inr enough ↦ elim before.some [
+          | inl all ↦ inl (omega arith)
+          | inr one ↦ inr (one.0, omega (arith, one.1), omega (arith, one.2))
+        ]
+      ];
+    }
+
+-- the least number of pages over all bridges is that number
+pub least_is_whole : (posted : Posted) (rows : List (List Page)) (least : ℕ) → ArePosted posted → rows ≡ posted.pages
+    → IsLeastBelow rows posted.cycles (length rows) least → AreWhole posted least
+least_is_whole posted rows least facts is_rows found =
+    let count : length rows ≡ posted.bridges = ap length is_rows ∙ facts.each_bridge in
+    let has = λ (bridge : ℕ). ap (λ (rs : List (List Page)). length (get_or rs bridge [])) is_rows in
+    record {
+      within = found.within;
+      each = λ bridge below. omega (arith, found.each bridge (omega arith), has bridge);
+      most = λ more fits all. found.most more fits (λ bridge inside. omega (arith, all bridge (omega arith), has bridge));
+      least = λ is_bridge. elim found.some [
+        | inl all ↦ (0, is_bridge, omega (arith, found.each 0 (omega arith), has 0, facts.in_cycles 0, all))
+        | inr one ↦ (one.0, omega (arith, one.1), omega (arith, one.2, has one.0))
+      ];
     }

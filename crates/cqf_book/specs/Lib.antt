@@ -1,3 +1,4 @@
 pub mod Faults
 pub mod Pages
 pub mod Totals
+pub mod Whole

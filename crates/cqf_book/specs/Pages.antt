@@ -54,11 +54,13 @@ IsNext posted page = (page.bridge < posted.bridges) × (page.cycle.0 < posted.cy
 abbrev pub with_page : Posted → Page → Posted
 with_page posted page = record posted { pages = slice_set posted.pages page.bridge (pages_of posted page.bridge ++ page ∷ []) }
 
--- each bridge has posted its pages of so many first cycles, and not each of more
+-- each bridge has posted its pages of so many first cycles, and not each of more: it's the least number of pages that a
+-- bridge has
 pub record AreWhole (posted : Posted) (cycles : ℕ) : Type 0 where
   pub within : cycles ≤ posted.cycles
   pub each : (bridge : ℕ) → bridge < posted.bridges → cycles ≤ page_count posted bridge
   pub most : (more : ℕ) → more ≤ posted.cycles → ((bridge : ℕ) → bridge < posted.bridges → more ≤ page_count posted bridge) → more ≤ cycles
+  pub least : 0 < posted.bridges → (bridge : ℕ) × (bridge < posted.bridges) × (page_count posted bridge ≡ cycles)
 
 -- how many of some streams' frames are on the link, and their octets
 abbrev pub frames_on : ℕ → List Started → ℕ

@@ -1,6 +1,7 @@
 //! The pages of all bridges.
-ghost use Rattle.std.specs.Prelude.{◌≡◌, ℕ, ◌<◌, ◌≤◌, ◌↔◌, [], IfErr, IfOk, IsErrOf, OnErr, OnOk, length, option_copied, replicate, slice_index_or};
+ghost use Rattle.std.specs.Prelude.{◌≡◌, ◌<◌, ◌≤◌, ◌↔◌, [], IfErr, IfOk, IsErrOf, OnErr, OnOk, length, option_copied, replicate};
 ghost use Rattle.cqf_book.specs.Pages.{ArePosted, AreWhole, IsDouble, IsNext, IsOfStrangeBridge, IsOfStrangeCycle, SkipsCycle, frames_posted, octets_posted, page_at, with_page};
+ghost use Rattle.cqf_book.specs.Whole.{IsLeastBelow};
 
 use crate::bridge_pages::BridgePages;
 use crate::faults::PageFault;
@@ -118,9 +119,7 @@ fn no_pages(alloc: Global, bridges: u8) -> Result<Vec<BridgePages>, Memory>
 
 /// The least number of pages that a bridge has, and no more than there are cycles.
 fn least_count(posted: &[BridgePages], cycles: u32) -> u32
-    ensures within { result ≤ cycles }
-    ensures each { (bridge : ℕ) → bridge < length posted.now → result ≤ length (slice_index_or posted.now bridge []) }
-    ensures most { (more : ℕ) → more ≤ cycles → ((bridge : ℕ) → bridge < length posted.now → more ≤ length (slice_index_or posted.now bridge [])) → more ≤ result }
+    ensures { IsLeastBelow posted.now cycles (length posted.now) result }
 {
     let mut least = cycles as usize;
     for pages in posted {

@@ -1,4 +1,4 @@
-use Rattle.cqf_book.proofs.Whole.{IsLeastBelow}
+use Rattle.cqf_book.specs.Whole.{IsLeastBelow}
 use Rattle.cqf_book.proofs.pages.least_count.Given as goal
 
 -- the least of the bridges seen so far
