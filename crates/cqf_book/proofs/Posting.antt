@@ -1,13 +1,15 @@
 -- Pages as they are posted: the first ones, and one more.
-use Rattle.std.proofs.Common.{◌≡◌, ℕ, zero, suc, ◌+◌, ◌*◌, ◌<◌, ◌≤◌, ◌++◌, ◌⊎◌, [], ◌∷◌, List, Some, length, get_or, set, sum_by, replicate, All, inl, inr, sym, ap, ◌∙◌, subst, arith, refl}
-use Rattle.std.specs.Prelude.{slice_get}
+use Rattle.std.proofs.Common.{◌≡◌, ℕ, zero, suc, ◌+◌, ◌<◌, ◌≤◌, ◌++◌, ◌⊎◌, [], ◌∷◌, List, length, get_or, set, sum_by, arith, refl}
+use Rattle.std.proofs.Common.{Some, replicate, All, inl, inr, sym, ap, ◌∙◌, subst}
+use Rattle.std.specs.Prelude.{slice_get, slice_index}
 use Rattle.std.proofs.lemmas.Bool.{cases_eq, cases_lt}
-use Rattle.std.proofs.lemmas.List.{get_or-set_same, get_or-set_other, get_or-replicate, get_or_default, get_or_past, get_or_read, set-get_or, length-replicate, length-set, length_push}
+use Rattle.std.proofs.lemmas.List.{get_or-set_same, get_or-set_other, get_or-replicate, get_or_default, get_or_past, get_or_read}
+use Rattle.std.proofs.lemmas.List.{set-get_or, length-replicate, length-set, length_push}
 use Rattle.std.proofs.lemmas.List.Folds.{sum_by-replicate}
 use Rattle.std.proofs.lemmas.List.Sums.{sum_by-le, sum_by-set, sum_by_push}
 use Rattle.std.proofs.lemmas.Option.{none-some, same_Some}
 use Rattle.cqf_model.specs.declared.frames.Page.{Page}
-use Rattle.cqf_book.specs.Pages.{Posted, ArePosted, IsNext, frames_on, octets_on, pages_of, with_page}
+use Rattle.cqf_book.specs.Pages.{Posted, ArePosted, IsNext, frames_on, octets_on, over_pages, pages_of, with_page}
 use Rattle.cqf_book.specs.Totals.{AreAdded, AreFew, AreKept, AreTotals, HaveRoom, count_of_pages}
 
 -- no bridge has a page
@@ -19,23 +21,28 @@ none_at bridges bridge =
       | inr past ↦ get_or_past (replicate bridges nothing) bridge nothing (omega (arith, length-replicate bridges nothing))
     ]
 
--- a sum over bridges that have nothing
-none_summed : (f : List Page → ℕ) (bridges : ℕ) → f [] ≡ 0 → sum_by f (replicate bridges []) ≡ 0
-none_summed f bridges nothing = sum_by-replicate f bridges [] ∙ omega (arith, ap (λ (n : ℕ). bridges * n) nothing)
+-- a sum over the pages of bridges that have none
+none_summed : (f : Page → ℕ) (bridges : ℕ) → over_pages f (replicate bridges []) ≡ 0
+none_summed f bridges = omega (arith, sum_by-replicate (λ (row : List Page). sum_by f row) bridges [])
+
+-- a total of nothing
+nothing_at : (link : ℕ) → link < 256 → slice_index (replicate 256 0) link ≡ 0
+nothing_at link below = get_or-replicate {A = ℕ} 256 link 0 0 below
 
 -- the first totals
 none_totals : (bridges : ℕ) → AreTotals (replicate bridges []) (replicate 256 0) (replicate 256 0)
 none_totals bridges = record {
   all_frames = length-replicate {A = ℕ} 256 0;
   all_octets = length-replicate {A = ℕ} 256 0;
-  are_frames = λ link below. get_or-replicate {A = ℕ} 256 link 0 0 below ∙ sym (none_summed (λ (row : List Page). sum_by (λ (page : Page). frames_on link page.starts.items) row) bridges refl);
-  are_octets = λ link below. get_or-replicate {A = ℕ} 256 link 0 0 below ∙ sym (none_summed (λ (row : List Page). sum_by (λ (page : Page). octets_on link page.starts.items) row) bridges refl);
-  few_frames = λ link below. omega (arith, get_or-replicate {A = ℕ} 256 link 0 0 below);
-  few_octets = λ link below. omega (arith, get_or-replicate {A = ℕ} 256 link 0 0 below);
+  are_frames = λ link below. nothing_at link below ∙ sym (none_summed (λ (page : Page). frames_on link page.starts.items) bridges);
+  are_octets = λ link below. nothing_at link below ∙ sym (none_summed (λ (page : Page). octets_on link page.starts.items) bridges);
+  few_frames = λ link below. omega (arith, nothing_at link below);
+  few_octets = λ link below. omega (arith, nothing_at link below);
 }
 
 -- before the first page
-none_posted : (bridges cycles : ℕ) → bridges ≤ 32 → cycles ≤ 100000 → ArePosted (record { bridges = bridges; cycles = cycles; pages = replicate bridges [] })
+none_posted : (bridges cycles : ℕ) → bridges ≤ 32 → cycles ≤ 100000
+    → ArePosted (record { bridges = bridges; cycles = cycles; pages = replicate bridges [] })
 none_posted bridges cycles few_bridges few_cycles = record {
   few_bridges = few_bridges;
   few_cycles = few_cycles;
@@ -44,6 +51,7 @@ none_posted bridges cycles few_bridges few_cycles = record {
   in_place = λ bridge cycle page found. absurd (none-some page (sym (ap (λ (row : List Page). slice_get row cycle) (none_at bridges bridge)) ∙ found));
 }
 
+-- and with the first totals
 pub none_kept : (bridges cycles : ℕ) (pages : List (List Page)) (frames octets : List ℕ) → bridges ≤ 32 → cycles ≤ 100000
     → pages ≡ replicate bridges [] → frames ≡ replicate 256 0 → octets ≡ replicate 256 0
     → AreKept (record { bridges = bridges; cycles = cycles; pages = pages }) frames octets
@@ -53,27 +61,37 @@ none_kept bridges cycles pages frames octets few_bridges few_cycles is_pages is_
     (subst (λ (os : List ℕ). AreKept (record { bridges = bridges; cycles = cycles; pages = replicate bridges [] }) (replicate 256 0) os) (sym is_octets)
     (record { posted_so = none_posted bridges cycles few_bridges few_cycles; totals = none_totals bridges })))
 
+-- rows of pages, of which a bridge's has one more page
+abbrev rows_with : List (List Page) → ℕ → Page → List (List Page)
+rows_with rows bridge page = set rows bridge (get_or rows bridge [] ++ page ∷ [])
+
 -- what the rows of pages count together, once one has one more page
 sum_with : (f : Page → ℕ) (rows : List (List Page)) (bridge : ℕ) (page : Page) → bridge < length rows
-    → sum_by (λ (row : List Page). sum_by f row) (set rows bridge (get_or rows bridge [] ++ page ∷ [])) ≡ sum_by (λ (row : List Page). sum_by f row) rows + f page
+    → over_pages f (rows_with rows bridge page) ≡ over_pages f rows + f page
 sum_with f rows bridge page inside =
-    omega (arith, sum_by-set (λ (row : List Page). sum_by f row) rows bridge (get_or rows bridge [] ++ page ∷ []) [] inside, sum_by_push f (get_or rows bridge []) page)
+    let own = get_or rows bridge [] in
+    omega (arith, sum_by-set (λ (row : List Page). sum_by f row) rows bridge (own ++ page ∷ []) [] inside, sum_by_push f own page)
 
 -- one page more
 count_with : (rows : List (List Page)) (bridge : ℕ) (page : Page) → bridge < length rows
-    → count_of_pages (set rows bridge (get_or rows bridge [] ++ page ∷ [])) ≡ count_of_pages rows + 1
+    → count_of_pages (rows_with rows bridge page) ≡ count_of_pages rows + 1
 count_with rows bridge page inside =
-    omega (arith, sum_by-set (λ (row : List Page). length row) rows bridge (get_or rows bridge [] ++ page ∷ []) [] inside, length_push (get_or rows bridge []) page)
+    let own = get_or rows bridge [] in
+    omega (arith, sum_by-set (λ (row : List Page). length row) rows bridge (own ++ page ∷ []) [] inside, length_push own page)
 
 -- the totals, once a page's starts are added
 totals_with : (rows : List (List Page)) (bridge : ℕ) (page : Page) (frames octets frames_after octets_after : List ℕ) → bridge < length rows
     → AreTotals rows frames octets → AreAdded page.starts.items frames octets frames_after octets_after → AreFew page.starts.items
-    → AreTotals (set rows bridge (get_or rows bridge [] ++ page ∷ [])) frames_after octets_after
+    → AreTotals (rows_with rows bridge page) frames_after octets_after
 totals_with rows bridge page frames octets frames_after octets_after inside before added few = record {
   all_frames = added.all_frames;
   all_octets = added.all_octets;
-  are_frames = λ link below. omega (arith, added.frames_add link below, before.are_frames link below, sum_with (λ (p : Page). frames_on link p.starts.items) rows bridge page inside);
-  are_octets = λ link below. omega (arith, added.octets_add link below, before.are_octets link below, sum_with (λ (p : Page). octets_on link p.starts.items) rows bridge page inside);
+  are_frames = λ link below.
+      let more = sum_with (λ (p : Page). frames_on link p.starts.items) rows bridge page inside in
+      omega (arith, added.frames_add link below, before.are_frames link below, more);
+  are_octets = λ link below.
+      let more = sum_with (λ (p : Page). octets_on link p.starts.items) rows bridge page inside in
+      omega (arith, added.octets_add link below, before.are_octets link below, more);
   few_frames = λ link below. omega (arith, added.frames_add link below, before.few_frames link below, few.few_frames link, count_with rows bridge page inside);
   few_octets = λ link below. omega (arith, added.octets_add link below, before.few_octets link below, few.few_octets link, count_with rows bridge page inside);
 }
@@ -93,10 +111,12 @@ pushed_at (first ∷ row) page other (suc place) found = elim (pushed_at row pag
 row_with : (posted : Posted) (page : Page) (bridge : ℕ) → page.bridge < length posted.pages
     → ((bridge ≡ page.bridge) × (pages_of (with_page posted page) bridge ≡ pages_of posted page.bridge ++ page ∷ []))
     ⊎ (pages_of (with_page posted page) bridge ≡ pages_of posted bridge)
-row_with posted page bridge inside = elim (cases_eq bridge page.bridge) [
-  | inl same ↦ inl (same, ap (λ (k : ℕ). pages_of (with_page posted page) k) same ∙ get_or-set_same posted.pages page.bridge (pages_of posted page.bridge ++ page ∷ []) [] inside)
-  | inr differs ↦ inr (get_or-set_other posted.pages page.bridge bridge (pages_of posted page.bridge ++ page ∷ []) [] differs)
-]
+row_with posted page bridge inside =
+    let own = pages_of posted page.bridge ++ page ∷ [] in
+    elim (cases_eq bridge page.bridge) [
+      | inl same ↦ inl (same, ap (λ (k : ℕ). pages_of (with_page posted page) k) same ∙ get_or-set_same posted.pages page.bridge own [] inside)
+      | inr differs ↦ inr (get_or-set_other posted.pages page.bridge bridge own [] differs)
+    ]
 
 -- the next page keeps what pages keep
 pub next_posted : (posted : Posted) (page : Page) → ArePosted posted → IsNext posted page → ArePosted (with_page posted page)
@@ -131,8 +151,9 @@ next_kept posted page frames octets frames_after octets_after bridge own row bef
     get_or_read posted.pages bridge own (omega arith) is_own [] ∙ ap (λ (k : ℕ). pages_of posted k) at in
     let next : IsNext posted page = (of_bridge, of_cycle, omega (arith, ap length own_pages)) in
     let pages : set posted.pages bridge row ≡ set posted.pages page.bridge (pages_of posted page.bridge ++ page ∷ []) =
-    ap (λ (k : ℕ). set posted.pages k row) at ∙ ap (λ (r : List Page). set posted.pages page.bridge r) (is_row ∙ ap (λ (r : List Page). r ++ page ∷ []) own_pages) in
-    subst (λ (rows : List (List Page)). AreKept (record { bridges = posted.bridges; cycles = posted.cycles; pages = rows }) frames_after octets_after) (sym pages)
+    ap (λ (k : ℕ). set posted.pages k row) at
+    ∙ ap (λ (r : List Page). set posted.pages page.bridge r) (is_row ∙ ap (λ (r : List Page). r ++ page ∷ []) own_pages) in
+    subst (λ (rows : List (List Page)). AreKept (record posted { pages = rows }) frames_after octets_after) (sym pages)
     (record {
       posted_so = next_posted posted page before.posted_so next;
       totals = totals_with posted.pages page.bridge page frames octets frames_after octets_after inside before.totals added few;
@@ -146,7 +167,7 @@ pub same_kept : (posted : Posted) (frames octets frames_after octets_after : Lis
 same_kept posted frames octets frames_after octets_after bridge own row before of_bridge is_own is_row is_frames is_octets =
     let pages : set posted.pages bridge row ≡ posted.pages =
     ap (λ (r : List Page). set posted.pages bridge r) (is_row ∙ is_own) ∙ set-get_or posted.pages bridge own in
-    let at : List (List Page) → List ℕ → List ℕ → Type 0 = λ rows fs os. AreKept (record { bridges = posted.bridges; cycles = posted.cycles; pages = rows }) fs os in
+    let at : List (List Page) → List ℕ → List ℕ → Type 0 = λ rows fs os. AreKept (record posted { pages = rows }) fs os in
     subst (λ (rows : List (List Page)). at rows frames_after octets_after) (sym pages)
     (subst (λ (fs : List ℕ). at posted.pages fs octets_after) (sym is_frames)
     (subst (λ (os : List ℕ). at posted.pages frames os) (sym is_octets) before))
@@ -158,7 +179,8 @@ room_for_next posted frames octets kept =
     let facts = kept.posted_so in
     let each : All (λ (row : List Page). length row ≤ 100000) rows = λ k d inside.
     omega (arith, facts.in_cycles k, facts.few_cycles, ap length (get_or_default rows k d [] inside)) in
-    let count : count_of_pages rows ≤ 3200000 = omega (arith, sum_by-le (λ (row : List Page). length row) 100000 rows each, facts.each_bridge, facts.few_bridges) in
+    let count : count_of_pages rows ≤ 3200000 =
+    omega (arith, sum_by-le (λ (row : List Page). length row) 100000 rows each, facts.each_bridge, facts.few_bridges) in
     record {
       all_frames = kept.totals.all_frames;
       all_octets = kept.totals.all_octets;

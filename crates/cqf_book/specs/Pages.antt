@@ -1,5 +1,6 @@
 -- The pages that the bridges have posted, what makes a page the next one, and what the pages have on a link (profile).
-use Rattle.std.specs.Prelude.{ℕ, ◌≡◌, ◌<◌, ◌≤◌, ◌==◌, ◌++◌, List, [], ◌∷◌, Option, Some, length, if◌then◌else◌, count_by, sum_by, slice_get, slice_index_or, slice_set}
+use Rattle.std.specs.Prelude.{ℕ, ◌≡◌, ◌<◌, ◌≤◌, ◌==◌, ◌++◌, List, [], ◌∷◌, length, if◌then◌else◌, count_by, sum_by}
+use Rattle.std.specs.Prelude.{Option, Some, slice_get, slice_index_or, slice_set}
 use Rattle.cqf_model.specs.declared.frames.Page.{Page}
 use Rattle.cqf_model.specs.declared.frames.Started.{Started}
 
@@ -69,9 +70,13 @@ frames_on link starts = count_by (λ (start : Started). start.link == link) star
 abbrev pub octets_on : ℕ → List Started → ℕ
 octets_on link starts = sum_by (λ (start : Started). if start.link == link then start.octets else 0) starts
 
--- the same of the starts of all pages: the background frames aren't among them
+-- a sum over all pages
+abbrev pub over_pages : (Page → ℕ) → List (List Page) → ℕ
+over_pages of_page pages = sum_by (λ (row : List Page). sum_by of_page row) pages
+
+-- what the starts of all pages have on the link: the background frames aren't among them
 abbrev pub frames_posted : ℕ → List (List Page) → ℕ
-frames_posted link pages = sum_by (λ (row : List Page). sum_by (λ (page : Page). frames_on link page.starts.items) row) pages
+frames_posted link pages = over_pages (λ (page : Page). frames_on link page.starts.items) pages
 
 abbrev pub octets_posted : ℕ → List (List Page) → ℕ
-octets_posted link pages = sum_by (λ (row : List Page). sum_by (λ (page : Page). octets_on link page.starts.items) row) pages
+octets_posted link pages = over_pages (λ (page : Page). octets_on link page.starts.items) pages

@@ -1,6 +1,7 @@
 //! The pages of all bridges.
 ghost use Rattle.std.specs.Prelude.{◌≡◌, ◌<◌, ◌≤◌, ◌↔◌, [], IfErr, IfOk, IsErrOf, OnErr, OnOk, length, option_copied, replicate};
-ghost use Rattle.cqf_book.specs.Pages.{ArePosted, AreWhole, IsDouble, IsNext, IsOfStrangeBridge, IsOfStrangeCycle, SkipsCycle, frames_posted, octets_posted, page_at, with_page};
+ghost use Rattle.cqf_book.specs.Pages.{ArePosted, AreWhole, IsDouble, IsNext, IsOfStrangeBridge, IsOfStrangeCycle, SkipsCycle};
+ghost use Rattle.cqf_book.specs.Pages.{frames_posted, octets_posted, page_at, with_page};
 ghost use Rattle.cqf_book.specs.Whole.{IsLeastBelow};
 
 use crate::bridge_pages::BridgePages;

@@ -17,13 +17,20 @@ invariant_of-self-2 c =
     let posted : Posted = record { bridges = c.self.inside.bridges; cycles = c.self.inside.cycles; pages = c.self.inside.posted.items } in
     let frames = c.self.inside.totals.frames.items in
     let octets = c.self.inside.totals.octets.items in
+    let frames_after = c.push.new.totals.frames.items in
+    let octets_after = c.push.new.totals.octets.items in
+    let bridge = c.from.result in
+    let own = c.index_mut-own.result.now in
+    let row = c.push.new.self in
     let of_bridge : c.args.page.bridge < c.self.inside.bridges = omega arith in
     let of_cycle : c.args.page.cycle.0 < c.self.inside.cycles = omega arith in
-    let not_before : length c.index_mut-own.result.now ≤ c.args.page.cycle.0 = omega arith in
-    let not_behind : c.args.page.cycle.0 ≤ length c.index_mut-own.result.now = omega arith in
+    let not_before : length own ≤ c.args.page.cycle.0 = omega arith in
+    let not_behind : c.args.page.cycle.0 ≤ length own = omega arith in
     elim c.match-push.branch [
-      | in-Ok w ↦ next_kept posted c.args.page frames octets c.push.new.totals.frames.items c.push.new.totals.octets.items c.from.result c.index_mut-own.result.now c.push.new.self
-          c.self.invariant c.from.ensures of_bridge of_cycle c.index_mut-own.ensures.value not_before not_behind w.in-Ok.ensures.ok w.in-Ok.ensures.added w.in-Ok.ensures.few
-      | in-Err w ↦ same_kept posted frames octets c.push.new.totals.frames.items c.push.new.totals.octets.items c.from.result c.index_mut-own.result.now c.push.new.self
-          c.self.invariant (omega arith) c.index_mut-own.ensures.value w.in-Err.ensures.err (ap (λ (t : LinkTotals). t.frames.items) w.in-Err.ensures.same) (ap (λ (t : LinkTotals). t.octets.items) w.in-Err.ensures.same)
+      | in-Ok w ↦ next_kept posted c.args.page frames octets frames_after octets_after bridge own row
+          c.self.invariant c.from.ensures of_bridge of_cycle c.index_mut-own.ensures.value not_before not_behind
+          w.in-Ok.ensures.ok w.in-Ok.ensures.added w.in-Ok.ensures.few
+      | in-Err w ↦ same_kept posted frames octets frames_after octets_after bridge own row
+          c.self.invariant (omega arith) c.index_mut-own.ensures.value w.in-Err.ensures.err
+          (ap (λ (t : LinkTotals). t.frames.items) w.in-Err.ensures.same) (ap (λ (t : LinkTotals). t.octets.items) w.in-Err.ensures.same)
     ]
