@@ -1,3 +1,4 @@
 pub mod Verdicts
 pub mod Closed
 mod Streams
+mod Backgrounds

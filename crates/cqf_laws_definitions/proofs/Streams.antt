@@ -5,16 +5,17 @@ use Rattle.std.specs.List.{flat_map, list_any}
 use Rattle.std.proofs.lemmas.Bool.{cases_Bool, eq-eqb, eqb-false, eqb-true}
 use Rattle.cqf_units.specs.Timing.{cost_of}
 use Rattle.cqf_lists.proofs.Any.{any_member}
+use Rattle.cqf_lists.proofs.Members.{member_any}
 use Rattle.cqf_lists.proofs.EachOnce.{once_apart, once_covers, once_from}
 use Rattle.cqf_lists.proofs.Contained.{contains_filter, contains_from_filter, contains_from_map, contains_map}
 use Rattle.cqf_model.specs.declared.topology.Hop.{Hop}
-use Rattle.cqf_model.specs.Domain.{bridge_of}
+use Rattle.cqf_model.specs.Domain.{bridge_of, leaves}
 use Rattle.cqf_model.specs.Network.{queued_frame}
 use Rattle.cqf_model.specs.Table.{IsHop, bridges_of, goes_to, links_of, residence, same_way}
 use Rattle.cqf_model.specs.Traffic.{came_by}
 use Rattle.cqf_model.proofs.Residence.{depth_within_residence, residence_met}
 use Rattle.cqf_laws_definitions.specs.TrafficLaws.{FramesGoToNoOtherPort}
-use Rattle.cqf_laws_definitions.specs.TreeLaws.{FramesGoOnByTheirTree, GatesStandWhereLinksLeave, LeadsOn, OneGateABridge, ResidenceIsTheGreatestDepth, StreamsCostNothingElsewhere}
+use Rattle.cqf_laws_definitions.specs.TreeLaws.{FramesGoOnByTheirTree, FramesGoOnWhereALinkLeaves, GatesStandWhereLinksLeave, LeadsOn, OneGateABridge, ResidenceIsTheGreatestDepth, StreamsCostNothingElsewhere}
 
 -- a number that is none of some isn't found among them
 not_among : (l : ℕ) (xs : List ℕ) → ¬ Contains xs l → list_any (λ k. k == l) xs ≡ false
@@ -51,6 +52,12 @@ goes_on_by_tree row way link = (
       let same : same_way leads.hop.from way ≡ true = ap (λ (o : Option ℕ). same_way o way) leads.comes_by ∙ itself way in
       let kept = contains_filter (λ (hop : Hop). same_way hop.from way) row.tree.items leads.hop same leads.of_tree in
       subst (λ (l : ℕ). Contains (goes_to row way) l) leads.is_link (contains_map (λ (hop : Hop). hop.link) (filter (λ (hop : Hop). same_way hop.from way) row.tree.items) leads.hop kept),
+)
+
+pub goes_on_where_leaves : FramesGoOnWhereALinkLeaves
+goes_on_where_leaves d row way bridge = (
+  λ t. any_member (λ l. leaves d l bridge) (goes_to row way) t,
+  λ w. member_any (λ l. leaves d l bridge) (goes_to row way) w.0 w.1 w.2,
 )
 
 pub gates_where_links_leave : GatesStandWhereLinksLeave

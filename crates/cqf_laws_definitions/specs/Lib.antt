@@ -2,3 +2,4 @@ pub mod TrafficLaws
 pub mod TableLaws
 pub mod TimingLaws
 pub mod TreeLaws
+pub mod BackgroundLaws

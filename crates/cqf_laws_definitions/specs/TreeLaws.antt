@@ -1,10 +1,10 @@
 -- Laws about where a stream goes and what it costs, in a planner's words.
-use Rattle.std.specs.Prelude.{ℕ, ◌≡◌, ◌≢◌, ◌≤◌, ◌<◌, ◌↔◌, length, Option, AllPairs, Contains}
+use Rattle.std.specs.Prelude.{ℕ, true, ◌≡◌, ◌≢◌, ◌≤◌, ◌<◌, ◌↔◌, length, Option, AllPairs, Contains}
 use Rattle.cqf_units.specs.Timing.{cost_of}
 use Rattle.cqf_model.specs.declared.topology.Hop.{Hop}
 use Rattle.cqf_model.specs.declared.topology.Row.{Row}
-use Rattle.cqf_model.specs.Domain.{Domain, bridge_of}
-use Rattle.cqf_model.specs.Table.{IsHop, bridges_of, cost_on, goes_to, links_of, residence}
+use Rattle.cqf_model.specs.Domain.{Domain, bridge_of, leaves}
+use Rattle.cqf_model.specs.Table.{IsHop, bridges_of, cost_on, goes_on, goes_to, links_of, residence}
 
 -- a hop of the row's tree, behind a link or, at the edge, behind none
 pub record LeadsOn (row : Row) (way : Option ℕ) (link : ℕ) : Type 0 where
@@ -16,6 +16,12 @@ pub record LeadsOn (row : Row) (way : Option ℕ) (link : ℕ) : Type 0 where
 -- a frame goes on by just the links that its tree has behind the one that it came by
 abbrev pub FramesGoOnByTheirTree : Type 0
 FramesGoOnByTheirTree = (row : Row) (way : Option ℕ) (link : ℕ) → Contains (goes_to row way) link ↔ LeadsOn row way link
+
+-- and it goes on from just the bridges that one of them leaves: a hop that leaves another bridge doesn't count
+abbrev pub FramesGoOnWhereALinkLeaves : Type 0
+FramesGoOnWhereALinkLeaves =
+    (d : Domain) (row : Row) (way : Option ℕ) (bridge : ℕ) →
+    goes_on d row way bridge ≡ true ↔ ((link : ℕ) × Contains (goes_to row way) link × (leaves d link bridge ≡ true))
 
 -- a stream has a gate at just the bridges that its links leave
 abbrev pub GatesStandWhereLinksLeave : Type 0

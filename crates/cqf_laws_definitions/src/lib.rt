@@ -7,6 +7,7 @@
 //! - Frames at a bridge: [`verdicts_have_their_reason`], [`queued_frames_leave_their_bridge`],
 //!   [`frames_go_to_each_port`], [`relayed_frames_are_queued_or_lost`].
 //! - Streams and tables: [`trees_say_where_streams_go`], [`streams_let_go_in_time`], [`closed_tables_stay`].
+//! - Background frames: [`background_is_told`].
 //! - Times: [`delay_counts`].
 //!
 //! ```
@@ -15,6 +16,7 @@
 //! ```
 #![tactic(auto)]
 
+ghost use Rattle.cqf_laws_definitions.specs.BackgroundLaws.{BackgroundIsNumberedByPlace, BooksSayTheBackground, PortsSayTheirBackground};
 ghost use Rattle.cqf_laws_definitions.specs.TableLaws.{
   WithdrawnIsHeldForItsTree,
   OtherwiseItIsHeldOn,
@@ -34,6 +36,7 @@ ghost use Rattle.cqf_laws_definitions.specs.TrafficLaws.{
 };
 ghost use Rattle.cqf_laws_definitions.specs.TreeLaws.{
   FramesGoOnByTheirTree,
+  FramesGoOnWhereALinkLeaves,
   GatesStandWhereLinksLeave,
   OneGateABridge,
   ResidenceIsTheGreatestDepth,
@@ -64,11 +67,12 @@ pub fn frames_go_to_each_port()
     ensures nowhere { OtherFramesGoNowhere }
 {}
 
-/// What a tree says: a frame goes on by the links behind the one that it came by; a stream has one gate at each bridge that
+/// What a tree says: a frame goes on by the links behind the one that it came by, from the bridge that they leave; a stream has one gate at each bridge that
 /// its links leave; its frames are under way for as many cycles as its deepest link is deep; and it costs the same of each of
 /// its links, once, and nothing of another (profile).
 pub fn trees_say_where_streams_go()
     ensures goes_on { FramesGoOnByTheirTree }
+    ensures bridges { FramesGoOnWhereALinkLeaves }
     ensures gates { GatesStandWhereLinksLeave }
     ensures one_gate { OneGateABridge }
     ensures deepest { ResidenceIsTheGreatestDepth }
@@ -92,6 +96,15 @@ pub fn delay_counts()
     ensures over { EndingIsCounted }
     ensures free { GapIsCounted }
     ensures shortest { ShortestFrame }
+{}
+
+/// Background frames are numbered by their places, from 1. Of what a port starts, just the frames of no stream are its
+/// background frames, and a book has each that the links send in the run, with its cycle, link, number, octets and instant
+/// (profile).
+pub fn background_is_told()
+    ensures numbers { BackgroundIsNumberedByPlace }
+    ensures ports { PortsSayTheirBackground }
+    ensures books { BooksSayTheBackground }
 {}
 
 /// No later call changes the table of a closed cycle (profile).

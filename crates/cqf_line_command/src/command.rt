@@ -80,6 +80,13 @@ mod tests {
             "what,cycle,where,frame,octets,detail\n\
             start,1,a>s,1,64,125000\nstart,2,a>s,2,64,250000\n",
         ),
+        // the last cycle of the longest run
+        (
+            100_000,
+            "at,bridge,stream,octets\n0,a,x,64\n12499750000,a,x,64\n",
+            "what,cycle,where,frame,octets,detail\n\
+            start,1,a>s,1,64,125000\nstart,99999,a>s,2,64,12499875000\n",
+        ),
         // faults
         (3, "%%\n", "cqf: parts\n"),
         (3, "", "cqf: offers: BadHeader\n"),

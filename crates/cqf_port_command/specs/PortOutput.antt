@@ -34,15 +34,6 @@ port_input input = and_then (two_parts (parts_of input)) (λ parts.
     and_then (or_line list_line (list_of_text parts.0)) (λ entries.
     and_then (or_line arrivals_line (arrivals_of parts.1)) (λ arrivals. Ok (entries, arrivals))))
 
--- the output is the text of the legal starts before the instant, for the input's gate list and arrivals
-pub record IsPortOutput (until : ℕ) (rate : Rate) (input output : List ℕ) : Type 0 where
-  pub entries : List Entry
-  pub arrivals : List Arrival
-  pub holds : port_input input ≡ Ok (entries, arrivals)
-  pub starts : List Transmission
-  pub legal : AreLegal (rules_of entries rate) arrivals until starts
-  pub written : output ≡ text_of_starts (nanos_of_octet rate) (map (start_of arrivals) starts)
-
 -- the arrivals can be offered to a port that hasn't run: each is of a class, early enough, and none is before one that
 -- stands before it
 pub record AreOfferable (arrivals : List Arrival) : Type 0 where
@@ -50,14 +41,23 @@ pub record AreOfferable (arrivals : List Arrival) : Type 0 where
   pub early : All (λ (arrival : Arrival). arrival.at.0 < 2 ^ 62) arrivals
   pub in_order : AllPairs (λ (a b : Arrival). a.at.0 ≤ b.at.0) arrivals
 
--- the values are the legal starts before the instant
+-- the values are the legal starts before the instant, and no others are legal: there is just one list of them
 pub record AreStartsOf (rules : PortRules) (arrivals : List Arrival) (until : ℕ) (found : List Start) : Type 0 where
   pub starts : List Transmission
   pub legal : AreLegal rules arrivals until starts
+  pub only : (others : List Transmission) → AreLegal rules arrivals until others → others ≡ starts
   pub values : found ≡ map (start_of arrivals) starts
 
--- the text is that of the legal starts before the instant
+-- the text is that of the legal starts before the instant, and of no others
 pub record IsStartsText (rules : PortRules) (arrivals : List Arrival) (until : ℕ) (rate : Rate) (text : List ℕ) : Type 0 where
   pub starts : List Transmission
   pub legal : AreLegal rules arrivals until starts
+  pub only : (others : List Transmission) → AreLegal rules arrivals until others → others ≡ starts
   pub written : text ≡ text_of_starts (nanos_of_octet rate) (map (start_of arrivals) starts)
+
+-- the output is the text of the only legal starts before the instant, for the input's gate list and arrivals
+pub record IsPortOutput (until : ℕ) (rate : Rate) (input output : List ℕ) : Type 0 where
+  pub entries : List Entry
+  pub arrivals : List Arrival
+  pub holds : port_input input ≡ Ok (entries, arrivals)
+  pub text : IsStartsText (rules_of entries rate) arrivals until rate output

@@ -115,7 +115,8 @@ fn starts_text(
 {
     let mut port = offered_port(alloc, list, rate, arrivals)?;
     let starts = starts_before(alloc, &mut port, until)?;
-    write_starts(alloc, starts.as_slice(), rate)
+    let text = write_starts(alloc, starts.as_slice(), rate)?;
+    Ok(text)
 }
 
 /// The output of `port`: the starts before `until`. `Err` with status 1 and the line of the first fault of the input:

@@ -215,6 +215,33 @@ const CASES: &[(&str, &str, &str)] = &[
         "streams = [{ name = \"x\", octets = 64, path = [\"a\", \"b\", \"c\", \"a\", \"c\", \"s\"] }]",
         "cqf: stream 1: LoopingPath 3\n",
     ),
+    // of its branches, whose places count as one list
+    (
+        ONE_LINK,
+        "streams = [{ name = \"x\", octets = 64, paths = [] }]",
+        "cqf: stream 1: BrokenPath 0\n",
+    ),
+    (
+        TRIANGLE,
+        "streams = [{ name = \"x\", octets = 64, paths = [[\"a\", \"c\", \"s\"], [\"a\", \"q\", \"s\"]] }]",
+        "cqf: stream 1: UnknownNode 4\n",
+    ),
+    (
+        TRIANGLE,
+        "streams = [{ name = \"x\", octets = 64, paths = [[\"a\", \"b\", \"c\", \"s\"], [\"a\", \"c\", \"s\"]] }]",
+        "cqf: stream 1: NotATree 1\n",
+    ),
+    // branches that come back are told before those that make no tree, and these before a name that is held
+    (
+        TRIANGLE,
+        "streams = [{ name = \"x\", octets = 64, paths = [[\"a\", \"c\", \"s\"], [\"a\", \"b\", \"c\", \"a\", \"c\", \"s\"]] }]",
+        "cqf: stream 1: LoopingPath 6\n",
+    ),
+    (
+        TRIANGLE,
+        "streams = [{ name = \"x\", octets = 64, path = [\"c\", \"s\"] }, { name = \"x\", octets = 64, paths = [[\"a\", \"c\", \"s\"], [\"b\", \"c\", \"s\"]] }]",
+        "cqf: stream 2: NotATree 1\n",
+    ),
 ];
 
 #[test]

@@ -1,8 +1,11 @@
-use Rattle.cqf_laws_definitions.proofs.Streams.{costs_nothing, gates_where_links_leave, goes_on_by_tree, greatest_depth, one_gate}
+use Rattle.cqf_laws_definitions.proofs.Streams.{costs_nothing, gates_where_links_leave, goes_on_by_tree, goes_on_where_leaves, greatest_depth, one_gate}
 use Rattle.cqf_laws_definitions.proofs.trees_say_where_streams_go.Goals as goal
 
 pub returns-clause-goes_on : goal.returns-clause-goes_on
 returns-clause-goes_on c = goes_on_by_tree
+
+pub returns-clause-bridges : goal.returns-clause-bridges
+returns-clause-bridges c = goes_on_where_leaves
 
 pub returns-clause-gates : goal.returns-clause-gates
 returns-clause-gates c = gates_where_links_leave
