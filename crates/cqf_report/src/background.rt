@@ -146,7 +146,6 @@ mod tests {
     use crate::TableFault;
     use cqf_fixtures::one_link;
     use std::process::Abort;
-    use std::test::Fail;
 
     /// Texts, and the background frames that they have, all of the first link.
     const READ: &[(&str, &[Background])] = &[
@@ -238,10 +237,19 @@ mod tests {
         }
     }
 
+    /// Asserts the answers over the domain of a text, which is read.
+    fn answers_over(rt: &impl Abort, alloc: Global, text: &str) -> bool {
+        match Domain::read(alloc, text.as_bytes()) {
+            Ok(domain) => {
+                answers_for_one_link(rt, alloc, &domain);
+                true
+            }
+            Err(_) => false,
+        }
+    }
+
     #[test]
-    fn frames_are_read_or_their_first_fault_is_told(rt: HostRuntime) -> Result<(), Fail> {
-        let domain = Domain::read(rt.alloc(), one_link().as_bytes())?;
-        answers_for_one_link(&rt, rt.alloc(), &domain);
-        Ok(())
+    fn frames_are_read_or_their_first_fault_is_told(rt: HostRuntime) {
+        assert!(rt; answers_over(&rt, rt.alloc(), one_link()));
     }
 }

@@ -225,24 +225,32 @@ mod tests {
     use cqf_fixtures::{one_link, ring};
     use cqf_units::{Cycle, Nanos};
     use std::process::Abort;
-    use std::test::Fail;
 
-    /// A transmission of 64 octets, by its cycle, link, frame and start.
-    type Sending = (u32, u8, u32, u64);
+    /// A transmission by its cycle, link, frame, octets and start.
+    type Sending = (u32, u8, u32, u32, u64);
 
-    /// A drop of 64 octets, by its cycle, bridge, frame and reason.
-    type Drop64 = (u32, u8, u32, Reason);
+    /// A drop of 64 octets by its cycle, bridge, frame and reason.
+    type Dropping = (u32, u8, u32, Reason);
 
-    /// The transmissions and drops of books over the ring, and their texts.
-    const OF_RING: &[(&[Sending], &[Drop64], &str)] = &[
+    /// The transmissions, background frames and drops of a book, and its text.
+    type Case = (
+        &'static [Sending],
+        &'static [Sending],
+        &'static [Dropping],
+        &'static str,
+    );
+
+    /// Books over the ring.
+    const OF_RING: &[Case] = &[
         // transmissions with the ends of their links
         (
             &[
-                (1, 1, 2, 125_000),
-                (1, 3, 1, 125_000),
-                (2, 2, 2, 250_000),
-                (2, 2, 1, 250_672),
+                (1, 1, 2, 64, 125_000),
+                (1, 3, 1, 64, 125_000),
+                (2, 2, 2, 64, 250_000),
+                (2, 2, 1, 64, 250_672),
             ],
+            &[],
             &[],
             "what,cycle,where,frame,octets,detail
 start,1,b>c,2,64,125000
@@ -253,7 +261,8 @@ start,2,c>s,1,64,250672
         ),
         // drops behind transmissions, with their reasons
         (
-            &[(3, 2, 1, 375_000)],
+            &[(3, 2, 1, 64, 375_000)],
+            &[],
             &[
                 (0, 1, 2, Reason::OtherBridge),
                 (0, 0, 6, Reason::Octets),
@@ -270,22 +279,30 @@ drop,4,a,4,64,unknown
         ),
     ];
 
-    /// The text of a book with a background frame.
-    const BETWEEN: &str = "what,cycle,where,frame,octets,detail
+    /// Books over one link.
+    const OF_ONE_LINK: &[Case] = &[
+        // background frames behind those of streams, and before drops
+        (
+            &[(1, 0, 1, 64, 125_000)],
+            &[(1, 0, 1, 1522, 125_672)],
+            &[(4, 0, 4, Reason::Unknown)],
+            "what,cycle,where,frame,octets,detail
 start,1,a>s,1,64,125000
 background,1,a>s,1,1522,125672
 drop,4,a,4,64,unknown
-";
+",
+        ),
+    ];
 
     /// The transmissions of a book.
     fn starts_of(alloc: Global, sent: &[Sending]) -> Result<Vec<Started>, Memory> {
         let mut starts = Vec::new(alloc);
-        for (cycle, link, frame, start) in sent {
+        for (cycle, link, frame, octets, start) in sent {
             starts.push(Started {
                 cycle: Cycle(*cycle),
                 link: *link,
                 frame: *frame,
-                octets: 64,
+                octets: *octets,
                 start: Nanos(*start),
             })?;
         }
@@ -293,7 +310,7 @@ drop,4,a,4,64,unknown
     }
 
     /// The drops of a book.
-    fn drops_of(alloc: Global, dropped: &[Drop64]) -> Result<Vec<Dropped>, Memory> {
+    fn drops_of(alloc: Global, dropped: &[Dropping]) -> Result<Vec<Dropped>, Memory> {
         let mut drops = Vec::new(alloc);
         for (cycle, bridge, frame, reason) in dropped {
             drops.push(Dropped {
@@ -311,12 +328,12 @@ drop,4,a,4,64,unknown
     fn book_of(
         alloc: Global,
         sent: &[Sending],
-        background: &[Started],
-        dropped: &[Drop64],
+        background: &[Sending],
+        dropped: &[Dropping],
     ) -> Result<Book, Memory> {
         Ok(Book {
             starts: starts_of(alloc, sent)?,
-            background: Vec::from_slice(alloc, background)?,
+            background: starts_of(alloc, background)?,
             drops: drops_of(alloc, dropped)?,
         })
     }
@@ -342,40 +359,28 @@ drop,4,a,4,64,unknown
         }
     }
 
-    /// Asserts the texts of the ring's books.
-    fn are_written(rt: &impl Abort, alloc: Global, domain: &Domain) {
-        for (sent, dropped, wanted) in OF_RING {
-            let book = book_of(alloc, sent, &[], dropped);
+    /// Asserts the texts of books over a domain.
+    fn are_written(rt: &impl Abort, alloc: Global, domain: &Domain, cases: &[Case]) {
+        for (sent, background, dropped, wanted) in cases {
+            let book = book_of(alloc, sent, background, dropped);
             assert!(rt; is_written(alloc, domain, book, wanted), "{wanted}");
         }
     }
 
-    #[test]
-    fn books_are_written_with_names_and_reasons(rt: HostRuntime) -> Result<(), Fail> {
-        let domain = Domain::read(rt.alloc(), ring().as_bytes())?;
-        are_written(&rt, rt.alloc(), &domain);
-        Ok(())
-    }
-
-    /// Whether a background frame is written behind those of streams, and before drops.
-    fn is_between(alloc: Global, domain: &Domain) -> bool {
-        let background = Started {
-            cycle: Cycle(1),
-            link: 0,
-            frame: 1,
-            octets: 1522,
-            start: Nanos(125_672),
-        };
-        let sent = [(1, 0, 1, 125_000)];
-        let dropped = [(4, 0, 4, Reason::Unknown)];
-        let book = book_of(alloc, &sent, &[background], &dropped);
-        is_written(alloc, domain, book, BETWEEN)
+    /// Asserts the texts of books over the domain of a text, which is read.
+    fn are_written_over(rt: &impl Abort, alloc: Global, text: &str, cases: &[Case]) -> bool {
+        match Domain::read(alloc, text.as_bytes()) {
+            Ok(domain) => {
+                are_written(rt, alloc, &domain, cases);
+                true
+            }
+            Err(_) => false,
+        }
     }
 
     #[test]
-    fn background_frames_are_written_behind_those_of_streams(rt: HostRuntime) -> Result<(), Fail> {
-        let domain = Domain::read(rt.alloc(), one_link().as_bytes())?;
-        assert!(rt; is_between(rt.alloc(), &domain));
-        Ok(())
+    fn books_are_written_with_names_and_reasons(rt: HostRuntime) {
+        assert!(rt; are_written_over(&rt, rt.alloc(), ring(), OF_RING));
+        assert!(rt; are_written_over(&rt, rt.alloc(), one_link(), OF_ONE_LINK));
     }
 }
