@@ -2,8 +2,9 @@
 
 ghost use Rattle.std.specs.Prelude.{ℕ, ◌≡◌, ◌++◌, ◌∷◌, List, [], IfOk, Some};
 ghost use Rattle.std.specs.String.{string_bytes};
+ghost use Rattle.cqf_model.specs.Book.{contents_of};
 ghost use Rattle.cqf_report.specs.Written.{ArePlain, HasWritten, IsPlain, line_of};
-ghost use Rattle.cqf_report.specs.Books.{book_header, contents_of, dropped_fields, ends_of, lines_of_drops, lines_of_starts, name_of_bridge, name_of_link, name_of_node, name_of_reason, started_fields, text_of_book};
+ghost use Rattle.cqf_report.specs.Books.{book_header, dropped_fields, ends_of, lines_of_drops, lines_of_starts, name_of_bridge, name_of_link, name_of_node, name_of_reason, started_fields, text_of_book};
 
 use crate::lines::{open_writer, write_line, written_text};
 use cqf_model::{Book, Dropped, Link, Node, Reason, Started};
