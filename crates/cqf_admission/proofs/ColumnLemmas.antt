@@ -1,5 +1,6 @@
 -- The columns of costs and masks beside the rows of held streams.
-use Rattle.std.proofs.Common.{◌≡◌, ℕ, ◌+◌, ◌*◌, ◌<◌, ◌≤◌, ◌^◌, Bool, true, false, cond, List, [], ◌∷◌, ◌++◌, ◌==◌, ◌||◌, not, length, map, max, fold, bit_and, refl, ap, ◌∙◌, sym, arith, inl, inr, nat_lt, length-append}
+use Rattle.std.proofs.Common.{◌≡◌, ℕ, ◌+◌, ◌*◌, ◌<◌, ◌≤◌, ◌^◌, Bool, true, false, cond, List, [], ◌∷◌, ◌++◌, ◌==◌, ◌||◌, not, length, map, max, fold, bit_and}
+use Rattle.std.proofs.Common.{refl, ap, ◌∙◌, sym, arith, inl, inr, nat_lt, length-append}
 use Rattle.std.specs.Prelude.{if◌then◌else◌, bit_or}
 use Rattle.std.specs.Int.{bit_at}
 use Rattle.std.specs.List.{list_any, zip}
@@ -21,7 +22,8 @@ bit_with : (mask x l : ℕ) → l < 64 → bit_at (with_link mask x) l ≡ max (
 bit_with mask x l low = elim (cases_Bool (nat_lt x 64)) [
   | inl t ↦ ap (λ (b : Bool). bit_at (if b then bit_or mask (2 ^ x) else mask) l) t ∙ bit_at_or mask (2 ^ x) l ∙ ap (max (bit_at mask l)) (own x)
   | inr f ↦ (let other : (x == l) ≡ false = ne_eqb x l (λ same. absurd (omega (arith, past x f, same, low))) in
-      ap (λ (b : Bool). bit_at (if b then bit_or mask (2 ^ x) else mask) l) f ∙ (let none : bit_at mask l ≡ max (bit_at mask l) 0 = omega arith in none) ∙ ap (λ (b : Bool). max (bit_at mask l) (cond b 1 0)) (sym other))
+      ap (λ (b : Bool). bit_at (if b then bit_or mask (2 ^ x) else mask) l) f ∙ (let none : bit_at mask l ≡ max (bit_at mask l) 0 = omega arith in none)
+      ∙ ap (λ (b : Bool). max (bit_at mask l) (cond b 1 0)) (sym other))
 ]
   where
     own : (k : ℕ) → bit_at (2 ^ k) l ≡ cond (k == l) 1 0
@@ -33,6 +35,7 @@ bit_with mask x l low = elim (cases_Bool (nat_lt x 64)) [
     past : (k : ℕ) → nat_lt k 64 ≡ false → 64 ≤ k
     past k f = ltb-false k 64 f
 
+-- the bits of some links on top of a mask
 bits_of : (links : List ℕ) (mask l : ℕ) → l < 64 → bit_at (fold with_link mask links) l ≡ max (bit_at mask l) (cond (list_any (λ k. k == l) links) 1 0)
 bits_of [] mask l low = omega arith
 bits_of (x ∷ links) mask l low =
@@ -55,13 +58,16 @@ test_of_bit mask l false e =
     let none : bit_and mask (2 ^ l) ≡ 0 = and_pow mask l ∙ ap (λ (n : ℕ). n * 2 ^ l) e ∙ omega arith in
     ap not (eq-eqb (bit_and mask (2 ^ l)) 0 none)
 
+-- a row's mask tells which links its stream goes by
 pub mask_tells : (row : Row) (l : ℕ) → l < 64 → has_bit (mask_of row) l ≡ crosses row l
 mask_tells row l low =
     test_of_bit (mask_of row) l (crosses row l)
-    (bits_of (links_of row) 0 l low ∙ ap (λ (n : ℕ). max n (cond (crosses row l) 1 0)) (bit_at-zero l) ∙ (let none : max 0 (cond (crosses row l) 1 0) ≡ cond (crosses row l) 1 0 = omega arith in none))
+    (bits_of (links_of row) 0 l low ∙ ap (λ (n : ℕ). max n (cond (crosses row l) 1 0)) (bit_at-zero l)
+    ∙ (let none : max 0 (cond (crosses row l) 1 0) ≡ cond (crosses row l) 1 0 = omega arith in none))
 
 -- ---- a sum over the columns
 
+-- the masked sum of a row's costs is what the rows cost of a link
 pub column_cost : (rows : List Row) (l : ℕ) → l < 64 → masked_total l (map (λ (row : Row). cost_of row.octets) rows) (map mask_of rows) ≡ link_cost rows l
 column_cost [] l low = refl
 column_cost (x ∷ rows) l low =
@@ -72,24 +78,34 @@ column_cost (x ∷ rows) l low =
     ∙ ap (λ (n : ℕ). cost_on x l + n) (column_cost rows l low)
     ∙ sym (sum_by-cons (λ (row : Row). cost_on row l) x rows)
 
-pub cost_by_columns : (names : List (List ℕ)) (rows : List Row) (costs masks : List ℕ) (l : ℕ) → HaveColumns names rows costs masks → l < 64 → masked_total l costs masks ≡ link_cost rows l
+-- so the columns say what the held streams cost of a link
+pub cost_by_columns : (names : List (List ℕ)) (rows : List Row) (costs masks : List ℕ) (l : ℕ) → HaveColumns names rows costs masks → l < 64 →
+    masked_total l costs masks ≡ link_cost rows l
 cost_by_columns names rows costs masks l h low =
-    ap (λ (xs : List ℕ). masked_total l xs masks) h.are_costs ∙ ap (masked_total l (map (λ (row : Row). cost_of row.octets) rows)) h.are_masks ∙ column_cost rows l low
+    ap (λ (xs : List ℕ). masked_total l xs masks) h.are_costs ∙ ap (masked_total l (map (λ (row : Row). cost_of row.octets) rows)) h.are_masks
+    ∙ column_cost rows l low
 
+-- the columns are as long as one another
 pub columns_side_by_side : (names : List (List ℕ)) (rows : List Row) (costs masks : List ℕ) → HaveColumns names rows costs masks → length costs ≡ length masks
 columns_side_by_side names rows costs masks h =
-    ap (λ (xs : List ℕ). length xs) h.are_costs ∙ length-map rows (λ (row : Row). cost_of row.octets) ∙ sym (length-map rows mask_of) ∙ ap (λ (xs : List ℕ). length xs) (sym h.are_masks)
+    ap (λ (xs : List ℕ). length xs) h.are_costs ∙ length-map rows (λ (row : Row). cost_of row.octets) ∙ sym (length-map rows mask_of)
+    ∙ ap (λ (xs : List ℕ). length xs) (sym h.are_masks)
 
+-- and have 1,024 places at most
 pub columns_few : (names : List (List ℕ)) (rows : List Row) (costs masks : List ℕ) → HaveColumns names rows costs masks → length costs ≤ 1024
 columns_few names rows costs masks h = omega (arith, h.few, ap (λ (xs : List ℕ). length xs) h.are_costs, length-map rows (λ (row : Row). cost_of row.octets))
 
 -- a column of one row more
-pub column_pushed : {X : Type 0} (f : Row → X) (rows rows_after : List Row) (row : Row) (xs after : List X) → rows_after ≡ rows ++ row ∷ [] → xs ≡ map f rows → after ≡ xs ++ f row ∷ [] → after ≡ map f rows_after
+pub column_pushed : {X : Type 0} (f : Row → X) (rows rows_after : List Row) (row : Row) (xs after : List X) → rows_after ≡ rows ++ row ∷ [] → xs ≡ map f rows →
+    after ≡ xs ++ f row ∷ [] → after ≡ map f rows_after
 column_pushed {X} f rows rows_after row xs after r is more =
     more ∙ ap (λ (ys : List X). ys ++ f row ∷ []) is ∙ sym (ap (map f) r ∙ map-append f rows (row ∷ []))
 
 -- a row more, with its name, its cost and its mask
-pub columns_pushed : (names : List (List ℕ)) (rows : List Row) (costs masks : List ℕ) (row : Row) (names_after : List (List ℕ)) (rows_after : List Row) (costs_after masks_after : List ℕ) → HaveColumns names rows costs masks → length rows < 1024 → names_after ≡ names ++ row.name ∷ [] → rows_after ≡ rows ++ row ∷ [] → costs_after ≡ costs ++ cost_of row.octets ∷ [] → masks_after ≡ masks ++ mask_of row ∷ [] → HaveColumns names_after rows_after costs_after masks_after
+pub columns_pushed : (names : List (List ℕ)) (rows : List Row) (costs masks : List ℕ) (row : Row) (names_after : List (List ℕ)) (rows_after : List Row)
+    (costs_after masks_after : List ℕ) → HaveColumns names rows costs masks → length rows < 1024 → names_after ≡ names ++ row.name ∷ [] →
+    rows_after ≡ rows ++ row ∷ [] → costs_after ≡ costs ++ cost_of row.octets ∷ [] → masks_after ≡ masks ++ mask_of row ∷ [] →
+    HaveColumns names_after rows_after costs_after masks_after
 columns_pushed names rows costs masks row names_after rows_after costs_after masks_after h few n r c m = record {
   are_names = column_pushed (λ (x : Row). x.name) rows rows_after row names names_after r h.are_names n;
   are_costs = column_pushed (λ (x : Row). cost_of x.octets) rows rows_after row costs costs_after r h.are_costs c;

@@ -1,5 +1,6 @@
 -- The reasons against a request, one after the other.
-use Rattle.std.proofs.Common.{◌≡◌, ℕ, ◌+◌, ◌<◌, ◌≤◌, Bool, true, false, cond, List, Option, Some, None, [], ◌∷◌, ◌&&◌, not, length, position, refl, ap, ◌∙◌, sym, arith, inl, inr, nat_lt, get_or, add-one}
+use Rattle.std.proofs.Common.{◌≡◌, ℕ, ◌+◌, ◌<◌, ◌≤◌, Bool, true, false, cond, List, Option, Some, None, [], ◌∷◌, ◌&&◌, not, length, position, refl, ap, ◌∙◌}
+use Rattle.std.proofs.Common.{sym, arith, inl, inr, nat_lt, get_or, add-one}
 use Rattle.std.specs.Prelude.{Contains, is_none, is_some, nat_le, slice_get}
 use Rattle.std.specs.List.{flat_map, list_any, position_or_len}
 use Rattle.std.proofs.lemmas.Bool.{and_from, both_ways, cases_Bool, le-leb, ltb-false, lt-leb, ltb-true}
@@ -10,7 +11,8 @@ use Rattle.cqf_units.specs.Name.{is_name}
 use Rattle.cqf_units.specs.Timing.{cost_of}
 use Rattle.cqf_units.specs.declared.reservations.Cycle.{Cycle}
 use Rattle.cqf_model.specs.declared.history.Refused.{Refused}
-use Rattle.cqf_model.specs.declared.history.Refused.TheVariants.{BadName, BadOctets, UnknownNode, BrokenPath, LoopingPath, NotATree, NameHeld, TooManyStreams, AlreadyWithdrawn}
+use Rattle.cqf_model.specs.declared.history.Refused.TheVariants.{BadName, BadOctets, UnknownNode, BrokenPath, LoopingPath, NotATree, NameHeld, TooManyStreams}
+use Rattle.cqf_model.specs.declared.history.Refused.TheVariants.{AlreadyWithdrawn}
 use Rattle.cqf_model.specs.declared.history.Reply.TheVariants.{Refused as RefusedFor}
 use Rattle.cqf_model.specs.declared.topology.Hop.{Hop}
 use Rattle.cqf_model.specs.declared.topology.Row.{Row}
@@ -23,6 +25,7 @@ use Rattle.cqf_laws_history.specs.StateLaws.{granted_row}
 use Rattle.cqf_admission.specs.Grants.{HaveNames, short_refusal}
 use Rattle.cqf_admission.specs.Branches.{tree_refusal}
 
+-- the first of five refusals, in two groups
 or_else_assoc : (a b c e rest : Option Refused) → or_else a (or_else b (or_else c (or_else e rest))) ≡ or_else (or_else a (or_else b (or_else c e))) rest
 or_else_assoc (Some x) b c e rest = refl
 or_else_assoc None (Some x) c e rest = refl
@@ -37,59 +40,76 @@ later_refusal d rows asked =
     (short_refusal d rows (cost_of asked.octets) (tree_of d asked.paths)))
 
 -- with a good form the branches decide first
-pub refusal_by_tree : (d : Domain) (rows : List Row) (asked : Asked) → is_name asked.name ≡ true → 64 ≤ asked.octets → asked.octets ≤ 60000 → refusal_of d rows asked ≡ or_else (tree_refusal d asked.paths) (later_refusal d rows asked)
+pub refusal_by_tree : (d : Domain) (rows : List Row) (asked : Asked) → is_name asked.name ≡ true → 64 ≤ asked.octets → asked.octets ≤ 60000 →
+    refusal_of d rows asked ≡ or_else (tree_refusal d asked.paths) (later_refusal d rows asked)
 refusal_by_tree d rows asked name least_octets most_octets =
-    let in_range : (nat_le 64 asked.octets && nat_le asked.octets 60000) ≡ true = and_from (nat_le 64 asked.octets) (nat_le asked.octets 60000) (le-leb 64 asked.octets least_octets) (le-leb asked.octets 60000 most_octets) in
+    let in_range : (nat_le 64 asked.octets && nat_le asked.octets 60000) ≡ true =
+    and_from (nat_le 64 asked.octets) (nat_le asked.octets 60000) (le-leb 64 asked.octets least_octets) (le-leb asked.octets 60000 most_octets) in
     let unknown = refused_at (λ place. UnknownNode place) (position (λ n. is_none (node_named d n)) (flat_map (λ branch. branch) asked.paths)) in
     let broken = refused_at (λ place. BrokenPath place) (broken_place d asked.paths) in
     let looping = refused_at (λ place. LoopingPath place) (first_place (is_loop_at d) asked.paths) in
     let stray = refused_at (λ branch. NotATree branch) (least (is_stray asked.paths) (length asked.paths)) in
     let later = later_refusal d rows asked in
-    ap (λ (b : Bool). or_else (refused_if (not b) BadName) (or_else (refused_if (not (nat_le 64 asked.octets && nat_le asked.octets 60000)) BadOctets) (or_else unknown (or_else broken (or_else looping (or_else stray later)))))) name
+    ap (λ (b : Bool). or_else (refused_if (not b) BadName)
+    (or_else (refused_if (not (nat_le 64 asked.octets && nat_le asked.octets 60000)) BadOctets)
+    (or_else unknown (or_else broken (or_else looping (or_else stray later)))))) name
     ∙ ap (λ (b : Bool). or_else (refused_if (not b) BadOctets) (or_else unknown (or_else broken (or_else looping (or_else stray later))))) in_range
     ∙ or_else_assoc unknown broken looping stray later
 
-pub refusal_later : (d : Domain) (rows : List Row) (asked : Asked) → is_name asked.name ≡ true → 64 ≤ asked.octets → asked.octets ≤ 60000 → tree_refusal d asked.paths ≡ None → refusal_of d rows asked ≡ later_refusal d rows asked
+-- where the form is right, the refusals behind it decide
+pub refusal_later : (d : Domain) (rows : List Row) (asked : Asked) → is_name asked.name ≡ true → 64 ≤ asked.octets → asked.octets ≤ 60000 →
+    tree_refusal d asked.paths ≡ None → refusal_of d rows asked ≡ later_refusal d rows asked
 refusal_later d rows asked name least_octets most_octets path =
     refusal_by_tree d rows asked name least_octets most_octets ∙ ap (λ (o : Option Refused). or_else o (later_refusal d rows asked)) path
 
 -- the last reason, where the name is free and there are not too many streams
-pub refusal_last : (d : Domain) (rows : List Row) (asked : Asked) → list_any (λ (row : Row). is_text row.name asked.name) rows ≡ false → length rows < 1024 → later_refusal d rows asked ≡ short_refusal d rows (cost_of asked.octets) (tree_of d asked.paths)
+pub refusal_last : (d : Domain) (rows : List Row) (asked : Asked) → list_any (λ (row : Row). is_text row.name asked.name) rows ≡ false → length rows < 1024 →
+    later_refusal d rows asked ≡ short_refusal d rows (cost_of asked.octets) (tree_of d asked.paths)
 refusal_last d rows asked free few =
     let last = short_refusal d rows (cost_of asked.octets) (tree_of d asked.paths) in
     ap (λ (b : Bool). or_else (refused_if b NameHeld) (or_else (refused_if (nat_le 1024 (length rows)) TooManyStreams) last)) free
     ∙ ap (λ (b : Bool). or_else (refused_if b TooManyStreams) last) (lt-leb 1024 (length rows) few)
 
-pub refusal_many : (d : Domain) (rows : List Row) (asked : Asked) → list_any (λ (row : Row). is_text row.name asked.name) rows ≡ false → 1024 ≤ length rows → later_refusal d rows asked ≡ Some TooManyStreams
+-- too many streams are refused where the name is free
+pub refusal_many : (d : Domain) (rows : List Row) (asked : Asked) → list_any (λ (row : Row). is_text row.name asked.name) rows ≡ false → 1024 ≤ length rows →
+    later_refusal d rows asked ≡ Some TooManyStreams
 refusal_many d rows asked free many =
     let last = short_refusal d rows (cost_of asked.octets) (tree_of d asked.paths) in
     ap (λ (b : Bool). or_else (refused_if b NameHeld) (or_else (refused_if (nat_le 1024 (length rows)) TooManyStreams) last)) free
     ∙ ap (λ (b : Bool). or_else (refused_if b TooManyStreams) last) (le-leb 1024 (length rows) many)
 
-pub refusal_held : (d : Domain) (rows : List Row) (asked : Asked) → list_any (λ (row : Row). is_text row.name asked.name) rows ≡ true → later_refusal d rows asked ≡ Some NameHeld
+-- a name that is held is refused
+pub refusal_held : (d : Domain) (rows : List Row) (asked : Asked) → list_any (λ (row : Row). is_text row.name asked.name) rows ≡ true →
+    later_refusal d rows asked ≡ Some NameHeld
 refusal_held d rows asked held =
     let last = short_refusal d rows (cost_of asked.octets) (tree_of d asked.paths) in
     ap (λ (b : Bool). or_else (refused_if b NameHeld) (or_else (refused_if (nat_le 1024 (length rows)) TooManyStreams) last)) held
 
 -- a row by its name and its tree
-pub row_granted : (d : Domain) (number : ℕ) (effect : Cycle) (asked : Asked) (name : List ℕ) (tree : ArrayVec Hop) → name ≡ asked.name → tree.items ≡ tree_of d asked.paths → (let row : Row = record { no = number; name = name; octets = asked.octets; tree = tree; admitted = effect; withdrawn = None } in row) ≡ granted_row d number effect.0 asked
+pub row_granted : (d : Domain) (number : ℕ) (effect : Cycle) (asked : Asked) (name : List ℕ) (tree : ArrayVec Hop) → name ≡ asked.name →
+    tree.items ≡ tree_of d asked.paths →
+    (let row : Row = record { no = number; name = name; octets = asked.octets; tree = tree; admitted = effect; withdrawn = None } in
+    row) ≡ granted_row d number effect.0 asked
 row_granted d number effect asked name tree named linked =
     λ i. record { no = number; name = named i; octets = asked.octets; tree = record { items = linked i }; admitted = effect; withdrawn = None }
 
 -- ---- the stream of a name
 
 -- the row of a name stands at the first place of the name
-pub named_at : (rows : List Row) (name : List ℕ) (place : ℕ) → position (λ (row : Row). is_text row.name name) rows ≡ Some place → (place < length rows) × (row_named rows name ≡ slice_get rows place)
+pub named_at : (rows : List Row) (name : List ℕ) (place : ℕ) → position (λ (row : Row). is_text row.name name) rows ≡ Some place → (place < length rows) ×
+    (row_named rows name ≡ slice_get rows place)
 named_at rows name place e =
     let test : Row → Bool = λ (row : Row). is_text row.name name in
     let first = position_or_len test rows in
     let found = cond_some (nat_lt first (length rows)) first place e in
     (omega (arith, ltb-true first (length rows) found.0, found.1), find_at test rows ∙ ap (slice_get rows) found.1)
 
+-- a test that gives no place fails
 cond_none : (b : Bool) (n : ℕ) → cond b (Some n) None ≡ None → b ≡ false
 cond_none true n e = absurd cc
 cond_none false n e = refl
 
+-- where no row has the name, none is found by it
 pub unnamed : (rows : List Row) (name : List ℕ) → position (λ (row : Row). is_text row.name name) rows ≡ None → row_named rows name ≡ None
 unnamed rows name e =
     let test : Row → Bool = λ (row : Row). is_text row.name name in
@@ -114,6 +134,7 @@ pub ended_reply : (effect number : ℕ) (end : Option Cycle) → is_some end ≡
 ended_reply effect number None e = absurd cc
 ended_reply effect number (Some before) e = refl
 
+-- what isn't there is none
 pub none_from : (end : Option Cycle) → is_some end ≡ false → end ≡ None
 none_from None e = refl
 none_from (Some x) e = absurd cc

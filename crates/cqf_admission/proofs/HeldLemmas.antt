@@ -1,28 +1,20 @@
 -- Held streams by name and by number.
-use Rattle.std.proofs.Common.{◌≡◌, ℕ, ◌+◌, ◌-◌, ◌<◌, ◌≤◌, Bool, true, false, cond, List, Some, None, [], ◌∷◌, ◌++◌, ◌==◌, ◌&&◌, nat_eq, get_or, length, position, refl, ap, ◌∙◌, sym, arith, drop, take, subst, length-append}
+use Rattle.std.proofs.Common.{◌≡◌, ℕ, ◌+◌, ◌-◌, ◌<◌, ◌≤◌, Bool, true, false, cond, List, Some, None, [], ◌∷◌, ◌++◌, nat_eq, get_or, length, position, refl, ap}
+use Rattle.std.proofs.Common.{◌∙◌, sym, arith, drop, take, subst, length-append}
 use Rattle.std.specs.Prelude.{map, filter, slice_set, zero, suc, not, nat_lt, remove}
 use Rattle.std.specs.List.{list_any, prefix_len}
 use Rattle.std.specs.Cmp.Lexicographic.{pointwise}
-use Rattle.std.proofs.lemmas.Bool.Decides.{nat_tests}
 use Rattle.std.proofs.lemmas.List.{length-map, length-take-le, take-map, drop-map, map-append}
 use Rattle.std.proofs.lemmas.List.Edits.{length-remove}
 use Rattle.cqf_units.specs.declared.reservations.Cycle.{Cycle}
+use Rattle.cqf_model.proofs.Texts.{pointwise-is_text}
 use Rattle.cqf_model.specs.declared.topology.Row.{Row}
 use Rattle.cqf_model.specs.Domain.{is_text}
 use Rattle.cqf_units.specs.Timing.{cost_of}
 use Rattle.cqf_lists.proofs.Any.{list_any-map}
 use Rattle.cqf_admission.specs.Rows.{HaveColumns, ended, ended_at, mask_of}
 
-nat_eq-sym : (x y : ℕ) → nat_eq x y ≡ (y == x)
-nat_eq-sym x y = grind (arith, nat_tests)
-
--- the comparison that a set of names makes is that of their texts
-pub pointwise-is_text : (n m : List ℕ) → pointwise nat_eq n m ≡ is_text m n
-pointwise-is_text [] [] = refl
-pointwise-is_text [] (y ∷ ys) = refl
-pointwise-is_text (x ∷ xs) [] = refl
-pointwise-is_text (x ∷ xs) (y ∷ ys) = (λ i. nat_eq-sym x y i && pointwise-is_text xs ys i)
-
+-- how many fail before the first that passes, of a mapped list
 prefix_len-map : {X Y : Type 0} (p : Y → Bool) (f : X → Y) (xs : List X) → prefix_len p (map f xs) ≡ prefix_len (λ x. p (f x)) xs
 prefix_len-map p f [] = refl
 prefix_len-map p f (x ∷ xs) = ap (λ (n : ℕ). cond (p (f x)) (1 + n) 0) (prefix_len-map p f xs)
@@ -34,33 +26,40 @@ position-map p f xs =
     ∙ ap (λ (n : ℕ). cond (nat_lt (prefix_len (λ x. not (p (f x))) xs) n) (Some (prefix_len (λ x. not (p (f x))) xs)) None) (length-map xs f)
 
 -- the place of a name among the names is that of its row among the rows
-pub place_of_name : (name : List ℕ) (rows : List Row) → position (pointwise nat_eq name) (map (λ (row : Row). row.name) rows) ≡ position (λ (row : Row). is_text row.name name) rows
+pub place_of_name : (name : List ℕ) (rows : List Row) →
+    position (pointwise nat_eq name) (map (λ (row : Row). row.name) rows) ≡ position (λ (row : Row). is_text row.name name) rows
 place_of_name name rows =
     position-map (pointwise nat_eq name) (λ (row : Row). row.name) rows ∙ (λ i. position (λ (row : Row). pointwise-is_text name row.name i) rows)
 
 -- a name stands among the names where its row stands among the rows
-pub name_among : (name : List ℕ) (rows : List Row) → list_any (pointwise nat_eq name) (map (λ (row : Row). row.name) rows) ≡ list_any (λ (row : Row). is_text row.name name) rows
+pub name_among : (name : List ℕ) (rows : List Row) →
+    list_any (pointwise nat_eq name) (map (λ (row : Row). row.name) rows) ≡ list_any (λ (row : Row). is_text row.name name) rows
 name_among name rows =
     list_any-map (pointwise nat_eq name) (λ (row : Row). row.name) rows ∙ (λ i. list_any (λ (row : Row). pointwise-is_text name row.name i) rows)
 
 -- a row that is ended in place
-pub set-ended : (rows : List Row) (place : ℕ) (row : Row) (cycle : Cycle) → place < length rows → row ≡ get_or rows place row → slice_set rows place (ended row cycle) ≡ ended_at rows place cycle
+pub set-ended : (rows : List Row) (place : ℕ) (row : Row) (cycle : Cycle) → place < length rows → row ≡ get_or rows place row →
+    slice_set rows place (ended row cycle) ≡ ended_at rows place cycle
 set-ended [] place row cycle h e = absurd (omega (arith, h))
 set-ended (x ∷ rows) zero row cycle h e = ap (λ (r : Row). ended r cycle ∷ rows) e
 set-ended (x ∷ rows) (suc place) row cycle h e = ap (λ (rs : List Row). x ∷ rs) (set-ended rows place row cycle (omega (arith, h)) e)
 
 -- what an end doesn't change of a row stays as it was
-map-ended_at : {X : Type 0} (f : Row → X) → ((row : Row) (cycle : Cycle) → f (ended row cycle) ≡ f row) → (rows : List Row) (place : ℕ) (cycle : Cycle) → map f (ended_at rows place cycle) ≡ map f rows
+map-ended_at : {X : Type 0} (f : Row → X) → ((row : Row) (cycle : Cycle) → f (ended row cycle) ≡ f row) → (rows : List Row) (place : ℕ) (cycle : Cycle) →
+    map f (ended_at rows place cycle) ≡ map f rows
 map-ended_at f same [] place cycle = refl
 map-ended_at {X} f same (x ∷ rows) zero cycle = ap (λ (y : X). y ∷ map f rows) (same x cycle)
 map-ended_at {X} f same (x ∷ rows) (suc place) cycle = ap (λ (ys : List X). f x ∷ ys) (map-ended_at f same rows place cycle)
 
+-- to end a row in place changes no count
 length-ended_at : (rows : List Row) (place : ℕ) (cycle : Cycle) → length (ended_at rows place cycle) ≡ length rows
 length-ended_at [] place cycle = refl
 length-ended_at (x ∷ rows) zero cycle = refl
 length-ended_at (x ∷ rows) (suc place) cycle = ap suc (length-ended_at rows place cycle)
 
-pub columns_ended : (names : List (List ℕ)) (rows : List Row) (costs masks : List ℕ) (place : ℕ) (cycle : Cycle) (after : List Row) → HaveColumns names rows costs masks → after ≡ ended_at rows place cycle → HaveColumns names after costs masks
+-- to end a row changes no column
+pub columns_ended : (names : List (List ℕ)) (rows : List Row) (costs masks : List ℕ) (place : ℕ) (cycle : Cycle) (after : List Row) →
+    HaveColumns names rows costs masks → after ≡ ended_at rows place cycle → HaveColumns names after costs masks
 columns_ended names rows costs masks place cycle after h e = subst (λ (rs : List Row). HaveColumns names rs costs masks) (sym e) (record {
   are_names = h.are_names ∙ sym (map-ended_at (λ (row : Row). row.name) (λ row c. refl) rows place cycle);
   are_costs = h.are_costs ∙ sym (map-ended_at (λ (row : Row). cost_of row.octets) (λ row c. refl) rows place cycle);
@@ -72,12 +71,16 @@ columns_ended names rows costs masks place cycle after h e = subst (λ (rs : Lis
 abbrev pub kept_from : (Row → Bool) → List Row → ℕ → List Row
 kept_from p rows place = take place rows ++ filter p (drop place rows)
 
-pub kept_here : (p : Row → Bool) (rows : List Row) (place : ℕ) (d : Row) → place < length rows → p (get_or (kept_from p rows (suc place)) place d) ≡ true → kept_from p rows (suc place) ≡ kept_from p rows place
+-- a row that is held stays
+pub kept_here : (p : Row → Bool) (rows : List Row) (place : ℕ) (d : Row) → place < length rows → p (get_or (kept_from p rows (suc place)) place d) ≡ true →
+    kept_from p rows (suc place) ≡ kept_from p rows place
 kept_here p [] place d h e = absurd (omega (arith, h))
 kept_here p (x ∷ rows) zero d h e = sym (ap (λ (b : Bool). cond b (x ∷ filter p rows) (filter p rows)) e)
 kept_here p (x ∷ rows) (suc place) d h e = ap (λ (rs : List Row). x ∷ rs) (kept_here p rows place d (omega (arith, h)) e)
 
-pub gone_here : (p : Row → Bool) (rows : List Row) (place : ℕ) (d : Row) → place < length rows → p (get_or (kept_from p rows (suc place)) place d) ≡ false → remove (kept_from p rows (suc place)) place ≡ kept_from p rows place
+-- and one that isn't goes
+pub gone_here : (p : Row → Bool) (rows : List Row) (place : ℕ) (d : Row) → place < length rows → p (get_or (kept_from p rows (suc place)) place d) ≡ false →
+    remove (kept_from p rows (suc place)) place ≡ kept_from p rows place
 gone_here p [] place d h e = absurd (omega (arith, h))
 gone_here p (x ∷ rows) zero d h e = sym (ap (λ (b : Bool). cond b (x ∷ filter p rows) (filter p rows)) e)
 gone_here p (x ∷ rows) (suc place) d h e = ap (λ (rs : List Row). x ∷ rs) (gone_here p rows place d (omega (arith, h)) e)
@@ -87,7 +90,9 @@ map-remove : {X : Type 0} (f : Row → X) (rows : List Row) (place : ℕ) → re
 map-remove f rows place =
     (λ i. take-map f place rows i ++ drop-map f (suc place) rows i) ∙ sym (map-append f (take place rows) (drop (suc place) rows))
 
-column_less : {X : Type 0} (f : Row → X) (rows after : List Row) (place : ℕ) (xs xs_after : List X) → after ≡ remove rows place → xs ≡ map f rows → xs_after ≡ remove xs place → xs_after ≡ map f after
+-- a column with an element less is that of the rows with a row less
+column_less : {X : Type 0} (f : Row → X) (rows after : List Row) (place : ℕ) (xs xs_after : List X) → after ≡ remove rows place → xs ≡ map f rows →
+    xs_after ≡ remove xs place → xs_after ≡ map f after
 column_less {X} f rows after place xs xs_after rows_less are without =
     without ∙ ap (λ (ys : List X). remove ys place) are ∙ map-remove f rows place ∙ ap (map f) (sym rows_less)
 
@@ -97,13 +102,16 @@ pub record AreSwept (p : Row → Bool) (all : List Row) (place : ℕ) (names : L
   pub kept : rows ≡ kept_from p all place
   pub columns : HaveColumns names rows costs masks
 
+-- a number above 0 is one more than the one below it
 one_less : (place : ℕ) → 0 < place → place ≡ suc (place - 1)
 one_less place h = omega (arith, h)
 
+-- rows before a place are still there when those from it on were swept
 length-kept_from : (p : Row → Bool) (rows : List Row) (place : ℕ) → place ≤ length rows → place ≤ length (kept_from p rows place)
 length-kept_from p rows place h = omega (arith, length-append (take place rows) (filter p (drop place rows)), length-take-le place rows h)
 
-module _ (p : Row → Bool) (all : List Row) (place : ℕ) (names : List (List ℕ)) (rows : List Row) (costs masks : List ℕ) (s : AreSwept p all place names rows costs masks) where
+module _ (p : Row → Bool) (all : List Row) (place : ℕ) (names : List (List ℕ)) (rows : List Row) (costs masks : List ℕ)
+    (s : AreSwept p all place names rows costs masks) where
   -- there are so many rows at least
   pub swept_inside : place ≤ length rows
   swept_inside = omega (arith, ap (λ (rs : List Row). length rs) s.kept, length-kept_from p all place s.inside)
@@ -112,19 +120,26 @@ module _ (p : Row → Bool) (all : List Row) (place : ℕ) (names : List (List �
   pub swept_costs : length costs ≡ length rows
   swept_costs = ap (λ (xs : List ℕ). length xs) s.columns.are_costs ∙ length-map rows (λ (row : Row). cost_of row.octets)
 
+  -- the masks are as many as the rows
   pub swept_masks : length masks ≡ length rows
   swept_masks = ap (λ (xs : List ℕ). length xs) s.columns.are_masks ∙ length-map rows mask_of
 
+  -- a row that is held is passed by
   pub swept_held : (row : Row) → 0 < place → row ≡ get_or rows (place - 1) row → p row ≡ true → AreSwept p all (place - 1) names rows costs masks
   swept_held row some is held =
       let kept : rows ≡ kept_from p all (suc (place - 1)) = s.kept ∙ ap (kept_from p all) (one_less place some) in
-      let here : p (get_or (kept_from p all (suc (place - 1))) (place - 1) row) ≡ true = ap (λ (rs : List Row). p (get_or rs (place - 1) row)) (sym kept) ∙ ap p (sym is) ∙ held in
+      let here : p (get_or (kept_from p all (suc (place - 1))) (place - 1) row) ≡ true = ap (λ (rs : List Row). p (get_or rs (place - 1) row)) (sym kept)
+      ∙ ap p (sym is) ∙ held in
       record { inside = omega (arith, s.inside); kept = kept ∙ kept_here p all (place - 1) row (omega (arith, some, s.inside)) here; columns = s.columns }
 
-  pub swept_gone : (row : Row) (names_after : List (List ℕ)) (after : List Row) (costs_after masks_after : List ℕ) → 0 < place → row ≡ get_or rows (place - 1) row → p row ≡ false → after ≡ remove rows (place - 1) → names_after ≡ remove names (place - 1) → costs_after ≡ remove costs (place - 1) → masks_after ≡ remove masks (place - 1) → AreSwept p all (place - 1) names_after after costs_after masks_after
+  -- and one that isn't leaves every column
+  pub swept_gone : (row : Row) (names_after : List (List ℕ)) (after : List Row) (costs_after masks_after : List ℕ) → 0 < place →
+      row ≡ get_or rows (place - 1) row → p row ≡ false → after ≡ remove rows (place - 1) → names_after ≡ remove names (place - 1) →
+      costs_after ≡ remove costs (place - 1) → masks_after ≡ remove masks (place - 1) → AreSwept p all (place - 1) names_after after costs_after masks_after
   swept_gone row names_after after costs_after masks_after some is gone rows_less names_less costs_less masks_less =
       let kept : rows ≡ kept_from p all (suc (place - 1)) = s.kept ∙ ap (kept_from p all) (one_less place some) in
-      let here : p (get_or (kept_from p all (suc (place - 1))) (place - 1) row) ≡ false = ap (λ (rs : List Row). p (get_or rs (place - 1) row)) (sym kept) ∙ ap p (sym is) ∙ gone in
+      let here : p (get_or (kept_from p all (suc (place - 1))) (place - 1) row) ≡ false = ap (λ (rs : List Row). p (get_or rs (place - 1) row)) (sym kept)
+      ∙ ap p (sym is) ∙ gone in
       let inside : place - 1 < length rows = omega (arith, swept_inside, some) in
       record {
         inside = omega (arith, s.inside);

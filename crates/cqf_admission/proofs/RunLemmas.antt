@@ -1,5 +1,6 @@
 -- An administration that runs on the held streams in place of its history.
-use Rattle.std.proofs.Common.{◌≡◌, ◌≢◌, ℕ, ◌+◌, ◌-◌, ◌<◌, ◌≤◌, Bool, true, false, cond, List, Option, Some, None, [], ◌∷◌, ◌++◌, ◌&&◌, not, length, map, position, refl, ap, ◌∙◌, sym, arith, subst, length-append}
+use Rattle.std.proofs.Common.{◌≡◌, ◌≢◌, ℕ, ◌+◌, ◌-◌, ◌<◌, ◌≤◌, Bool, true, false, cond, List, Option, Some, None, [], ◌∷◌, ◌++◌, ◌&&◌, not, length, map}
+use Rattle.std.proofs.Common.{position, refl, ap, ◌∙◌, sym, arith, subst, length-append}
 use Rattle.std.specs.Prelude.{Result, Err, if◌then◌else◌, nat_le, is_none, filter, AllPairs, Contains, slice_get, zero, suc}
 use Rattle.std.specs.List.{flat_map, list_any}
 use Rattle.std.proofs.lemmas.Bool.{both_ways, eq-eqb, ne_eqb}
@@ -10,15 +11,18 @@ use Rattle.cqf_units.specs.Timing.{cost_of}
 use Rattle.cqf_units.specs.declared.reservations.Cycle.{Cycle}
 use Rattle.cqf_model.specs.declared.history.Receipt.{Receipt}
 use Rattle.cqf_model.specs.declared.history.Refused.{Refused}
-use Rattle.cqf_model.specs.declared.history.Refused.TheVariants.{BadName, BadOctets, UnknownNode, BrokenPath, LoopingPath, NotATree, NameHeld, TooManyStreams, BudgetShort, NotHeld, AlreadyWithdrawn}
+use Rattle.cqf_model.specs.declared.history.Refused.TheVariants.{BadName, BadOctets, UnknownNode, BrokenPath, LoopingPath, NotATree, NameHeld, TooManyStreams}
+use Rattle.cqf_model.specs.declared.history.Refused.TheVariants.{BudgetShort, NotHeld, AlreadyWithdrawn}
 use Rattle.cqf_model.specs.declared.history.Reply.TheVariants.{Sealed, Refused as RefusedFor}
 use Rattle.cqf_model.specs.declared.topology.Row.{Row}
 use Rattle.cqf_model.specs.Domain.{Domain, is_text, node_named}
 use Rattle.cqf_lists.specs.Lists.{least, or_else}
-use Rattle.cqf_model.specs.History.{Act, Admits, Asked, Recorded, Seals, Withdraws, admit_reply, broken_place, first_place, held_in, is_loop_at, is_seal, is_stray, left_on, next_number, refusal_of, refused_at, refused_if, reply_to, seals, short_link, tree_of, withdraw_reply, withdraw_row}
+use Rattle.cqf_model.specs.History.{Act, Admits, Asked, Recorded, Seals, Withdraws, admit_reply, broken_place, first_place, held_in, is_loop_at, is_seal}
+use Rattle.cqf_model.specs.History.{is_stray, left_on, next_number, refusal_of, refused_at, refused_if, reply_to, seals, short_link, tree_of, withdraw_reply}
+use Rattle.cqf_model.specs.History.{withdraw_row}
 use Rattle.cqf_model.specs.Table.{is_held, row_named}
 use Rattle.cqf_laws_history.specs.StateLaws.{HeldAreSound, HistoryGoesOn, IsState, SealLetsGo, SealsAreCounted, ended_row, with_entry}
-use Rattle.cqf_admission.specs.Admission.{Administration, Answers, IsRunning, calls, is_entered, recorded_of, reply_of}
+use Rattle.cqf_admission.specs.Admission.{Administration, Answers, IsRunning, act_of, calls, is_entered, recorded_of, reply_of}
 use Rattle.cqf_admission.specs.declared.entries.Entry.{Entry}
 use Rattle.cqf_admission.specs.Grants.{CanBeAsked, FindsOpen}
 use Rattle.cqf_admission.specs.Rows.{ended, ended_at}
@@ -27,19 +31,24 @@ use Rattle.cqf_admission.specs.Rows.{ended, ended_at}
 abbrev IsCallRefusal : Option Refused → Type 0
 IsCallRefusal o = (refused : Refused) → o ≡ Some refused → is_entered (Err refused) ≡ true
 
+-- the first of two refusals that are entered is entered
 either_entered : (a b : Option Refused) → IsCallRefusal a → IsCallRefusal b → IsCallRefusal (or_else a b)
 either_entered None b h k = k
 either_entered (Some x) b h k = h
 
+-- a refusal under a test is entered
 if_entered : (b : Bool) (refused : Refused) → is_entered (Err refused) ≡ true → IsCallRefusal (refused_if b refused)
 if_entered true refused h other e = subst (λ (r : Refused). is_entered (Err r) ≡ true) (same_Some refused other e) h
 if_entered false refused h other e = absurd cc
 
+-- and so is a refusal at a place
 at_entered : (refused : ℕ → Refused) (o : Option ℕ) → ((k : ℕ) → is_entered (Err (refused k)) ≡ true) → IsCallRefusal (refused_at refused o)
 at_entered refused None h other e = absurd cc
 at_entered refused (Some k) h other e = subst (λ (r : Refused). is_entered (Err r) ≡ true) (same_Some (refused k) other e) (h k)
 
-pub refusal_is_entered : (d : Domain) (rows : List Row) (asked : Asked) (refused : Refused) → refusal_of d rows asked ≡ Some refused → is_entered (Err refused) ≡ true
+-- each refusal of a request is entered
+pub refusal_is_entered : (d : Domain) (rows : List Row) (asked : Asked) (refused : Refused) → refusal_of d rows asked ≡ Some refused →
+    is_entered (Err refused) ≡ true
 refusal_is_entered d rows asked =
     let short = refused_at (λ l. BudgetShort l (left_on d rows l)) (short_link d rows (cost_of asked.octets) (tree_of d asked.paths)) in
     let many = refused_if (nat_le 1024 (length rows)) TooManyStreams in
@@ -58,7 +67,8 @@ refusal_is_entered d rows asked =
     let name = refused_if (not (is_name asked.name)) BadName in
     either_entered name (or_else octets after_unknown) (if_entered (not (is_name asked.name)) BadName refl)
     (either_entered octets after_unknown (if_entered (not (nat_le 64 asked.octets && nat_le asked.octets 60000)) BadOctets refl)
-    (either_entered unknown after_broken (at_entered (λ place. UnknownNode place) (position (λ name. is_none (node_named d name)) (flat_map (λ branch. branch) asked.paths)) (λ k. refl))
+    (either_entered unknown after_broken
+    (at_entered (λ place. UnknownNode place) (position (λ name. is_none (node_named d name)) (flat_map (λ branch. branch) asked.paths)) (λ k. refl))
     (either_entered broken after_looping (at_entered (λ place. BrokenPath place) (broken_place d asked.paths) (λ k. refl))
     (either_entered looping after_stray (at_entered (λ place. LoopingPath place) (first_place (is_loop_at d) asked.paths) (λ k. refl))
     (either_entered stray after_held (at_entered (λ branch. NotATree branch) (least (is_stray asked.paths) (length asked.paths)) (λ k. refl))
@@ -67,23 +77,38 @@ refusal_is_entered d rows asked =
     (at_entered (λ l. BudgetShort l (left_on d rows l)) (short_link d rows (cost_of asked.octets) (tree_of d asked.paths)) (λ k. refl)))))))))
 
 -- what held streams give to those who ask for one more
-pub can_be_asked : HeldAreSound → (d : Domain) (entries : List Recorded) (rows : List Row) (next sealed : ℕ) → IsRunning d entries rows next sealed → CanBeAsked d rows
+pub can_be_asked : HeldAreSound → (d : Domain) (entries : List Recorded) (rows : List Row) (next sealed : ℕ) → IsRunning d entries rows next sealed →
+    CanBeAsked d rows
 can_be_asked law d entries rows next sealed r =
     let held = law d entries rows next r.legal r.state in
     record { octets = held.most_octets; loads = held.loads }
 
 -- the entries behind one that is pushed
-pub pushed_entries : (old new : List Entry) (e : Entry) → new ≡ old ++ e ∷ [] → map recorded_of new ≡ map recorded_of old ++ recorded_of e ∷ []
+pushed_entries : (old new : List Entry) (e : Entry) → new ≡ old ++ e ∷ [] → map recorded_of new ≡ map recorded_of old ++ recorded_of e ∷ []
 pushed_entries old new e is = ap (map recorded_of) is ∙ map-append recorded_of old (e ∷ [])
 
+-- so a call that acts so is the history's next entry
+pub entered_behind : (old reserved new : List Entry) (e : Entry) (act : Act) → reserved ≡ old → new ≡ reserved ++ e ∷ [] → act_of e.call ≡ act →
+    map recorded_of new ≡ with_entry (map recorded_of old) e.seat act e.reply
+entered_behind old reserved new e act same is acts =
+    pushed_entries reserved new e is
+    ∙ ap (λ (es : List Entry). with_entry (map recorded_of es) e.seat (act_of e.call) e.reply) same
+    ∙ ap (λ (a : Act). with_entry (map recorded_of old) e.seat a e.reply) acts
+
 -- the answer to a request is its reason, or the next number
-pub request_reply : (d : Domain) (entries : List Recorded) (rows : List Row) (next sealed : ℕ) (asked : Asked) (refusal : Option Refused) → IsRunning d entries rows next sealed → refusal_of d rows asked ≡ refusal → reply_to d entries (Admits asked) ≡ admit_reply next sealed refusal
+pub request_reply : (d : Domain) (entries : List Recorded) (rows : List Row) (next sealed : ℕ) (asked : Asked) (refusal : Option Refused) →
+    IsRunning d entries rows next sealed → refusal_of d rows asked ≡ refusal → reply_to d entries (Admits asked) ≡ admit_reply next sealed refusal
 request_reply d entries rows next sealed asked refusal r e =
     ap (λ (rs : List Row). admit_reply (next_number d entries) (seals entries) (refusal_of d rs asked)) r.state.held
     ∙ ap (admit_reply (next_number d entries) (seals entries)) e
     ∙ ap (λ (n : ℕ). admit_reply n (seals entries) refusal) r.state.number ∙ ap (λ (n : ℕ). admit_reply next n refusal) (sym r.counted)
 
-pub run_on : HistoryGoesOn → SealsAreCounted → (d : Domain) (entries : List Recorded) (rows rows_after : List Row) (next next_after sealed seat : ℕ) (act : Act) → is_seal act ≡ false → IsRunning d entries rows next sealed → length entries - sealed < 100000 → next_after ≤ next + 1 → IsState d (with_entry entries seat act (reply_to d entries act)) rows_after next_after → IsRunning d (with_entry entries seat act (reply_to d entries act)) rows_after next_after sealed
+-- a history that goes on keeps its running state
+pub run_on : HistoryGoesOn → SealsAreCounted →
+    (d : Domain) (entries : List Recorded) (rows rows_after : List Row) (next next_after sealed seat : ℕ) (act : Act) → is_seal act ≡ false →
+    IsRunning d entries rows next sealed → length entries - sealed < 100000 → next_after ≤ next + 1 →
+    IsState d (with_entry entries seat act (reply_to d entries act)) rows_after next_after →
+    IsRunning d (with_entry entries seat act (reply_to d entries act)) rows_after next_after sealed
 run_on goes_on counted d entries rows rows_after next next_after sealed seat act no_seal r few more state =
     let none : ◌≡◌ {A = ℕ} (if is_seal act then 1 else 0) 0 = ap (λ (b : Bool). cond {A = ℕ} b 1 0) no_seal in
     let count = counted entries seat act (reply_to d entries act) in
@@ -95,7 +120,9 @@ run_on goes_on counted d entries rows rows_after next next_after sealed seat act
     }
 
 -- a call that is entered
-pub answers_entered : (old new : Administration) (seat : ℕ) (act : Act) (result : Result Receipt Refused) → is_entered result ≡ true → calls old.entries < 100000 → new.domain ≡ old.domain → reply_of result ≡ reply_to old.domain old.entries act → new.entries ≡ with_entry old.entries seat act (reply_of result) → Answers old new seat act result
+pub answers_entered : (old new : Administration) (seat : ℕ) (act : Act) (result : Result Receipt Refused) → is_entered result ≡ true →
+    calls old.entries < 100000 → new.domain ≡ old.domain → reply_of result ≡ reply_to old.domain old.entries act →
+    new.entries ≡ with_entry old.entries seat act (reply_of result) → Answers old new seat act result
 answers_entered old new seat act result is few same due entered =
     record {
       full = (λ e. absurd (both_ways (is_entered result) (ap is_entered e) is), λ many. absurd (omega (arith, many, few)));
@@ -114,45 +141,55 @@ withdraw_entered effect (Some row) refused e = by_end row.withdrawn e
     by_end None f = absurd cc
     by_end (Some before) f = let same : AlreadyWithdrawn ≡ refused = cc in subst (λ (r : Refused). is_entered (Err r) ≡ true) same refl
 
+-- each refusal of a withdrawal is entered
 pub withdrawal_is_entered : (rows : List Row) (name : List ℕ) (refused : Refused) → FindsOpen rows name (Err refused) → is_entered (Err refused) ≡ true
 withdrawal_is_entered rows name refused h = withdraw_entered 0 (row_named rows name) refused (h 0)
 
 -- the answer to a withdrawal goes by the held streams
-pub withdrawal_reply : (d : Domain) (entries : List Recorded) (rows : List Row) (next sealed : ℕ) (name : List ℕ) → IsRunning d entries rows next sealed → reply_to d entries (Withdraws name) ≡ withdraw_reply sealed (row_named rows name)
+pub withdrawal_reply : (d : Domain) (entries : List Recorded) (rows : List Row) (next sealed : ℕ) (name : List ℕ) → IsRunning d entries rows next sealed →
+    reply_to d entries (Withdraws name) ≡ withdraw_reply sealed (row_named rows name)
 withdrawal_reply d entries rows next sealed name r =
-    ap (λ (rs : List Row). withdraw_reply (seals entries) (row_named rs name)) r.state.held ∙ ap (λ (n : ℕ). withdraw_reply n (row_named rows name)) (sym r.counted)
+    ap (λ (rs : List Row). withdraw_reply (seals entries) (row_named rs name)) r.state.held
+    ∙ ap (λ (n : ℕ). withdraw_reply n (row_named rows name)) (sym r.counted)
 
 -- a row that has another number stays as it is
 other_kept : (number cycle : ℕ) (row : Row) → row.no ≢ number → ended_row number cycle row ≡ row
 other_kept number cycle row other =
     ap (λ (b : Bool). if b then ended row (record { 0 = cycle }) else row) (ne_eqb row.no number other)
 
+-- a row stays one behind one more
 there : (x : Row) (rows : List Row) (row : Row) → Contains rows row → Contains (x ∷ rows) row
 there x rows row (k, h, e) = (suc k, omega (arith, h), e)
 
+-- to end a stream changes no row of another number
 others_kept : (number cycle : ℕ) (rows : List Row) → ((row : Row) → Contains rows row → row.no ≢ number) → map (ended_row number cycle) rows ≡ rows
 others_kept number cycle [] h = refl
 others_kept number cycle (x ∷ rows) h =
     (λ i. other_kept number cycle x (h x (0, omega arith, refl)) i ∷ others_kept number cycle rows (λ row k. h row (there x rows row k)) i)
 
 -- where numbers differ, the row at a place is ended as the one of its number is
-pub ended_at_number : (rows : List Row) (place cycle : ℕ) (row : Row) → slice_get rows place ≡ Some row → AllPairs (λ (a b : Row). a.no < b.no) rows → ended_at rows place (record { 0 = cycle }) ≡ map (ended_row row.no cycle) rows
+pub ended_at_number : (rows : List Row) (place cycle : ℕ) (row : Row) → slice_get rows place ≡ Some row → AllPairs (λ (a b : Row). a.no < b.no) rows →
+    ended_at rows place (record { 0 = cycle }) ≡ map (ended_row row.no cycle) rows
 ended_at_number [] place cycle row e apart = refl
 ended_at_number (x ∷ rows) zero cycle row e apart =
     let same : x ≡ row = same_Some x row e in
-    let here : ended_row row.no cycle x ≡ ended x (record { 0 = cycle }) = ap (λ (b : Bool). if b then ended x (record { 0 = cycle }) else x) (eq-eqb x.no row.no (ap (λ (r : Row). r.no) same)) in
+    let here : ended_row row.no cycle x ≡ ended x (record { 0 = cycle }) =
+    ap (λ (b : Bool). if b then ended x (record { 0 = cycle }) else x) (eq-eqb x.no row.no (ap (λ (r : Row). r.no) same)) in
     let others : (y : Row) → Contains rows y → y.no ≢ row.no =
     λ y k s. absurd (omega (arith, apart 0 (suc k.0) y (omega arith) (omega (arith, k.1)), ap (λ (r : Row). r.no) same, s, ap (λ (r : Row). r.no) k.2)) in
     ap (λ (r : Row). r ∷ rows) (sym here) ∙ ap (λ (rs : List Row). ended_row row.no cycle x ∷ rs) (sym (others_kept row.no cycle rows others))
 ended_at_number (x ∷ rows) (suc place) cycle row e apart =
     let tail : AllPairs (λ (a b : Row). a.no < b.no) rows = λ i j d l m. apart (suc i) (suc j) d (omega (arith, l)) (omega (arith, m)) in
     let inside = slice_get_within rows place row e in
-    let other : x.no ≢ row.no = λ s. absurd (omega (arith, apart 0 (suc place) row (omega arith) (omega (arith, inside)), s, ap (λ (r : Row). r.no) (get_or_from_slice_get rows place row row e))) in
+    let other : x.no ≢ row.no = λ s. absurd (omega
+    (arith, apart 0 (suc place) row (omega arith) (omega (arith, inside)), s, ap (λ (r : Row). r.no) (get_or_from_slice_get rows place row row e))) in
     ap (λ (r : Row). r ∷ ended_at rows place (record { 0 = cycle })) (sym (other_kept row.no cycle x other))
     ∙ ap (λ (rs : List Row). ended_row row.no cycle x ∷ rs) (ended_at_number rows place cycle row e tail)
 
 -- a Seal goes on with the next cycle
-pub run_sealed : HistoryGoesOn → SealsAreCounted → SealLetsGo → (d : Domain) (entries : List Recorded) (rows : List Row) (next sealed seat : ℕ) → IsRunning d entries rows next sealed → sealed < 100000 → IsRunning d (with_entry entries seat Seals Sealed) (filter (λ (row : Row). is_held row (sealed + 1)) rows) next (sealed + 1)
+pub run_sealed : HistoryGoesOn → SealsAreCounted → SealLetsGo → (d : Domain) (entries : List Recorded) (rows : List Row) (next sealed seat : ℕ) →
+    IsRunning d entries rows next sealed → sealed < 100000 →
+    IsRunning d (with_entry entries seat Seals Sealed) (filter (λ (row : Row). is_held row (sealed + 1)) rows) next (sealed + 1)
 run_sealed goes_on counted lets_go d entries rows next sealed seat r some =
     let count = counted entries seat Seals Sealed in
     let state = lets_go d entries rows next seat r.legal r.state in
@@ -164,5 +201,6 @@ run_sealed goes_on counted lets_go d entries rows next sealed seat r some =
     }
 
 -- what is held behind the entries that were entered
-pub held_behind : (d : Domain) (entered after : List Recorded) (rows : List Row) (next : ℕ) → IsState d entered rows next → entered ≡ after → held_in d after (seals after) ≡ rows
+pub held_behind : (d : Domain) (entered after : List Recorded) (rows : List Row) (next : ℕ) → IsState d entered rows next → entered ≡ after →
+    held_in d after (seals after) ≡ rows
 held_behind d entered after rows next state same = ap (λ (es : List Recorded). held_in d es (seals es)) (sym same) ∙ state.held

@@ -3,8 +3,8 @@ use Rattle.std.proofs.Common.{◌≡◌, ◌≢◌, ℕ, ◌<◌, Bool, true, co
 use Rattle.std.specs.Prelude.{AllPairs, Contains, find}
 use Rattle.std.proofs.lemmas.Bool.{both_ways, cases_Bool, eq-eqb, eqb-true}
 use Rattle.std.proofs.lemmas.List.Elements.{All-map}
-use Rattle.std.proofs.lemmas.Option.{same_Some}
-use Rattle.cqf_lists.proofs.Contained.{contains_cons, contains_here, contains_nil, contains_there, pairs_head, pairs_tail}
+use Rattle.cqf_lists.proofs.Members.{contains_cases, contains_none, find_member}
+use Rattle.cqf_lists.proofs.Pairs.{pairs_head, pairs_tail}
 use Rattle.cqf_model.proofs.Texts.{is_text_itself, is_text_same}
 use Rattle.cqf_model.specs.declared.topology.Hop.{Hop}
 use Rattle.cqf_model.specs.declared.topology.Row.{Row}
@@ -12,28 +12,22 @@ use Rattle.cqf_model.specs.Domain.{Domain, is_text}
 use Rattle.cqf_model.specs.Table.{row_named, row_of}
 use Rattle.cqf_admission.specs.Tables.{AreAlongLinks, AreInOrder, AreTrees, IsRowNamed, IsRowOf}
 
--- what is found stands there and passes
-find_member : (test : Row → Bool) (rows : List Row) (row : Row) → find test rows ≡ Some row → Contains rows row × (test row ≡ true)
-find_member test [] row e = absurd cc
-find_member test (x ∷ rows) row e = elim (cases_Bool (test x)) [
-  | inl t ↦ (let is : x ≡ row = same_Some x row (ap (λ (b : Bool). cond b (Some x) (find test rows)) (sym t) ∙ e) in (contains_here x row rows is, ap test (sym is) ∙ t))
-  | inr f ↦ (let w = find_member test rows row (ap (λ (b : Bool). cond b (Some x) (find test rows)) (sym f) ∙ e) in (contains_there x row rows w.0, w.1))
-]
-
 -- what stands there and passes is found, where no two pass
-find_only : (test : Row → Bool) (R : Row → Row → Type 0) → ((a b : Row) → test a ≡ true → test b ≡ true → R a b → ⊥) → (rows : List Row) (row : Row) → AllPairs R rows → Contains rows row → test row ≡ true → find test rows ≡ Some row
-find_only test R apart [] row pairs c t = absurd (contains_nil row c)
+find_only : (test : Row → Bool) (R : Row → Row → Type 0) → ((a b : Row) → test a ≡ true → test b ≡ true → R a b → ⊥) → (rows : List Row) (row : Row) →
+    AllPairs R rows → Contains rows row → test row ≡ true → find test rows ≡ Some row
+find_only test R apart [] row pairs c t = absurd (contains_none row c)
 find_only test R apart (x ∷ rows) row pairs c t = elim (cases_Bool (test x)) [
-  | inl u ↦ ap (λ (b : Bool). cond b (Some x) (find test rows)) u ∙ elim (contains_cons x row rows c) [
+  | inl u ↦ ap (λ (b : Bool). cond b (Some x) (find test rows)) u ∙ elim (contains_cases x rows row c) [
     | inl e ↦ ap (λ (r : Row). Some r) e
-    | inr k ↦ absurd (apart x row u t (pairs_head R x row rows pairs k))
+    | inr k ↦ absurd (apart x row u t (pairs_head R x rows row pairs k))
   ]
-  | inr f ↦ ap (λ (b : Bool). cond b (Some x) (find test rows)) f ∙ elim (contains_cons x row rows c) [
+  | inr f ↦ ap (λ (b : Bool). cond b (Some x) (find test rows)) f ∙ elim (contains_cases x rows row c) [
     | inl e ↦ absurd (both_ways (test x) f (ap test e ∙ t))
     | inr k ↦ find_only test R apart rows row (pairs_tail R x rows pairs) k t
   ]
 ]
 
+-- in a table in order the row of a name is the one that there is
 pub the_row_named : (rows : List Row) (name : List ℕ) → AreInOrder rows → IsRowNamed rows name (row_named rows name)
 the_row_named rows name order row = (
   λ e. let w = find_member (λ (r : Row). is_text r.name name) rows row e in (w.0, is_text_same row.name name w.1),
@@ -43,6 +37,7 @@ the_row_named rows name order row = (
       (ap (λ (n : List ℕ). is_text n name) w.1 ∙ is_text_itself name),
 )
 
+-- and so is the row of a number
 pub the_row_of : (rows : List Row) (number : ℕ) → AreInOrder rows → IsRowOf rows number (row_of rows number)
 the_row_of rows number order row = (
   λ e. let w = find_member (λ (r : Row). r.no == number) rows row e in (w.0, eqb-true row.no number w.1),

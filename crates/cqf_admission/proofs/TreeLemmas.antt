@@ -1,25 +1,24 @@
 -- Hops that are added to a tree one by one.
-use Rattle.std.proofs.Common.{◌≡◌, ℕ, ◌+◌, ◌-◌, ◌<◌, ◌≤◌, Bool, true, false, cond, List, Option, Some, None, [], ◌∷◌, ◌++◌, ◌==◌, ◌&&◌, length, map, eqb, fold, get_or, refl, ap, ◌∙◌, sym, arith, nat_lt, not, length-append}
+use Rattle.std.proofs.Common.{◌≡◌, ℕ, ◌+◌, ◌-◌, ◌<◌, ◌≤◌, Bool, true, false, cond, List, Option, Some, None, [], ◌∷◌, ◌++◌, ◌==◌, length, map, eqb, fold}
+use Rattle.std.proofs.Common.{get_or, refl, ap, ◌∙◌, sym, arith, length-append}
 use Rattle.std.specs.Prelude.{All, AllPairs, String, Vec, string_bytes, zero, suc}
-use Rattle.std.specs.List.{flat_map, list_any, prefix_len}
+use Rattle.std.specs.List.{flat_map, list_any}
 use Rattle.std.specs.declared.alloc.Global.{Global}
-use Rattle.std.proofs.lemmas.Bool.{eqb-true, ltb-true}
+use Rattle.std.proofs.lemmas.Bool.{eqb-true}
 use Rattle.std.proofs.lemmas.List.{length-map}
 use Rattle.std.proofs.lemmas.List.Elements.{All-append, All-cons, All-contains, All-head, All-tail, All-nil, All-push, Contains-get_or}
 use Rattle.std.proofs.lemmas.List.Sums.{fold-append}
 use Rattle.std.proofs.lemmas.Map.Keys.{IsDistinct-from_apart}
 use Rattle.std.proofs.lemmas.Map.Steps.{length-le_from_distinct_below}
-use Rattle.std.proofs.lemmas.Option.{cond_some}
 use Rattle.cqf_lists.specs.Lists.{each_below}
-use Rattle.cqf_lists.proofs.Any.{any_member, none_member}
+use Rattle.cqf_lists.proofs.Any.{none_member}
 use Rattle.cqf_lists.proofs.EachOnce.{once_from}
-use Rattle.cqf_lists.proofs.Contained.{contains_from_map, pairs_map, pairs_nil, pairs_push}
+use Rattle.cqf_lists.proofs.Members.{any_member, contains_from_map}
+use Rattle.cqf_lists.proofs.Pairs.{pairs_map, pairs_none, pairs_push}
+use Rattle.cqf_model.proofs.Links.{link_inside}
 use Rattle.cqf_model.specs.declared.topology.Hop.{Hop}
-use Rattle.cqf_model.specs.declared.topology.Link.{Link}
-use Rattle.cqf_model.specs.declared.topology.Node.{Node}
-use Rattle.cqf_model.specs.declared.topology.Node.TheVariants.{Bridge, Station}
-use Rattle.cqf_model.specs.Domain.{Domain, same_node}
-use Rattle.cqf_model.specs.History.{Branch, node_at, tree_of, hop_to, hops_along, link_before, link_at, link_from}
+use Rattle.cqf_model.specs.Domain.{Domain}
+use Rattle.cqf_model.specs.History.{Branch, node_at, tree_of, hop_to, hops_along, link_before, link_at}
 use Rattle.cqf_admission.specs.Branches.{AreSparse, branch_of, branches_of, keep_link}
 
 -- no more hops than links
@@ -35,17 +34,21 @@ sparse_few d tree sparse =
     omega (arith, few, count)
 
 -- one hop more by another link
-pub sparse_push : (d : Domain) (tree : List Hop) (hop : Hop) → AreSparse d tree → hop.link < length d.links → list_any (λ (kept : Hop). kept.link == hop.link) tree ≡ false → AreSparse d (tree ++ hop ∷ [])
+pub sparse_push : (d : Domain) (tree : List Hop) (hop : Hop) → AreSparse d tree → hop.link < length d.links →
+    list_any (λ (kept : Hop). kept.link == hop.link) tree ≡ false → AreSparse d (tree ++ hop ∷ [])
 sparse_push d tree hop sparse inside none = record {
   inside = All-push (λ (h : Hop). h.link < length d.links) tree hop sparse.inside inside;
-  apart = pairs_push (λ (a b : Hop). (a.link == b.link) ≡ false) tree hop sparse.apart (λ x c. none_member (λ (kept : Hop). kept.link == hop.link) tree x none c);
+  apart = pairs_push (λ (a b : Hop). (a.link == b.link) ≡ false) tree hop sparse.apart
+      (λ x c. none_member (λ (kept : Hop). kept.link == hop.link) tree x none c);
 }
 
+-- no hops are sparse
 pub sparse_none : (d : Domain) → AreSparse d []
-sparse_none d = record { inside = All-nil (λ (h : Hop). h.link < length d.links); apart = pairs_nil (λ (a b : Hop). (a.link == b.link) ≡ false) }
+sparse_none d = record { inside = All-nil (λ (h : Hop). h.link < length d.links); apart = pairs_none (λ (a b : Hop). (a.link == b.link) ≡ false) }
 
 -- so there is room for it
-pub room_for_hop : (d : Domain) (tree : List Hop) (hop : Hop) → length d.links ≤ 64 → AreSparse d tree → hop.link < length d.links → list_any (λ (kept : Hop). kept.link == hop.link) tree ≡ false → length tree < 64
+pub room_for_hop : (d : Domain) (tree : List Hop) (hop : Hop) → length d.links ≤ 64 → AreSparse d tree → hop.link < length d.links →
+    list_any (λ (kept : Hop). kept.link == hop.link) tree ≡ false → length tree < 64
 room_for_hop d tree hop few sparse inside none =
     omega (arith, few, sparse_few d (tree ++ hop ∷ []) (sparse_push d tree hop sparse inside none), length-append tree (hop ∷ []))
 
@@ -53,20 +56,9 @@ room_for_hop d tree hop few sparse inside none =
 pub keep_new : (tree : List Hop) (hop : Hop) → list_any (λ (kept : Hop). kept.link == hop.link) tree ≡ false → keep_link tree hop ≡ tree ++ hop ∷ []
 keep_new tree hop e = ap (λ (b : Bool). cond b tree (tree ++ hop ∷ [])) e
 
+-- a link that the tree has is not added again
 pub keep_old : (tree : List Hop) (hop : Hop) → list_any (λ (kept : Hop). kept.link == hop.link) tree ≡ true → keep_link tree hop ≡ tree
 keep_old tree hop e = ap (λ (b : Bool). cond b tree (tree ++ hop ∷ [])) e
-
--- the links of a branch are the domain's
-pub link_inside : (d : Domain) (from to : Option Node) (l : ℕ) → link_from d from to ≡ Some l → l < length d.links
-link_inside d None to l e = absurd cc
-link_inside d (Some (Bridge b)) None l e = absurd cc
-link_inside d (Some (Station s)) None l e = absurd cc
-link_inside d (Some (Station s)) (Some n) l e = absurd cc
-link_inside d (Some (Bridge b)) (Some n) l e =
-    let test : Link → Bool = λ (link : Link). (link.from == b) && same_node link.to n in
-    let place = prefix_len (λ (link : Link). not (test link)) d.links in
-    let found = cond_some (nat_lt place (length d.links)) place l e in
-    omega (arith, ltb-true place (length d.links) found.0, found.1)
 
 -- so many hops of a branch have been added to a tree
 pub record AreAdded (d : Domain) (branch : Branch) (first tree : List Hop) (place : ℕ) (before : Option ℕ) : Type 0 where
@@ -74,43 +66,62 @@ pub record AreAdded (d : Domain) (branch : Branch) (first tree : List Hop) (plac
   pub behind : before ≡ link_before d branch place
   pub sparse : AreSparse d tree
 
+-- before the first place nothing is added
 pub none_added : (d : Domain) (branch : Branch) (first : List Hop) → AreSparse d first → AreAdded d branch first first 0 None
 none_added d branch first sparse = record { added = refl; behind = refl; sparse = sparse }
 
 -- one more, where there is a link, and where there is none
-module _ (d : Domain) (branch : Branch) (first tree after : List Hop) (place depth : ℕ) (before : Option ℕ) (h : AreAdded d branch first tree place before) where
-  grown : (o : Option ℕ) → link_at d branch place ≡ o → fold keep_link first (each_below (λ k. hop_to (k + 1) (link_before d branch k) (link_at d branch k)) (suc place)) ≡ fold keep_link tree (hop_to (place + 1) before o)
+module _ (d : Domain) (branch : Branch) (first tree after : List Hop) (place depth : ℕ) (before : Option ℕ)
+    (h : AreAdded d branch first tree place before) where
+  -- one more place adds its hop where there is a link
+  grown : (o : Option ℕ) → link_at d branch place ≡ o →
+      fold keep_link first (each_below (λ k. hop_to (k + 1) (link_before d branch k) (link_at d branch k)) (suc place)) ≡ fold keep_link tree
+      (hop_to (place + 1) before o)
   grown o e =
-      fold-append keep_link first (each_below (λ k. hop_to (k + 1) (link_before d branch k) (link_at d branch k)) place) (hop_to (place + 1) (link_before d branch place) (link_at d branch place))
+      fold-append keep_link first (each_below (λ k. hop_to (k + 1) (link_before d branch k) (link_at d branch k)) place)
+      (hop_to (place + 1) (link_before d branch place) (link_at d branch place))
       ∙ ap (λ (t : List Hop). fold keep_link t (hop_to (place + 1) (link_before d branch place) (link_at d branch place))) (sym h.added)
       ∙ ap (λ (b : Option ℕ). fold keep_link tree (hop_to (place + 1) b (link_at d branch place))) (sym h.behind)
       ∙ ap (λ (p : Option ℕ). fold keep_link tree (hop_to (place + 1) before p)) e
 
-  pub one_added : (l : ℕ) → link_at d branch place ≡ Some l → depth ≡ place + 1 → after ≡ keep_link tree (record { link = l; depth = depth; from = before }) → AreSparse d after → AreAdded d branch first after (suc place) (Some l)
+  -- a link is added
+  pub one_added : (l : ℕ) → link_at d branch place ≡ Some l → depth ≡ place + 1 → after ≡ keep_link tree (record { link = l; depth = depth; from = before }) →
+      AreSparse d after → AreAdded d branch first after (suc place) (Some l)
   one_added l e deep is sparse = record {
     added = is ∙ ap (λ (k : ℕ). keep_link tree (record { link = l; depth = k; from = before })) deep ∙ sym (grown (Some l) e);
     behind = sym e;
     sparse = sparse;
   }
 
+  -- and none where there is none
   pub none_more : link_at d branch place ≡ None → AreAdded d branch first tree (suc place) None
   none_more e = record { added = sym (grown None e); behind = sym e; sparse = h.sparse }
 
 -- the hops of a tree are by links of the domain
-hop_inside : (d : Domain) (depth : ℕ) (from o : Option ℕ) → ((l : ℕ) → o ≡ Some l → l < length d.links) → All (λ (hop : Hop). hop.link < length d.links) (hop_to depth from o)
+hop_inside : (d : Domain) (depth : ℕ) (from o : Option ℕ) → ((l : ℕ) → o ≡ Some l → l < length d.links) →
+    All (λ (hop : Hop). hop.link < length d.links) (hop_to depth from o)
 hop_inside d depth from None h = All-nil (λ (hop : Hop). hop.link < length d.links)
-hop_inside d depth from (Some l) h = All-push (λ (hop : Hop). hop.link < length d.links) [] (record { link = l; depth = depth; from = from }) (All-nil (λ (hop : Hop). hop.link < length d.links)) (h l refl)
+hop_inside d depth from (Some l) h =
+    All-push (λ (hop : Hop). hop.link < length d.links) [] (record { link = l; depth = depth; from = from })
+    (All-nil (λ (hop : Hop). hop.link < length d.links)) (h l refl)
 
-along_inside : (d : Domain) (branch : Branch) (n : ℕ) → All (λ (hop : Hop). hop.link < length d.links) (each_below (λ k. hop_to (k + 1) (link_before d branch k) (link_at d branch k)) n)
+-- the links along a branch are the domain's
+along_inside : (d : Domain) (branch : Branch) (n : ℕ) →
+    All (λ (hop : Hop). hop.link < length d.links) (each_below (λ k. hop_to (k + 1) (link_before d branch k) (link_at d branch k)) n)
 along_inside d branch zero = All-nil (λ (hop : Hop). hop.link < length d.links)
 along_inside d branch (suc n) =
-    All-append (λ (hop : Hop). hop.link < length d.links) (each_below (λ k. hop_to (k + 1) (link_before d branch k) (link_at d branch k)) n) (hop_to (n + 1) (link_before d branch n) (link_at d branch n)) (along_inside d branch n)
+    All-append (λ (hop : Hop). hop.link < length d.links) (each_below (λ k. hop_to (k + 1) (link_before d branch k) (link_at d branch k)) n)
+    (hop_to (n + 1) (link_before d branch n) (link_at d branch n)) (along_inside d branch n)
     (hop_inside d (n + 1) (link_before d branch n) (link_at d branch n) (λ l e. link_inside d (node_at d branch n) (node_at d branch (n + 1)) l e))
 
+-- and so are those along all branches
 all_inside : (d : Domain) (paths : List Branch) → All (λ (hop : Hop). hop.link < length d.links) (flat_map (hops_along d) paths)
 all_inside d [] = All-nil (λ (hop : Hop). hop.link < length d.links)
-all_inside d (branch ∷ paths) = All-append (λ (hop : Hop). hop.link < length d.links) (hops_along d branch) (flat_map (hops_along d) paths) (along_inside d branch (length branch - 1)) (all_inside d paths)
+all_inside d (branch ∷ paths) =
+    All-append (λ (hop : Hop). hop.link < length d.links) (hops_along d branch) (flat_map (hops_along d) paths) (along_inside d branch (length branch - 1))
+    (all_inside d paths)
 
+-- so the tree's links are the domain's
 pub hops_inside : (d : Domain) (paths : List Branch) → All (λ (hop : Hop). hop.link < length d.links) (tree_of d paths)
 hops_inside d paths k e h =
     let tree = tree_of d paths in
@@ -118,12 +129,14 @@ hops_inside d paths k e h =
     All-contains (λ (hop : Hop). hop.link < length d.links) (flat_map (hops_along d) paths) (get_or tree k e) (all_inside d paths) there
 
 -- one of some branches of no more than 17 nodes
-pub few_here : (paths : List (Vec (String Global) Global)) (index : ℕ) (branch : Vec (String Global) Global) → All (λ (b : Branch). length b ≤ 17) (branches_of paths) → index < length paths → get_or paths index branch ≡ branch → length branch.items ≤ 17
+pub few_here : (paths : List (Vec (String Global) Global)) (index : ℕ) (branch : Vec (String Global) Global) →
+    All (λ (b : Branch). length b ≤ 17) (branches_of paths) → index < length paths → get_or paths index branch ≡ branch → length branch.items ≤ 17
 few_here paths index branch few inside is =
     let there : All (λ (b : Vec (String Global) Global). length (branch_of b.items) ≤ 17) paths = unmapped paths few in
     omega (arith, there index branch inside, ap (λ (b : Vec (String Global) Global). length (branch_of b.items)) is, length-map branch.items string_bytes)
   where
-    unmapped : (ps : List (Vec (String Global) Global)) → All (λ (b : Branch). length b ≤ 17) (branches_of ps) → All (λ (b : Vec (String Global) Global). length (branch_of b.items) ≤ 17) ps
+    unmapped : (ps : List (Vec (String Global) Global)) → All (λ (b : Branch). length b ≤ 17) (branches_of ps) →
+        All (λ (b : Vec (String Global) Global). length (branch_of b.items) ≤ 17) ps
     unmapped [] h = All-nil (λ (b : Vec (String Global) Global). length (branch_of b.items) ≤ 17)
     unmapped (p ∷ ps) h =
         All-cons (λ (b : Vec (String Global) Global). length (branch_of b.items) ≤ 17) p ps

@@ -1,5 +1,6 @@
 -- What looking the branches of a request over gives.
-use Rattle.std.specs.Prelude.{ℕ, ◌≡◌, ◌+◌, List, [], ◌∷◌, ◌++◌, if◌then◌else◌, Option, Some, None, Result, Ok, Err, Vec, String, All, AllPairs, ◌<◌, ◌==◌, false, is_none, length, map, option_map, position, string_bytes}
+use Rattle.std.specs.Prelude.{ℕ, ◌≡◌, ◌+◌, List, [], ◌∷◌, ◌++◌, if◌then◌else◌, Option, Some, None, Result, Ok, Err, Vec, String, All, AllPairs, ◌<◌, ◌==◌}
+use Rattle.std.specs.Prelude.{false, is_none, length, map, option_map, position, string_bytes}
 use Rattle.std.specs.List.{flat_map, list_any}
 use Rattle.std.specs.declared.alloc.Global.{Global}
 use Rattle.arrayvec.specs.ArrayVec.{ArrayVec}

@@ -1,5 +1,6 @@
 -- The bridges of a stream's tree, one hop after the other.
-use Rattle.std.proofs.Common.{ℕ, ◌≡◌, ◌+◌, ◌∙◌, ◌<◌, ◌≤◌, ◌==◌, Bool, true, false, List, [], ◌∷◌, ◌++◌, Option, Some, None, if◌then◌else◌, length, map, take, get_or, slice_get, sym, ap, subst, arith}
+use Rattle.std.proofs.Common.{ℕ, ◌≡◌, ◌+◌, ◌∙◌, ◌<◌, ◌≤◌, ◌==◌, Bool, true, false, List, [], ◌∷◌, ◌++◌, Option, Some, None, if◌then◌else◌, length, map, take}
+use Rattle.std.proofs.Common.{get_or, slice_get, sym, ap, subst, arith}
 use Rattle.std.specs.List.{All, list_any}
 use Rattle.std.specs.Option.{option_map_or}
 use Rattle.std.proofs.lemmas.List.{take_more, map-append, length-append, length-map, get_or-map}
@@ -25,7 +26,8 @@ abbrev pub no_hop : Hop
 no_hop = record { link = 0; depth = 0; from = None }
 
 -- one hop more, one bridge more where it is a new one
-bridges_in-more : (d : Domain) (tree : List Hop) (k : ℕ) → k < length tree → bridges_in d (take (k + 1) tree) ≡ kept_once (bridges_in d (take k tree)) (bridge_of d (get_or tree k no_hop).link)
+bridges_in-more : (d : Domain) (tree : List Hop) (k : ℕ) → k < length tree →
+    bridges_in d (take (k + 1) tree) ≡ kept_once (bridges_in d (take k tree)) (bridge_of d (get_or tree k no_hop).link)
 bridges_in-more d tree k below =
     let hop : Hop = get_or tree k no_hop in
     ap (bridges_in d) (take_more tree k no_hop below)
@@ -40,8 +42,10 @@ pub record AreBridges (d : Domain) (tree : List Hop) (k : ℕ) (bridges : List �
   pub inside : All (λ (b : ℕ). b < length d.bridges) bridges
 
 -- one hop more, whose bridge is among those before it or isn't
-AreBridges-more : (d : Domain) (tree : List Hop) (k bridge : ℕ) (known : Bool) (bridges : List ℕ) → k < length tree → bridge_of d (get_or tree k no_hop).link ≡ bridge → bridge < length d.bridges
-    → known ≡ list_any (λ other. other == bridge) bridges → AreBridges d tree k bridges → AreBridges d tree (k + 1) (if known then bridges else bridges ++ bridge ∷ [])
+AreBridges-more : (d : Domain) (tree : List Hop) (k bridge : ℕ) (known : Bool) (bridges : List ℕ) → k < length tree →
+    bridge_of d (get_or tree k no_hop).link ≡ bridge → bridge < length d.bridges
+    → known ≡ list_any (λ other. other == bridge) bridges → AreBridges d tree k bridges →
+    AreBridges d tree (k + 1) (if known then bridges else bridges ++ bridge ∷ [])
 AreBridges-more d tree k bridge known bridges below from within word so_far = record {
   are = ap (λ (b : Bool). if b then bridges else bridges ++ bridge ∷ []) word
       ∙ ap (λ (kept : List ℕ). kept_once kept bridge) so_far.are
@@ -57,10 +61,12 @@ AreBridges-more d tree k bridge known bridges below from within word so_far = re
 
     inside : (b : Bool) → All (λ (x : ℕ). x < length d.bridges) (if b then bridges else bridges ++ bridge ∷ [])
     inside true = so_far.inside
-    inside false = All-append (λ (x : ℕ). x < length d.bridges) bridges (bridge ∷ []) so_far.inside (All-cons (λ (x : ℕ). x < length d.bridges) bridge [] within (All-nil (λ (x : ℕ). x < length d.bridges)))
+    inside false = All-append (λ (x : ℕ). x < length d.bridges) bridges (bridge ∷ []) so_far.inside
+        (All-cons (λ (x : ℕ). x < length d.bridges) bridge [] within (All-nil (λ (x : ℕ). x < length d.bridges)))
 
 -- the same, in the words of the calls that read the hop
-pub AreBridges-next : (d domain : Domain) (tree items : List Hop) (k : ℕ) (link : Link) (known : Bool) (bridges seen : List ℕ) → domain ≡ d → IsAccepted d → items ≡ tree → seen ≡ bridges → k < length items
+pub AreBridges-next : (d domain : Domain) (tree items : List Hop) (k : ℕ) (link : Link) (known : Bool) (bridges seen : List ℕ) → domain ≡ d → IsAccepted d →
+    items ≡ tree → seen ≡ bridges → k < length items
     → slice_get domain.links (get_or items k no_hop).link ≡ Some link → known ≡ list_any (λ other. other == link.from) seen
     → AreBridges d tree k bridges → AreBridges d tree (k + 1) (if known then bridges else bridges ++ link.from ∷ [])
 AreBridges-next d domain tree items k link known bridges seen same_domain accepted same_items same_seen below found word so_far =
@@ -73,7 +79,8 @@ AreBridges-next d domain tree items k link known bridges seen same_domain accept
     (word ∙ ap (λ (xs : List ℕ). list_any (λ other. other == link.from) xs) same_seen) so_far
 
 -- a hop of a tree along links of the domain is by one of them
-pub link-inside : (d domain : Domain) (tree items : List Hop) (k : ℕ) → domain ≡ d → items ≡ tree → k < length items → All (λ l. l < length d.links) (links_in tree)
+pub link-inside : (d domain : Domain) (tree items : List Hop) (k : ℕ) → domain ≡ d → items ≡ tree → k < length items →
+    All (λ l. l < length d.links) (links_in tree)
     → (get_or items k no_hop).link < length domain.links
 link-inside d domain tree items k same_domain same_items below along =
     let P : List Hop → Type 0 = λ xs. All (λ l. l < length d.links) (links_in xs) in

@@ -1,19 +1,16 @@
 -- Streams admitted in turn, each of which is held from cycle 0 on.
-use Rattle.std.proofs.Common.{◌≡◌, ◌≢◌, ◌⊎◌, ◌∙◌, ◌<◌, ◌+◌, ◌++◌, ℕ, Bool, true, false, List, [], ◌∷◌, Option, Some, None, Result, Ok, Err, length, map, arith, ap, subst, refl, sym, length-append, inl, inr, not, nat_le, ◌&&◌, is_none, position}
-use Rattle.std.proofs.lemmas.Grind.{common_steps}
-use Rattle.std.specs.List.{flat_map, list_any}
-use Rattle.cqf_units.specs.Name.{is_name}
-use Rattle.cqf_units.specs.Timing.{cost_of}
+use Rattle.std.proofs.Common.{◌≡◌, ◌≢◌, ◌⊎◌, ◌∙◌, ◌<◌, ◌+◌, ◌++◌, ℕ, true, List, [], ◌∷◌, Option, Some, None, Result, Ok, Err, length, map, arith, ap, subst}
+use Rattle.std.proofs.Common.{refl, sym, length-append, inl, inr}
 use Rattle.cqf_model.specs.declared.history.Receipt.{Receipt}
 use Rattle.cqf_model.specs.declared.history.Refused.{Refused}
-use Rattle.cqf_model.specs.declared.history.Refused.TheVariants.{BadName, BadOctets, UnknownNode, BrokenPath, LoopingPath, NotATree, NameHeld, TooManyStreams, BudgetShort, NotHeld, AlreadyWithdrawn, HistoryFull, Memory}
+use Rattle.cqf_model.specs.declared.history.Refused.TheVariants.{BadName, BadOctets, UnknownNode, BrokenPath, LoopingPath, NotATree, NameHeld, TooManyStreams}
+use Rattle.cqf_model.specs.declared.history.Refused.TheVariants.{BudgetShort, NotHeld, AlreadyWithdrawn, HistoryFull, Memory}
 use Rattle.cqf_model.specs.declared.history.Reply.TheVariants.{Accepted, Refused as RefusedFor}
 use Rattle.cqf_model.specs.declared.topology.Row.{Row}
-use Rattle.cqf_model.specs.Domain.{Domain, is_text, node_named}
-use Rattle.cqf_lists.specs.Lists.{least, or_else}
-use Rattle.cqf_model.specs.History.{Admits, Asked, Branch, IsLegalHistory, Recorded, admit_reply, held_in, broken_place, first_place, is_loop_at, is_stray, left_on, next_number, refusal_of, refused_at, refused_if, reply_to, seals, short_link, tree_of}
+use Rattle.cqf_model.specs.Domain.{Domain}
+use Rattle.cqf_model.specs.History.{Admits, Asked, IsLegalHistory, Recorded, admit_reply, held_in, next_number, refusal_of, reply_to, seals}
 use Rattle.cqf_topology.specs.declared.streams.Request.{Request}
-use Rattle.cqf_laws_history.specs.StateLaws.{GrantedIsHeld, HistoryGoesOn, SealsAreCounted, granted_row, with_entry}
+use Rattle.cqf_laws_history.specs.StateLaws.{GrantedFindsRoom, GrantedIsHeld, HistoryGoesOn, SealsAreCounted, granted_row, with_entry}
 use Rattle.cqf_admission.specs.Admission.{Administration, Answers, is_entered}
 use Rattle.cqf_admission.specs.Asking.{asked_by, asked_of}
 use Rattle.cqf_text.specs.Parts.{parts_of}
@@ -27,55 +24,14 @@ use Rattle.cqf_inputs.specs.Parts.{two_parts}
 use Rattle.cqf_stop.specs.Stops.{IsRefused, or_line}
 use Rattle.cqf_stop.specs.declared.stops.Stop.{Stop}
 
--- where the first of two refusals that is due is none, neither is
-or_else-none : (a b : Option Refused) → or_else a b ≡ None → (a ≡ None) × (b ≡ None)
-or_else-none None b h = (refl, h)
-or_else-none (Some x) b h = cc
-
--- a refusal that hangs on a test isn't due where the test fails
-refused_if-none : (test : Bool) (refused : Refused) → refused_if test refused ≡ None → test ≡ false
-refused_if-none true refused h = cc
-refused_if-none false refused h = refl
-
--- a bound that isn't reached
-below-bound : (bound n : ℕ) → nat_le bound n ≡ false → n < bound
-below-bound bound n h = grind (arith, common_steps)
-
--- the eighth of nine refusals isn't due where none of them is
-eighth-none : (a b c d e f g h i : Option Refused) →
-    or_else a (or_else b (or_else c (or_else d (or_else e (or_else f (or_else g (or_else h i))))))) ≡ None → h ≡ None
-eighth-none a b c d e f g h i all =
-    let behind_a = (or_else-none a _ all).1 in
-    let behind_b = (or_else-none b _ behind_a).1 in
-    let behind_c = (or_else-none c _ behind_b).1 in
-    let behind_d = (or_else-none d _ behind_c).1 in
-    let behind_e = (or_else-none e _ behind_d).1 in
-    let behind_f = (or_else-none f _ behind_e).1 in
-    let behind_g = (or_else-none g _ behind_f).1 in
-    (or_else-none h i behind_g).0
-
--- a request that isn't refused finds room
-room_for : (d : Domain) (rows : List Row) (asked : Asked) → refusal_of d rows asked ≡ None → length rows < 1024
-room_for d rows asked granted_is =
-    let name = refused_if (not (is_name asked.name)) BadName in
-    let octets = refused_if (not (nat_le 64 asked.octets && nat_le asked.octets 60000)) BadOctets in
-    let nodes = flat_map (λ (branch : Branch). branch) asked.paths in
-    let unknown = refused_at (λ place. UnknownNode place) (position (λ name. is_none (node_named d name)) nodes) in
-    let broken = refused_at (λ place. BrokenPath place) (broken_place d asked.paths) in
-    let looping = refused_at (λ place. LoopingPath place) (first_place (is_loop_at d) asked.paths) in
-    let stray = refused_at (λ branch. NotATree branch) (least (is_stray asked.paths) (length asked.paths)) in
-    let held = refused_if (list_any (λ (row : Row). is_text row.name asked.name) rows) NameHeld in
-    let many = refused_if (nat_le 1024 (length rows)) TooManyStreams in
-    let short = refused_at (λ l. BudgetShort l (left_on d rows l)) (short_link d rows (cost_of asked.octets) (tree_of d asked.paths)) in
-    below-bound 1024 (length rows) (refused_if-none (nat_le 1024 (length rows)) TooManyStreams
-    (eighth-none name octets unknown broken looping stray held many short granted_is))
-
 -- what the answer to a request tells of it
 granted : (number effect : ℕ) (receipt : Receipt) (refusal : Option Refused) → Accepted receipt ≡ admit_reply number effect refusal → refusal ≡ None
 granted number effect receipt None h = refl
 granted number effect receipt (Some refused) h = cc
 
-refused_for : (number effect : ℕ) (refused : Refused) (refusal : Option Refused) → RefusedFor refused ≡ admit_reply number effect refusal → refusal ≡ Some refused
+-- what the answer to a refused request tells of it
+refused_for : (number effect : ℕ) (refused : Refused) (refusal : Option Refused) → RefusedFor refused ≡ admit_reply number effect refusal →
+    refusal ≡ Some refused
 refused_for number effect refused None h = cc
 refused_for number effect refused (Some other) h = cc
 
@@ -84,11 +40,12 @@ pub AreAllHeld-none : (d : Domain) → IsLegalHistory d [] → AreAllHeld d []
 AreAllHeld-none d legal = record { legal = legal; no_seal = refl; one_each = refl; few = omega arith }
 
 -- one stream more
-AreAllHeld-more : (d : Domain) (entries : List Recorded) (asked : Asked) → HistoryGoesOn → SealsAreCounted → GrantedIsHeld → AreAllHeld d entries → refusal_of d (held_in d entries (seals entries)) asked ≡ None → AreAllHeld d (with_asked d entries asked)
-AreAllHeld-more d entries asked goes_on counted grants all granted_is =
+AreAllHeld-more : (d : Domain) (entries : List Recorded) (asked : Asked) → HistoryGoesOn → SealsAreCounted → GrantedIsHeld → GrantedFindsRoom →
+    AreAllHeld d entries → refusal_of d (held_in d entries (seals entries)) asked ≡ None → AreAllHeld d (with_asked d entries asked)
+AreAllHeld-more d entries asked goes_on counted grants finds all granted_is =
     let rows : List Row = held_in d entries (seals entries) in
     let count : length rows ≡ length entries = ap (λ c. length (held_in d entries c)) all.no_seal ∙ all.one_each in
-    let room : length rows < 1024 = room_for d rows asked granted_is in
+    let room : length rows < 1024 = finds d rows asked granted_is in
     let one_more : length (with_asked d entries asked) ≡ length entries + 1 = length-append entries _ in
     let no_seal : seals (with_asked d entries asked) ≡ 0 = omega (arith, counted entries 0 (Admits asked) (reply_to d entries (Admits asked)), all.no_seal) in
     let state = grants d entries rows (next_number d entries) 0 asked all.legal (record { held = refl; number = refl }) granted_is in
@@ -104,19 +61,23 @@ AreAllHeld-more d entries asked goes_on counted grants all granted_is =
 
 -- what a granted call tells
 module _ (old new : Administration) (asked : Asked) (receipt : Receipt) (answers : Answers old new 0 (Admits asked) (Ok receipt)) where
+  -- the refusal of the request, where there is one
   abbrev refusal : Option Refused
   refusal = refusal_of old.domain (held_in old.domain old.entries (seals old.entries)) asked
 
+  -- a granted call was due no refusal
   none_due : refusal ≡ None
   none_due = granted (next_number old.domain old.entries) (seals old.entries) receipt refusal (answers.due refl)
 
+  -- and it is the history's next entry
   entered : new.entries ≡ with_asked old.domain old.entries asked
   entered = answers.entered refl ∙ ap (λ reply. with_entry old.entries 0 (Admits asked) reply) (answers.due refl)
 
-  pub granted-held : HistoryGoesOn → SealsAreCounted → GrantedIsHeld → AreAllHeld old.domain old.entries → AreAllHeld new.domain new.entries
-  granted-held goes_on counted grants all =
+  -- so its stream is held with the others
+  pub granted-held : HistoryGoesOn → SealsAreCounted → GrantedIsHeld → GrantedFindsRoom → AreAllHeld old.domain old.entries → AreAllHeld new.domain new.entries
+  granted-held goes_on counted grants finds all =
       subst (λ d. AreAllHeld d new.entries) (sym answers.domain)
-      (subst (λ entries. AreAllHeld old.domain entries) (sym entered) (AreAllHeld-more old.domain old.entries asked goes_on counted grants all none_due))
+      (subst (λ entries. AreAllHeld old.domain entries) (sym entered) (AreAllHeld-more old.domain old.entries asked goes_on counted grants finds all none_due))
 
 -- a refusal is entered, except where the history is full or memory lacks
 entered_unless : (refused : Refused) → refused ≢ HistoryFull → refused ≢ Memory → is_entered (Err refused) ≡ true
@@ -154,6 +115,7 @@ is_memory HistoryFull = inr (λ h. cc)
 pub IsRefused-line : {A : Type 0} (found : Result A (List ℕ)) (line : List ℕ) (stop : Stop) → found ≡ Err line → EndsWith 1 line stop → IsRefused found stop
 IsRefused-line found line stop h e = record { statuses = e.statuses; line = λ one. h ∙ ap Err (sym (e.line_is one)); memory = e.memory }
 
+-- want of memory ends with nothing but its status
 pub IsRefused-memory : {A : Type 0} (found : Result A (List ℕ)) (stop : Stop) → EndsWith 3 [] stop → IsRefused found stop
 IsRefused-memory found stop e =
     let three : stop.status ≡ 3 = elim e.statuses [ inl three ↦ three | inr three ↦ three ] in
@@ -164,7 +126,9 @@ never_full : (old new : Administration) (asked : Asked) → AreAllHeld old.domai
 never_full old new asked all answers = omega (arith, answers.full.0 refl, all.few)
 
 -- what a refused call tells
-pub refused-ends : (old new : Administration) (asked : Asked) (refused : Refused) (place : ℕ) (stop : Stop) (more : List Asked) → AreAllHeld old.domain old.entries → Answers old new 0 (Admits asked) (Err refused) → (refused ≢ Memory → EndsWith 1 (stream_line place refused) stop) → (refused ≡ Memory → EndsWith 3 [] stop) → IsRefused (admitted_from old.domain old.entries place (asked ∷ more)) stop
+pub refused-ends : (old new : Administration) (asked : Asked) (refused : Refused) (place : ℕ) (stop : Stop) (more : List Asked) →
+    AreAllHeld old.domain old.entries → Answers old new 0 (Admits asked) (Err refused) → (refused ≢ Memory → EndsWith 1 (stream_line place refused) stop) →
+    (refused ≡ Memory → EndsWith 3 [] stop) → IsRefused (admitted_from old.domain old.entries place (asked ∷ more)) stop
 refused-ends old new asked refused place stop more all answers line memory =
     let full : refused ≢ HistoryFull = λ is. never_full old new asked all (subst (λ r. Answers old new 0 (Admits asked) (Err r)) is answers) in
     let refusal : Option Refused = refusal_of old.domain (held_in old.domain old.entries (seals old.entries)) asked in
@@ -172,7 +136,8 @@ refused-ends old new asked refused place stop more all answers line memory =
     elim (is_memory refused) [
       | inl lacks ↦ IsRefused-memory found stop (memory lacks)
       | inr there ↦
-          let due : refusal ≡ Some refused = refused_for (next_number old.domain old.entries) (seals old.entries) refused refusal (answers.due (entered_unless refused full there)) in
+          let due : refusal ≡ Some refused =
+          refused_for (next_number old.domain old.entries) (seals old.entries) refused refusal (answers.due (entered_unless refused full there)) in
           IsRefused-line found (stream_line place refused) stop
           (ap (λ r. refuse r (stream_line place) (admitted_from old.domain (with_asked old.domain old.entries asked) (place + 1) more)) due) (line there)
     ]
@@ -183,9 +148,13 @@ asked_texts [] = refl
 asked_texts (request ∷ requests) = ap (λ rest. asked_of request ∷ rest) (asked_texts requests)
 
 -- the domain and the streams that are read are the input's
-pub compile_input-is : (input domain_text streams_text : List ℕ) (domain : Domain) (requests : List Request) → two_parts (parts_of input) ≡ Ok (domain_text, streams_text) → domain_of_text domain_text ≡ Ok domain → streams_of_text streams_text ≡ Ok (map request_text requests) → compile_input input ≡ Ok (domain, map asked_of requests)
+pub compile_input-is : (input domain_text streams_text : List ℕ) (domain : Domain) (requests : List Request) →
+    two_parts (parts_of input) ≡ Ok (domain_text, streams_text) → domain_of_text domain_text ≡ Ok domain →
+    streams_of_text streams_text ≡ Ok (map request_text requests) → compile_input input ≡ Ok (domain, map asked_of requests)
 compile_input-is input domain_text streams_text domain requests parts domain_is streams_are =
-    ap (λ found. and_then found (λ texts. and_then (or_line domain_line (domain_of_text texts.0)) (λ d. and_then (or_line streams_line (streams_of_text texts.1)) (λ read. Ok (d, map asked_by read))))) parts
-    ∙ ap (λ found. and_then (or_line domain_line found) (λ d. and_then (or_line streams_line (streams_of_text streams_text)) (λ read. Ok (d, map asked_by read)))) domain_is
+    ap (λ found. and_then found (λ texts. and_then (or_line domain_line (domain_of_text texts.0))
+    (λ d. and_then (or_line streams_line (streams_of_text texts.1)) (λ read. Ok (d, map asked_by read))))) parts
+    ∙ ap (λ found. and_then (or_line domain_line found)
+    (λ d. and_then (or_line streams_line (streams_of_text streams_text)) (λ read. Ok (d, map asked_by read)))) domain_is
     ∙ ap (λ found. and_then (or_line streams_line found) (λ read. Ok (domain, map asked_by read))) streams_are
     ∙ ap (λ asked. Ok (domain, asked)) (asked_texts requests)

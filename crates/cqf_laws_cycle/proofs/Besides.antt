@@ -1,5 +1,6 @@
 -- A port's starts of streams beside background frames are legal for the streams alone.
-use Rattle.std.proofs.Common.{◌≡◌, ℕ, ◌*◌, ◌/◌, ◌<◌, ◌≤◌, List, length, get_or, filter, inl, inr, sym, ap, ◌∙◌, subst, arith, AllPairs, Contains, le-leb, le_trans}
+use Rattle.std.proofs.Common.{◌≡◌, ℕ, ◌*◌, ◌/◌, ◌<◌, ◌≤◌, List, length, get_or, filter, inl, inr, sym, ap, ◌∙◌, subst, arith, AllPairs, Contains, le-leb}
+use Rattle.std.proofs.Common.{le_trans}
 use Rattle.std.proofs.lemmas.Bool.{cases_eq, cases_lt, cases_order, leb-true}
 use Rattle.std.proofs.lemmas.List.Kept.{AllPairs-filter}
 use Rattle.cqf_units.specs.Timing.{ending_of, idle_after}
@@ -94,9 +95,11 @@ module _ (n g r : ℕ) (mixed alone : List Arrival) (place_of : ℕ → ℕ) (cy
   to_first : (p t : ℕ) → Streams p → IsFirst mixed starts p t → IsFirst alone moved (place_of p) t
   to_first p t streams first = record { waits = to_waits p t streams first.waits; none_before = none_before }
     where
-      none_at : (q : ℕ) → q < length mixed → Streams q → place_of q < place_of p → class_of alone (place_of q) ≡ class_of alone (place_of p) → Waits alone moved (place_of q) t → ⊥
+      none_at : (q : ℕ) → q < length mixed → Streams q → place_of q < place_of p → class_of alone (place_of q) ≡ class_of alone (place_of p) →
+          Waits alone moved (place_of q) t → ⊥
       none_at q inside q_streams less same waits =
-          first.none_before q (order_of q p inside streams less) (sym (classes q inside q_streams) ∙ same ∙ classes p first.waits.inside streams) (from_waits q t inside q_streams waits)
+          first.none_before q (order_of q p inside streams less) (sym (classes q inside q_streams) ∙ same ∙ classes p first.waits.inside streams)
+          (from_waits q t inside q_streams waits)
 
       none_before : (k : ℕ) → k < place_of p → class_of alone k ≡ class_of alone (place_of p) → Waits alone moved k t → ⊥
       none_before k less same waits =
@@ -110,21 +113,25 @@ module _ (n g r : ℕ) (mixed alone : List Arrival) (place_of : ℕ → ℕ) (cy
       none_before : (q : ℕ) → q < p → class_of mixed q ≡ class_of mixed p → Waits mixed starts q t → ⊥
       none_before q less same waits =
           let q_streams : Streams q = subst (λ z. 6 ≤ z) (sym same) streams in
-          first.none_before (place_of q) (those.in_order q p less inside q_streams) (classes q waits.inside q_streams ∙ same ∙ sym (classes p inside streams)) (to_waits q t q_streams waits)
+          first.none_before (place_of q) (those.in_order q p less inside q_streams) (classes q waits.inside q_streams ∙ same ∙ sym (classes p inside streams))
+          (to_waits q t q_streams waits)
 
   -- what is eligible beside background frames is so alone
   to_eligible : (p t : ℕ) → p < length mixed → Streams p → IsEligible rules mixed p t → IsEligible rules alone (place_of p) t
-  to_eligible p t inside streams eligible = subst (λ (a : Arrival). IsOpenThrough (port_list n g) a.class t (ending_of t a.octets r)) (sym (those.same p inside streams)) eligible
+  to_eligible p t inside streams eligible =
+      subst (λ (a : Arrival). IsOpenThrough (port_list n g) a.class t (ending_of t a.octets r)) (sym (those.same p inside streams)) eligible
 
   -- and the other way round
   from_eligible : (p t : ℕ) → p < length mixed → Streams p → IsEligible rules alone (place_of p) t → IsEligible rules mixed p t
-  from_eligible p t inside streams eligible = subst (λ (a : Arrival). IsOpenThrough (port_list n g) a.class t (ending_of t a.octets r)) (those.same p inside streams) eligible
+  from_eligible p t inside streams eligible =
+      subst (λ (a : Arrival). IsOpenThrough (port_list n g) a.class t (ending_of t a.octets r)) (those.same p inside streams) eligible
 
   -- a stream's frame that may start came in an earlier cycle
   came_before : (p t : ℕ) → Streams p → Waits mixed starts p t → IsEligible rules mixed p t → instant_of mixed p / n < t / n
   came_before p t streams waits eligible =
       let some_cycle : 0 < n = omega (arith, port.guard_short) in
-      let sent = (port_list_sends_until n g (t / n) t (ending_of t (octets_of mixed p) r) (class_of mixed p) port.some_guard port.guard_short (cycle_from n t, cycle_upto n t some_cycle) (omega (arith, port.some_octet))).0 eligible in
+      let sent = (port_list_sends_until n g (t / n) t (ending_of t (octets_of mixed p) r) (class_of mixed p) port.some_guard port.guard_short
+      (cycle_from n t, cycle_upto n t some_cycle) (omega (arith, port.some_octet))).0 eligible in
       let no_later = cycles_ordered n (instant_of mixed p) t some_cycle waits.come in
       elim (sent.0) [
         | inr low ↦ absurd (omega (arith, low, streams))
@@ -136,7 +143,8 @@ module _ (n g r : ℕ) (mixed alone : List Arrival) (place_of : ℕ → ℕ) (cy
 
   -- no background frame is on the wire where a stream's frame may start: it would be of the same cycle, and behind that
   -- frame
-  off_the_wire : (p q s t : ℕ) → Streams p → Waits mixed starts p t → IsEligible rules mixed p t → Contains starts (q, s) → class_of mixed q < 6 → s < t → idle_after s (octets_of mixed q) r ≤ t
+  off_the_wire : (p q s t : ℕ) → Streams p → Waits mixed starts p t → IsEligible rules mixed p t → Contains starts (q, s) → class_of mixed q < 6 → s < t →
+      idle_after s (octets_of mixed q) r ≤ t
   off_the_wire p q s t streams waits eligible c low less = elim (cases_lt (s / n) (t / n)) [
     | inl earlier ↦ le_trans (keeps.over q s c low) (from_next n (s / n) (t / n) t earlier (cycle_from n t))
     | inr no_earlier ↦ absurd (omega (arith, keeps.none_waits q s p c low early streams (waits_then (came_by no_earlier)), came_by no_earlier))
@@ -162,11 +170,13 @@ module _ (n g r : ℕ) (mixed alone : List Arrival) (place_of : ℕ → ℕ) (cy
   to_idle : (p t : ℕ) → Streams p → Waits mixed starts p t → IsEligible rules mixed p t → IsIdle rules alone moved t → IsIdle rules mixed starts t
   to_idle p t streams waits eligible idle q s c less = elim (cases_lt (class_of mixed q) 6) [
     | inl low ↦ off_the_wire p q s t streams waits eligible c low less
-    | inr q_streams ↦ subst (λ (a : Arrival). idle_after s a.octets r ≤ t) (those.same q (has_place q s c) q_streams) (idle (place_of q) s (renamed.to q s c q_streams) less)
+    | inr q_streams ↦ subst (λ (a : Arrival). idle_after s a.octets r ≤ t) (those.same q (has_place q s c) q_streams)
+        (idle (place_of q) s (renamed.to q s c q_streams) less)
   ]
 
   -- what starts then is a stream's frame, by strict priority
-  a_stream_starts : (p t : ℕ) → p < length mixed → Streams p → t < cycles * n → IsIdle rules alone moved t → IsFirst alone moved (place_of p) t → IsEligible rules alone (place_of p) t → (k : ℕ) × Contains moved (k, t)
+  a_stream_starts : (p t : ℕ) → p < length mixed → Streams p → t < cycles * n → IsIdle rules alone moved t → IsFirst alone moved (place_of p) t →
+      IsEligible rules alone (place_of p) t → (k : ℕ) × Contains moved (k, t)
   a_stream_starts p t inside streams early idle first_alone eligible_alone =
       let first = from_first p t inside streams first_alone in
       let eligible = from_eligible p t inside streams eligible_alone in
@@ -177,9 +187,11 @@ module _ (n g r : ℕ) (mixed alone : List Arrival) (place_of : ℕ → ℕ) (cy
       ]
 
   -- no start is before a higher class that may start
-  no_higher : (p s q : ℕ) → Contains starts (p, s) → Streams p → q < length mixed → Streams q → class_of alone (place_of p) < class_of alone (place_of q) → IsFirst alone moved (place_of q) s → IsEligible rules alone (place_of q) s → ⊥
+  no_higher : (p s q : ℕ) → Contains starts (p, s) → Streams p → q < length mixed → Streams q → class_of alone (place_of p) < class_of alone (place_of q) →
+      IsFirst alone moved (place_of q) s → IsEligible rules alone (place_of q) s → ⊥
   no_higher p s q c p_streams inside q_streams less first eligible =
-      legal.strict_priority p s q c (omega (arith, less, classes p (has_place p s c) p_streams, classes q inside q_streams)) (from_first q s inside q_streams first) (from_eligible q s inside q_streams eligible)
+      legal.strict_priority p s q c (omega (arith, less, classes p (has_place p s c) p_streams, classes q inside q_streams))
+      (from_first q s inside q_streams first) (from_eligible q s inside q_streams eligible)
 
   -- so the starts of streams are legal alone, field by field
   legal_alone : AreSent n g r alone cycles moved
@@ -195,19 +207,23 @@ module _ (n g r : ℕ) (mixed alone : List Arrival) (place_of : ℕ → ℕ) (cy
         let m = renamed.from k s c in
         let o = renamed.from j t e in
         let free : idle_after t (octets_of mixed o.0) r ≤ s = legal.idle m.0 s m.1 o.0 t o.1 less in
-        let there : get_or mixed o.0 no_arrival ≡ get_or alone j no_arrival = sym (those.same o.0 (has_place o.0 t o.1) o.2) ∙ ap (λ z. get_or alone z no_arrival) o.3 in
+        let there : get_or mixed o.0 no_arrival ≡ get_or alone j no_arrival = sym (those.same o.0 (has_place o.0 t o.1) o.2)
+        ∙ ap (λ z. get_or alone z no_arrival) o.3 in
         subst (λ (a : Arrival). idle_after t a.octets r ≤ s) there free;
     first = λ k s c. let m = renamed.from k s c in subst (λ z. IsFirst alone moved z s) m.3 (to_first m.0 s m.2 (legal.first m.0 s m.1));
-    eligible = λ k s c. let m = renamed.from k s c in subst (λ z. IsEligible rules alone z s) m.3 (to_eligible m.0 s (has_place m.0 s m.1) m.2 (legal.eligible m.0 s m.1));
+    eligible = λ k s c. let m = renamed.from k s c in
+        subst (λ z. IsEligible rules alone z s) m.3 (to_eligible m.0 s (has_place m.0 s m.1) m.2 (legal.eligible m.0 s m.1));
     strict_priority = λ k s other c less first eligible.
         let m = renamed.from k s c in
         let o = those.each other first.waits.inside in
         let at_places = no_higher m.0 s o.0 m.1 m.2 o.1 o.2 in
         let at_other = subst (λ z. class_of alone (place_of m.0) < class_of alone z → IsFirst alone moved z s → IsEligible rules alone z s → ⊥) o.3 at_places in
-        subst (λ z. class_of alone z < class_of alone other → IsFirst alone moved other s → IsEligible rules alone other s → ⊥) m.3 at_other less first eligible;
+        subst (λ z. class_of alone z < class_of alone other → IsFirst alone moved other s → IsEligible rules alone other s →
+        ⊥) m.3 at_other less first eligible;
     work_conserving = λ t other early idle first eligible.
         let o = those.each other first.waits.inside in
-        subst (λ z. IsFirst alone moved z t → IsEligible rules alone z t → (k : ℕ) × Contains moved (k, t)) o.3 (a_stream_starts o.0 t o.1 o.2 early idle) first eligible;
+        subst (λ z. IsFirst alone moved z t → IsEligible rules alone z t → (k : ℕ) × Contains moved (k, t)) o.3
+        (a_stream_starts o.0 t o.1 o.2 early idle) first eligible;
   }
 
 -- a list's streams' frames, by their ranks among them
@@ -215,15 +231,19 @@ streams_ranked : (arrivals : List Arrival) → AreTheStreamsOf arrivals (only_st
 streams_ranked arrivals = record {
   inside = λ p inside streams. (kept_at_rank is_streams arrivals p no_arrival inside (le-leb 6 (class_of arrivals p) streams)).inside;
   same = λ p inside streams. (kept_at_rank is_streams arrivals p no_arrival inside (le-leb 6 (class_of arrivals p) streams)).same;
-  in_order = λ q p less inside streams. rank_less is_streams arrivals q p no_arrival less (omega (arith, less, inside)) (le-leb 6 (class_of arrivals q) streams);
+  in_order = λ q p less inside streams. rank_less is_streams arrivals q p no_arrival less (omega (arith, less, inside))
+      (le-leb 6 (class_of arrivals q) streams);
   each = λ k inside. let p = ranked is_streams arrivals k no_arrival inside in (p.0, p.1, leb-true 6 (class_of arrivals p.0) p.2, p.3);
 }
 
 -- their starts
-starts_ranked : (arrivals : List Arrival) (starts : List Transmission) → AllPairs (λ (a b : Transmission). a.1 < b.1) starts → AreTheStartsOf arrivals (place_alone arrivals) starts (starts_alone arrivals starts)
+starts_ranked : (arrivals : List Arrival) (starts : List Transmission) → AllPairs (λ (a b : Transmission). a.1 < b.1) starts →
+    AreTheStartsOf arrivals (place_alone arrivals) starts (starts_alone arrivals starts)
 starts_ranked arrivals starts in_order = record {
-  in_order = pairs_map (λ (a b : Transmission). a.1 < b.1) (start_alone arrivals) (0, 0) (filter (is_start_of_streams arrivals) starts) (AllPairs-filter (λ (a b : Transmission). a.1 < b.1) (is_start_of_streams arrivals) starts in_order);
-  to = λ p s c streams. contains_map (start_alone arrivals) (filter (is_start_of_streams arrivals) starts) (p, s) (contains_filter (is_start_of_streams arrivals) starts (p, s) c (le-leb 6 (class_of arrivals p) streams));
+  in_order = pairs_map (λ (a b : Transmission). a.1 < b.1) (start_alone arrivals) (filter (is_start_of_streams arrivals) starts)
+      (AllPairs-filter (λ (a b : Transmission). a.1 < b.1) (is_start_of_streams arrivals) starts in_order);
+  to = λ p s c streams. contains_map (start_alone arrivals) (filter (is_start_of_streams arrivals) starts) (p, s)
+      (contains_filter (is_start_of_streams arrivals) starts (p, s) c (le-leb 6 (class_of arrivals p) streams));
   from = λ k s c.
       let m = contains_from_map (start_alone arrivals) (filter (is_start_of_streams arrivals) starts) (k, s) c in
       let kept = contains_from_filter (is_start_of_streams arrivals) starts m.0 m.1 in
@@ -234,4 +254,5 @@ starts_ranked arrivals starts in_order = record {
 -- the law
 pub streams_start_as_alone : StreamsStartAsAlone
 streams_start_as_alone n g r arrivals cycles starts port legal =
-    legal_alone n g r arrivals (only_streams arrivals) (place_alone arrivals) cycles starts (starts_alone arrivals starts) (streams_ranked arrivals) (starts_ranked arrivals starts legal.in_order) port legal
+    legal_alone n g r arrivals (only_streams arrivals) (place_alone arrivals) cycles starts (starts_alone arrivals starts) (streams_ranked arrivals)
+    (starts_ranked arrivals starts legal.in_order) port legal

@@ -1,15 +1,18 @@
 -- What the compiled gate lists do in a cycle.
-use Rattle.std.proofs.Common.{◌≡◌, ℕ, ◌+◌, ◌-◌, ◌*◌, ◌/◌, ◌%◌, ◌<◌, ◌≤◌, ◌↔◌, ◌⊎◌, ◌∷◌, [], Bool, true, false, ltb, inl, inr, sym, refl, ap, ap₂, ◌∙◌, subst, arith, lt-ltb, le-ltb, eq-eqb, ne_eqb, eqb-true}
+use Rattle.std.proofs.Common.{◌≡◌, ℕ, ◌+◌, ◌-◌, ◌*◌, ◌/◌, ◌%◌, ◌<◌, ◌≤◌, ◌↔◌, ◌⊎◌, ◌∷◌, [], Bool, true, false, ltb, inl, inr, sym, refl, ap, ap₂, ◌∙◌, subst}
+use Rattle.std.proofs.Common.{arith, lt-ltb, le-ltb, eq-eqb, ne_eqb, eqb-true}
 use Rattle.cqf_model.specs.declared.gates.StreamEntry.{StreamEntry}
 use Rattle.cqf_model.specs.StreamGate.{stream_list, place_in, place_at, round_at}
-use Rattle.std.proofs.lemmas.Bool.{and_from, and_parts, agree_below, agree_below_at, cases_eq, cases_lt, false_from_ne_true, ltb-true, or_cases, or_left, or_right}
+use Rattle.std.proofs.lemmas.Bool.{and_from, and_parts, agree_below, agree_below_at, cases_eq, cases_lt, false_from_ne_true, ltb-true, or_cases, or_left}
+use Rattle.std.proofs.lemmas.Bool.{or_right}
 use Rattle.std.proofs.lemmas.Nat.{and_le_l, bit_set_by_shift}
 use Rattle.std.proofs.lemmas.Nat.Bits.{bit_at_above, shr_and_one}
 use Rattle.std.specs.Int.{bit_at}
 use Rattle.std.specs.Prelude.{IsBitSet, if◌then◌else◌, ◌==◌, ◌^◌, ◌&&◌, ◌||◌, slice_get}
 use Rattle.std.specs.Option.{option_map_or}
 use Rattle.cqf_model.specs.GateList.{states_in, states_at, round_of, port_list, IsOpenThrough}
-use Rattle.cqf_laws_cycle.specs.Compiled.{PortListIsOpen, PortListSends, GateGivesClass, GateCountsCycles, ClassesAlternate, IsSentIn, given_class, guard_from, IsIn, open_class}
+use Rattle.cqf_laws_cycle.specs.Compiled.{PortListIsOpen, PortListSends, GateGivesClass, GateCountsCycles, ClassesAlternate, IsSentIn, given_class, guard_from}
+use Rattle.cqf_laws_cycle.specs.Compiled.{IsIn, open_class}
 use Rattle.cqf_units.proofs.Cycles.{in_round, round_is, parity, cycle_from, cycle_upto}
 
 -- the states so long after the beginning of a round
@@ -93,7 +96,8 @@ abbrev is_sent : ℕ → ℕ → Bool
 is_sent stream_class class = (class == stream_class) || ltb class 6
 
 -- states of eight gates open the class of streams and those of background frames, where each of the eight bits says so
-bits_are_sent : (states stream_class class : ℕ) → states < 2 ^ 8 → stream_class < 8 → agree_below (λ k. bit_at states k == 1) (is_sent stream_class) 8 ≡ true → IsBitSet states class ↔ ((class ≡ stream_class) ⊎ (class < 6))
+bits_are_sent : (states stream_class class : ℕ) → states < 2 ^ 8 → stream_class < 8 → agree_below (λ k. bit_at states k == 1) (is_sent stream_class) 8 ≡ true →
+    IsBitSet states class ↔ ((class ≡ stream_class) ⊎ (class < 6))
 bits_are_sent states stream_class class small few agree = (
   λ set. is_one (sym (shr_and_one states class) ∙ (bit_set_by_shift states class).1 set),
   λ either. (bit_set_by_shift states class).0 (shr_and_one states class ∙ eqb-true (bit_at states class) 1 (same_test (low either) ∙ passes either)),
@@ -122,14 +126,22 @@ bits_are_sent states stream_class class small few agree = (
 
 -- what a cycle's states open, by its parity
 bit_of : (b class : ℕ) → IsBitSet (if b == 0 then 191 else 127) class ↔ ((class ≡ (if b == 0 then 7 else 6)) ⊎ (class < 6))
-bit_of b class = elim (b == 0) as (λ x. IsBitSet (if x then 191 else 127) class ↔ ((class ≡ (if x then 7 else 6)) ⊎ (class < 6))) [ true ↦ bits_are_sent 191 7 class (omega arith) (omega arith) refl | false ↦ bits_are_sent 127 6 class (omega arith) (omega arith) refl ]
+bit_of b class = elim (b == 0) as
+    (λ x. IsBitSet (if x then 191 else 127) class ↔ ((class ≡ (if x then 7 else 6)) ⊎ (class < 6))) [
+      | true ↦
+          bits_are_sent 191 7 class (omega arith) (omega arith) refl
+      | false ↦ bits_are_sent 127 6 class (omega arith) (omega arith) refl
+    ]
 
 -- the laws
 pub port_list_opens : PortListIsOpen
 port_list_opens n g c t class short inside = elim (cases_lt t (guard_from n g c)) [
   | inl early ↦
-      let s = states_sending n g c t short inside early in
-      (λ set. ((bit_of (c % 2) class).0 (subst (λ x. IsBitSet x class) s set), early), λ both. subst (λ x. IsBitSet x class) (sym s) ((bit_of (c % 2) class).1 both.0))
+      let s = states_sending n g c t short inside early in (
+        λ set. ((bit_of (c % 2) class).0 (subst (λ x. IsBitSet x class) s set), early),
+        λ both. subst (λ x. IsBitSet x class) (sym s)
+            ((bit_of (c % 2) class).1 both.0),
+      )
   | inr late ↦
       let s = states_in_guard n g c t short inside late in
       (λ set. absurd (no_bit class (subst (λ x. IsBitSet x class) s set)), λ both. absurd (omega (arith, both.1)))
@@ -211,7 +223,8 @@ gate_counts n r s t some =
 
     halves : (c e : ℕ) → ((c / 2 == e / 2) && (c % 2 == e % 2)) ≡ (c == e)
     halves c e = elim (cases_eq c e) [
-      | inl same ↦ and_from (c / 2 == e / 2) (c % 2 == e % 2) (eq-eqb (c / 2) (e / 2) (ap (λ x. x / 2) same)) (eq-eqb (c % 2) (e % 2) (ap (λ x. x % 2) same)) ∙ sym (eq-eqb c e same)
+      | inl same ↦ and_from (c / 2 == e / 2) (c % 2 == e % 2) (eq-eqb (c / 2) (e / 2) (ap (λ x. x / 2) same)) (eq-eqb (c % 2) (e % 2) (ap (λ x. x % 2) same))
+          ∙ sym (eq-eqb c e same)
       | inr differ ↦ false_from_ne_true ((c / 2 == e / 2) && (c % 2 == e % 2)) (λ both.
           let p = and_parts (c / 2 == e / 2) (c % 2 == e % 2) both in
           differ (omega (arith, eqb-true (c / 2) (e / 2) p.0, eqb-true (c % 2) (e % 2) p.1))) ∙ sym (ne_eqb c e differ)

@@ -1,5 +1,7 @@
 -- A port whose streams' frames come in cycles, within the link's budget, is one cycle late beside any background frames.
-use Rattle.std.proofs.Common.{◌≡◌, ℕ, zero, suc, ◌+◌, ◌-◌, ◌*◌, ◌/◌, ◌<◌, ◌≤◌, Bool, true, false, if◌then◌else◌, leb, le-leb, List, length, take, get_or, inl, inr, sym, ap, ◌∙◌, subst, arith, refl, sum_by, AllPairs, Contains, ◌==◌, le_refl, mul-le-mul_left, mul-le-mul_right, le-div_iff_mul-le, eq-eqb, ne_eqb, add-one, take-take, le_trans}
+use Rattle.std.proofs.Common.{◌≡◌, ℕ, zero, suc, ◌+◌, ◌-◌, ◌*◌, ◌/◌, ◌<◌, ◌≤◌, Bool, true, false, if◌then◌else◌, leb, le-leb, List, length, take, get_or, inl}
+use Rattle.std.proofs.Common.{inr, sym, ap, ◌∙◌, subst, arith, refl, sum_by, AllPairs, Contains, ◌==◌, le_refl, mul-le-mul_left, mul-le-mul_right}
+use Rattle.std.proofs.Common.{le-div_iff_mul-le, eq-eqb, ne_eqb, add-one, take-take, le_trans}
 use Rattle.std.proofs.lemmas.Bool.{cases_eq, cases_lt, cases_order, cond-true, cond-false, lt-leb}
 use Rattle.std.proofs.lemmas.List.{get_or_default}
 use Rattle.std.proofs.lemmas.List.Sums.{sum_by_more, sum_by_more_le, sum_by-take-le}
@@ -13,12 +15,16 @@ use Rattle.cqf_units.proofs.Cycles.{cycle_below, cycle_from, cycle_is, cycle_upt
 use Rattle.cqf_laws_cycle.proofs.GateLists.{classes_take_turns, port_list_sends_until, sends_no_own}
 
 -- two starts at one instant are one
-one_at : (starts : List Transmission) (p q s : ℕ) → AllPairs (λ (a b : Transmission). a.1 < b.1) starts → Contains starts (p, s) → Contains starts (q, s) → p ≡ q
+one_at : (starts : List Transmission) (p q s : ℕ) → AllPairs (λ (a b : Transmission). a.1 < b.1) starts → Contains starts (p, s) → Contains starts (q, s) →
+    p ≡ q
 one_at starts p q s in_order first second = elim (cases_order first.0 second.0) [
-  | inl same ↦ ap (λ (x : Transmission). x.0) (sym first.2 ∙ ap (λ z. get_or starts z (p, s)) same ∙ get_or_default starts second.0 (p, s) (q, s) second.1 ∙ second.2)
+  | inl same ↦ ap (λ (x : Transmission). x.0)
+      (sym first.2 ∙ ap (λ z. get_or starts z (p, s)) same ∙ get_or_default starts second.0 (p, s) (q, s) second.1 ∙ second.2)
   | inr o ↦ elim o [
-    | inl less ↦ absurd (clash (ap (λ (x : Transmission). x.1) first.2) (ap (λ (x : Transmission). x.1) (get_or_default starts second.0 (p, s) (q, s) second.1 ∙ second.2)) (in_order first.0 second.0 (p, s) less second.1))
-    | inr more ↦ absurd (clash (ap (λ (x : Transmission). x.1) (get_or_default starts second.0 (p, s) (q, s) second.1 ∙ second.2)) (ap (λ (x : Transmission). x.1) first.2) (in_order second.0 first.0 (p, s) more first.1))
+    | inl less ↦ absurd (clash (ap (λ (x : Transmission). x.1) first.2)
+        (ap (λ (x : Transmission). x.1) (get_or_default starts second.0 (p, s) (q, s) second.1 ∙ second.2)) (in_order first.0 second.0 (p, s) less second.1))
+    | inr more ↦ absurd (clash (ap (λ (x : Transmission). x.1) (get_or_default starts second.0 (p, s) (q, s) second.1 ∙ second.2))
+        (ap (λ (x : Transmission). x.1) first.2) (in_order second.0 first.0 (p, s) more first.1))
   ]
 ]
   where
@@ -26,7 +32,8 @@ one_at starts p q s in_order first second = elim (cases_order first.0 second.0) 
     clash ea eb l = omega (arith, ea, eb, l)
 
 -- a frame that starts when it is due fills the cycle up to the load with it
-filled : (n r c before with_it wire s first : ℕ) → with_it ≡ before + wire → first ≡ (c + 1) * n + r * before → first + wire * r ≤ s → (c + 1) * n + r * with_it ≤ s
+filled : (n r c before with_it wire s first : ℕ) → with_it ≡ before + wire → first ≡ (c + 1) * n + r * before → first + wire * r ≤ s →
+    (c + 1) * n + r * with_it ≤ s
 filled n r c before with_it wire s first total is_due free = omega (arith, ap (λ z. r * z) total, is_due, free)
 
 -- one that adds nothing leaves it as it was
@@ -57,11 +64,13 @@ module _ (n g r : ℕ) (arrivals : List Arrival) (cycles upto : ℕ) (starts : L
 
   -- of streams what comes later comes in no earlier cycle
   later : (p q : ℕ) → Streams p → Streams q → p < q → q < length arrivals → cyc p ≤ cyc q
-  later p q p_streams q_streams order inside = cycles_ordered n (instant_of arrivals p) (instant_of arrivals q) some_cycle (port.come.in_order p q no_arrival order inside p_streams q_streams)
+  later p q p_streams q_streams order inside =
+      cycles_ordered n (instant_of arrivals p) (instant_of arrivals q) some_cycle (port.come.in_order p q no_arrival order inside p_streams q_streams)
 
   -- what a stream's place adds to the load of its cycle
   own_wire : (p c : ℕ) → Streams p → cyc p ≡ c → wire_in n c (get_or arrivals p no_arrival) ≡ wires p
-  own_wire p c streams same = cond-true (cyc p == c) (if leb 6 (class_of arrivals p) then wires p else 0) 0 (eq-eqb (cyc p) c same) ∙ cond-true (leb 6 (class_of arrivals p)) (wires p) 0 (le-leb 6 (class_of arrivals p) streams)
+  own_wire p c streams same = cond-true (cyc p == c) (if leb 6 (class_of arrivals p) then wires p else 0) 0 (eq-eqb (cyc p) c same)
+      ∙ cond-true (leb 6 (class_of arrivals p)) (wires p) 0 (le-leb 6 (class_of arrivals p) streams)
 
   -- a place of another cycle adds nothing
   other_wire : (p c : ℕ) → (cyc p ≡ c → ⊥) → wire_in n c (get_or arrivals p no_arrival) ≡ 0
@@ -89,13 +98,15 @@ module _ (n g r : ℕ) (arrivals : List Arrival) (cycles upto : ℕ) (starts : L
       let f = wire_in n (cyc q) in
       let more = sum_by_more f arrivals q no_arrival (omega (arith, order, inside)) in
       let whole : sum_by f (take (q + 1) (take p arrivals)) ≤ sum_by f (take p arrivals) = sum_by-take-le f (take p arrivals) (q + 1) in
-      let part : sum_by f (take (q + 1) (take p arrivals)) ≡ sum_by f (take (q + 1) arrivals) = ap (sum_by f) (take-take (q + 1) p arrivals (omega (arith, order))) in
+      let part : sum_by f (take (q + 1) (take p arrivals)) ≡ sum_by f (take (q + 1) arrivals) =
+      ap (sum_by f) (take-take (q + 1) p arrivals (omega (arith, order))) in
       omega (arith, more, whole, part, own_wire q (cyc q) streams refl)
 
   -- the gap behind it is over by the guard time, and it is due in the next cycle
   over : (p : ℕ) → p < length arrivals → Streams p → cyc p < upto → due_at p + wires p * r ≤ guard_from n g (cyc p + 1)
   over p inside streams good =
-      let fits : load n (cyc p) arrivals * r ≤ n - g = (le-div_iff_mul-le {k = r} {x = load n (cyc p) arrivals} {y = n - g} port.some_octet).0 (port.loads (cyc p) good) in
+      let fits : load n (cyc p) arrivals * r ≤ n - g =
+      (le-div_iff_mul-le {k = r} {x = load n (cyc p) arrivals} {y = n - g} port.some_octet).0 (port.loads (cyc p) good) in
       let part : (load n (cyc p) (take p arrivals) + wires p) * r ≤ load n (cyc p) arrivals * r = mul-le-mul_right r (own_part p streams inside) in
       omega (arith, fits, part)
 
@@ -109,7 +120,8 @@ module _ (n g r : ℕ) (arrivals : List Arrival) (cycles upto : ℕ) (starts : L
 
   -- what starts in a cycle has an open class, and is sent before the guard time
   sent_in : (p s : ℕ) → Contains starts (p, s) → IsSentIn (s / n) (class_of arrivals p) × (ending_of s (octets_of arrivals p) r ≤ guard_from n g (s / n))
-  sent_in p s c = (port_list_sends_until n g (s / n) s (ending_of s (octets_of arrivals p) r) (class_of arrivals p) port.some_guard port.guard_short (cycle_from n s, cycle_upto n s some_cycle) (omega (arith, port.some_octet))).0 (legal.eligible p s c)
+  sent_in p s c = (port_list_sends_until n g (s / n) s (ending_of s (octets_of arrivals p) r) (class_of arrivals p) port.some_guard port.guard_short
+      (cycle_from n s, cycle_upto n s some_cycle) (omega (arith, port.some_octet))).0 (legal.eligible p s c)
 
   -- and the gap behind it is over when the next cycle begins
   free_by : (p s : ℕ) → Contains starts (p, s) → idle_after s (octets_of arrivals p) r ≤ (s / n + 1) * n
@@ -141,7 +153,8 @@ module _ (n g r : ℕ) (arrivals : List Arrival) (cycles upto : ℕ) (starts : L
 
   -- the streams' frames of a cycle fill the next from its beginning: where those before a place start when they are due, no
   -- other start is among them
-  behind : (q s c m : ℕ) → Contains starts (q, s) → (c + 1) * n ≤ s → m ≤ length arrivals → ((k : ℕ) → k < m → Streams k → cyc k ≡ c → Contains starts (k, due_at k) × (k ≡ q → ⊥)) → (c + 1) * n + r * load n c (take m arrivals) ≤ s
+  behind : (q s c m : ℕ) → Contains starts (q, s) → (c + 1) * n ≤ s → m ≤ length arrivals →
+      ((k : ℕ) → k < m → Streams k → cyc k ≡ c → Contains starts (k, due_at k) × (k ≡ q → ⊥)) → (c + 1) * n + r * load n c (take m arrivals) ≤ s
   behind q s c zero started from inside before = omega (arith, from)
   behind q s c (suc m) started from inside before =
       let so_far = behind q s c m started from (omega (arith, inside)) (λ k l. before k (omega (arith, l))) in
@@ -172,7 +185,8 @@ module _ (n g r : ℕ) (arrivals : List Arrival) (cycles upto : ℕ) (starts : L
       let no_later = later q p q_streams p_streams order inside in
       elim (cases_eq (cyc q) (cyc p)) [
         | inl same ↦
-            let part : r * (load n (cyc q) (take q arrivals) + wires q) ≤ r * load n (cyc q) (take p arrivals) = mul-le-mul_left r (earlier_part q p q_streams order inside) in
+            let part : r * (load n (cyc q) (take q arrivals) + wires q) ≤ r * load n (cyc q) (take p arrivals) =
+            mul-le-mul_left r (earlier_part q p q_streams order inside) in
             let p_due : due_at p ≡ (cyc q + 1) * n + r * load n (cyc q) (take p arrivals) = ap (λ z. (z + 1) * n + r * load n z (take p arrivals)) (sym same) in
             omega (arith, part, p_due)
         | inr differ ↦
@@ -181,7 +195,8 @@ module _ (n g r : ℕ) (arrivals : List Arrival) (cycles upto : ℕ) (starts : L
       ]
 
   -- it starts when it is due, where those before it do
-  step : (p : ℕ) → ((q : ℕ) → q < p → q < length arrivals → Streams q → cyc q < upto → cyc q + 1 < cycles → Contains starts (q, due_at q)) → p < length arrivals → Streams p → cyc p < upto → cyc p + 1 < cycles → Contains starts (p, due_at p)
+  step : (p : ℕ) → ((q : ℕ) → q < p → q < length arrivals → Streams q → cyc q < upto → cyc q + 1 < cycles → Contains starts (q, due_at q)) →
+      p < length arrivals → Streams p → cyc p < upto → cyc p + 1 < cycles → Contains starts (p, due_at p)
   step p ih inside streams good early =
       elim (cases_lt (class_of arrivals w.0) 6) [
         | inl low ↦ absurd (legal.strict_priority w.0 t p w.1 (omega (arith, low, streams)) first eligible)
@@ -203,7 +218,8 @@ module _ (n g r : ℕ) (arrivals : List Arrival) (cycles upto : ℕ) (starts : L
       t_in = due_in p inside streams good
 
       before : (q : ℕ) → q < p → Streams q → Contains starts (q, due_at q)
-      before q l q_streams = let no_later = later q p q_streams streams l inside in ih q l (omega (arith, l, inside)) q_streams (omega (arith, no_later, good)) (omega (arith, no_later, early))
+      before q l q_streams = let no_later = later q p q_streams streams l inside in
+          ih q l (omega (arith, l, inside)) q_streams (omega (arith, no_later, good)) (omega (arith, no_later, early))
 
       some_wire : (q : ℕ) → 0 < wires q * r
       some_wire q = omega (arith, port.some_octet)
@@ -221,9 +237,12 @@ module _ (n g r : ℕ) (arrivals : List Arrival) (cycles upto : ℕ) (starts : L
           let q_inside = (legal.first q s c).waits.inside in
           let upper : s / n ≤ cyc p + 1 = subst (λ z. s / n ≤ z) (next p inside streams good) (cycles_ordered n s t some_cycle upto_t) in
           let same : cyc p ≡ cyc q = omega (arith, upper, starts_later q s c q_streams, later p q streams q_streams order q_inside) in
-          let classes : class_of arrivals p ≡ class_of arrivals q = port.come.classes p inside streams ∙ ap given_class same ∙ sym (port.come.classes q q_inside q_streams) in
-          let here : instant_of arrivals p ≤ s = omega (arith, starts_from q s c q_streams, cycle_upto n (instant_of arrivals p) some_cycle, ap (λ z. z * n) same) in
-          (legal.first q s c).none_before p order classes (record { inside = inside; come = here; not_started = λ s' c'. omega (arith, not_before s' c', upto_t) })
+          let classes : class_of arrivals p ≡ class_of arrivals q = port.come.classes p inside streams ∙ ap given_class same
+          ∙ sym (port.come.classes q q_inside q_streams) in
+          let here : instant_of arrivals p ≤ s =
+          omega (arith, starts_from q s c q_streams, cycle_upto n (instant_of arrivals p) some_cycle, ap (λ z. z * n) same) in
+          (legal.first q s c).none_before p order classes
+          (record { inside = inside; come = here; not_started = λ s' c'. omega (arith, not_before s' c', upto_t) })
 
       -- a background frame that starts before is over: it is of an earlier cycle
       idle_of_background : (q s : ℕ) → Contains starts (q, s) → class_of arrivals q < 6 → s < t → idle_after s (octets_of arrivals q) r ≤ t
@@ -268,7 +287,8 @@ module _ (n g r : ℕ) (arrivals : List Arrival) (cycles upto : ℕ) (starts : L
       eligible : IsEligible (record { entries = port_list n g; octet_time = r }) arrivals p t
       eligible =
           let class_here : class_of arrivals p ≡ open_class (cyc p + 1) = port.come.classes p inside streams ∙ sym (classes_take_turns (cyc p)) in
-          (port_list_sends_until n g (cyc p + 1) t (ending_of t (octets_of arrivals p) r) (class_of arrivals p) port.some_guard port.guard_short t_in (omega (arith, port.some_octet))).1 (inl class_here, omega (arith, over p inside streams good))
+          (port_list_sends_until n g (cyc p + 1) t (ending_of t (octets_of arrivals p) r) (class_of arrivals p) port.some_guard port.guard_short t_in
+          (omega (arith, port.some_octet))).1 (inl class_here, omega (arith, over p inside streams good))
 
       in_run : t < cycles * n
       in_run = omega (arith, t_in.1, mul-le-mul_right n early)
@@ -302,25 +322,34 @@ module _ (n g r : ℕ) (arrivals : List Arrival) (cycles upto : ℕ) (starts : L
   port_is_late = record { each = each; only = only; next = next; over = over }
 
   -- a background frame starts behind each stream's frame of an earlier cycle
-  background_behind : (p s other : ℕ) → Contains starts (p, s) → class_of arrivals p < 6 → s / n ≤ upto → other < length arrivals → Streams other → cyc other < s / n → due_at other + wires other * r ≤ s
+  background_behind : (p s other : ℕ) → Contains starts (p, s) → class_of arrivals p < 6 → s / n ≤ upto → other < length arrivals → Streams other →
+      cyc other < s / n → due_at other + wires other * r ≤ s
   background_behind p s other c low early inside streams less =
       let from = from_next n (cyc other) (s / n) s less (cycle_from n s) in
       let among = behind p s (cyc other) (suc other) c from (omega (arith, inside)) each_of_cycle in
-      let total : load n (cyc other) (take (suc other) arrivals) ≡ load n (cyc other) (take other arrivals) + wires other = load_more other (cyc other) inside ∙ ap (λ z. load n (cyc other) (take other arrivals) + z) (own_wire other (cyc other) streams refl) in
+      let total : load n (cyc other) (take (suc other) arrivals) ≡ load n (cyc other) (take other arrivals) + wires other = load_more other (cyc other) inside
+      ∙ ap (λ z. load n (cyc other) (take other arrivals) + z) (own_wire other (cyc other) streams refl) in
       parts (load n (cyc other) (take other arrivals)) (load n (cyc other) (take (suc other) arrivals)) (wires other) total among
     where
       each_of_cycle : (k : ℕ) → k < suc other → Streams k → cyc k ≡ cyc other → Contains starts (k, due_at k) × (k ≡ p → ⊥)
-      each_of_cycle k l k_streams same = (each_by k p s c early (omega (arith, l, inside)) k_streams (omega (arith, same, less)), λ e. omega (arith, subst (λ z. Streams z) e k_streams, low))
+      each_of_cycle k l k_streams same =
+          (each_by k p s c early (omega (arith, l, inside)) k_streams (omega (arith, same, less)), λ e. omega (arith, subst (λ z. Streams z) e k_streams, low))
 
       parts : (before with_it wire : ℕ) → with_it ≡ before + wire → (cyc other + 1) * n + r * with_it ≤ s → (cyc other + 1) * n + r * before + wire * r ≤ s
       parts before with_it wire total among = omega (arith, ap (λ z. r * z) total, among)
 
   -- so of the streams' frames only one of the cycle itself can wait
-  none_waits : (p s other : ℕ) → Contains starts (p, s) → class_of arrivals p < 6 → s / n ≤ upto → Streams other → Waits arrivals starts other s → cyc other ≡ s / n
+  none_waits : (p s other : ℕ) → Contains starts (p, s) → class_of arrivals p < 6 → s / n ≤ upto → Streams other → Waits arrivals starts other s →
+      cyc other ≡ s / n
   none_waits p s other c low early streams waits =
       let no_later = cycles_ordered n (instant_of arrivals other) s some_cycle waits.come in
       elim (cases_lt (cyc other) (s / n)) [
-        | inl less ↦ absurd (omega (arith, waits.not_started (due_at other) (each_by other p s c early waits.inside streams less), background_behind p s other c low early waits.inside streams less, port.some_octet))
+        | inl less ↦ absurd (omega (
+          arith,
+          waits.not_started (due_at other) (each_by other p s c early waits.inside streams less),
+          background_behind p s other c low early waits.inside streams less,
+          port.some_octet,
+        ))
         | inr more ↦ omega (arith, no_later, more)
       ]
 

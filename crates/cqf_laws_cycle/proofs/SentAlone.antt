@@ -1,5 +1,6 @@
 -- What a link sends of streams beside background frames is what it may send where nothing but their frames comes.
-use Rattle.std.proofs.Common.{◌≡◌, ℕ, ◌*◌, ◌<◌, All, Bool, true, false, Contains, List, [], None, Option, Some, filter, get_or, is_some, length, inl, inr, sym, ap, ◌∙◌, subst, arith, refl, le-leb}
+use Rattle.std.proofs.Common.{◌≡◌, ℕ, ◌*◌, ◌<◌, All, Bool, true, false, Contains, List, [], None, Option, Some, filter, get_or, is_some, length, inl, inr, sym}
+use Rattle.std.proofs.Common.{ap, ◌∙◌, subst, arith, refl, le-leb}
 use Rattle.std.proofs.lemmas.Bool.{cases_lt, leb-false, leb-true, lt-leb}
 use Rattle.std.proofs.lemmas.List.{get_or-map, length-map}
 use Rattle.std.proofs.lemmas.List.Elements.{All-contains, Contains-get_or}
@@ -53,11 +54,14 @@ module _ (queued : List QueuedFrame) (told : All IsToldByClass queued) where
   arrival_at p inside = get_or-map (λ (x : QueuedFrame). x.arrival) queued p no_frame no_arrival inside
 
   -- a start of a stream's frame sends the same alone
-  kept_sent : (start : Transmission) → start.0 < length queued → is_start_of_streams (arrivals_of queued) start ≡ true → sent_of queued start ≡ sent_of alone (start_alone (arrivals_of queued) start)
+  kept_sent : (start : Transmission) → start.0 < length queued → is_start_of_streams (arrivals_of queued) start ≡ true →
+      sent_of queued start ≡ sent_of alone (start_alone (arrivals_of queued) start)
   kept_sent start inside passes =
       let kept = kept_at_rank has_stream_class queued start.0 no_frame inside (sym (ap is_streams (arrival_at start.0 inside)) ∙ passes) in
-      let place : place_alone (arrivals_of queued) start.0 ≡ rank has_stream_class queued start.0 = rank_map is_streams (λ (x : QueuedFrame). x.arrival) queued start.0 in
-      let frame : get_or alone (place_alone (arrivals_of queued) start.0) no_frame ≡ get_or queued start.0 no_frame = ap (λ z. get_or alone z no_frame) place ∙ kept.same in
+      let place : place_alone (arrivals_of queued) start.0 ≡ rank has_stream_class queued start.0 =
+      rank_map is_streams (λ (x : QueuedFrame). x.arrival) queued start.0 in
+      let frame : get_or alone (place_alone (arrivals_of queued) start.0) no_frame ≡ get_or queued start.0 no_frame = ap (λ z. get_or alone z no_frame) place
+      ∙ kept.same in
       ap (λ (x : QueuedFrame). sent_by start.1 x.arrival x.stream) (sym frame)
 
   -- a start of a background frame sends no stream's frame
@@ -77,11 +81,15 @@ module _ (queued : List QueuedFrame) (told : All IsToldByClass queued) where
       not_backed start.1 x.arrival x.stream (λ none. omega (arith, (All-contains IsToldByClass queued x told kept.0).0 none, high))
 
   -- so what is sent beside background frames is sent alone
-  sent_alone : (d : Domain) (cycles l : ℕ) (sents : List Sent) (backed : List Start) → IsWithinBudget d.cycle_time d.guard (octet_time_of d l) (arrivals_of queued) cycles → Sends d (port_list d.cycle_time d.guard) (cycles * d.cycle_time) l queued sents backed → Sends d (port_list d.cycle_time d.guard) (cycles * d.cycle_time) l alone sents []
+  sent_alone : (d : Domain) (cycles l : ℕ) (sents : List Sent) (backed : List Start) →
+      IsWithinBudget d.cycle_time d.guard (octet_time_of d l) (arrivals_of queued) cycles →
+      Sends d (port_list d.cycle_time d.guard) (cycles * d.cycle_time) l queued sents backed →
+      Sends d (port_list d.cycle_time d.guard) (cycles * d.cycle_time) l alone sents []
   sent_alone d cycles l sents backed port sends = record {
     starts = starts_alone (arrivals_of queued) sends.starts;
     legal = legal;
-    are_sent = sends.are_sent ∙ flat_kept (is_start_of_streams (arrivals_of queued)) (start_alone (arrivals_of queued)) (sent_of queued) (sent_of alone) sends.starts (λ start c. kept_sent start (has_place start c)) (λ start c. left_sent start (has_place start c));
+    are_sent = sends.are_sent ∙ flat_kept (is_start_of_streams (arrivals_of queued)) (start_alone (arrivals_of queued)) (sent_of queued)
+        (sent_of alone) sends.starts (λ start c. kept_sent start (has_place start c)) (λ start c. left_sent start (has_place start c));
     are_backed = sym (flat_none (backed_of alone) (starts_alone (arrivals_of queued) sends.starts) (λ start c. none_backed start (has_place_alone start c)));
   }
     where
@@ -89,7 +97,9 @@ module _ (queued : List QueuedFrame) (told : All IsToldByClass queued) where
       has_place start c = subst (λ z. start.0 < z) (length-map queued (λ (x : QueuedFrame). x.arrival)) (sends.legal.first start.0 start.1 c).waits.inside
 
       legal : AreSent d.cycle_time d.guard (octet_time_of d l) (arrivals_of alone) cycles (starts_alone (arrivals_of queued) sends.starts)
-      legal = subst (λ z. AreSent d.cycle_time d.guard (octet_time_of d l) z cycles (starts_alone (arrivals_of queued) sends.starts)) (filter-map (λ (x : QueuedFrame). x.arrival) is_streams queued) (streams_start_as_alone d.cycle_time d.guard (octet_time_of d l) (arrivals_of queued) cycles sends.starts port sends.legal)
+      legal = subst (λ z. AreSent d.cycle_time d.guard (octet_time_of d l) z cycles (starts_alone (arrivals_of queued) sends.starts))
+          (filter-map (λ (x : QueuedFrame). x.arrival) is_streams queued)
+          (streams_start_as_alone d.cycle_time d.guard (octet_time_of d l) (arrivals_of queued) cycles sends.starts port sends.legal)
 
       has_place_alone : (start : Transmission) → Contains (starts_alone (arrivals_of queued) sends.starts) start → start.0 < length alone
       has_place_alone start c = subst (λ z. start.0 < z) (length-map alone (λ (x : QueuedFrame). x.arrival)) (legal.first start.0 start.1 c).waits.inside
@@ -97,4 +107,5 @@ module _ (queued : List QueuedFrame) (told : All IsToldByClass queued) where
 -- the law
 pub streams_are_sent_as_alone : StreamsAreSentAsAlone
 streams_are_sent_as_alone d cycles l queued sents backed told port sends =
-    subst (λ z. Sends d (port_list d.cycle_time d.guard) (cycles * d.cycle_time) l z sents []) (same_alone queued told) (sent_alone queued told d cycles l sents backed port sends)
+    subst (λ z. Sends d (port_list d.cycle_time d.guard) (cycles * d.cycle_time) l z sents []) (same_alone queued told)
+    (sent_alone queued told d cycles l sents backed port sends)

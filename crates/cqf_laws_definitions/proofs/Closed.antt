@@ -5,7 +5,7 @@ use Rattle.std.proofs.lemmas.Bool.{cases_lt}
 use Rattle.std.proofs.lemmas.List.{take-append-le}
 use Rattle.cqf_model.specs.History.{Recorded, held_in, seal_places, seals}
 use Rattle.cqf_laws_history.proofs.Growth.{seals_are_counted}
-use Rattle.cqf_lists.proofs.Contained.{slice_get_front}
+use Rattle.cqf_lists.proofs.Places.{slice_get_front}
 use Rattle.cqf_laws_history.proofs.Places.{SealAt, seal_at, sealed-suc, sealed_before, sealed_more}
 use Rattle.cqf_laws_definitions.specs.TableLaws.{ClosedTablesStay}
 
@@ -48,4 +48,5 @@ closed_stay d entries seat act reply cycle h =
     let here : SealAt entries cycle place = seal_at entries cycle h in
     let there = seal_at all cycle (omega (arith, h, seals_are_counted entries seat act reply)) in
     let same = one_seal all cycle (get_or (seal_places all) cycle (length all)) place there (seal_stays entries (e ∷ []) cycle place here) in
-    ap (λ (k : ℕ). held_in d (take k all) cycle) same ∙ ap (λ (xs : List Recorded). held_in d xs cycle) (take-append-le place entries (e ∷ []) (omega (arith, here.inside)))
+    ap (λ (k : ℕ). held_in d (take k all) cycle) same
+    ∙ ap (λ (xs : List Recorded). held_in d xs cycle) (take-append-le place entries (e ∷ []) (omega (arith, here.inside)))

@@ -6,7 +6,8 @@ use Rattle.cqf_model.specs.Domain.{Domain, cycle_of}
 use Rattle.cqf_model.specs.Network.{IsLoss, queued_frame, queued_to}
 use Rattle.cqf_model.specs.Run.{Run}
 use Rattle.cqf_model.specs.Table.{begins_at, goes_on, goes_to, is_live, row_named, row_of, table_of}
-use Rattle.cqf_model.specs.Traffic.{AtEdge, Carried, DroppedFor, ExceedsGate, LacksRow, Policed, Queued, Received, Relayed, Verdict, came_by, policed_before, verdict_by}
+use Rattle.cqf_model.specs.Traffic.{AtEdge, Carried, DroppedFor, ExceedsGate, LacksRow, Policed, Queued, Received, Relayed, Verdict, came_by, policed_before}
+use Rattle.cqf_model.specs.Traffic.{verdict_by}
 
 -- the row that stands for a name is live in the cycle
 pub record HasLiveRow (named : Option Row) (cycle : ℕ) (row : Row) : Type 0 where

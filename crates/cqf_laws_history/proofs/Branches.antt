@@ -1,5 +1,6 @@
 -- What a branch has that isn't refused: known nodes, a link from each to the next, and no node twice.
-use Rattle.std.proofs.Common.{◌≡◌, ℕ, ◌+◌, ◌-◌, ◌<◌, ◌≤◌, Bool, true, false, List, Option, Some, None, length, get_or, sym, refl, ap, ◌∙◌, inl, inr, arith, subst}
+use Rattle.std.proofs.Common.{◌≡◌, ℕ, ◌+◌, ◌-◌, ◌<◌, ◌≤◌, Bool, true, false, List, Option, Some, None, length, get_or, sym, refl, ap, ◌∙◌, inl, inr, arith}
+use Rattle.std.proofs.Common.{subst}
 use Rattle.std.specs.Prelude.{[], ◌∷◌, ◌==◌, ◌&&◌, ◌||◌, is_none, nat_le, nat_lt, not, option_map, slice_get, take, unwrap_or, zero, suc, Contains}
 use Rattle.std.specs.Option.{option_map_or}
 use Rattle.std.proofs.lemmas.Bool.{and_from, and_parts, both_ways, cases_lt, eq-eqb, eqb-true, le-leb, lt-ltb, ltb-false, not-false, or_parts}
@@ -8,8 +9,10 @@ use Rattle.std.proofs.lemmas.Option.{same_Some, slice_get-get_or, slice_get_with
 use Rattle.cqf_units.specs.declared.timing.Rate.TheVariants.{Mb10}
 use Rattle.cqf_lists.specs.Lists.{each_below}
 use Rattle.cqf_lists.proofs.Any.{none_member}
-use Rattle.cqf_lists.proofs.Below.{each_same, get_or-singles, length-singles}
-use Rattle.cqf_lists.proofs.Contained.{contains_at, slice_get-take}
+use Rattle.cqf_lists.proofs.EachBelow.{get_or-singles, length-singles, same_below}
+use Rattle.cqf_lists.proofs.Members.{contains_at}
+use Rattle.cqf_lists.proofs.Places.{slice_get-take}
+use Rattle.cqf_model.proofs.Links.{same_node_itself, same_node_true}
 use Rattle.cqf_model.specs.declared.topology.Hop.{Hop}
 use Rattle.cqf_model.specs.declared.topology.Link.{Link}
 use Rattle.cqf_model.specs.declared.topology.Node.{Node}
@@ -28,19 +31,11 @@ pub record Goes (d : Domain) (l bridge : ℕ) (to : Node) : Type 0 where
   pub joins_is : (m : ℕ) → joins d m l ≡ enters d m bridge
   pub end_is : end_of d l ≡ Some to
 
-same_node_true : (a b : Node) → same_node a b ≡ true → a ≡ b
-same_node_true (Bridge a) (Bridge b) e = ap (λ (k : ℕ). Bridge k) (eqb-true a b e)
-same_node_true (Bridge a) (Station b) e = absurd cc
-same_node_true (Station a) (Bridge b) e = absurd cc
-same_node_true (Station a) (Station b) e = ap (λ (k : ℕ). Station k) (eqb-true a b e)
-
-same_node_itself : (a : Node) → same_node a a ≡ true
-same_node_itself (Bridge a) = eq-eqb a a refl
-same_node_itself (Station a) = eq-eqb a a refl
-
+-- a link to read past an end
 some_link : Link
 some_link = record { from = 0; to = Bridge 0; rate = Mb10; delay = 0 }
 
+-- a link that is found between two ends goes there
 between_goes : (d : Domain) (bridge : ℕ) (to : Node) (l : ℕ) → link_between d bridge to ≡ Some l → Goes d l bridge to
 between_goes d bridge to l e =
     let test : Link → Bool = λ (link : Link). (link.from == bridge) && same_node link.to to in
@@ -66,6 +61,7 @@ pub record Between (d : Domain) (from to : Option Node) (l : ℕ) : Type 0 where
   pub to_is : to ≡ Some node
   pub goes : Goes d l bridge node
 
+-- and so does one between two nodes
 between : (d : Domain) (from to : Option Node) (l : ℕ) → link_from d from to ≡ Some l → Between d from to l
 between d None to l e = absurd cc
 between d (Some (Bridge b)) None l e = absurd cc
@@ -75,6 +71,7 @@ between d (Some (Bridge b)) (Some n) l e = record { bridge = b; node = n; from_i
 
 -- ---- what isn't broken
 
+-- where both don't hold and the first does, the second fails
 and_then_false : (x y : Bool) → (x && y) ≡ false → x ≡ true → y ≡ false
 and_then_false true y e t = e
 and_then_false false y e t = absurd cc
@@ -86,6 +83,7 @@ pub record NotBroken (d : Domain) (branch : Branch) (k : ℕ) : Type 0 where
   pub last : k + 1 ≡ length branch → is_bridge (node_at d branch k) ≡ false
   pub few : k ≡ 17 → length branch ≤ k
 
+-- what isn't broken there has each part of it
 not_broken : (d : Domain) (branch : Branch) (k : ℕ) → is_broken_at d branch k ≡ false → NotBroken d branch k
 not_broken d branch k e =
     let no_bridge_first = (k == 0) && not (is_bridge (node_at d branch 0)) in
@@ -97,7 +95,8 @@ not_broken d branch k e =
     let c = or_parts no_bridge_first no_link b.0 in
     record {
       first = λ z. not-false (is_bridge (node_at d branch 0)) (and_then_false (k == 0) (not (is_bridge (node_at d branch 0))) c.0 (eq-eqb k 0 z));
-      linked = λ some inside. and_then_false (nat_le 1 k && nat_lt k (length branch)) (is_none (link_at d branch (k - 1))) c.1 (and_from (nat_le 1 k) (nat_lt k (length branch)) (le-leb 1 k some) (lt-ltb k (length branch) inside));
+      linked = λ some inside. and_then_false (nat_le 1 k && nat_lt k (length branch)) (is_none (link_at d branch (k - 1))) c.1
+          (and_from (nat_le 1 k) (nat_lt k (length branch)) (le-leb 1 k some) (lt-ltb k (length branch) inside));
       last = λ z. and_then_false (k + 1 == length branch) (is_bridge (node_at d branch k)) b.1 (eq-eqb (k + 1) (length branch) z);
       few = λ z. ltb-false k (length branch) (and_then_false (k == 17) (nat_lt k (length branch)) a.1 (eq-eqb k 17 z));
     }
@@ -108,7 +107,9 @@ pub record IsBranch (d : Domain) (branch : Branch) : Type 0 where
   pub whole : (k : ℕ) → k < length branch + 1 → NotBroken d branch k
   pub simple : (k : ℕ) → k < length branch + 1 → is_loop_at d branch k ≡ false
 
-pub is_branch : (d : Domain) (branch : Branch) → ((name : List ℕ) → Contains branch name → is_none (node_named d name) ≡ false) → ((k : ℕ) → k < length branch + 1 → is_broken_at d branch k ≡ false) → ((k : ℕ) → k < length branch + 1 → is_loop_at d branch k ≡ false) → IsBranch d branch
+-- what is known, whole and simple is a branch
+pub is_branch : (d : Domain) (branch : Branch) → ((name : List ℕ) → Contains branch name → is_none (node_named d name) ≡ false) →
+    ((k : ℕ) → k < length branch + 1 → is_broken_at d branch k ≡ false) → ((k : ℕ) → k < length branch + 1 → is_loop_at d branch k ≡ false) → IsBranch d branch
 is_branch d branch known whole simple = record { known = known; whole = λ k h. not_broken d branch k (whole k h); simple = simple }
 
 -- what is there
@@ -117,13 +118,16 @@ some_from None e = absurd cc
 some_from (Some x) e = (x, refl)
 
 -- a node of a branch has its name there
-pub name_at : (d : Domain) (branch : Branch) (k : ℕ) (node : Node) → node_at d branch k ≡ Some node → (name : List ℕ) × (slice_get branch k ≡ Some name) × (node_named d name ≡ Some node)
+pub name_at : (d : Domain) (branch : Branch) (k : ℕ) (node : Node) → node_at d branch k ≡ Some node → (name : List ℕ) × (slice_get branch k ≡ Some name) ×
+    (node_named d name ≡ Some node)
 name_at d branch k node e = by_name (slice_get branch k) refl e
   where
-    by_name : (o : Option (List ℕ)) → slice_get branch k ≡ o → option_map_or (λ name. node_named d name) o None ≡ Some node → (name : List ℕ) × (slice_get branch k ≡ Some name) × (node_named d name ≡ Some node)
+    by_name : (o : Option (List ℕ)) → slice_get branch k ≡ o → option_map_or (λ name. node_named d name) o None ≡ Some node → (name : List ℕ) ×
+        (slice_get branch k ≡ Some name) × (node_named d name ≡ Some node)
     by_name None f g = absurd cc
     by_name (Some name) f g = (name, f, g)
 
+-- the node at a place is that of its name
 pub node_of_name : (d : Domain) (branch : Branch) (k : ℕ) (name : List ℕ) → slice_get branch k ≡ Some name → node_at d branch k ≡ node_named d name
 node_of_name d branch k name e = ap (λ (o : Option (List ℕ)). option_map_or (λ n. node_named d n) o None) e
 
@@ -132,16 +136,20 @@ abbrev pub NoRepeat : Branch → Type 0
 NoRepeat branch = (i j : ℕ) (name : List ℕ) → slice_get branch i ≡ Some name → slice_get branch j ≡ Some name → i ≡ j
 
 module _ (d : Domain) (branch : Branch) (good : IsBranch d branch) where
+  -- a name stands at no two places
   not_before : (i j : ℕ) (name : List ℕ) → i < j → slice_get branch i ≡ Some name → slice_get branch j ≡ Some name → ⊥
   not_before i j name before e f =
       let inside = slice_get_within branch j name f in
       let node = some_from (node_named d name) (good.known name (contains_at branch j name f)) in
       let there : node_at d branch j ≡ Some node.0 = node_of_name d branch j name f ∙ node.1 in
       let other : is_same (node_named d name) (node_at d branch j) ≡ false =
-      none_member (λ n. is_same (node_named d n) (node_at d branch j)) (take j branch) name (good.simple j (omega (arith, inside))) (contains_at (take j branch) i name (slice_get-take branch j i before ∙ e)) in
-      let itself : is_same (node_named d name) (node_at d branch j) ≡ true = ap (λ (o : Option Node). is_same o (node_at d branch j)) node.1 ∙ ap (λ (o : Option Node). is_same (Some node.0) o) there ∙ same_node_itself node.0 in
+      none_member (λ n. is_same (node_named d n) (node_at d branch j)) (take j branch) name (good.simple j (omega (arith, inside)))
+      (contains_at (take j branch) i name (slice_get-take branch j i before ∙ e)) in
+      let itself : is_same (node_named d name) (node_at d branch j) ≡ true = ap (λ (o : Option Node). is_same o (node_at d branch j)) node.1
+      ∙ ap (λ (o : Option Node). is_same (Some node.0) o) there ∙ same_node_itself node.0 in
       both_ways (is_same (node_named d name) (node_at d branch j)) other itself
 
+  -- so a branch repeats no name
   pub no_repeat : NoRepeat branch
   no_repeat i j name e f = elim (cases_lt i j) [
     | inl l ↦ absurd (not_before i j name l e f)
@@ -151,9 +159,11 @@ module _ (d : Domain) (branch : Branch) (good : IsBranch d branch) where
     ]
   ]
 
+  -- it begins with a bridge
   pub first_is_bridge : is_bridge (node_at d branch 0) ≡ true
   first_is_bridge = (good.whole 0 (omega arith)).first refl
 
+  -- it has a node
   some_node : 0 < length branch
   some_node = by_list branch first_is_bridge
     where
@@ -161,12 +171,14 @@ module _ (d : Domain) (branch : Branch) (good : IsBranch d branch) where
       by_list [] e = absurd cc
       by_list (name ∷ b) e = omega arith
 
+  -- it has two nodes at least
   pub two_at_least : 1 < length branch
   two_at_least = elim (cases_lt 1 (length branch)) [
     | inl l ↦ l
     | inr g ↦ absurd (both_ways (is_bridge (node_at d branch 0)) ((good.whole 0 (omega arith)).last (omega (arith, some_node, g))) first_is_bridge)
   ]
 
+  -- and 17 at most
   pub few_nodes : length branch ≤ 17
   few_nodes = elim (cases_lt 17 (length branch)) [
     | inl l ↦ absurd (omega (arith, l, (good.whole 17 (omega (arith, l))).few refl))
@@ -184,18 +196,21 @@ module _ (d : Domain) (branch : Branch) (good : IsBranch d branch) where
 abbrev pub hop_made : Domain → Branch → ℕ → Hop
 hop_made d branch k = record { link = unwrap_or (link_at d branch k) 0; depth = k + 1; from = link_before d branch k }
 
+-- a hop by a link that is there
 hop_to_made : (depth : ℕ) (from o : Option ℕ) → is_none o ≡ false → hop_to depth from o ≡ record { link = unwrap_or o 0; depth = depth; from = from } ∷ []
 hop_to_made depth from None e = absurd cc
 hop_to_made depth from (Some l) e = refl
 
+-- what isn't none is there
 there_is : (o : Option ℕ) → is_none o ≡ false → o ≡ Some (unwrap_or o 0)
 there_is None e = absurd cc
 there_is (Some l) e = refl
 
 module _ (d : Domain) (branch : Branch) (good : IsBranch d branch) where
+  -- the hops along a branch are one for each place but the last
   made : hops_along d branch ≡ each_below (λ k. hop_made d branch k ∷ []) (length branch - 1)
   made =
-      each_same (λ k. hop_to (k + 1) (link_before d branch k) (link_at d branch k)) (λ k. hop_made d branch k ∷ []) (length branch - 1)
+      same_below (λ k. hop_to (k + 1) (link_before d branch k) (link_at d branch k)) (λ k. hop_made d branch k ∷ []) (length branch - 1)
       (λ k h. hop_to_made (k + 1) (link_before d branch k) (link_at d branch k) (linked d branch good k (omega (arith, h))))
 
   -- each place but the last has its hop
@@ -210,13 +225,16 @@ module _ (d : Domain) (branch : Branch) (good : IsBranch d branch) where
   pub hop_is : (k : ℕ) (hop : Hop) → slice_get (hops_along d branch) k ≡ Some hop → (k + 1 < length branch) × (hop_made d branch k ≡ hop)
   hop_is k hop e =
       let inside = slice_get_within (hops_along d branch) k hop e in
-      let count : length (hops_along d branch) ≡ length branch - 1 = ap (λ (xs : List Hop). length xs) made ∙ length-singles (hop_made d branch) (length branch - 1) in
+      let count : length (hops_along d branch) ≡ length branch - 1 = ap (λ (xs : List Hop). length xs) made
+      ∙ length-singles (hop_made d branch) (length branch - 1) in
       let h : k + 1 < length branch = omega (arith, inside, count) in
       (h, same_Some (hop_made d branch k) hop (sym (hop_there k h) ∙ e))
 
+  -- the hop at a place is by the link there
   pub link_is : (k : ℕ) → k + 1 < length branch → link_at d branch k ≡ Some (hop_made d branch k).link
   link_is k h = there_is (link_at d branch k) (linked d branch good k h)
 
+  -- and that link goes from this node to the next
   pub stands : (k : ℕ) → k + 1 < length branch → Between d (node_at d branch k) (node_at d branch (k + 1)) (hop_made d branch k).link
   stands k h = between d (node_at d branch k) (node_at d branch (k + 1)) (hop_made d branch k).link (link_is k h)
 
@@ -230,21 +248,27 @@ module _ (d : Domain) (branch : Branch) (good : IsBranch d branch) where
       let node : early.node ≡ Bridge late.bridge = same_Some early.node (Bridge late.bridge) (sym early.to_is ∙ ap (node_at d branch) next ∙ late.from_is) in
       record {
         from = link_is k inside;
-        joined = late.goes.joins_is (hop_made d branch k).link ∙ early.goes.enters_is late.bridge ∙ ap (λ (n : Node). node_is n late.bridge) node ∙ eq-eqb late.bridge late.bridge refl;
+        joined = late.goes.joins_is (hop_made d branch k).link ∙ early.goes.enters_is late.bridge ∙ ap (λ (n : Node). node_is n late.bridge) node
+            ∙ eq-eqb late.bridge late.bridge refl;
         deeper = omega arith;
       }
 
 -- ---- a hop hangs on the nodes up to its end alone
 
+-- a front of a branch has the same links
 link_front : (d : Domain) (branch : Branch) (n k : ℕ) → k + 1 < n → link_at d (take n branch) k ≡ link_at d branch k
 link_front d branch n k h =
-    let node : (j : ℕ) → j < n → node_at d (take n branch) j ≡ node_at d branch j = λ j l. ap (λ (o : Option (List ℕ)). option_map_or (λ name. node_named d name) o None) (slice_get-take branch n j l) in
-    ap (λ (o : Option Node). link_from d o (node_at d (take n branch) (k + 1))) (node k (omega (arith, h))) ∙ ap (link_from d (node_at d branch k)) (node (k + 1) h)
+    let node : (j : ℕ) → j < n → node_at d (take n branch) j ≡ node_at d branch j =
+    λ j l. ap (λ (o : Option (List ℕ)). option_map_or (λ name. node_named d name) o None) (slice_get-take branch n j l) in
+    ap (λ (o : Option Node). link_from d o (node_at d (take n branch) (k + 1))) (node k (omega (arith, h)))
+    ∙ ap (link_from d (node_at d branch k)) (node (k + 1) h)
 
+-- and the same links before them
 before_front : (d : Domain) (branch : Branch) (n k : ℕ) → k + 1 < n → link_before d (take n branch) k ≡ link_before d branch k
 before_front d branch n zero h = refl
 before_front d branch n (suc k) h = link_front d branch n k (omega (arith, h))
 
+-- so it has the same hops
 pub hop_front : (d : Domain) (branch : Branch) (n k : ℕ) → k + 1 < n → hop_made d (take n branch) k ≡ hop_made d branch k
 hop_front d branch n k h =
     let link = link_front d branch n k h in

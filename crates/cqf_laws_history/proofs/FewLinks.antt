@@ -6,12 +6,13 @@ use Rattle.std.proofs.lemmas.List.{length-map}
 use Rattle.std.proofs.lemmas.List.Elements.{All-contains}
 use Rattle.std.proofs.lemmas.Map.Keys.{IsDistinct-from_apart}
 use Rattle.std.proofs.lemmas.Map.Steps.{length-le_from_distinct_below}
-use Rattle.cqf_lists.proofs.Any.{any_member}
-use Rattle.cqf_lists.proofs.Contained.{contains_from_map, pairs_map}
+use Rattle.cqf_lists.proofs.Members.{any_member, contains_from_map}
+use Rattle.cqf_lists.proofs.Pairs.{pairs_map}
 use Rattle.cqf_model.specs.declared.topology.Hop.{Hop}
 use Rattle.cqf_model.specs.Domain.{end_of}
 use Rattle.cqf_laws_history.specs.HistoryLaws.{TreesHaveFewLinks}
 
+-- a tree has no more links than its domain
 pub trees_have_few_links : TreesHaveFewLinks
 trees_have_few_links d tree good =
     let links : List ℕ = map (λ (hop : Hop). hop.link) tree in

@@ -2,33 +2,42 @@
 use Rattle.std.proofs.Common.{◌≡◌, ℕ, ◌+◌, ◌<◌, ◌≤◌, Bool, true, false, List, Option, Some, None, length, sym, refl, ap, ◌∙◌, inl, inr, arith}
 use Rattle.std.specs.Prelude.{[], ◌∷◌, ◌&&◌, is_none, is_some, nat_le, not, option_map, position, Contains}
 use Rattle.std.specs.List.{flat_map, list_any}
+use Rattle.std.proofs.lemmas.Grind.{common_steps}
 use Rattle.std.proofs.lemmas.Bool.{and_parts, leb-true, not-false}
 use Rattle.cqf_units.specs.Name.{is_name}
 use Rattle.cqf_units.specs.Timing.{cost_of}
 use Rattle.cqf_lists.specs.Lists.{least, or_else}
 use Rattle.cqf_lists.proofs.Any.{none_member, position_any}
-use Rattle.cqf_lists.proofs.EachOnce.{flat_member}
-use Rattle.cqf_lists.proofs.Least.{least_none, or_else_none}
-use Rattle.cqf_lists.proofs.Contained.{contains_cons, contains_here, contains_nil}
+use Rattle.cqf_lists.proofs.Least.{least_none, or_else_none, unmapped_none}
+use Rattle.cqf_lists.proofs.Members.{contains_cases, contains_flat, contains_here, contains_none}
 use Rattle.cqf_model.specs.declared.history.Refused.{Refused}
-use Rattle.cqf_model.specs.declared.history.Refused.TheVariants.{BadName, BadOctets, UnknownNode, BrokenPath, LoopingPath, NotATree, NameHeld, TooManyStreams, BudgetShort}
+use Rattle.cqf_model.specs.declared.history.Refused.TheVariants.{BadName, BadOctets, UnknownNode, BrokenPath, LoopingPath, NotATree, NameHeld, TooManyStreams}
+use Rattle.cqf_model.specs.declared.history.Refused.TheVariants.{BudgetShort}
 use Rattle.cqf_model.specs.declared.topology.Node.{Node}
 use Rattle.cqf_model.specs.declared.topology.Node.TheVariants.{Bridge, Station}
 use Rattle.cqf_model.specs.declared.topology.Row.{Row}
 use Rattle.cqf_model.specs.Domain.{Domain, is_text, node_named}
-use Rattle.cqf_model.specs.History.{Asked, Branch, broken_place, first_place, is_bridge, is_broken_at, is_loop_at, is_stray, left_on, node_at, refusal_of, refused_at, refused_if, short_link, tree_of}
+use Rattle.cqf_model.specs.History.{Asked, Branch, broken_place, first_place, is_bridge, is_broken_at, is_loop_at, is_stray, left_on, node_at, refusal_of}
+use Rattle.cqf_model.specs.History.{refused_at, refused_if, short_link, tree_of}
 use Rattle.cqf_model.specs.Table.{IsTree}
 use Rattle.cqf_laws_history.specs.HistoryLaws.{GrantedIsATree, TreeIsItsBranches}
+use Rattle.cqf_laws_history.specs.StateLaws.{GrantedFindsRoom}
 use Rattle.cqf_laws_history.proofs.Branches.{IsBranch, first_is_bridge, is_branch, no_repeat}
 use Rattle.cqf_laws_history.proofs.Trees.{MakeATree, all_make_a_tree, tree_from, tree_is_branches}
 
+-- a refusal that hangs on a test isn't due where the test fails
 refused_if_none : (b : Bool) (refused : Refused) → refused_if b refused ≡ None → b ≡ false
 refused_if_none true refused e = absurd cc
 refused_if_none false refused e = refl
 
+-- a refusal at a place isn't due where there is no such place
 refused_at_none : (refused : ℕ → Refused) (o : Option ℕ) → refused_at refused o ≡ None → o ≡ None
 refused_at_none refused None e = refl
 refused_at_none refused (Some place) e = absurd cc
+
+-- a bound that isn't reached
+below_bound : (bound n : ℕ) → nat_le bound n ≡ false → n < bound
+below_bound bound n h = grind (arith, common_steps)
 
 -- what a request that isn't refused has
 pub record IsGranted (d : Domain) (rows : List Row) (asked : Asked) : Type 0 where
@@ -40,8 +49,10 @@ pub record IsGranted (d : Domain) (rows : List Row) (asked : Asked) : Type 0 whe
   pub simple : first_place (is_loop_at d) asked.paths ≡ None
   pub together : least (is_stray asked.paths) (length asked.paths) ≡ None
   pub name_free : list_any (λ (row : Row). is_text row.name asked.name) rows ≡ false
+  pub room : length rows < 1024
   pub enough : short_link d rows (cost_of asked.octets) (tree_of d asked.paths) ≡ None
 
+-- a request that isn't refused meets each of its conditions
 pub granted : (d : Domain) (rows : List Row) (asked : Asked) → refusal_of d rows asked ≡ None → IsGranted d rows asked
 granted d rows asked e =
     let budget_short = refused_at (λ l. BudgetShort l (left_on d rows l)) (short_link d rows (cost_of asked.octets) (tree_of d asked.paths)) in
@@ -71,44 +82,48 @@ granted d rows asked e =
       simple = refused_at_none (λ place. LoopingPath place) (first_place (is_loop_at d) asked.paths) looping.0;
       together = refused_at_none (λ branch. NotATree branch) (least (is_stray asked.paths) (length asked.paths)) stray.0;
       name_free = refused_if_none (list_any (λ (row : Row). is_text row.name asked.name) rows) NameHeld held.0;
+      room = below_bound 1024 (length rows) (refused_if_none (nat_le 1024 (length rows)) TooManyStreams many.0);
       enough = refused_at_none (λ l. BudgetShort l (left_on d rows l)) (short_link d rows (cost_of asked.octets) (tree_of d asked.paths)) many.1;
     }
 
 -- ---- its branches
 
-unmapped_none : (f : ℕ → ℕ) (o : Option ℕ) → option_map f o ≡ None → o ≡ None
-unmapped_none f None e = refl
-unmapped_none f (Some x) e = absurd cc
-
 -- where no place of the branches fails, none of a branch does
-first_place_none : (fails : Branch → ℕ → Bool) (paths : List Branch) → first_place fails paths ≡ None → (branch : Branch) → Contains paths branch → (k : ℕ) → k < length branch + 1 → fails branch k ≡ false
-first_place_none fails [] e branch c k h = absurd (contains_nil branch c)
+first_place_none : (fails : Branch → ℕ → Bool) (paths : List Branch) → first_place fails paths ≡ None → (branch : Branch) → Contains paths branch → (k : ℕ) →
+    k < length branch + 1 → fails branch k ≡ false
+first_place_none fails [] e branch c k h = absurd (contains_none branch c)
 first_place_none fails (x ∷ paths) e branch c k h =
     let parts = or_else_none (least (fails x) (length x + 1)) (option_map (λ place. length x + place) (first_place fails paths)) e in
-    elim (contains_cons x branch paths c) [
+    elim (contains_cases x paths branch c) [
       | inl same ↦ (let here : (j : ℕ) → j < length x + 1 → fails x j ≡ false = least_none (fails x) (length x + 1) parts.0 in
           ap (λ (b : Branch). fails b k) (sym same) ∙ here k (omega (arith, h, ap (λ (b : Branch). length b) same)))
       | inr later ↦ first_place_none fails paths (unmapped_none (λ place. length x + place) (first_place fails paths) parts.1) branch later k h
     ]
 
+-- where a tree isn't broken, no branch of it is
 none_broken : (d : Domain) (paths : List Branch) → broken_place d paths ≡ None → first_place (is_broken_at d) paths ≡ None
 none_broken d [] e = absurd cc
 none_broken d (branch ∷ paths) e = e
 
+-- a tree that isn't broken has a branch
 first_branch : (d : Domain) (paths : List Branch) → broken_place d paths ≡ None → (branch : Branch) × Contains paths branch
 first_branch d [] e = absurd cc
-first_branch d (branch ∷ paths) e = (branch, contains_here branch branch paths refl)
+first_branch d (branch ∷ paths) e = (branch, contains_here branch paths)
 
 module _ (d : Domain) (rows : List Row) (asked : Asked) (g : IsGranted d rows asked) where
+  -- each name is a node's
   none_unknown : list_any (λ name. is_none (node_named d name)) (flat_map (λ branch. branch) asked.paths) ≡ false
   none_unknown = sym (position_any (λ name. is_none (node_named d name)) (flat_map (λ branch. branch) asked.paths)) ∙ ap (λ (o : Option ℕ). is_some o) g.known
 
+  -- its branches are branches of the domain
   branches : (branch : Branch) → Contains asked.paths branch → IsBranch d branch
   branches branch c = is_branch d branch
-      (λ name k. none_member (λ n. is_none (node_named d n)) (flat_map (λ b. b) asked.paths) name none_unknown (flat_member (λ b. b) asked.paths branch name c k))
+      (λ name k. none_member (λ n. is_none (node_named d n)) (flat_map (λ b. b) asked.paths) name none_unknown
+      (contains_flat (λ b. b) asked.paths branch name c k))
       (first_place_none (is_broken_at d) asked.paths (none_broken d asked.paths g.whole) branch c)
       (first_place_none (is_loop_at d) asked.paths g.simple branch c)
 
+  -- any two of its branches make a tree
   trees : (xs ys : Branch) → Contains asked.paths xs → Contains asked.paths ys → MakeATree xs ys
   trees = all_make_a_tree asked.paths (λ branch c. no_repeat d branch (branches branch c)) (least_none (is_stray asked.paths) (length asked.paths) g.together)
 
@@ -124,10 +139,16 @@ module _ (d : Domain) (rows : List Row) (asked : Asked) (g : IsGranted d rows as
       bridge_of_node (Some (Bridge b)) e = (b, refl)
       bridge_of_node (Some (Station s)) e = absurd cc
 
+-- the branches of a request that isn't refused are a tree of the domain
 pub granted_is_a_tree : GrantedIsATree
 granted_is_a_tree d rows asked e = is_tree d rows asked (granted d rows asked e)
 
+-- and the tree has their hops and no other
 pub branches_of_tree : TreeIsItsBranches
 branches_of_tree d rows asked hop e =
     let g = granted d rows asked e in
     tree_is_branches d asked.paths (branches d rows asked g) (trees d rows asked g) hop
+
+-- a request that isn't refused finds room
+pub granted_finds_room : GrantedFindsRoom
+granted_finds_room d rows asked e = (granted d rows asked e).room

@@ -1,5 +1,6 @@
 -- One entry more: what it changes of the streams.
-use Rattle.std.proofs.Common.{◌≡◌, ◌≢◌, ℕ, ◌+◌, ◌<◌, ◌≤◌, Bool, true, false, cond, List, Option, Some, None, length, get_or, sym, refl, ap, ◌∙◌, inl, inr, arith, subst, append-nil, length-append}
+use Rattle.std.proofs.Common.{◌≡◌, ◌≢◌, ℕ, ◌+◌, ◌<◌, ◌≤◌, Bool, true, false, cond, List, Option, Some, None, length, get_or, sym, refl, ap, ◌∙◌, inl, inr}
+use Rattle.std.proofs.Common.{arith, subst, append-nil, length-append}
 use std.Path.{fun_ext}
 use Rattle.std.specs.Prelude.{[], ◌∷◌, ◌++◌, ◌==◌, ◌&&◌, if◌then◌else◌, filter, map, nat_le, nat_lt, slice_get, take, suc, AllPairs, Contains}
 use Rattle.std.specs.Option.{option_map_or}
@@ -15,27 +16,37 @@ use Rattle.cqf_model.specs.declared.history.Reply.{Reply}
 use Rattle.cqf_model.specs.declared.history.Reply.TheVariants.{Refused as RefusedFor, Sealed}
 use Rattle.cqf_model.specs.declared.topology.Row.{Row}
 use Rattle.cqf_model.specs.Domain.{Domain, budget}
-use Rattle.cqf_model.specs.History.{Act, Admits, Asked, IsLegalHistory, Recorded, Seals, Withdraws, admit_reply, held_in, is_seal, next_number, refusal_of, reply_to, seal_places, seals, stream_by, streams_of, withdraw_reply, withdraw_row, withdrawal_by}
+use Rattle.cqf_model.specs.History.{Act, Admits, Asked, IsLegalHistory, Recorded, Seals, Withdraws, admit_reply, held_in, is_seal, next_number, refusal_of}
+use Rattle.cqf_model.specs.History.{reply_to, seal_places, seals, stream_by, streams_of, withdraw_reply, withdraw_row, withdrawal_by}
 use Rattle.cqf_model.specs.Table.{IsTree, is_held, link_cost, residence, row_named}
 use Rattle.cqf_model.proofs.Residence.{residence_some}
+use Rattle.cqf_lists.proofs.Filters.{filter_weaker}
 use Rattle.cqf_lists.specs.Lists.{each_below}
-use Rattle.cqf_laws_history.specs.StateLaws.{AreHeld, GrantedIsHeld, HeldAreSound, HistoryGoesOn, IsState, RefusedChangesNothing, SealClosesTable, SealLetsGo, SealsAreCounted, WithdrawnIsHeldOn, ended_row, granted_row, with_entry}
-use Rattle.cqf_lists.proofs.Contained.{contains_from_filter, contains_from_map, contains_here, contains_there, nil_from_none, pairs_kept, slice_get_behind, slice_get_front}
-use Rattle.cqf_laws_history.proofs.Places.{SealAt, admitted_at, admitted_before, seal_at, sealed-suc, sealed_before, sealed_more, streams_front, with_end, withdrawn_at, withdrawn_before}
+use Rattle.cqf_laws_history.specs.StateLaws.{AreHeld, GrantedIsHeld, HeldAreSound, HistoryGoesOn, IsState, RefusedChangesNothing, SealClosesTable, SealLetsGo}
+use Rattle.cqf_laws_history.specs.StateLaws.{SealsAreCounted, WithdrawnIsHeldOn, ended_row, granted_row, with_entry}
+use Rattle.cqf_lists.proofs.Members.{contains_from_filter, contains_from_map, contains_here, contains_later}
+use Rattle.cqf_lists.proofs.Pairs.{pairs_kept}
+use Rattle.cqf_lists.proofs.Places.{nil_from_none, slice_get_behind, slice_get_front}
+use Rattle.cqf_laws_history.proofs.Places.{SealAt, admitted_at, admitted_before, seal_at, sealed-suc, sealed_before, sealed_more, streams_front, with_end}
+use Rattle.cqf_laws_history.proofs.Places.{withdrawn_at, withdrawn_before}
 use Rattle.cqf_laws_history.proofs.Sound.{AreDue, Sound, held_less, named_is_held, number_below, sound}
 
+-- a Seal is one more
 pub seals_are_counted : SealsAreCounted
 seals_are_counted entries seat act reply =
     sum_by_push (λ (e : Recorded). cond (is_seal e.act) 1 0) entries (record { seat = seat; act = act; reply = reply })
 
 -- the parts of a history with one entry more
 module _ (entries : List Recorded) (e : Recorded) where
+  -- before the new entry stand the old ones
   front_is : take (length entries) (entries ++ e ∷ []) ≡ entries
   front_is = take_at entries (e ∷ []) (length entries) refl
 
+  -- it stands behind them
   last_is : slice_get (entries ++ e ∷ []) (length entries) ≡ Some e
   last_is = slice_get_behind entries e [] (length entries) refl
 
+  -- and with it they are all
   whole_is : take (suc (length entries)) (entries ++ e ∷ []) ≡ entries ++ e ∷ []
   whole_is = take_all (suc (length entries)) (entries ++ e ∷ []) (omega (arith, length-append entries (e ∷ [])))
 
@@ -49,9 +60,11 @@ due_more d entries seat act due place x at =
       | inr g ↦ (let last : place ≡ length entries = omega (arith, g, slice_get_within (entries ++ e ∷ []) place x at, length-append entries (e ∷ [])) in
           let is : e ≡ x = same_Some e x (sym (last_is entries e) ∙ ap (slice_get (entries ++ e ∷ [])) (sym last) ∙ at) in
           let front : take place (entries ++ e ∷ []) ≡ entries = ap (λ (k : ℕ). take k (entries ++ e ∷ [])) last ∙ front_is entries e in
-          ap (λ (y : Recorded). y.reply) (sym is) ∙ ap (λ (a : Act). reply_to d entries a) (ap (λ (y : Recorded). y.act) is) ∙ ap (λ (xs : List Recorded). reply_to d xs x.act) (sym front))
+          ap (λ (y : Recorded). y.reply) (sym is) ∙ ap (λ (a : Act). reply_to d entries a) (ap (λ (y : Recorded). y.act) is)
+          ∙ ap (λ (xs : List Recorded). reply_to d xs x.act) (sym front))
     ]
 
+-- a legal history goes on with the answer that is due
 pub history_goes_on : HistoryGoesOn
 history_goes_on d entries seat act legal few_seals few_calls =
     let reply = reply_to d entries act in
@@ -64,32 +77,46 @@ history_goes_on d entries seat act legal few_seals few_calls =
 
 -- the streams before an entry and behind it
 module _ (d : Domain) (entries : List Recorded) (e : Recorded) where
-  streams_before : streams_of d entries ≡ map (with_end (withdrawn_before (entries ++ e ∷ []) (length entries))) (admitted_before d (entries ++ e ∷ []) (length entries))
-  streams_before = ap (streams_of d) (sym (front_is entries e)) ∙ streams_front (entries ++ e ∷ []) (length entries) (omega (arith, length-append entries (e ∷ []))) d
+  -- the streams without the new entry
+  streams_before : streams_of d entries ≡ map (with_end (withdrawn_before (entries ++ e ∷ []) (length entries)))
+      (admitted_before d (entries ++ e ∷ []) (length entries))
+  streams_before = ap (streams_of d) (sym (front_is entries e))
+      ∙ streams_front (entries ++ e ∷ []) (length entries) (omega (arith, length-append entries (e ∷ []))) d
 
-  streams_behind : streams_of d (entries ++ e ∷ []) ≡ map (with_end (withdrawn_before (entries ++ e ∷ []) (suc (length entries)))) (admitted_before d (entries ++ e ∷ []) (length entries) ++ admitted_at d (entries ++ e ∷ []) (length entries))
-  streams_behind = ap (streams_of d) (sym (whole_is entries e)) ∙ streams_front (entries ++ e ∷ []) (suc (length entries)) (omega (arith, length-append entries (e ∷ []))) d
+  -- and with it
+  streams_behind : streams_of d (entries ++ e ∷ []) ≡ map (with_end (withdrawn_before (entries ++ e ∷ []) (suc (length entries))))
+      (admitted_before d (entries ++ e ∷ []) (length entries) ++ admitted_at d (entries ++ e ∷ []) (length entries))
+  streams_behind = ap (streams_of d) (sym (whole_is entries e))
+      ∙ streams_front (entries ++ e ∷ []) (suc (length entries)) (omega (arith, length-append entries (e ∷ []))) d
 
+  -- the Seals before the new entry are those of the old ones
   sealed_here : sealed_before (entries ++ e ∷ []) (length entries) ≡ seals entries
   sealed_here = ap seals (front_is entries e)
 
+  -- what the new entry admits
   admitted_here : admitted_at d (entries ++ e ∷ []) (length entries) ≡ stream_by d [] (seals entries) e.act e.reply
   admitted_here =
-      ap (λ (o : Option Recorded). option_map_or (λ (x : Recorded). stream_by d [] (sealed_before (entries ++ e ∷ []) (length entries)) x.act x.reply) o []) (last_is entries e)
+      ap (λ (o : Option Recorded). option_map_or (λ (x : Recorded). stream_by d [] (sealed_before (entries ++ e ∷ []) (length entries)) x.act x.reply) o [])
+      (last_is entries e)
       ∙ ap (λ (c : ℕ). stream_by d [] c e.act e.reply) sealed_here
 
+  -- and what it withdraws
   withdrawn_here : (number : ℕ) → withdrawn_at (entries ++ e ∷ []) number (length entries) ≡ withdrawal_by (seals entries) number e.act e.reply
   withdrawn_here number =
-      ap (λ (o : Option Recorded). option_map_or (λ (x : Recorded). withdrawal_by (sealed_before (entries ++ e ∷ []) (length entries)) number x.act x.reply) o []) (last_is entries e)
+      ap (λ (o : Option Recorded). option_map_or
+      (λ (x : Recorded). withdrawal_by (sealed_before (entries ++ e ∷ []) (length entries)) number x.act x.reply) o []) (last_is entries e)
       ∙ ap (λ (c : ℕ). withdrawal_by c number e.act e.reply) sealed_here
 
-  ends_same : ((number : ℕ) → withdrawal_by (seals entries) number e.act e.reply ≡ []) → withdrawn_before (entries ++ e ∷ []) (suc (length entries)) ≡ withdrawn_before (entries ++ e ∷ []) (length entries)
+  -- where it withdraws nothing, ends stay
+  ends_same : ((number : ℕ) → withdrawal_by (seals entries) number e.act e.reply ≡ []) →
+      withdrawn_before (entries ++ e ∷ []) (suc (length entries)) ≡ withdrawn_before (entries ++ e ∷ []) (length entries)
   ends_same none = fun_ext (λ number.
       let front = each_below (withdrawn_at (entries ++ e ∷ []) number) (length entries) in
       ap (λ (xs : List Cycle). slice_get (front ++ xs) 0) (withdrawn_here number ∙ none number) ∙ ap (λ (xs : List Cycle). slice_get xs 0) (append-nil front))
 
   -- an entry that admits and withdraws nothing leaves the streams as they are
-  streams_same : stream_by d [] (seals entries) e.act e.reply ≡ [] → ((number : ℕ) → withdrawal_by (seals entries) number e.act e.reply ≡ []) → streams_of d (entries ++ e ∷ []) ≡ streams_of d entries
+  streams_same : stream_by d [] (seals entries) e.act e.reply ≡ [] → ((number : ℕ) → withdrawal_by (seals entries) number e.act e.reply ≡ []) →
+      streams_of d (entries ++ e ∷ []) ≡ streams_of d entries
   streams_same none ends =
       let old = admitted_before d (entries ++ e ∷ []) (length entries) in
       streams_behind
@@ -99,23 +126,27 @@ module _ (d : Domain) (entries : List Recorded) (e : Recorded) where
       ∙ sym streams_before
 
 -- a state by its streams
-state_by : (d : Domain) (entries : List Recorded) (streams rows : List Row) (cycle next : ℕ) → streams_of d entries ≡ streams → seals entries ≡ cycle → filter (λ (row : Row). is_held row cycle) streams ≡ rows → length streams ≡ next → IsState d entries rows next
+state_by : (d : Domain) (entries : List Recorded) (streams rows : List Row) (cycle next : ℕ) → streams_of d entries ≡ streams → seals entries ≡ cycle →
+    filter (λ (row : Row). is_held row cycle) streams ≡ rows → length streams ≡ next → IsState d entries rows next
 state_by d entries streams rows cycle next is now_at held count =
     record {
       held = ap (held_in d entries) now_at ∙ ap (λ (xs : List Row). filter (λ (row : Row). is_held row cycle) xs) is ∙ held;
       number = ap length is ∙ count;
     }
 
+-- a refused call admits nothing
 refused_none : (d : Domain) (effect : ℕ) (act : Act) (refused : Refused) → stream_by d [] effect act (RefusedFor refused) ≡ []
 refused_none d effect (Admits asked) refused = refl
 refused_none d effect (Withdraws name) refused = refl
 refused_none d effect Seals refused = refl
 
+-- and withdraws nothing
 refused_ends_none : (effect number : ℕ) (act : Act) (refused : Refused) → withdrawal_by effect number act (RefusedFor refused) ≡ []
 refused_ends_none effect number (Admits asked) refused = refl
 refused_ends_none effect number (Withdraws name) refused = refl
 refused_ends_none effect number Seals refused = refl
 
+-- no Seal is refused
 no_seal_refused : (d : Domain) (entries : List Recorded) (act : Act) (refused : Refused) → reply_to d entries act ≡ RefusedFor refused → is_seal act ≡ false
 no_seal_refused d entries (Admits asked) refused e = refl
 no_seal_refused d entries (Withdraws name) refused e = refl
@@ -128,28 +159,35 @@ seals_same entries seat act reply none =
     let no_more : ◌≡◌ {A = ℕ} (if is_seal act then 1 else 0) 0 = ap (λ (b : Bool). cond {A = ℕ} b 1 0) none in
     omega (arith, count, no_more)
 
+-- so a refused call changes nothing
 pub refused_changes_nothing : RefusedChangesNothing
 refused_changes_nothing d entries rows next seat act refused state answer =
     let reply = reply_to d entries act in
     let e : Recorded = record { seat = seat; act = act; reply = reply } in
-    let same = streams_same d entries e (ap (λ (r : Reply). stream_by d [] (seals entries) act r) answer ∙ refused_none d (seals entries) act refused) (λ number. ap (λ (r : Reply). withdrawal_by (seals entries) number act r) answer ∙ refused_ends_none (seals entries) number act refused) in
-    state_by d (entries ++ e ∷ []) (streams_of d entries) rows (seals entries) next same (seals_same entries seat act reply (no_seal_refused d entries act refused answer)) state.held state.number
+    let same = streams_same d entries e (ap (λ (r : Reply). stream_by d [] (seals entries) act r) answer ∙ refused_none d (seals entries) act refused)
+    (λ number. ap (λ (r : Reply). withdrawal_by (seals entries) number act r) answer ∙ refused_ends_none (seals entries) number act refused) in
+    state_by d (entries ++ e ∷ []) (streams_of d entries) rows (seals entries) next same
+    (seals_same entries seat act reply (no_seal_refused d entries act refused answer)) state.held state.number
 
 -- a row whose number wasn't withdrawn is itself
 with_no_end : (w : ℕ → Option Cycle) (row : Row) → row.withdrawn ≡ None → w row.no ≡ None → with_end w row ≡ row
 with_no_end w row none same =
-    ap (λ (o : Option Cycle). let made : Row = record { no = row.no; name = row.name; octets = row.octets; tree = row.tree; admitted = row.admitted; withdrawn = o } in made) (same ∙ sym none)
+    ap (λ (o : Option Cycle). let made : Row =
+    record { no = row.no; name = row.name; octets = row.octets; tree = row.tree; admitted = row.admitted; withdrawn = o } in made) (same ∙ sym none)
 
+-- what is nothing that it can be is none
 none_unless : (o : Option Cycle) → ((x : Cycle) → o ≡ Some x → ⊥) → o ≡ None
 none_unless None h = refl
 none_unless (Some x) h = absurd (h x refl)
 
 -- a stream that is admitted now is held now
-new_is_held : (d : Domain) (number effect : ℕ) (asked : Asked) → filter (λ (row : Row). is_held row effect) (granted_row d number effect asked ∷ []) ≡ granted_row d number effect asked ∷ []
+new_is_held : (d : Domain) (number effect : ℕ) (asked : Asked) →
+    filter (λ (row : Row). is_held row effect) (granted_row d number effect asked ∷ []) ≡ granted_row d number effect asked ∷ []
 new_is_held d number effect asked =
     let new = granted_row d number effect asked in
     ap (λ (b : Bool). cond (b && true) (new ∷ []) []) (le-leb effect effect (omega arith))
 
+-- a granted stream is held, and takes the next number
 pub granted_is_held : GrantedIsHeld
 granted_is_held d entries rows next seat asked legal state free =
     let reply = reply_to d entries (Admits asked) in
@@ -178,29 +216,15 @@ granted_is_held d entries rows next seat asked legal state free =
     filter-append (λ (row : Row). is_held row (seals entries)) (streams_of d entries) (new ∷ [])
     ∙ ap (λ (xs : List Row). xs ++ filter (λ (row : Row). is_held row (seals entries)) (new ∷ [])) state.held
     ∙ ap (λ (xs : List Row). rows ++ xs) (new_is_held d next (seals entries) asked) in
-    state_by d all (streams_of d entries ++ new ∷ []) (rows ++ new ∷ []) (seals entries) (next + 1) streams (seals_same entries seat (Admits asked) reply refl) held (length-append (streams_of d entries) (new ∷ []) ∙ ap (λ (k : ℕ). k + 1) state.number)
-
--- to keep by a weaker test first changes nothing
-filter_within : (p q : Row → Bool) (xs : List Row) → ((x : Row) → Contains xs x → p x ≡ true → q x ≡ true) → filter p (filter q xs) ≡ filter p xs
-filter_within p q [] h = refl
-filter_within p q (x ∷ xs) h =
-    let rest = filter_within p q xs (λ z k. h z (contains_there x z xs k)) in
-    kept_or_not (q x) (h x (contains_here x x xs refl)) ∙ ap (λ (zs : List Row). cond (p x) (x ∷ zs) zs) rest
-  where
-    kept_or_not : (b : Bool) → (p x ≡ true → b ≡ true) → filter p (cond b (x ∷ filter q xs) (filter q xs)) ≡ cond (p x) (x ∷ filter p (filter q xs)) (filter p (filter q xs))
-    kept_or_not true k = refl
-    kept_or_not false k = ap (λ (b : Bool). cond b (x ∷ filter p (filter q xs)) (filter p (filter q xs))) (sym (never (p x) k))
-      where
-        never : (c : Bool) → (c ≡ true → false ≡ true) → c ≡ false
-        never true f = sym (f refl)
-        never false f = refl
+    state_by d all (streams_of d entries ++ new ∷ []) (rows ++ new ∷ []) (seals entries) (next + 1) streams
+    (seals_same entries seat (Admits asked) reply refl) held (length-append (streams_of d entries) (new ∷ []) ∙ ap (λ (k : ℕ). k + 1) state.number)
 
 -- what is kept of a mapped list, where the map changes nothing of the test
 filter_mapped : (p : Row → Bool) (g : Row → Row) (xs : List Row) → ((x : Row) → Contains xs x → p (g x) ≡ p x) → filter p (map g xs) ≡ map g (filter p xs)
 filter_mapped p g [] h = refl
 filter_mapped p g (x ∷ xs) h =
-    ap (λ (b : Bool). cond b (g x ∷ filter p (map g xs)) (filter p (map g xs))) (h x (contains_here x x xs refl))
-    ∙ ap (λ (zs : List Row). cond (p x) (g x ∷ zs) zs) (filter_mapped p g xs (λ z k. h z (contains_there x z xs k)))
+    ap (λ (b : Bool). cond b (g x ∷ filter p (map g xs)) (filter p (map g xs))) (h x (contains_here x xs))
+    ∙ ap (λ (zs : List Row). cond (p x) (g x ∷ zs) zs) (filter_mapped p g xs (λ z k. h z (contains_later x xs z k)))
     ∙ map_kept (p x)
   where
     map_kept : (b : Bool) → cond b (g x ∷ map g (filter p xs)) (map g (filter p xs)) ≡ map g (cond b (x ∷ filter p xs) (filter p xs))
@@ -211,31 +235,36 @@ filter_mapped p g (x ∷ xs) h =
 map_twice : (f g h : Row → Row) (xs : List Row) → ((x : Row) → Contains xs x → f x ≡ g (h x)) → map f xs ≡ map g (map h xs)
 map_twice f g h [] e = refl
 map_twice f g h (x ∷ xs) e =
-    ap (λ (y : Row). y ∷ map f xs) (e x (contains_here x x xs refl)) ∙ ap (λ (ys : List Row). g (h x) ∷ ys) (map_twice f g h xs (λ z k. e z (contains_there x z xs k)))
+    ap (λ (y : Row). y ∷ map f xs) (e x (contains_here x xs)) ∙ ap (λ (ys : List Row). g (h x) ∷ ys) (map_twice f g h xs (λ z k. e z (contains_later x xs z k)))
 
 -- the sound streams of a legal history
 sound_now : (d : Domain) (entries : List Recorded) → IsLegalHistory d entries → Sound d entries (length entries)
 sound_now d entries legal = sound d entries legal.replies (length entries) (omega arith)
 
+-- all entries are before the end
 all_is : (entries : List Recorded) → take (length entries) entries ≡ entries
 all_is entries = take_all (length entries) entries (omega arith)
 
 -- a stream of a legal history was admitted
-stream_of : (d : Domain) (entries : List Recorded) (row : Row) → Contains (streams_of d entries) row → (stream : Row) × Contains (admitted_before d entries (length entries)) stream × (with_end (withdrawn_before entries (length entries)) stream ≡ row)
+stream_of : (d : Domain) (entries : List Recorded) (row : Row) → Contains (streams_of d entries) row → (stream : Row) ×
+    Contains (admitted_before d entries (length entries)) stream × (with_end (withdrawn_before entries (length entries)) stream ≡ row)
 stream_of d entries row h =
     contains_from_map (with_end (withdrawn_before entries (length entries))) (admitted_before d entries (length entries)) row
     (subst (λ (xs : List Row). Contains xs row) (ap (streams_of d) (sym (all_is entries)) ∙ streams_front entries (length entries) (omega arith) d) h)
 
+-- each stream has begun by now
 begun_now : (d : Domain) (entries : List Recorded) (row : Row) → IsLegalHistory d entries → Contains (streams_of d entries) row → row.admitted.0 ≤ seals entries
 begun_now d entries row legal h =
     let s = stream_of d entries row h in
     omega (arith, (sound_now d entries legal).begun s.0 s.1, ap (λ (r : Row). r.admitted.0) s.2, ap seals (all_is entries))
 
+-- and its tree is one of the domain
 tree_now : (d : Domain) (entries : List Recorded) (row : Row) → IsLegalHistory d entries → Contains (streams_of d entries) row → IsTree d row.tree.items
 tree_now d entries row legal h =
     let s = stream_of d entries row h in
     subst (λ (r : Row). IsTree d r.tree.items) s.2 ((sound_now d entries legal).trees s.0 s.1)
 
+-- a Seal lets go of those whose last frame has left
 pub seal_lets_go : SealLetsGo
 seal_lets_go d entries rows next seat legal state =
     let e : Recorded = record { seat = seat; act = Seals; reply = Sealed } in
@@ -243,10 +272,13 @@ seal_lets_go d entries rows next seat legal state =
     let same = streams_same d entries e refl (λ number. refl) in
     let less : (x : Row) → Contains (streams_of d entries) x → is_held x (c + 1) ≡ true → is_held x c ≡ true =
     λ x h t. held_less x (λ number. x.withdrawn) (λ number. x.withdrawn) c (c + 1) (omega arith) (begun_now d entries x legal h) (inr refl) t in
-    state_by d (entries ++ e ∷ []) (streams_of d entries) (filter (λ (row : Row). is_held row (c + 1)) rows) (c + 1) next same (seals_are_counted entries seat Seals Sealed)
-    (sym (filter_within (λ (row : Row). is_held row (c + 1)) (λ (row : Row). is_held row c) (streams_of d entries) less) ∙ ap (λ (xs : List Row). filter (λ (row : Row). is_held row (c + 1)) xs) state.held)
+    state_by d (entries ++ e ∷ []) (streams_of d entries) (filter (λ (row : Row). is_held row (c + 1)) rows) (c + 1) next same
+    (seals_are_counted entries seat Seals Sealed)
+    (filter_weaker (λ (row : Row). is_held row (c + 1)) (λ (row : Row). is_held row c) (streams_of d entries) less
+    ∙ ap (λ (xs : List Row). filter (λ (row : Row). is_held row (c + 1)) xs) state.held)
     state.number
 
+-- and closes the table of the held streams
 pub seal_closes_table : SealClosesTable
 seal_closes_table d entries rows next seat state =
     let e : Recorded = record { seat = seat; act = Seals; reply = Sealed } in
@@ -262,8 +294,10 @@ seal_closes_table d entries rows next seat state =
         let e : Recorded = record { seat = seat; act = Seals; reply = Sealed } in
         let all = entries ++ e ∷ [] in
         elim (cases_lt place (length entries)) [
-          | inl l ↦ (let one_more : sealed_before all (suc place) ≡ sealed_before all place + 1 = sealed-suc all place at.entry at.is ∙ ap (λ (b : Bool). sealed_before all place + cond b 1 0) at.seal in
-              let early : sealed_before all (suc place) ≤ sealed_before all (length entries) = sealed_more all (suc place) (length entries) (omega (arith, l)) (omega (arith, length-append entries (e ∷ []))) in
+          | inl l ↦ (let one_more : sealed_before all (suc place) ≡ sealed_before all place + 1 = sealed-suc all place at.entry at.is
+              ∙ ap (λ (b : Bool). sealed_before all place + cond b 1 0) at.seal in
+              let early : sealed_before all (suc place) ≤ sealed_before all (length entries) =
+              sealed_more all (suc place) (length entries) (omega (arith, l)) (omega (arith, length-append entries (e ∷ []))) in
               absurd (omega (arith, one_more, early, at.before, ap seals (front_is entries e))))
           | inr g ↦ omega (arith, g, at.inside, length-append entries (e ∷ []))
         ]
@@ -275,20 +309,39 @@ first_of_none : (front : List Cycle) (x : Cycle) → slice_get front 0 ≡ None 
 first_of_none front x e = ap (λ (xs : List Cycle). slice_get (xs ++ x ∷ []) 0) (nil_from_none front e)
 
 -- a row that is held without an end is held with an end from this cycle on
-held_with_end : (row : Row) (cycle number : ℕ) → 0 < residence row → (row.no ≡ number → row.withdrawn ≡ None) → is_held (ended_row number cycle row) cycle ≡ is_held row cycle
+held_with_end : (row : Row) (cycle number : ℕ) → 0 < residence row → (row.no ≡ number → row.withdrawn ≡ None) →
+    is_held (ended_row number cycle row) cycle ≡ is_held row cycle
 held_with_end row cycle number long open_end = by_number (row.no == number) refl
   where
     by_number : (b : Bool) → (row.no == number) ≡ b → is_held (ended_row number cycle row) cycle ≡ is_held row cycle
-    by_number false t = ap (λ (c : Bool). is_held (if c then (let made : Row = record { no = row.no; name = row.name; octets = row.octets; tree = row.tree; admitted = row.admitted; withdrawn = Some (record { 0 = cycle }) } in made) else row) cycle) t
+    by_number false t = ap (λ (c : Bool). is_held
+        (if c then (let made : Row = record {
+          no = row.no;
+          name = row.name;
+          octets = row.octets;
+          tree = row.tree;
+          admitted = row.admitted;
+          withdrawn =
+              Some (record { 0 = cycle });
+        } in made) else row) cycle) t
     by_number true t =
-        let made : Row = record { no = row.no; name = row.name; octets = row.octets; tree = row.tree; admitted = row.admitted; withdrawn = Some (record { 0 = cycle }) } in
+        let made : Row = record {
+          no = row.no;
+          name = row.name;
+          octets = row.octets;
+          tree = row.tree;
+          admitted = row.admitted;
+          withdrawn =
+              Some (record { 0 = cycle });
+        } in
         let none : row.withdrawn ≡ None = open_end (eqb-true row.no number t) in
         ap (λ (c : Bool). is_held (if c then made else row) cycle) t
         ∙ ap (λ (b : Bool). nat_le row.admitted.0 cycle && b) (lt-ltb cycle (cycle + residence row) (omega (arith, long)))
         ∙ ap (λ (o : Option Cycle). nat_le row.admitted.0 cycle && option_map_or (λ (w : Cycle). nat_lt cycle (w.0 + residence row)) o true) (sym none)
 
 -- a stream is withdrawn as its number is
-end_of : (d : Domain) (entries : List Recorded) (row : Row) → Contains (streams_of d entries) row → row.withdrawn ≡ withdrawn_before entries (length entries) row.no
+end_of : (d : Domain) (entries : List Recorded) (row : Row) → Contains (streams_of d entries) row →
+    row.withdrawn ≡ withdrawn_before entries (length entries) row.no
 end_of d entries row h =
     let s = stream_of d entries row h in
     ap (λ (r : Row). r.withdrawn) (sym s.2) ∙ ap (withdrawn_before entries (length entries)) (ap (λ (r : Row). r.no) s.2)
@@ -298,7 +351,8 @@ abbrev row_ending : Row → Option Cycle → Row
 row_ending row end = record { no = row.no; name = row.name; octets = row.octets; tree = row.tree; admitted = row.admitted; withdrawn = end }
 
 -- with one withdrawal more, a row ends where it has that number
-ended_by : (v w : ℕ → Option Cycle) (number cycle : ℕ) → ((other : ℕ) → (number == other) ≡ true → v other ≡ Some (record { 0 = cycle })) → ((other : ℕ) → (number == other) ≡ false → v other ≡ w other) → (row : Row) → with_end v row ≡ ended_row number cycle (with_end w row)
+ended_by : (v w : ℕ → Option Cycle) (number cycle : ℕ) → ((other : ℕ) → (number == other) ≡ true → v other ≡ Some (record { 0 = cycle })) →
+    ((other : ℕ) → (number == other) ≡ false → v other ≡ w other) → (row : Row) → with_end v row ≡ ended_row number cycle (with_end w row)
 ended_by v w number cycle here elsewhere row = by_number (row.no == number) refl
   where
     by_number : (b : Bool) → (row.no == number) ≡ b → with_end v row ≡ ended_row number cycle (with_end w row)
@@ -309,6 +363,7 @@ ended_by v w number cycle here elsewhere row = by_number (row.no == number) refl
         ap (row_ending row) (elsewhere row.no (ne_eqb number row.no (λ e. eqb-false row.no number t (sym e))))
         ∙ ap (λ (c : Bool). if c then row_ending row (Some (record { 0 = cycle })) else with_end w row) (sym t)
 
+-- a stream that is withdrawn is held on
 pub withdrawn_is_held_on : WithdrawnIsHeldOn
 withdrawn_is_held_on d entries rows next seat name row legal state found open_end =
     let c = seals entries in
@@ -349,13 +404,16 @@ withdrawn_is_held_on d entries rows next seat name row legal state found open_en
     let kept : (x : Row) → Contains (streams_of d entries) x → is_held (ended_row row.no c x) c ≡ is_held x c =
     λ x h. held_with_end x c row.no (residence_some d x (tree_now d entries x legal h)) (λ same.
     end_of d entries x h ∙ ap (withdrawn_before entries n) same ∙ sym (end_of d entries row in_streams) ∙ open_end) in
-    state_by d all (map (ended_row row.no c) (streams_of d entries)) (map (ended_row row.no c) rows) c next streams (seals_same entries seat (Withdraws name) reply refl)
+    state_by d all (map (ended_row row.no c) (streams_of d entries)) (map (ended_row row.no c) rows) c next streams
+    (seals_same entries seat (Withdraws name) reply refl)
     (filter_mapped (λ (r : Row). is_held r c) (ended_row row.no c) (streams_of d entries) kept ∙ ap (map (ended_row row.no c)) state.held)
     (length-map (streams_of d entries) (ended_row row.no c) ∙ state.number)
 
 -- ---- what held streams have
 
-held_sound : (d : Domain) (entries : List Recorded) → IsLegalHistory d entries → AreHeld d (held_in d entries (seals entries)) (next_number d entries) (seals entries)
+-- held streams are sound
+held_sound : (d : Domain) (entries : List Recorded) → IsLegalHistory d entries →
+    AreHeld d (held_in d entries (seals entries)) (next_number d entries) (seals entries)
 held_sound d entries legal =
     let n = length entries in
     let c = seals entries in
@@ -363,12 +421,17 @@ held_sound d entries legal =
     let w = withdrawn_before entries n in
     let old = admitted_before d entries n in
     let streams : streams_of d entries ≡ map (with_end w) old = ap (streams_of d) (sym (all_is entries)) ∙ streams_front entries n (omega arith) d in
-    let held_is : filter (λ (r : Row). is_held r c) (map (with_end w) old) ≡ held_in d entries c = ap (λ (xs : List Row). filter (λ (r : Row). is_held r c) xs) (sym streams) in
+    let held_is : filter (λ (r : Row). is_held r c) (map (with_end w) old) ≡ held_in d entries c =
+    ap (λ (xs : List Row). filter (λ (r : Row). is_held r c) xs) (sym streams) in
     let sealed : sealed_before entries n ≡ c = ap seals (all_is entries) in
-    let stream : (row : Row) → Contains (held_in d entries c) row → Contains (streams_of d entries) row = λ row h. (contains_from_filter (λ (r : Row). is_held r c) (streams_of d entries) row h).0 in
-    let pairs_here : (R : Row → Row → Type 0) → AllPairs (λ (a b : Row). is_held (with_end w a) (sealed_before entries n) ≡ true → is_held (with_end w b) (sealed_before entries n) ≡ true → R (with_end w a) (with_end w b)) old → AllPairs R (held_in d entries c) =
+    let stream : (row : Row) → Contains (held_in d entries c) row → Contains (streams_of d entries) row =
+    λ row h. (contains_from_filter (λ (r : Row). is_held r c) (streams_of d entries) row h).0 in
+    let pairs_here : (R : Row → Row → Type 0) →
+    AllPairs (λ (a b : Row). is_held (with_end w a) (sealed_before entries n) ≡ true → is_held (with_end w b) (sealed_before entries n) ≡ true →
+    R (with_end w a) (with_end w b)) old → AllPairs R (held_in d entries c) =
     λ R pairs. subst (AllPairs R) held_is (pairs_kept R (with_end w) (λ (r : Row). is_held r c) old
-    (subst (λ (k : ℕ). AllPairs (λ (a b : Row). is_held (with_end w a) k ≡ true → is_held (with_end w b) k ≡ true → R (with_end w a) (with_end w b)) old) sealed pairs)) in
+    (subst (λ (k : ℕ). AllPairs (λ (a b : Row). is_held (with_end w a) k ≡ true → is_held (with_end w b) k ≡ true →
+    R (with_end w a) (with_end w b)) old) sealed pairs)) in
     record {
       trees = λ row h. tree_now d entries row legal (stream row h);
       named = λ row h. let t = stream_of d entries row (stream row h) in subst (λ (r : Row). is_name r.name ≡ true) t.2 (s.named t.0 t.1);
@@ -389,6 +452,7 @@ held_sound d entries legal =
           subst (λ (xs : List Row). link_cost xs l ≤ budget d l) held_is there;
     }
 
+-- and so is each running state
 pub held_are_sound : HeldAreSound
 held_are_sound d entries rows next legal state =
     subst (λ (k : ℕ). AreHeld d rows k (seals entries)) state.number

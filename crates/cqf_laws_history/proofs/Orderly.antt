@@ -1,5 +1,6 @@
 -- The tables of a legal history are orderly.
-use Rattle.std.proofs.Common.{◌≡◌, ◌≢◌, ℕ, ◌+◌, ◌-◌, ◌<◌, ◌≤◌, Bool, true, false, cond, List, Option, Some, None, length, get_or, sym, refl, ap, ◌∙◌, inl, inr, arith, subst}
+use Rattle.std.proofs.Common.{◌≡◌, ◌≢◌, ℕ, ◌+◌, ◌-◌, ◌<◌, ◌≤◌, Bool, true, false, cond, List, Option, Some, None, length, get_or, sym, refl, ap, ◌∙◌, inl, inr}
+use Rattle.std.proofs.Common.{arith, subst}
 use Rattle.std.specs.Prelude.{[], ◌∷◌, ◌++◌, ◌==◌, if◌then◌else◌, filter, map, nat_le, nat_lt, slice_get, suc, AllPairs, Contains}
 use Rattle.std.specs.Option.{option_map_or}
 use Rattle.std.proofs.lemmas.Bool.{both_ways, cases_lt, and_parts, and_from, leb-true, le-leb, ltb-true, lt-ltb}
@@ -14,9 +15,13 @@ use Rattle.cqf_model.specs.Domain.{Domain, budget}
 use Rattle.cqf_model.specs.History.{Act, Admits, IsLegalHistory, Recorded, Seals, Withdraws, is_seal, seal_places, seals, table_at, tables_of, withdrawal_by}
 use Rattle.cqf_model.specs.Table.{AreOrderly, IsTree, SameStream, is_held, is_live, link_cost, residence, table_of}
 use Rattle.cqf_lists.specs.Lists.{each_below}
-use Rattle.cqf_lists.proofs.Contained.{contains_at, contains_cons, contains_filter, contains_from_filter, contains_from_map, contains_map, contains_nil, first_stays, nil_from_none, pairs_kept, pairs_nil}
-use Rattle.cqf_lists.proofs.Below.{each_more, get_or-singles, length-singles}
-use Rattle.cqf_laws_history.proofs.Places.{SealAt, admitted_at, admitted_before, entry_at, seal_at, sealed-suc, sealed_before, sealed_more, streams_front, with_end, withdrawn_at, withdrawn_before}
+use Rattle.cqf_lists.proofs.Members.{contains_at, contains_cases, contains_filter, contains_from_filter, contains_from_map, contains_map, contains_none}
+use Rattle.cqf_lists.proofs.Pairs.{pairs_kept, pairs_none}
+use Rattle.cqf_lists.proofs.Places.{first_stays, nil_from_none}
+use Rattle.cqf_lists.proofs.EachBelow.{get_or-singles, length-singles}
+use Rattle.cqf_lists.proofs.Fronts.{each_front}
+use Rattle.cqf_laws_history.proofs.Places.{SealAt, admitted_at, admitted_before, entry_at, seal_at, sealed-suc, sealed_before, sealed_more, streams_front}
+use Rattle.cqf_laws_history.proofs.Places.{with_end, withdrawn_at, withdrawn_before}
 use Rattle.cqf_laws_history.proofs.Sound.{Sound, held_before, sound}
 
 -- a table that is closed: the Seal's place, and the streams before it
@@ -34,18 +39,21 @@ record RowOf (d : Domain) (entries : List Recorded) (place cycle : ℕ) (row : R
   held : is_held row cycle ≡ true
 
 -- a withdrawal is of no Seal, and its effect is the number of Seals before it
-effect_by : (effect number : ℕ) (act : Act) (reply : Reply) (x : Cycle) → Contains (withdrawal_by effect number act reply) x → (is_seal act ≡ false) × (x.0 ≡ effect)
-effect_by effect number (Admits asked) reply x h = absurd (contains_nil x h)
-effect_by effect number Seals reply x h = absurd (contains_nil x h)
-effect_by effect number (Withdraws name) (RefusedFor refused) x h = absurd (contains_nil x h)
-effect_by effect number (Withdraws name) Sealed x h = absurd (contains_nil x h)
+effect_by : (effect number : ℕ) (act : Act) (reply : Reply) (x : Cycle) → Contains (withdrawal_by effect number act reply) x → (is_seal act ≡ false) ×
+    (x.0 ≡ effect)
+effect_by effect number (Admits asked) reply x h = absurd (contains_none x h)
+effect_by effect number Seals reply x h = absurd (contains_none x h)
+effect_by effect number (Withdraws name) (RefusedFor refused) x h = absurd (contains_none x h)
+effect_by effect number (Withdraws name) Sealed x h = absurd (contains_none x h)
 effect_by effect number (Withdraws name) (Accepted receipt) x h = (refl, of_cycle (receipt.no == number) h)
   where
     of_cycle : (b : Bool) → Contains (if b then record { 0 = effect } ∷ [] else []) x → x.0 ≡ effect
-    of_cycle true k = elim (contains_cons (record { 0 = effect }) x [] k) [ inl e ↦ ap (λ (c : Cycle). c.0) (sym e) | inr n ↦ absurd (contains_nil x n) ]
-    of_cycle false k = absurd (contains_nil x k)
+    of_cycle true k = elim (contains_cases (record { 0 = effect }) [] x k) [ inl e ↦ ap (λ (c : Cycle). c.0) (sym e) | inr n ↦ absurd (contains_none x n) ]
+    of_cycle false k = absurd (contains_none x k)
 
-effect_at : (entries : List Recorded) (number place : ℕ) (x : Cycle) (e : Recorded) → slice_get entries place ≡ Some e → Contains (withdrawn_at entries number place) x → (is_seal e.act ≡ false) × (x.0 ≡ sealed_before entries place)
+-- a withdrawal is no Seal, and its effect is the Seals before it
+effect_at : (entries : List Recorded) (number place : ℕ) (x : Cycle) (e : Recorded) → slice_get entries place ≡ Some e →
+    Contains (withdrawn_at entries number place) x → (is_seal e.act ≡ false) × (x.0 ≡ sealed_before entries place)
 effect_at entries number place x e is h =
     effect_by (sealed_before entries place) number e.act e.reply x
     (subst (λ (o : Option Recorded). Contains (option_map_or (λ (y : Recorded). withdrawal_by (sealed_before entries place) number y.act y.reply) o []) x) is h)
@@ -70,41 +78,51 @@ module _ (d : Domain) (entries : List Recorded) (cycles : ℕ) (legal : IsLegalH
   run_cycle cycle row h =
       elim (cases_lt cycle cycles) [
         | inl l ↦ l
-        | inr g ↦ (let none : table_of (tables_of d entries cycles) cycle ≡ [] = get_or_past (tables_of d entries cycles) cycle [] (omega (arith, g, length-singles (table_at d entries) cycles)) in
-            absurd (contains_nil row (subst (λ (xs : List Row). Contains xs row) none h)))
+        | inr g ↦ (let none : table_of (tables_of d entries cycles) cycle ≡ [] =
+            get_or_past (tables_of d entries cycles) cycle [] (omega (arith, g, length-singles (table_at d entries) cycles)) in
+            absurd (contains_none row (subst (λ (xs : List Row). Contains xs row) none h)))
       ]
 
-  row_of_table : (cycle : ℕ) (row : Row) (h : cycle < cycles) → Contains (table_of (tables_of d entries cycles) cycle) row → RowOf d entries (closed cycle h).place cycle row
+  -- each row of a table is that of a stream admitted before its Seal
+  row_of_table : (cycle : ℕ) (row : Row) (h : cycle < cycles) → Contains (table_of (tables_of d entries cycles) cycle) row →
+      RowOf d entries (closed cycle h).place cycle row
   row_of_table cycle row h k =
       let t = closed cycle h in
       let held = λ (r : Row). is_held r cycle in
-      let kept = contains_from_filter held (map (with_end (withdrawn_before entries t.place)) (admitted_before d entries t.place)) row (subst (λ (xs : List Row). Contains xs row) t.is k) in
+      let kept = contains_from_filter held (map (with_end (withdrawn_before entries t.place)) (admitted_before d entries t.place)) row
+      (subst (λ (xs : List Row). Contains xs row) t.is k) in
       let made = contains_from_map (with_end (withdrawn_before entries t.place)) (admitted_before d entries t.place) row kept.0 in
       record { stream = made.0; admitted_there = made.1; is = made.2; held = kept.1 }
 
   -- each pair in a table of something that any two held streams have
-  pairs_of_table : (R : Row → Row → Type 0) → ((place : ℕ) → Sound d entries place → AllPairs (λ (a b : Row). held_before entries place a ≡ true → held_before entries place b ≡ true → R (with_end (withdrawn_before entries place) a) (with_end (withdrawn_before entries place) b)) (admitted_before d entries place)) → (cycle : ℕ) → AllPairs R (table_of (tables_of d entries cycles) cycle)
+  pairs_of_table : (R : Row → Row → Type 0) →
+      ((place : ℕ) → Sound d entries place →
+      AllPairs (λ (a b : Row). held_before entries place a ≡ true → held_before entries place b ≡ true →
+      R (with_end (withdrawn_before entries place) a) (with_end (withdrawn_before entries place) b)) (admitted_before d entries place)) → (cycle : ℕ) →
+      AllPairs R (table_of (tables_of d entries cycles) cycle)
   pairs_of_table R pairs cycle =
       elim (cases_lt cycle cycles) [
         | inl l ↦ (let t = closed cycle l in
             let w = withdrawn_before entries t.place in
-            let there : AllPairs (λ (a b : Row). is_held (with_end w a) cycle ≡ true → is_held (with_end w b) cycle ≡ true → R (with_end w a) (with_end w b)) (admitted_before d entries t.place) =
-            subst (λ (c : ℕ). AllPairs (λ (a b : Row). is_held (with_end w a) c ≡ true → is_held (with_end w b) c ≡ true → R (with_end w a) (with_end w b)) (admitted_before d entries t.place)) t.seal.before (pairs t.place t.sound_there) in
+            let there : AllPairs (λ (a b : Row). is_held (with_end w a) cycle ≡ true → is_held (with_end w b) cycle ≡ true → R (with_end w a) (with_end w b))
+            (admitted_before d entries t.place) =
+            subst (λ (c : ℕ). AllPairs (λ (a b : Row). is_held (with_end w a) c ≡ true → is_held (with_end w b) c ≡ true → R (with_end w a) (with_end w b))
+            (admitted_before d entries t.place)) t.seal.before (pairs t.place t.sound_there) in
             subst (AllPairs R) (sym t.is) (pairs_kept R (with_end w) (λ (row : Row). is_held row cycle) (admitted_before d entries t.place) there))
-        | inr g ↦ (let none : table_of (tables_of d entries cycles) cycle ≡ [] = get_or_past (tables_of d entries cycles) cycle [] (omega (arith, g, length-singles (table_at d entries) cycles)) in
-            subst (AllPairs R) (sym none) (pairs_nil R))
+        | inr g ↦ (let none : table_of (tables_of d entries cycles) cycle ≡ [] =
+            get_or_past (tables_of d entries cycles) cycle [] (omega (arith, g, length-singles (table_at d entries) cycles)) in
+            subst (AllPairs R) (sym none) (pairs_none R))
       ]
 
   -- what is admitted before a place is admitted before a later one
   admitted_later : (n m : ℕ) → n ≤ m → (row : Row) → Contains (admitted_before d entries n) row → Contains (admitted_before d entries m) row
   admitted_later n m le row h =
-      let more = each_more (admitted_at d entries) n (m - n) in
-      let same : m - n + n ≡ m = omega (arith, le) in
-      let is : admitted_before d entries m ≡ admitted_before d entries n ++ more.0 = ap (admitted_before d entries) (sym same) ∙ more.1 in
-      subst (λ (xs : List Row). Contains xs row) (sym is) (Contains-append_left (admitted_before d entries n) more.0 row h)
+      let more = each_front (admitted_at d entries) n m le in
+      subst (λ (xs : List Row). Contains xs row) (sym more.is) (Contains-append_left (admitted_before d entries n) more.rest row h)
 
   -- a number is that of one admitted stream
-  one_admitted : (n : ℕ) → Sound d entries n → (a b : Row) → Contains (admitted_before d entries n) a → Contains (admitted_before d entries n) b → a.no ≡ b.no → a ≡ b
+  one_admitted : (n : ℕ) → Sound d entries n → (a b : Row) → Contains (admitted_before d entries n) a → Contains (admitted_before d entries n) b → a.no ≡ b.no →
+      a ≡ b
   one_admitted n s a b (i, h, e) (j, k, f) same =
       let rows = admitted_before d entries n in
       let there : slice_get rows i ≡ Some a = slice_get-get_or rows i a h ∙ ap (λ (r : Row). Some r) e in
@@ -113,54 +131,63 @@ module _ (d : Domain) (entries : List Recorded) (cycles : ℕ) (legal : IsLegalH
       same_Some a b (sym there ∙ ap (λ (k : ℕ). slice_get rows k) place ∙ here)
 
   -- a live stream that is withdrawn later is so from a later cycle on
-  ends_later : (cycle n m : ℕ) (stream : Row) (x : Cycle) → n ≤ m → m ≤ length entries → SealAt entries cycle n → is_live (with_end (withdrawn_before entries n) stream) cycle ≡ true → withdrawn_before entries m stream.no ≡ Some x → cycle < x.0
+  ends_later : (cycle n m : ℕ) (stream : Row) (x : Cycle) → n ≤ m → m ≤ length entries → SealAt entries cycle n →
+      is_live (with_end (withdrawn_before entries n) stream) cycle ≡ true → withdrawn_before entries m stream.no ≡ Some x → cycle < x.0
   ends_later cycle n m stream x le within seal live e = by_front (withdrawn_before entries n stream.no) refl
     where
       by_front : (o : Option Cycle) → withdrawn_before entries n stream.no ≡ o → cycle < x.0
       by_front (Some y) f =
-          let more = each_more (withdrawn_at entries stream.no) n (m - n) in
-          let same : m - n + n ≡ m = omega (arith, le) in
-          let is : each_below (withdrawn_at entries stream.no) m ≡ each_below (withdrawn_at entries stream.no) n ++ more.0 = ap (each_below (withdrawn_at entries stream.no)) (sym same) ∙ more.1 in
-          let stayed : withdrawn_before entries m stream.no ≡ Some y = ap (λ (xs : List Cycle). slice_get xs 0) is ∙ first_stays (each_below (withdrawn_at entries stream.no) n) more.0 y f in
+          let more = each_front (withdrawn_at entries stream.no) n m le in
+          let stayed : withdrawn_before entries m stream.no ≡ Some y =
+          ap (λ (xs : List Cycle). slice_get xs 0) more.is ∙ first_stays (each_below (withdrawn_at entries stream.no) n) more.rest y f in
           let equal : y ≡ x = same_Some y x (sym stayed ∙ e) in
-          let parts = and_parts (nat_le stream.admitted.0 cycle) (option_map_or (λ (w : Cycle). nat_lt cycle w.0) (withdrawn_before entries n stream.no) true) live in
+          let parts = and_parts (nat_le stream.admitted.0 cycle)
+          (option_map_or (λ (w : Cycle). nat_lt cycle w.0) (withdrawn_before entries n stream.no) true) live in
           let sooner : nat_lt cycle y.0 ≡ true = ap (λ (o : Option Cycle). option_map_or (λ (w : Cycle). nat_lt cycle w.0) o true) (sym f) ∙ parts.1 in
           subst (λ (w : Cycle). cycle < w.0) equal (ltb-true cycle y.0 sooner)
       by_front None f =
-          let more = each_more (withdrawn_at entries stream.no) n (m - n) in
-          let same : m - n + n ≡ m = omega (arith, le) in
+          let more = each_front (withdrawn_at entries stream.no) n m le in
           let nothing : each_below (withdrawn_at entries stream.no) n ≡ [] = nil_from_none (each_below (withdrawn_at entries stream.no) n) f in
-          let is : each_below (withdrawn_at entries stream.no) m ≡ more.0 =
-          ap (each_below (withdrawn_at entries stream.no)) (sym same) ∙ more.1 ∙ ap (λ (xs : List Cycle). xs ++ more.0) nothing in
-          let first : slice_get more.0 0 ≡ Some x = ap (λ (xs : List Cycle). slice_get xs 0) (sym is) ∙ e in
-          let later = more.2 x (contains_at more.0 0 x first) in
-          let entry = entry_at entries later.0 (omega (arith, later.2, same, within)) in
+          let is : each_below (withdrawn_at entries stream.no) m ≡ more.rest = more.is ∙ ap (λ (xs : List Cycle). xs ++ more.rest) nothing in
+          let first : slice_get more.rest 0 ≡ Some x = ap (λ (xs : List Cycle). slice_get xs 0) (sym is) ∙ e in
+          let later = more.late x (contains_at more.rest 0 x first) in
+          let entry = entry_at entries later.0 (omega (arith, later.2, within)) in
           let made = effect_at entries stream.no later.0 x entry.0 entry.1 later.3 in
           let apart : n ≢ later.0 = λ q. both_ways (is_seal entry.0.act) made.0
-          (ap (λ (y : Recorded). is_seal y.act) (same_Some entry.0 seal.entry (sym entry.1 ∙ ap (λ (k : ℕ). slice_get entries k) (sym q) ∙ seal.is)) ∙ seal.seal) in
-          let closed_more : sealed_before entries (suc n) ≡ sealed_before entries n + 1 = sealed-suc entries n seal.entry seal.is ∙ ap (λ (b : Bool). sealed_before entries n + cond b 1 0) seal.seal in
-          omega (arith, made.1, closed_more, seal.before, sealed_more entries (suc n) later.0 (omega (arith, apart, later.1)) (omega (arith, later.2, same, within)))
+          (ap (λ (y : Recorded). is_seal y.act) (same_Some entry.0 seal.entry (sym entry.1 ∙ ap (λ (k : ℕ). slice_get entries k) (sym q) ∙ seal.is))
+          ∙ seal.seal) in
+          let closed_more : sealed_before entries (suc n) ≡ sealed_before entries n + 1 = sealed-suc entries n seal.entry seal.is
+          ∙ ap (λ (b : Bool). sealed_before entries n + cond b 1 0) seal.seal in
+          omega (arith, made.1, closed_more, seal.before, sealed_more entries (suc n) later.0 (omega (arith, apart, later.1)) (omega (arith, later.2, within)))
 
   -- the Seals stand in the order of their cycles
   seals_in_order : (early late n m : ℕ) → early ≤ late → SealAt entries early n → SealAt entries late m → n ≤ m
   seals_in_order early late n m le a b =
       elim (cases_lt m n) [
-        | inl l ↦ (let closed_more : sealed_before entries (suc m) ≡ sealed_before entries m + 1 = sealed-suc entries m b.entry b.is ∙ ap (λ (c : Bool). sealed_before entries m + cond c 1 0) b.seal in
+        | inl l ↦ (let closed_more : sealed_before entries (suc m) ≡ sealed_before entries m + 1 = sealed-suc entries m b.entry b.is
+            ∙ ap (λ (c : Bool). sealed_before entries m + cond c 1 0) b.seal in
             absurd (omega (arith, le, a.before, b.before, closed_more, sealed_more entries (suc m) n (omega (arith, l)) (omega (arith, a.inside)))))
         | inr g ↦ g
       ]
 
   -- a live stream is held for as many cycles more as its deepest link has depth
-  held_on : (cycle later n m : ℕ) (stream : Row) → n ≤ m → m ≤ length entries → SealAt entries cycle n → cycle ≤ later → later ≤ cycle + residence stream → is_live (with_end (withdrawn_before entries n) stream) cycle ≡ true → is_held (with_end (withdrawn_before entries m) stream) later ≡ true
+  held_on : (cycle later n m : ℕ) (stream : Row) → n ≤ m → m ≤ length entries → SealAt entries cycle n → cycle ≤ later → later ≤ cycle + residence stream →
+      is_live (with_end (withdrawn_before entries n) stream) cycle ≡ true → is_held (with_end (withdrawn_before entries m) stream) later ≡ true
   held_on cycle later n m stream le within seal after before live =
-      let begun = leb-true stream.admitted.0 cycle (and_parts (nat_le stream.admitted.0 cycle) (option_map_or (λ (w : Cycle). nat_lt cycle w.0) (withdrawn_before entries n stream.no) true) live).0 in
-      and_from (nat_le stream.admitted.0 later) (option_map_or (λ (w : Cycle). nat_lt later (w.0 + residence stream)) (withdrawn_before entries m stream.no) true) (le-leb stream.admitted.0 later (omega (arith, begun, after))) (by_end (withdrawn_before entries m stream.no) refl)
+      let begun = leb-true stream.admitted.0 cycle
+      (and_parts (nat_le stream.admitted.0 cycle) (option_map_or (λ (w : Cycle). nat_lt cycle w.0) (withdrawn_before entries n stream.no) true) live).0 in
+      and_from (nat_le stream.admitted.0 later)
+      (option_map_or (λ (w : Cycle). nat_lt later (w.0 + residence stream)) (withdrawn_before entries m stream.no) true)
+      (le-leb stream.admitted.0 later (omega (arith, begun, after))) (by_end (withdrawn_before entries m stream.no) refl)
     where
-      by_end : (o : Option Cycle) → withdrawn_before entries m stream.no ≡ o → option_map_or (λ (w : Cycle). nat_lt later (w.0 + residence stream)) o true ≡ true
+      by_end : (o : Option Cycle) → withdrawn_before entries m stream.no ≡ o →
+          option_map_or (λ (w : Cycle). nat_lt later (w.0 + residence stream)) o true ≡ true
       by_end None e = refl
       by_end (Some x) e = lt-ltb later (x.0 + residence stream) (omega (arith, before, ends_later cycle n m stream x le within seal live e))
 
-  same_stream : (cycle later : ℕ) (early late : Row) → Contains (table_of (tables_of d entries cycles) cycle) early → Contains (table_of (tables_of d entries cycles) later) late → early.no ≡ late.no → SameStream early late
+  -- rows of one number in two tables are of one stream
+  same_stream : (cycle later : ℕ) (early late : Row) → Contains (table_of (tables_of d entries cycles) cycle) early →
+      Contains (table_of (tables_of d entries cycles) later) late → early.no ≡ late.no → SameStream early late
   same_stream cycle later early late a b same =
       let h = run_cycle cycle early a in
       let k = run_cycle later late b in
@@ -177,7 +204,10 @@ module _ (d : Domain) (entries : List Recorded) (cycles : ℕ) (legal : IsLegalH
         tree = ap (λ (r : Row). r.tree.items) (sym e.is) ∙ ap (λ (r : Row). r.tree.items) one ∙ ap (λ (r : Row). r.tree.items) l.is;
       }
 
-  stays_on : (cycle later : ℕ) (row : Row) → Contains (table_of (tables_of d entries cycles) cycle) row → is_live row cycle ≡ true → cycle ≤ later → later ≤ cycle + residence row → later < length (tables_of d entries cycles) → (late : Row) × Contains (table_of (tables_of d entries cycles) later) late × (row.no ≡ late.no)
+  -- a live stream is in each table until its last frame has left
+  stays_on : (cycle later : ℕ) (row : Row) → Contains (table_of (tables_of d entries cycles) cycle) row → is_live row cycle ≡ true → cycle ≤ later →
+      later ≤ cycle + residence row → later < length (tables_of d entries cycles) → (late : Row) × Contains (table_of (tables_of d entries cycles) later) late ×
+      (row.no ≡ late.no)
   stays_on cycle later row a live after before run =
       let h = run_cycle cycle row a in
       let k : later < cycles = omega (arith, run, length-singles (table_at d entries) cycles) in
@@ -189,18 +219,24 @@ module _ (d : Domain) (entries : List Recorded) (cycles : ℕ) (legal : IsLegalH
       let alive : is_live (with_end (withdrawn_before entries early.place) r.stream) cycle ≡ true = ap (λ (x : Row). is_live x cycle) r.is ∙ live in
       let hops : later ≤ cycle + residence r.stream = subst (λ (x : Row). later ≤ cycle + residence x) (sym r.is) before in
       let held = held_on cycle later early.place late.place r.stream in_order (omega (arith, late.seal.inside)) early.seal after hops alive in
-      let there = contains_map (with_end w) (admitted_before d entries late.place) r.stream (admitted_later early.place late.place in_order r.stream r.admitted_there) in
-      let kept = contains_filter (λ (x : Row). is_held x later) (map (with_end w) (admitted_before d entries late.place)) (with_end w r.stream) held there in
+      let there = contains_map (with_end w) (admitted_before d entries late.place) r.stream
+      (admitted_later early.place late.place in_order r.stream r.admitted_there) in
+      let kept = contains_filter (λ (x : Row). is_held x later) (map (with_end w) (admitted_before d entries late.place)) (with_end w r.stream) there held in
       (with_end w r.stream, subst (λ (xs : List Row). Contains xs (with_end w r.stream)) (sym late.is) kept, ap (λ (x : Row). x.no) (sym r.is))
 
+  -- what a table costs of a link is within its budget
   loads_fit : (cycle l : ℕ) → link_cost (table_of (tables_of d entries cycles) cycle) l ≤ budget d l
   loads_fit cycle l =
       elim (cases_lt cycle cycles) [
         | inl h ↦ (let t = closed cycle h in
-            let there : link_cost (filter (λ (row : Row). is_held row cycle) (map (with_end (withdrawn_before entries t.place)) (admitted_before d entries t.place))) l ≤ budget d l =
-            subst (λ (c : ℕ). link_cost (filter (λ (row : Row). is_held row c) (map (with_end (withdrawn_before entries t.place)) (admitted_before d entries t.place))) l ≤ budget d l) t.seal.before (t.sound_there.loads l) in
+            let there : link_cost (filter (λ (row : Row). is_held row cycle)
+            (map (with_end (withdrawn_before entries t.place)) (admitted_before d entries t.place))) l ≤ budget d l =
+            subst (λ (c : ℕ). link_cost (filter (λ (row : Row). is_held row c)
+            (map (with_end (withdrawn_before entries t.place)) (admitted_before d entries t.place))) l ≤ budget d l) t.seal.before
+            (t.sound_there.loads l) in
             subst (λ (xs : List Row). link_cost xs l ≤ budget d l) (sym t.is) there)
-        | inr g ↦ (let none : table_of (tables_of d entries cycles) cycle ≡ [] = get_or_past (tables_of d entries cycles) cycle [] (omega (arith, g, length-singles (table_at d entries) cycles)) in
+        | inr g ↦ (let none : table_of (tables_of d entries cycles) cycle ≡ [] =
+            get_or_past (tables_of d entries cycles) cycle [] (omega (arith, g, length-singles (table_at d entries) cycles)) in
             subst (λ (xs : List Row). link_cost xs l ≤ budget d l) (sym none) (omega arith))
       ]
 
@@ -212,6 +248,7 @@ module _ (d : Domain) (entries : List Recorded) (cycles : ℕ) (legal : IsLegalH
       let late : (get_or rows j e).no ≡ j = s.numbers j (get_or rows j e) (slice_get-get_or rows j e m) in
       omega (arith, l, early, late)) cycle
 
+  -- so the tables are orderly
   pub tables_orderly : AreOrderly d (tables_of d entries cycles)
   tables_orderly =
       record {

@@ -1,5 +1,6 @@
 -- The front of a history up to a place: its Seals, its withdrawals, and the streams that it admits.
-use Rattle.std.proofs.Common.{◌≡◌, ℕ, ◌+◌, ◌<◌, ◌≤◌, Bool, true, false, cond, List, Option, Some, None, length, get_or, sym, refl, ap, ◌∙◌, inl, inr, arith, subst, append-nil, length-append}
+use Rattle.std.proofs.Common.{◌≡◌, ℕ, ◌+◌, ◌<◌, ◌≤◌, Bool, true, false, cond, List, Option, Some, None, length, get_or, sym, refl, ap, ◌∙◌, inl, inr, arith}
+use Rattle.std.proofs.Common.{subst, append-nil, length-append}
 use std.Path.{fun_ext}
 use Rattle.std.specs.Prelude.{[], ◌∷◌, ◌++◌, if◌then◌else◌, map, slice_get, take, zero, suc}
 use Rattle.std.specs.Option.{option_map_or}
@@ -14,8 +15,8 @@ use Rattle.cqf_model.specs.declared.topology.Row.{Row}
 use Rattle.cqf_model.specs.Domain.{Domain}
 use Rattle.cqf_model.specs.History.{Act, Admits, Recorded, Seals, Withdraws, is_seal, seal_places, seals, stream_by, streams_of, withdrawal_by, withdrawals}
 use Rattle.cqf_lists.specs.Lists.{each_below}
-use Rattle.cqf_lists.proofs.Below.{each_map, each_same}
-use Rattle.cqf_lists.proofs.Contained.{slice_get-take}
+use Rattle.cqf_lists.proofs.EachBelow.{map_below, same_below}
+use Rattle.cqf_lists.proofs.Places.{slice_get-take}
 
 -- how many Seals stand before a place
 abbrev pub sealed_before : List Recorded → ℕ → ℕ
@@ -23,7 +24,8 @@ sealed_before entries place = seals (take place entries)
 
 -- what a history has withdrawn of a number at a place
 abbrev pub withdrawn_at : List Recorded → ℕ → ℕ → List Cycle
-withdrawn_at entries number place = option_map_or (λ (e : Recorded). withdrawal_by (seals (take place entries)) number e.act e.reply) (slice_get entries place) []
+withdrawn_at entries number place =
+    option_map_or (λ (e : Recorded). withdrawal_by (seals (take place entries)) number e.act e.reply) (slice_get entries place) []
 
 -- the stream that a history admits at a place, as if no stream were ever withdrawn
 abbrev pub admitted_at : Domain → List Recorded → ℕ → List Row
@@ -33,6 +35,7 @@ admitted_at d entries place = option_map_or (λ (e : Recorded). stream_by d [] (
 abbrev pub withdrawn_before : List Recorded → ℕ → ℕ → Option Cycle
 withdrawn_before entries place number = slice_get (each_below (withdrawn_at entries number) place) 0
 
+-- the streams admitted before a place
 abbrev pub admitted_before : Domain → List Recorded → ℕ → List Row
 admitted_before d entries place = each_below (admitted_at d entries) place
 
@@ -40,7 +43,9 @@ admitted_before d entries place = each_below (admitted_at d entries) place
 abbrev pub with_end : (ℕ → Option Cycle) → Row → Row
 with_end ends row = record { no = row.no; name = row.name; octets = row.octets; tree = row.tree; admitted = row.admitted; withdrawn = ends row.no }
 
-stream_with_end : (d : Domain) (entries : List Recorded) (effect : ℕ) (act : Act) (reply : Reply) → stream_by d entries effect act reply ≡ map (with_end (λ number. slice_get (withdrawals entries number) 0)) (stream_by d [] effect act reply)
+-- a stream with its end is its row with the end that the withdrawals give it
+stream_with_end : (d : Domain) (entries : List Recorded) (effect : ℕ) (act : Act) (reply : Reply) →
+    stream_by d entries effect act reply ≡ map (with_end (λ number. slice_get (withdrawals entries number) 0)) (stream_by d [] effect act reply)
 stream_with_end d entries effect (Withdraws name) reply = refl
 stream_with_end d entries effect Seals reply = refl
 stream_with_end d entries effect (Admits asked) (RefusedFor refused) = refl
@@ -48,24 +53,31 @@ stream_with_end d entries effect (Admits asked) Sealed = refl
 stream_with_end d entries effect (Admits asked) (Accepted receipt) = refl
 
 -- what a list has at a place is mapped as the list is
-mapped_at : (o : Option Recorded) (f g : Recorded → List Row) (m : Row → Row) → ((e : Recorded) → f e ≡ map m (g e)) → option_map_or f o [] ≡ map m (option_map_or g o [])
+mapped_at : (o : Option Recorded) (f g : Recorded → List Row) (m : Row → Row) → ((e : Recorded) → f e ≡ map m (g e)) →
+    option_map_or f o [] ≡ map m (option_map_or g o [])
 mapped_at None f g m h = refl
 mapped_at (Some e) f g m h = h e
 
 module _ (entries : List Recorded) (n : ℕ) (within : n ≤ length entries) where
   -- what stands at a place of the first entries is what stands there of all
-  in_front : {A : Type 0} (f : ℕ → Recorded → List A) (k : ℕ) → k < n → option_map_or (f (seals (take k (take n entries)))) (slice_get (take n entries) k) [] ≡ option_map_or (f (seals (take k entries))) (slice_get entries k) []
+  in_front : {A : Type 0} (f : ℕ → Recorded → List A) (k : ℕ) → k < n →
+      option_map_or (f (seals (take k (take n entries)))) (slice_get (take n entries) k) [] ≡ option_map_or (f (seals (take k entries)))
+      (slice_get entries k) []
   in_front {A} f k h =
       let shorter : take k (take n entries) ≡ take k entries = take-take k n entries (omega (arith, h)) in
-      ap (λ (o : Option Recorded). option_map_or (f (seals (take k (take n entries)))) o []) (slice_get-take entries n k h) ∙ ap (λ (xs : List Recorded). option_map_or (f (seals xs)) (slice_get entries k) []) shorter
+      ap (λ (o : Option Recorded). option_map_or (f (seals (take k (take n entries)))) o []) (slice_get-take entries n k h)
+      ∙ ap (λ (xs : List Recorded). option_map_or (f (seals xs)) (slice_get entries k) []) shorter
 
+  -- a front has as many entries as its place
   count_front : length (take n entries) ≡ n
   count_front = length-take-le n entries within
 
   -- the withdrawals of the first entries
   pub withdrawals_front : (number : ℕ) → withdrawals (take n entries) number ≡ each_below (withdrawn_at entries number) n
   withdrawals_front number =
-      ap (each_below (withdrawn_at (take n entries) number)) count_front ∙ each_same (withdrawn_at (take n entries) number) (withdrawn_at entries number) n (λ k h. in_front (λ (effect : ℕ) (e : Recorded). withdrawal_by effect number e.act e.reply) k h)
+      ap (each_below (withdrawn_at (take n entries) number)) count_front
+      ∙ same_below (withdrawn_at (take n entries) number) (withdrawn_at entries number) n
+      (λ k h. in_front (λ (effect : ℕ) (e : Recorded). withdrawal_by effect number e.act e.reply) k h)
 
   -- the streams of the first entries: those that they admit, each with its withdrawal among them
   pub streams_front : (d : Domain) → streams_of d (take n entries) ≡ map (with_end (withdrawn_before entries n)) (admitted_before d entries n)
@@ -74,12 +86,14 @@ module _ (entries : List Recorded) (n : ℕ) (within : n ≤ length entries) whe
       let ends : ℕ → Option Cycle = λ number. slice_get (withdrawals front number) 0 in
       let found : ℕ → List Row = λ k. option_map_or (λ (e : Recorded). stream_by d front (seals (take k front)) e.act e.reply) (slice_get front k) [] in
       ap (each_below found) count_front
-      ∙ each_same found (λ k. map (with_end (withdrawn_before entries n)) (admitted_at d entries k)) n (λ k h.
+      ∙ same_below found (λ k. map (with_end (withdrawn_before entries n)) (admitted_at d entries k)) n (λ k h.
       in_front (λ (effect : ℕ) (e : Recorded). stream_by d front effect e.act e.reply) k h
-      ∙ mapped_at (slice_get entries k) (λ e. stream_by d front (seals (take k entries)) e.act e.reply) (λ e. stream_by d [] (seals (take k entries)) e.act e.reply) (with_end (withdrawn_before entries n)) (λ e.
+      ∙ mapped_at (slice_get entries k) (λ e. stream_by d front (seals (take k entries)) e.act e.reply)
+      (λ e. stream_by d [] (seals (take k entries)) e.act e.reply) (with_end (withdrawn_before entries n)) (λ e.
       stream_with_end d front (seals (take k entries)) e.act e.reply
-      ∙ ap (λ (w : ℕ → Option Cycle). map (with_end w) (stream_by d [] (seals (take k entries)) e.act e.reply)) (fun_ext (λ number. ap (λ (cycles : List Cycle). slice_get cycles 0) (withdrawals_front number)))))
-      ∙ sym (each_map (with_end (withdrawn_before entries n)) (admitted_at d entries) n)
+      ∙ ap (λ (w : ℕ → Option Cycle). map (with_end w) (stream_by d [] (seals (take k entries)) e.act e.reply))
+      (fun_ext (λ number. ap (λ (cycles : List Cycle). slice_get cycles 0) (withdrawals_front number)))))
+      ∙ sym (map_below (with_end (withdrawn_before entries n)) (admitted_at d entries) n)
 
 -- each place within a history has an entry
 pub entry_at : {X : Type 0} (xs : List X) (n : ℕ) → n < length xs → (x : X) × (slice_get xs n ≡ Some x)
@@ -87,19 +101,22 @@ entry_at [] n h = absurd (omega (arith, h))
 entry_at (x ∷ xs) zero h = (x, refl)
 entry_at (x ∷ xs) (suc n) h = entry_at xs n (omega (arith, h))
 
+-- a front with one more
 take_entry : {X : Type 0} (xs : List X) (n : ℕ) (x : X) → slice_get xs n ≡ Some x → take (suc n) xs ≡ take n xs ++ x ∷ []
 take_entry [] n x e = absurd cc
 take_entry {X} (y ∷ xs) zero x e = ap (λ (z : X). z ∷ []) (same_Some y x e)
 take_entry {X} (y ∷ xs) (suc n) x e = ap (λ (zs : List X). y ∷ zs) (take_entry xs n x e)
 
 -- one entry more is one Seal more where it is a Seal
-pub sealed-suc : (entries : List Recorded) (n : ℕ) (e : Recorded) → slice_get entries n ≡ Some e → sealed_before entries (suc n) ≡ sealed_before entries n + cond (is_seal e.act) 1 0
+pub sealed-suc : (entries : List Recorded) (n : ℕ) (e : Recorded) → slice_get entries n ≡ Some e →
+    sealed_before entries (suc n) ≡ sealed_before entries n + cond (is_seal e.act) 1 0
 sealed-suc entries n e is =
     ap seals (take_entry entries n e is) ∙ sum_by_push (λ (x : Recorded). cond (is_seal x.act) 1 0) (take n entries) e
 
 -- later places have as many Seals before them or more
 pub sealed_more : (entries : List Recorded) (n m : ℕ) → n ≤ m → m ≤ length entries → sealed_before entries n ≤ sealed_before entries m
-sealed_more entries n zero le within = let z : n ≡ 0 = omega (arith, le) in subst (λ (k : ℕ). sealed_before entries k ≤ sealed_before entries 0) (sym z) (omega arith)
+sealed_more entries n zero le within = let z : n ≡ 0 = omega (arith, le) in
+    subst (λ (k : ℕ). sealed_before entries k ≤ sealed_before entries 0) (sym z) (omega arith)
 sealed_more entries n (suc m) le within =
     elim (cases_lt m n) [
       | inl l ↦ let same : suc m ≡ n = omega (arith, l, le) in subst (λ (k : ℕ). sealed_before entries n ≤ sealed_before entries k) (sym same) (omega arith)
@@ -115,6 +132,7 @@ pub record SealAt (entries : List Recorded) (cycle place : ℕ) : Type 0 where
   pub seal : is_seal entry.act ≡ true
   pub before : sealed_before entries place ≡ cycle
 
+-- the place of a Seal, and nothing of another entry
 abbrev seal_listed : List Recorded → ℕ → List ℕ
 seal_listed entries place = option_map_or (λ (e : Recorded). if is_seal e.act then place ∷ [] else []) (slice_get entries place) []
 
@@ -123,18 +141,23 @@ record SealPlaces (entries : List Recorded) (n : ℕ) : Type 0 where
   count : length (each_below (seal_listed entries) n) ≡ sealed_before entries n
   each : (cycle d : ℕ) → cycle < sealed_before entries n → SealAt entries cycle (get_or (each_below (seal_listed entries) n) cycle d)
 
-seal_places_more : (entries : List Recorded) (n : ℕ) (e : Recorded) (b : Bool) → n < length entries → slice_get entries n ≡ Some e → is_seal e.act ≡ b → SealPlaces entries n → SealPlaces entries (suc n)
+-- one entry more
+seal_places_more : (entries : List Recorded) (n : ℕ) (e : Recorded) (b : Bool) → n < length entries → slice_get entries n ≡ Some e → is_seal e.act ≡ b →
+    SealPlaces entries n → SealPlaces entries (suc n)
 seal_places_more entries n e true within is b r =
     let front = each_below (seal_listed entries) n in
     let listed : front ++ seal_listed entries n ≡ front ++ n ∷ [] =
-    ap (λ (o : Option Recorded). front ++ option_map_or (λ (x : Recorded). if is_seal x.act then n ∷ [] else []) o []) is ∙ ap (λ (c : Bool). front ++ (if c then n ∷ [] else [])) b in
-    let more : sealed_before entries (suc n) ≡ sealed_before entries n + 1 = sealed-suc entries n e is ∙ ap (λ (c : Bool). sealed_before entries n + cond c 1 0) b in
+    ap (λ (o : Option Recorded). front ++ option_map_or (λ (x : Recorded). if is_seal x.act then n ∷ [] else []) o []) is
+    ∙ ap (λ (c : Bool). front ++ (if c then n ∷ [] else [])) b in
+    let more : sealed_before entries (suc n) ≡ sealed_before entries n + 1 = sealed-suc entries n e is
+    ∙ ap (λ (c : Bool). sealed_before entries n + cond c 1 0) b in
     record {
       count = ap length listed ∙ length-append front (n ∷ []) ∙ ap (λ (k : ℕ). k + 1) r.count ∙ sym more;
       each = λ cycle d h.
           subst (λ (xs : List ℕ). SealAt entries cycle (get_or xs cycle d)) (sym listed)
           (elim (cases_lt cycle (sealed_before entries n)) as (λ v. SealAt entries cycle (get_or (front ++ n ∷ []) cycle d)) [
-            | inl l ↦ subst (λ (place : ℕ). SealAt entries cycle place) (sym (get_or_append_left front (n ∷ []) d cycle (omega (arith, l, r.count)))) (r.each cycle d l)
+            | inl l ↦ subst (λ (place : ℕ). SealAt entries cycle place) (sym (get_or_append_left front (n ∷ []) d cycle (omega (arith, l, r.count))))
+                (r.each cycle d l)
             | inr g ↦ let last : cycle ≡ sealed_before entries n = omega (arith, g, h, more) in
                 subst (λ (place : ℕ). SealAt entries cycle place) (sym (get_or_at front n [] d cycle (r.count ∙ sym last)))
                 (record { inside = within; entry = e; is = is; seal = b; before = sym last })
@@ -143,13 +166,16 @@ seal_places_more entries n e true within is b r =
 seal_places_more entries n e false h is b r =
     let front = each_below (seal_listed entries) n in
     let listed : front ++ seal_listed entries n ≡ front =
-    ap (λ (o : Option Recorded). front ++ option_map_or (λ (x : Recorded). if is_seal x.act then n ∷ [] else []) o []) is ∙ ap (λ (c : Bool). front ++ (if c then n ∷ [] else [])) b ∙ append-nil front in
-    let same : sealed_before entries (suc n) ≡ sealed_before entries n = sealed-suc entries n e is ∙ ap (λ (c : Bool). sealed_before entries n + cond c 1 0) b ∙ omega arith in
+    ap (λ (o : Option Recorded). front ++ option_map_or (λ (x : Recorded). if is_seal x.act then n ∷ [] else []) o []) is
+    ∙ ap (λ (c : Bool). front ++ (if c then n ∷ [] else [])) b ∙ append-nil front in
+    let same : sealed_before entries (suc n) ≡ sealed_before entries n = sealed-suc entries n e is ∙ ap (λ (c : Bool). sealed_before entries n + cond c 1 0) b
+    ∙ omega arith in
     record {
       count = ap length listed ∙ r.count ∙ sym same;
       each = λ cycle d h. subst (λ (xs : List ℕ). SealAt entries cycle (get_or xs cycle d)) (sym listed) (r.each cycle d (omega (arith, h, same)));
     }
 
+-- the places of the Seals before any place
 seal_places_are : (entries : List Recorded) (n : ℕ) → n ≤ length entries → SealPlaces entries n
 seal_places_are entries zero h = record { count = refl; each = λ cycle d l. absurd (omega (arith, l)) }
 seal_places_are entries (suc n) h =

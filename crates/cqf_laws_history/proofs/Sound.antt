@@ -1,5 +1,6 @@
 -- What the streams of a legal history have before each of its places.
-use Rattle.std.proofs.Common.{◌≡◌, ◌≢◌, ℕ, ◌+◌, ◌<◌, ◌≤◌, ◌⊎◌, Bool, true, false, cond, List, Option, Some, None, length, sym, refl, ap, ◌∙◌, inl, inr, arith, subst, append-nil, length-append}
+use Rattle.std.proofs.Common.{◌≡◌, ◌≢◌, ℕ, ◌+◌, ◌<◌, ◌≤◌, ◌⊎◌, Bool, true, false, cond, List, Option, Some, None, length, sym, refl, ap, ◌∙◌, inl, inr, arith}
+use Rattle.std.proofs.Common.{subst, append-nil, length-append}
 use Rattle.std.specs.Prelude.{[], ◌∷◌, ◌++◌, ◌==◌, ◌||◌, if◌then◌else◌, filter, find, map, nat_le, nat_lt, slice_get, take, zero, suc, AllPairs, Contains}
 use Rattle.std.specs.Option.{option_map_or}
 use Rattle.std.specs.List.{list_any}
@@ -16,30 +17,39 @@ use Rattle.cqf_model.specs.declared.history.Refused.{Refused}
 use Rattle.cqf_model.specs.declared.topology.Row.{Row}
 use Rattle.cqf_model.specs.Domain.{Domain, budget, is_text}
 use Rattle.cqf_lists.specs.Lists.{each_below}
-use Rattle.cqf_model.specs.History.{Act, Admits, Asked, Recorded, Seals, Withdraws, admit_reply, held_in, left_on, refusal_of, reply_to, short_link, stream_by, streams_of, tree_of, withdraw_reply, withdraw_row, withdrawal_by}
+use Rattle.cqf_model.specs.History.{Act, Admits, Asked, Recorded, Seals, Withdraws, admit_reply, held_in, left_on, refusal_of, reply_to, short_link, stream_by}
+use Rattle.cqf_model.specs.History.{streams_of, tree_of, withdraw_reply, withdraw_row, withdrawal_by}
 use Rattle.cqf_model.specs.Table.{IsTree, cost_on, crosses, is_held, link_cost, links_of, residence, row_named}
-use Rattle.cqf_lists.proofs.Contained.{contains_cons, contains_filter, contains_from_filter, contains_from_map, contains_here, contains_map, contains_nil, contains_there, first_stays, pairs_nil, pairs_push, pairs_weaker, slice_get_behind, slice_get_front}
+use Rattle.cqf_lists.proofs.Members.{contains_cases, contains_filter, contains_from_filter, contains_from_map, contains_here, contains_later, contains_map}
+use Rattle.cqf_lists.proofs.Members.{contains_none}
+use Rattle.cqf_lists.proofs.Pairs.{pairs_none, pairs_push, pairs_weaker}
+use Rattle.cqf_lists.proofs.Places.{first_stays, slice_get_behind, slice_get_front}
 use Rattle.cqf_model.proofs.Texts.{is_text_itself}
 use Rattle.cqf_laws_history.proofs.Granted.{IsGranted, granted, is_tree}
-use Rattle.cqf_laws_history.proofs.Places.{admitted_at, admitted_before, entry_at, sealed_before, sealed_more, streams_front, with_end, withdrawn_at, withdrawn_before}
+use Rattle.cqf_laws_history.proofs.Places.{admitted_at, admitted_before, entry_at, sealed_before, sealed_more, streams_front, with_end, withdrawn_at}
+use Rattle.cqf_laws_history.proofs.Places.{withdrawn_before}
 
 -- ---- names
 
+-- where no row has a name, none that is held has it
 name_apart : (rows : List Row) (name : List ℕ) (row : Row) → list_any (λ (row : Row). is_text row.name name) rows ≡ false → Contains rows row → row.name ≢ name
-name_apart [] name row e h s = absurd (contains_nil row h)
+name_apart [] name row e h s = absurd (contains_none row h)
 name_apart (x ∷ rows) name row e h s =
     let parts = or_parts (is_text x.name name) (list_any (λ (row : Row). is_text row.name name) rows) e in
-    elim (contains_cons x row rows h) [
+    elim (contains_cases x rows row h) [
       | inl same ↦ both_ways (is_text x.name name) parts.0 (ap (λ (n : List ℕ). is_text n name) (ap (λ (r : Row). r.name) same ∙ s) ∙ is_text_itself name)
       | inr k ↦ name_apart rows name row parts.1 k s
     ]
 
 -- ---- costs
 
+-- what rows cost is what the first costs and the rest
 link_cost-cons : (y : Row) (ys : List Row) (l : ℕ) → link_cost (y ∷ ys) l ≡ cost_on y l + link_cost ys l
 link_cost-cons y ys l = sum_by-cons (λ (row : Row). cost_on row l) y ys
 
-cost_cond : (b c : Bool) (y z : Row) (ys zs : List Row) (l : ℕ) → (b ≡ true → c ≡ true) → cost_on y l ≡ cost_on z l → link_cost ys l ≤ link_cost zs l → link_cost (cond b (y ∷ ys) ys) l ≤ link_cost (cond c (z ∷ zs) zs) l
+-- rows that are kept of more cost no less
+cost_cond : (b c : Bool) (y z : Row) (ys zs : List Row) (l : ℕ) → (b ≡ true → c ≡ true) → cost_on y l ≡ cost_on z l → link_cost ys l ≤ link_cost zs l →
+    link_cost (cond b (y ∷ ys) ys) l ≤ link_cost (cond c (z ∷ zs) zs) l
 cost_cond true true y z ys zs l h e r =
     let early : link_cost (y ∷ ys) l ≡ cost_on y l + link_cost ys l = link_cost-cons y ys l in
     let late : link_cost (z ∷ zs) l ≡ cost_on z l + link_cost zs l = link_cost-cons z zs l in
@@ -53,22 +63,29 @@ cost_cond false true y z ys zs l h e r =
 cost_cond false false y z ys zs l h e r = r
 
 -- where fewer rows are held they cost no more
-pub cost_less : (rows : List Row) (p q : Row → Bool) (v w : ℕ → Option Cycle) (l : ℕ) → ((row : Row) → Contains rows row → p (with_end v row) ≡ true → q (with_end w row) ≡ true) → link_cost (filter p (map (with_end v) rows)) l ≤ link_cost (filter q (map (with_end w) rows)) l
+pub cost_less : (rows : List Row) (p q : Row → Bool) (v w : ℕ → Option Cycle) (l : ℕ) →
+    ((row : Row) → Contains rows row → p (with_end v row) ≡ true → q (with_end w row) ≡ true) →
+    link_cost (filter p (map (with_end v) rows)) l ≤ link_cost (filter q (map (with_end w) rows)) l
 cost_less [] p q v w l h = omega arith
 cost_less (x ∷ rows) p q v w l h =
-    cost_cond (p (with_end v x)) (q (with_end w x)) (with_end v x) (with_end w x) (filter p (map (with_end v) rows)) (filter q (map (with_end w) rows)) l (h x (contains_here x x rows refl)) refl (cost_less rows p q v w l (λ row k. h row (contains_there x row rows k)))
+    cost_cond (p (with_end v x)) (q (with_end w x)) (with_end v x) (with_end w x) (filter p (map (with_end v) rows)) (filter q (map (with_end w) rows)) l
+    (h x (contains_here x rows)) refl (cost_less rows p q v w l (λ row k. h row (contains_later x rows row k)))
 
+-- one row under a test costs no more than itself
 link_cost_one : (b : Bool) (row : Row) (l : ℕ) → link_cost (cond b (row ∷ []) []) l ≤ cost_on row l
 link_cost_one true row l = omega arith
 link_cost_one false row l = omega arith
 
 -- a link of a tree that has enough left takes the cost
-room_on : (d : Domain) (rows : List Row) (cost : ℕ) (links : List ℕ) (l : ℕ) → find (λ l. nat_lt (left_on d rows l) cost) links ≡ None → list_any (λ k. k == l) links ≡ true → cost ≤ left_on d rows l
+room_on : (d : Domain) (rows : List Row) (cost : ℕ) (links : List ℕ) (l : ℕ) → find (λ l. nat_lt (left_on d rows l) cost) links ≡ None →
+    list_any (λ k. k == l) links ≡ true → cost ≤ left_on d rows l
 room_on d rows cost [] l e t = absurd cc
 room_on d rows cost (x ∷ links) l e t =
     room_case (nat_lt (left_on d rows x) cost) refl e (x == l) refl t (room_on d rows cost links l)
   where
-    room_case : (short : Bool) → nat_lt (left_on d rows x) cost ≡ short → (if short then Some x else find (λ l. nat_lt (left_on d rows l) cost) links) ≡ None → (here : Bool) → (x == l) ≡ here → (here || list_any (λ k. k == l) links) ≡ true → (find (λ l. nat_lt (left_on d rows l) cost) links ≡ None → list_any (λ k. k == l) links ≡ true → cost ≤ left_on d rows l) → cost ≤ left_on d rows l
+    room_case : (short : Bool) → nat_lt (left_on d rows x) cost ≡ short → (if short then Some x else find (λ l. nat_lt (left_on d rows l) cost) links) ≡ None →
+        (here : Bool) → (x == l) ≡ here → (here || list_any (λ k. k == l) links) ≡ true →
+        (find (λ l. nat_lt (left_on d rows l) cost) links ≡ None → list_any (λ k. k == l) links ≡ true → cost ≤ left_on d rows l) → cost ≤ left_on d rows l
     room_case true s f here i u r = absurd cc
     room_case false s f true i u r = let same : x ≡ l = eqb-true x l i in subst (λ (k : ℕ). cost ≤ left_on d rows k) same (ltb-false (left_on d rows x) cost s)
     room_case false s f false i u r = r f u
@@ -76,23 +93,28 @@ room_on d rows cost (x ∷ links) l e t =
 -- ---- held streams
 
 -- a stream that is held in a cycle was held in the one before, or is held with less withdrawn
-pub held_less : (row : Row) (v w : ℕ → Option Cycle) (c e : ℕ) → c ≤ e → row.admitted.0 ≤ c → (w row.no ≡ None) ⊎ (w row.no ≡ v row.no) → is_held (with_end v row) e ≡ true → is_held (with_end w row) c ≡ true
+pub held_less : (row : Row) (v w : ℕ → Option Cycle) (c e : ℕ) → c ≤ e → row.admitted.0 ≤ c → (w row.no ≡ None) ⊎ (w row.no ≡ v row.no) →
+    is_held (with_end v row) e ≡ true → is_held (with_end w row) c ≡ true
 held_less row v w c e le begun same h =
     let parts = and_parts (nat_le row.admitted.0 e) (option_map_or (λ (x : Cycle). nat_lt e (x.0 + residence row)) (v row.no) true) h in
-    and_from (nat_le row.admitted.0 c) (option_map_or (λ (x : Cycle). nat_lt c (x.0 + residence row)) (w row.no) true) (le-leb row.admitted.0 c begun) (elim same [
+    and_from (nat_le row.admitted.0 c) (option_map_or (λ (x : Cycle). nat_lt c (x.0 + residence row)) (w row.no) true) (le-leb row.admitted.0 c begun)
+    (elim same [
       | inl none ↦ ap (λ (o : Option Cycle). option_map_or (λ (x : Cycle). nat_lt c (x.0 + residence row)) o true) none
       | inr equal ↦ ap (λ (o : Option Cycle). option_map_or (λ (x : Cycle). nat_lt c (x.0 + residence row)) o true) equal ∙ sooner (v row.no) parts.1
     ])
   where
-    sooner : (o : Option Cycle) → option_map_or (λ (x : Cycle). nat_lt e (x.0 + residence row)) o true ≡ true → option_map_or (λ (x : Cycle). nat_lt c (x.0 + residence row)) o true ≡ true
+    sooner : (o : Option Cycle) → option_map_or (λ (x : Cycle). nat_lt e (x.0 + residence row)) o true ≡ true →
+        option_map_or (λ (x : Cycle). nat_lt c (x.0 + residence row)) o true ≡ true
     sooner None t = refl
     sooner (Some x) t = lt-ltb c (x.0 + residence row) (omega (arith, le, ltb-true e (x.0 + residence row) t))
 
 -- a withdrawal stays the first of its number
-end_stays : (entries : List Recorded) (n number : ℕ) → (withdrawn_before entries n number ≡ None) ⊎ (withdrawn_before entries n number ≡ withdrawn_before entries (suc n) number)
+end_stays : (entries : List Recorded) (n number : ℕ) →
+    (withdrawn_before entries n number ≡ None) ⊎ (withdrawn_before entries n number ≡ withdrawn_before entries (suc n) number)
 end_stays entries n number = stays (withdrawn_before entries n number) refl
   where
-    stays : (o : Option Cycle) → withdrawn_before entries n number ≡ o → (withdrawn_before entries n number ≡ None) ⊎ (withdrawn_before entries n number ≡ withdrawn_before entries (suc n) number)
+    stays : (o : Option Cycle) → withdrawn_before entries n number ≡ o →
+        (withdrawn_before entries n number ≡ None) ⊎ (withdrawn_before entries n number ≡ withdrawn_before entries (suc n) number)
     stays None e = inl e
     stays (Some x) e = inr (e ∙ sym (first_stays (each_below (withdrawn_at entries number) n) (withdrawn_at entries number n) x e))
 
@@ -110,19 +132,25 @@ pub record Sound (d : Domain) (entries : List Recorded) (n : ℕ) : Type 0 where
   pub ends : (number : ℕ) (x : Cycle) → withdrawn_before entries n number ≡ Some x → number < length (admitted_before d entries n)
   pub begun : (row : Row) → Contains (admitted_before d entries n) row → row.admitted.0 ≤ sealed_before entries n
   pub names : AllPairs (λ (a b : Row). held_before entries n a ≡ true → held_before entries n b ≡ true → a.name ≢ b.name) (admitted_before d entries n)
-  pub loads : (l : ℕ) → link_cost (filter (λ (row : Row). is_held row (sealed_before entries n)) (map (with_end (withdrawn_before entries n)) (admitted_before d entries n))) l ≤ budget d l
+  pub loads : (l : ℕ) → link_cost
+      (filter (λ (row : Row). is_held row (sealed_before entries n)) (map (with_end (withdrawn_before entries n)) (admitted_before d entries n))) l ≤ budget d l
 
 -- what is held behind an entry was held before it
-held_shrinks : (d : Domain) (entries : List Recorded) (n : ℕ) → suc n ≤ length entries → Sound d entries n → (row : Row) → Contains (admitted_before d entries n) row → held_before entries (suc n) row ≡ true → held_before entries n row ≡ true
+held_shrinks : (d : Domain) (entries : List Recorded) (n : ℕ) → suc n ≤ length entries → Sound d entries n → (row : Row) →
+    Contains (admitted_before d entries n) row → held_before entries (suc n) row ≡ true → held_before entries n row ≡ true
 held_shrinks d entries n h s row k t =
-    held_less row (withdrawn_before entries (suc n)) (withdrawn_before entries n) (sealed_before entries n) (sealed_before entries (suc n)) (sealed_more entries n (suc n) (omega arith) h) (s.begun row k) (end_stays entries n row.no) t
+    held_less row (withdrawn_before entries (suc n)) (withdrawn_before entries n) (sealed_before entries n) (sealed_before entries (suc n))
+    (sealed_more entries n (suc n) (omega arith) h) (s.begun row k) (end_stays entries n row.no) t
 
 -- an entry that admits nothing keeps all that
-sound_kept : (d : Domain) (entries : List Recorded) (n : ℕ) → suc n ≤ length entries → admitted_at d entries n ≡ [] → ((number : ℕ) (x : Cycle) → withdrawn_before entries (suc n) number ≡ Some x → number < length (admitted_before d entries n)) → Sound d entries n → Sound d entries (suc n)
+sound_kept : (d : Domain) (entries : List Recorded) (n : ℕ) → suc n ≤ length entries → admitted_at d entries n ≡ [] →
+    ((number : ℕ) (x : Cycle) → withdrawn_before entries (suc n) number ≡ Some x → number < length (admitted_before d entries n)) → Sound d entries n →
+    Sound d entries (suc n)
 sound_kept d entries n h none ends s =
     let rows = admitted_before d entries n in
     let same : admitted_before d entries (suc n) ≡ rows = ap (λ (xs : List Row). rows ++ xs) none ∙ append-nil rows in
-    let back : (row : Row) → Contains (admitted_before d entries (suc n)) row → Contains rows row = λ row k. subst (λ (xs : List Row). Contains xs row) same k in
+    let back : (row : Row) → Contains (admitted_before d entries (suc n)) row → Contains rows row =
+    λ row k. subst (λ (xs : List Row). Contains xs row) same k in
     let apart : Row → Row → Type 0 = λ (a b : Row). held_before entries n a ≡ true → held_before entries n b ≡ true → a.name ≢ b.name in
     let apart_later : Row → Row → Type 0 = λ (a b : Row). held_before entries (suc n) a ≡ true → held_before entries (suc n) b ≡ true → a.name ≢ b.name in
     record {
@@ -133,10 +161,14 @@ sound_kept d entries n h none ends s =
       most_octets = λ row k. s.most_octets row (back row k);
       ends = λ number x e. omega (arith, ends number x e, ap (λ (xs : List Row). length xs) same);
       begun = λ row k. omega (arith, s.begun row (back row k), sealed_more entries n (suc n) (omega arith) h);
-      names = subst (λ (xs : List Row). AllPairs apart_later xs) (sym same) (pairs_weaker apart apart_later rows (λ a b k l r t u. r (held_shrinks d entries n h s a k t) (held_shrinks d entries n h s b l u)) s.names);
+      names = subst (λ (xs : List Row). AllPairs apart_later xs) (sym same)
+          (pairs_weaker apart apart_later rows (λ a b k l r t u. r (held_shrinks d entries n h s a k t) (held_shrinks d entries n h s b l u)) s.names);
       loads = λ l.
-          let less = cost_less rows (λ (row : Row). is_held row (sealed_before entries (suc n))) (λ (row : Row). is_held row (sealed_before entries n)) (withdrawn_before entries (suc n)) (withdrawn_before entries n) l (held_shrinks d entries n h s) in
-          subst (λ (xs : List Row). link_cost (filter (λ (row : Row). is_held row (sealed_before entries (suc n))) (map (with_end (withdrawn_before entries (suc n))) xs)) l ≤ budget d l) (sym same) (omega (arith, less, s.loads l));
+          let less = cost_less rows (λ (row : Row). is_held row (sealed_before entries (suc n))) (λ (row : Row). is_held row (sealed_before entries n))
+          (withdrawn_before entries (suc n)) (withdrawn_before entries n) l (held_shrinks d entries n h s) in
+          subst (λ (xs : List Row). link_cost
+          (filter (λ (row : Row). is_held row (sealed_before entries (suc n))) (map (with_end (withdrawn_before entries (suc n))) xs)) l ≤ budget d l)
+          (sym same) (omega (arith, less, s.loads l));
     }
 
 -- what stands in a list with one more behind
@@ -144,15 +176,26 @@ pushed_cases : (rows : List Row) (new row : Row) → Contains (rows ++ new ∷ [
 pushed_cases rows new row h =
     elim (Contains-append_cases rows (new ∷ []) row h) [
       | inl k ↦ inl k
-      | inr k ↦ elim (contains_cons new row [] k) [ inl e ↦ inr e | inr none ↦ absurd (contains_nil row none) ]
+      | inr k ↦ elim (contains_cases new [] row k) [ inl e ↦ inr e | inr none ↦ absurd (contains_none row none) ]
     ]
 
 -- the row of a stream that is admitted behind so many Seals
 abbrev new_row : Domain → Asked → ℕ → ℕ → Row
-new_row d asked number effect = record { no = number; name = asked.name; octets = asked.octets; tree = record { items = tree_of d asked.paths }; admitted = record { 0 = effect }; withdrawn = None }
+new_row d asked number effect =
+    record {
+      no = number;
+      name = asked.name;
+      octets = asked.octets;
+      tree = record { items = tree_of d asked.paths };
+      admitted = record { 0 = effect };
+      withdrawn = None;
+    }
 
 -- a stream more that finds room on each link of its path
-load_more : (d : Domain) (rows : List Row) (new : Row) (p q : Row → Bool) (v w : ℕ → Option Cycle) (l : ℕ) → ((row : Row) → Contains rows row → p (with_end v row) ≡ true → q (with_end w row) ≡ true) → link_cost (filter q (map (with_end w) rows)) l ≤ budget d l → short_link d (filter q (map (with_end w) rows)) (cost_of new.octets) new.tree.items ≡ None → link_cost (filter p (map (with_end v) (rows ++ new ∷ []))) l ≤ budget d l
+load_more : (d : Domain) (rows : List Row) (new : Row) (p q : Row → Bool) (v w : ℕ → Option Cycle) (l : ℕ) →
+    ((row : Row) → Contains rows row → p (with_end v row) ≡ true → q (with_end w row) ≡ true) → link_cost (filter q (map (with_end w) rows)) l ≤ budget d l →
+    short_link d (filter q (map (with_end w) rows)) (cost_of new.octets) new.tree.items ≡ None →
+    link_cost (filter p (map (with_end v) (rows ++ new ∷ []))) l ≤ budget d l
 load_more d rows new p q v w l less within room =
     let old = filter p (map (with_end v) rows) in
     let one = filter p (with_end v new ∷ []) in
@@ -171,7 +214,10 @@ load_more d rows new p q v w l less within room =
     omega (arith, split, shrunk, single, fits)
 
 -- an entry that admits a stream keeps all that
-sound_admitted : (d : Domain) (entries : List Recorded) (n : ℕ) (asked : Asked) → suc n ≤ length entries → admitted_at d entries n ≡ new_row d asked (length (streams_of d (take n entries))) (sealed_before entries n) ∷ [] → ((number : ℕ) → withdrawn_before entries (suc n) number ≡ withdrawn_before entries n number) → IsGranted d (held_in d (take n entries) (sealed_before entries n)) asked → Sound d entries n → Sound d entries (suc n)
+sound_admitted : (d : Domain) (entries : List Recorded) (n : ℕ) (asked : Asked) → suc n ≤ length entries →
+    admitted_at d entries n ≡ new_row d asked (length (streams_of d (take n entries))) (sealed_before entries n) ∷ [] →
+    ((number : ℕ) → withdrawn_before entries (suc n) number ≡ withdrawn_before entries n number) →
+    IsGranted d (held_in d (take n entries) (sealed_before entries n)) asked → Sound d entries n → Sound d entries (suc n)
 sound_admitted d entries n asked h is ends g s =
     let rows = admitted_before d entries n in
     let w = withdrawn_before entries n in
@@ -209,79 +255,111 @@ sound_admitted d entries n asked h is ends g s =
           (pairs_push apart_later rows new
           (pairs_weaker apart apart_later rows (λ a b k l r t u. r (held_shrinks d entries n h s a k t) (held_shrinks d entries n h s b l u)) s.names)
           (λ row k t u same_name.
-          let kept = contains_filter (λ (r : Row). is_held r c) (map (with_end w) rows) (with_end w row) (held_shrinks d entries n h s row k t) (contains_map (with_end w) rows row k) in
+          let kept = contains_filter (λ (r : Row). is_held r c) (map (with_end w) rows) (with_end w row) (contains_map (with_end w) rows row k)
+          (held_shrinks d entries n h s row k t) in
           name_apart held asked.name (with_end w row) granted_here.name_free kept same_name));
       loads = λ l.
           subst (λ (xs : List Row). link_cost (filter (λ (row : Row). is_held row e) (map (with_end v) xs)) l ≤ budget d l) (sym same)
-          (load_more d rows new (λ (row : Row). is_held row e) (λ (row : Row). is_held row c) v w l (held_shrinks d entries n h s) (s.loads l) granted_here.enough);
+          (load_more d rows new (λ (row : Row). is_held row e) (λ (row : Row). is_held row c) v w l (held_shrinks d entries n h s)
+          (s.loads l) granted_here.enough);
     }
 
 -- no entry but an accepted request admits a stream
-admits_none : (d : Domain) (entries : List Recorded) (n : ℕ) (e : Recorded) → slice_get entries n ≡ Some e → stream_by d [] (sealed_before entries n) e.act e.reply ≡ [] → admitted_at d entries n ≡ []
+admits_none : (d : Domain) (entries : List Recorded) (n : ℕ) (e : Recorded) → slice_get entries n ≡ Some e →
+    stream_by d [] (sealed_before entries n) e.act e.reply ≡ [] → admitted_at d entries n ≡ []
 admits_none d entries n e is none =
     ap (λ (o : Option Recorded). option_map_or (λ (x : Recorded). stream_by d [] (sealed_before entries n) x.act x.reply) o []) is ∙ none
 
 -- an entry that withdraws nothing leaves each number's withdrawal as it was
-pub no_end_more : (entries : List Recorded) (n number : ℕ) (e : Recorded) → slice_get entries n ≡ Some e → withdrawal_by (sealed_before entries n) number e.act e.reply ≡ [] → withdrawn_before entries (suc n) number ≡ withdrawn_before entries n number
+pub no_end_more : (entries : List Recorded) (n number : ℕ) (e : Recorded) → slice_get entries n ≡ Some e →
+    withdrawal_by (sealed_before entries n) number e.act e.reply ≡ [] → withdrawn_before entries (suc n) number ≡ withdrawn_before entries n number
 no_end_more entries n number e is none =
     let front = each_below (withdrawn_at entries number) n in
-    let nothing : withdrawn_at entries number n ≡ [] = ap (λ (o : Option Recorded). option_map_or (λ (x : Recorded). withdrawal_by (sealed_before entries n) number x.act x.reply) o []) is ∙ none in
+    let nothing : withdrawn_at entries number n ≡ [] =
+    ap (λ (o : Option Recorded). option_map_or (λ (x : Recorded). withdrawal_by (sealed_before entries n) number x.act x.reply) o []) is ∙ none in
     ap (λ (xs : List Cycle). slice_get (front ++ xs) 0) nothing ∙ ap (λ (xs : List Cycle). slice_get xs 0) (append-nil front)
 
-request_sound : (d : Domain) (entries : List Recorded) (n : ℕ) (e : Recorded) (asked : Asked) (refusal : Option Refused) → suc n ≤ length entries → slice_get entries n ≡ Some e → e.act ≡ Admits asked → e.reply ≡ admit_reply (length (streams_of d (take n entries))) (sealed_before entries n) refusal → refusal_of d (held_in d (take n entries) (sealed_before entries n)) asked ≡ refusal → Sound d entries n → Sound d entries (suc n)
+-- a request leaves the streams sound
+request_sound : (d : Domain) (entries : List Recorded) (n : ℕ) (e : Recorded) (asked : Asked) (refusal : Option Refused) → suc n ≤ length entries →
+    slice_get entries n ≡ Some e → e.act ≡ Admits asked → e.reply ≡ admit_reply (length (streams_of d (take n entries))) (sealed_before entries n) refusal →
+    refusal_of d (held_in d (take n entries) (sealed_before entries n)) asked ≡ refusal → Sound d entries n → Sound d entries (suc n)
 request_sound d entries n e asked None h is act reply refusal s =
-    let found : admitted_at d entries n ≡ stream_by d [] (sealed_before entries n) (Admits asked) (admit_reply (length (streams_of d (take n entries))) (sealed_before entries n) None) =
+    let found : admitted_at d entries n ≡ stream_by d [] (sealed_before entries n) (Admits asked)
+    (admit_reply (length (streams_of d (take n entries))) (sealed_before entries n) None) =
     ap (λ (o : Option Recorded). option_map_or (λ (x : Recorded). stream_by d [] (sealed_before entries n) x.act x.reply) o []) is
     ∙ ap (λ (a : Act). stream_by d [] (sealed_before entries n) a e.reply) act
     ∙ ap (λ (r : Reply). stream_by d [] (sealed_before entries n) (Admits asked) r) reply in
-    sound_admitted d entries n asked h found (λ number. no_end_more entries n number e is (ap (λ (a : Act). withdrawal_by (sealed_before entries n) number a e.reply) act)) (granted d (held_in d (take n entries) (sealed_before entries n)) asked refusal) s
+    sound_admitted d entries n asked h found
+    (λ number. no_end_more entries n number e is (ap (λ (a : Act). withdrawal_by (sealed_before entries n) number a e.reply) act))
+    (granted d (held_in d (take n entries) (sealed_before entries n)) asked refusal) s
 request_sound d entries n e asked (Some refused) h is act reply refusal s =
     sound_kept d entries n h (admits_none d entries n e is
-    (ap (λ (a : Act). stream_by d [] (sealed_before entries n) a e.reply) act ∙ ap (λ (r : Reply). stream_by d [] (sealed_before entries n) (Admits asked) r) reply))
-    (λ number x f. s.ends number x (sym (no_end_more entries n number e is (ap (λ (a : Act). withdrawal_by (sealed_before entries n) number a e.reply) act)) ∙ f)) s
+    (ap (λ (a : Act). stream_by d [] (sealed_before entries n) a e.reply) act
+    ∙ ap (λ (r : Reply). stream_by d [] (sealed_before entries n) (Admits asked) r) reply))
+    (λ number x f. s.ends number x
+    (sym (no_end_more entries n number e is (ap (λ (a : Act). withdrawal_by (sealed_before entries n) number a e.reply) act)) ∙ f)) s
 
 -- the row of a name is one of the rows
 pub named_is_held : (rows : List Row) (name : List ℕ) (row : Row) → row_named rows name ≡ Some row → Contains rows row
 named_is_held [] name row e = absurd cc
 named_is_held (x ∷ rows) name row e = first_or_later (is_text x.name name) e (named_is_held rows name row)
   where
-    first_or_later : (b : Bool) → cond b (Some x) (row_named rows name) ≡ Some row → (row_named rows name ≡ Some row → Contains rows row) → Contains (x ∷ rows) row
-    first_or_later true f r = contains_here x row rows (same_Some x row f)
-    first_or_later false f r = contains_there x row rows (r f)
+    first_or_later : (b : Bool) → cond b (Some x) (row_named rows name) ≡ Some row → (row_named rows name ≡ Some row → Contains rows row) →
+        Contains (x ∷ rows) row
+    first_or_later true f r = subst (λ (y : Row). Contains (x ∷ rows) y) (same_Some x row f) (contains_here x rows)
+    first_or_later false f r = contains_later x rows row (r f)
 
 -- a held row is an admitted one with its withdrawal
-pub held_stream : (d : Domain) (entries : List Recorded) (n : ℕ) (row : Row) → n ≤ length entries → Contains (held_in d (take n entries) (sealed_before entries n)) row → (stream : Row) × Contains (admitted_before d entries n) stream × (with_end (withdrawn_before entries n) stream ≡ row)
+pub held_stream : (d : Domain) (entries : List Recorded) (n : ℕ) (row : Row) → n ≤ length entries →
+    Contains (held_in d (take n entries) (sealed_before entries n)) row → (stream : Row) × Contains (admitted_before d entries n) stream ×
+    (with_end (withdrawn_before entries n) stream ≡ row)
 held_stream d entries n row within h =
     let streams = contains_from_filter (λ (r : Row). is_held r (sealed_before entries n)) (streams_of d (take n entries)) row h in
-    contains_from_map (with_end (withdrawn_before entries n)) (admitted_before d entries n) row (subst (λ (xs : List Row). Contains xs row) (streams_front entries n within d) streams.0)
+    contains_from_map (with_end (withdrawn_before entries n)) (admitted_before d entries n) row
+    (subst (λ (xs : List Row). Contains xs row) (streams_front entries n within d) streams.0)
 
 -- the number of an admitted stream is below the next one
-pub number_below : (d : Domain) (entries : List Recorded) (n : ℕ) (stream : Row) → Sound d entries n → Contains (admitted_before d entries n) stream → stream.no < length (admitted_before d entries n)
+pub number_below : (d : Domain) (entries : List Recorded) (n : ℕ) (stream : Row) → Sound d entries n → Contains (admitted_before d entries n) stream →
+    stream.no < length (admitted_before d entries n)
 number_below d entries n stream s (k, h, e) =
     let rows = admitted_before d entries n in
     let there : slice_get rows k ≡ Some stream = slice_get-get_or rows k stream h ∙ ap (λ (r : Row). Some r) e in
     omega (arith, h, s.numbers k stream there)
 
 -- an entry that withdraws a stream does so of an admitted one
-withdrawal_of_one : (d : Domain) (entries : List Recorded) (n : ℕ) (e : Recorded) (name : List ℕ) (found : Option Row) → n ≤ length entries → slice_get entries n ≡ Some e → e.act ≡ Withdraws name → e.reply ≡ withdraw_reply (sealed_before entries n) found → row_named (held_in d (take n entries) (sealed_before entries n)) name ≡ found → Sound d entries n → (number : ℕ) (x : Cycle) → withdrawn_before entries (suc n) number ≡ Some x → number < length (admitted_before d entries n)
+withdrawal_of_one : (d : Domain) (entries : List Recorded) (n : ℕ) (e : Recorded) (name : List ℕ) (found : Option Row) → n ≤ length entries →
+    slice_get entries n ≡ Some e → e.act ≡ Withdraws name → e.reply ≡ withdraw_reply (sealed_before entries n) found →
+    row_named (held_in d (take n entries) (sealed_before entries n)) name ≡ found → Sound d entries n → (number : ℕ) (x : Cycle) →
+    withdrawn_before entries (suc n) number ≡ Some x → number < length (admitted_before d entries n)
 withdrawal_of_one d entries n e name None within is act reply found s number x f =
-    s.ends number x (sym (no_end_more entries n number e is (ap (λ (a : Act). withdrawal_by (sealed_before entries n) number a e.reply) act ∙ ap (λ (r : Reply). withdrawal_by (sealed_before entries n) number (Withdraws name) r) reply)) ∙ f)
+    s.ends number x (sym (no_end_more entries n number e is
+    (ap (λ (a : Act). withdrawal_by (sealed_before entries n) number a e.reply) act
+    ∙ ap (λ (r : Reply). withdrawal_by (sealed_before entries n) number (Withdraws name) r) reply)) ∙ f)
 withdrawal_of_one d entries n e name (Some row) within is act reply found s number x f = by_end row.withdrawn reply
   where
-    of_this : (b : Bool) → (row.no == number) ≡ b → withdrawal_by (sealed_before entries n) number e.act e.reply ≡ (if row.no == number then record { 0 = sealed_before entries n } ∷ [] else []) → number < length (admitted_before d entries n)
+    of_this : (b : Bool) → (row.no == number) ≡ b →
+        withdrawal_by (sealed_before entries n) number e.act e.reply ≡ (if row.no == number then record { 0 = sealed_before entries n } ∷ [] else []) →
+        number < length (admitted_before d entries n)
     of_this true t w =
         let held = held_stream d entries n row within (named_is_held (held_in d (take n entries) (sealed_before entries n)) name row found) in
         let same : row.no ≡ number = eqb-true row.no number t in
         let of_stream : held.0.no ≡ row.no = ap (λ (r : Row). r.no) held.2 in
         omega (arith, same, of_stream, number_below d entries n held.0 s held.1)
-    of_this false t w = s.ends number x (sym (no_end_more entries n number e is (w ∙ ap (λ (b : Bool). if b then record { 0 = sealed_before entries n } ∷ [] else []) t)) ∙ f)
+    of_this false t w = s.ends number x
+        (sym (no_end_more entries n number e is (w ∙ ap (λ (b : Bool). if b then record { 0 = sealed_before entries n } ∷ [] else []) t)) ∙ f)
 
     by_end : (o : Option Cycle) → e.reply ≡ withdraw_row (sealed_before entries n) row.no o → number < length (admitted_before d entries n)
-    by_end None r = of_this (row.no == number) refl (ap (λ (a : Act). withdrawal_by (sealed_before entries n) number a e.reply) act ∙ ap (λ (q : Reply). withdrawal_by (sealed_before entries n) number (Withdraws name) q) r)
+    by_end None r = of_this (row.no == number) refl
+        (ap (λ (a : Act). withdrawal_by (sealed_before entries n) number a e.reply) act
+        ∙ ap (λ (q : Reply). withdrawal_by (sealed_before entries n) number (Withdraws name) q) r)
     by_end (Some before) r =
-        s.ends number x (sym (no_end_more entries n number e is (ap (λ (a : Act). withdrawal_by (sealed_before entries n) number a e.reply) act ∙ ap (λ (q : Reply). withdrawal_by (sealed_before entries n) number (Withdraws name) q) r)) ∙ f)
+        s.ends number x (sym (no_end_more entries n number e is
+        (ap (λ (a : Act). withdrawal_by (sealed_before entries n) number a e.reply) act
+        ∙ ap (λ (q : Reply). withdrawal_by (sealed_before entries n) number (Withdraws name) q) r)) ∙ f)
 
-entry_sound : (d : Domain) (entries : List Recorded) (n : ℕ) (e : Recorded) (act : Act) → suc n ≤ length entries → slice_get entries n ≡ Some e → e.act ≡ act → e.reply ≡ reply_to d (take n entries) act → Sound d entries n → Sound d entries (suc n)
+-- and so does each entry
+entry_sound : (d : Domain) (entries : List Recorded) (n : ℕ) (e : Recorded) (act : Act) → suc n ≤ length entries → slice_get entries n ≡ Some e → e.act ≡ act →
+    e.reply ≡ reply_to d (take n entries) act → Sound d entries n → Sound d entries (suc n)
 entry_sound d entries n e (Admits asked) h is act reply s =
     request_sound d entries n e asked (refusal_of d (held_in d (take n entries) (sealed_before entries n)) asked) h is act reply refl s
 entry_sound d entries n e (Withdraws name) h is act reply s =
@@ -289,7 +367,8 @@ entry_sound d entries n e (Withdraws name) h is act reply s =
     (withdrawal_of_one d entries n e name (row_named (held_in d (take n entries) (sealed_before entries n)) name) (omega (arith, h)) is act reply refl s) s
 entry_sound d entries n e Seals h is act reply s =
     sound_kept d entries n h (admits_none d entries n e is (ap (λ (a : Act). stream_by d [] (sealed_before entries n) a e.reply) act))
-    (λ number x f. s.ends number x (sym (no_end_more entries n number e is (ap (λ (a : Act). withdrawal_by (sealed_before entries n) number a e.reply) act)) ∙ f)) s
+    (λ number x f. s.ends number x
+    (sym (no_end_more entries n number e is (ap (λ (a : Act). withdrawal_by (sealed_before entries n) number a e.reply) act)) ∙ f)) s
 
 -- each answer is the one that is due
 abbrev pub AreDue : Domain → List Recorded → Type 0
@@ -300,13 +379,13 @@ pub sound : (d : Domain) (entries : List Recorded) → AreDue d entries → (n :
 sound d entries due zero h =
     record {
       numbers = λ k row e. absurd cc;
-      trees = λ row k. absurd (contains_nil row k);
-      named = λ row k. absurd (contains_nil row k);
-      least_octets = λ row k. absurd (contains_nil row k);
-      most_octets = λ row k. absurd (contains_nil row k);
+      trees = λ row k. absurd (contains_none row k);
+      named = λ row k. absurd (contains_none row k);
+      least_octets = λ row k. absurd (contains_none row k);
+      most_octets = λ row k. absurd (contains_none row k);
       ends = λ number x e. absurd cc;
-      begun = λ row k. absurd (contains_nil row k);
-      names = pairs_nil (λ (a b : Row). held_before entries 0 a ≡ true → held_before entries 0 b ≡ true → a.name ≢ b.name);
+      begun = λ row k. absurd (contains_none row k);
+      names = pairs_none (λ (a b : Row). held_before entries 0 a ≡ true → held_before entries 0 b ≡ true → a.name ≢ b.name);
       loads = λ l. omega arith;
     }
 sound d entries due (suc n) h =

@@ -1,13 +1,15 @@
 -- Laws that let an administration keep a running state in place of its whole history: the streams that are held in the
 -- next cycle to be closed, and the number of the next stream.
-use Rattle.std.specs.Prelude.{ℕ, true, ◌≡◌, ◌≢◌, ◌+◌, ◌-◌, ◌<◌, ◌≤◌, List, [], ◌∷◌, ◌++◌, ◌==◌, if◌then◌else◌, filter, length, map, Some, None, AllPairs, Contains}
+use Rattle.std.specs.Prelude.{ℕ, true, ◌≡◌, ◌≢◌, ◌+◌, ◌-◌, ◌<◌, ◌≤◌, List, [], ◌∷◌, ◌++◌, ◌==◌, if◌then◌else◌, filter, length, map, Some, None, AllPairs}
+use Rattle.std.specs.Prelude.{Contains}
 use Rattle.cqf_units.specs.Name.{is_name}
 use Rattle.cqf_model.specs.declared.history.Refused.{Refused}
 use Rattle.cqf_model.specs.declared.history.Reply.{Reply}
 use Rattle.cqf_model.specs.declared.history.Reply.TheVariants.{Sealed, Refused as RefusedFor}
 use Rattle.cqf_model.specs.declared.topology.Row.{Row}
 use Rattle.cqf_model.specs.Domain.{Domain, budget}
-use Rattle.cqf_model.specs.History.{Act, Admits, Asked, IsLegalHistory, Recorded, Seals, Withdraws, held_in, is_seal, next_number, refusal_of, reply_to, seals, table_at, tree_of}
+use Rattle.cqf_model.specs.History.{Act, Admits, Asked, IsLegalHistory, Recorded, Seals, Withdraws, held_in, is_seal, next_number, refusal_of, reply_to, seals}
+use Rattle.cqf_model.specs.History.{table_at, tree_of}
 use Rattle.cqf_model.specs.Table.{IsTree, is_held, link_cost, row_named}
 
 -- the entries with one more behind them
@@ -53,6 +55,10 @@ GrantedIsHeld =
     (d : Domain) (entries : List Recorded) (rows : List Row) (next seat : ℕ) (asked : Asked) → IsLegalHistory d entries → IsState d entries rows next →
     refusal_of d rows asked ≡ None →
     IsState d (with_entry entries seat (Admits asked) (reply_to d entries (Admits asked))) (rows ++ granted_row d next (seals entries) asked ∷ []) (next + 1)
+
+-- a request that isn't refused finds room among the held streams
+abbrev pub GrantedFindsRoom : Type 0
+GrantedFindsRoom = (d : Domain) (rows : List Row) (asked : Asked) → refusal_of d rows asked ≡ None → length rows < 1024
 
 -- a refused call changes nothing
 abbrev pub RefusedChangesNothing : Type 0

@@ -19,6 +19,7 @@ ghost use Rattle.cqf_laws_history.specs.HistoryLaws.{TablesAreOrderly, TablesAsc
 ghost use Rattle.cqf_laws_history.specs.StateLaws.{
   HistoryGoesOn,
   SealsAreCounted,
+  GrantedFindsRoom,
   GrantedIsHeld,
   RefusedChangesNothing,
   WithdrawnIsHeldOn,
@@ -45,11 +46,12 @@ pub fn granted_is_a_tree()
 {}
 
 /// A running state tells what a whole history says: with each entry the streams that are held in the next cycle, and the
-/// number of the next stream, change in one small step (profile).
+/// number of the next stream, change in one small step. A request that isn't refused finds room (profile).
 pub fn state_follows_history()
     ensures goes_on { HistoryGoesOn }
     ensures counted { SealsAreCounted }
     ensures granted { GrantedIsHeld }
+    ensures room { GrantedFindsRoom }
     ensures refused { RefusedChangesNothing }
     ensures withdrawn { WithdrawnIsHeldOn }
     ensures lets_go { SealLetsGo }

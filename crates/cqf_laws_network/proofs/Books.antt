@@ -11,8 +11,7 @@ use Rattle.cqf_lists.specs.Lists.{each_below}
 use Rattle.cqf_lists.proofs.EachBelow.{contains_from_below, filter_none, same_below}
 use Rattle.cqf_lists.proofs.Filters.{filter_weaker}
 use Rattle.cqf_lists.proofs.Fronts.{filter_front}
-use Rattle.cqf_lists.proofs.Made.{contains_one}
-use Rattle.cqf_lists.proofs.Members.{contains_from_flat, contains_from_map, contains_none}
+use Rattle.cqf_lists.proofs.Members.{contains_from_flat, contains_from_map, contains_none, contains_one}
 use Rattle.cqf_units.proofs.Cycles.{before_cycle, takes_time}
 use Rattle.cqf_model.specs.declared.frames.Dropped.{Dropped}
 use Rattle.cqf_model.specs.declared.frames.Sent.{Sent}
@@ -28,7 +27,8 @@ use Rattle.cqf_model.specs.Traffic.{Carried, DroppedFor, ExceedsGate, LacksRow, 
 use Rattle.cqf_model.proofs.Coming.{policed_front}
 use Rattle.cqf_model.proofs.Sending.{backed_within, sent_within}
 use Rattle.cqf_laws_port.specs.PortLaws.{LegalPartIsLegalForTheSamePast}
-use Rattle.cqf_laws_network.specs.NetworkLaws.{HaveOnePast, IsShorter, backed_before, book_before_cycle, carried_before, drops_before_cycle, network_before, starts_before_cycle, with_tables}
+use Rattle.cqf_laws_network.specs.NetworkLaws.{HaveOnePast, IsShorter, backed_before, book_before_cycle, carried_before, drops_before_cycle, network_before}
+use Rattle.cqf_laws_network.specs.NetworkLaws.{starts_before_cycle, with_tables}
 use Rattle.cqf_laws_network.proofs.Came.{bridges_by_past}
 use Rattle.cqf_laws_network.proofs.Networks.{beginning, sent_before_less}
 
@@ -50,7 +50,9 @@ module _ {A : Type 0} (at : A → ℕ) (by : ℕ → ℕ → A → Started) (bea
       sym (ap (λ (y : Started). y.cycle.0) s.2) ∙ bears cycle w.0 s.0
 
   -- so the starts of the first cycles are those of what is sent before their end
-  pub starts_beginning : (cycles longer : ℕ) (sends : ℕ → List A) → cycles ≤ longer → ((l : ℕ) → l < length d.links → (x : A) → Contains (sends l) x → at x < longer * d.cycle_time) → starts_before_cycle cycles (of_run longer sends) ≡ of_run cycles (λ l. filter (λ x. nat_lt (at x) (cycles * d.cycle_time)) (sends l))
+  pub starts_beginning : (cycles longer : ℕ) (sends : ℕ → List A) → cycles ≤ longer →
+      ((l : ℕ) → l < length d.links → (x : A) → Contains (sends l) x → at x < longer * d.cycle_time) →
+      starts_before_cycle cycles (of_run longer sends) ≡ of_run cycles (λ l. filter (λ x. nat_lt (at x) (cycles * d.cycle_time)) (sends l))
   starts_beginning cycles longer sends le within =
       let links = length d.links in
       let end = cycles * d.cycle_time in
@@ -77,26 +79,31 @@ dropped_cycle cycle bridge x ExceedsGate drop h = absurd (contains_none drop h)
 
 -- the drops at a bridge in a cycle of the offer at a place
 abbrev drops_at : Domain → (ℕ → List Policed) → ℕ → ℕ → ℕ → List Dropped
-drops_at d policed cycle bridge place = flat_map (λ (p : Policed). drop_by cycle bridge p.received p.verdict) (filter (is_of_place d cycle place) (policed bridge))
+drops_at d policed cycle bridge place =
+    flat_map (λ (p : Policed). drop_by cycle bridge p.received p.verdict) (filter (is_of_place d cycle place) (policed bridge))
 
 -- the drops of a cycle bear it
-drop_cycle : (d : Domain) (places : ℕ) (policed : ℕ → List Policed) (cycle bridges : ℕ) (x : Dropped) → Contains (each_below (drops_in d places policed cycle) bridges) x → x.cycle.0 ≡ cycle
+drop_cycle : (d : Domain) (places : ℕ) (policed : ℕ → List Policed) (cycle bridges : ℕ) (x : Dropped) →
+    Contains (each_below (drops_in d places policed cycle) bridges) x → x.cycle.0 ≡ cycle
 drop_cycle d places policed cycle bridges x h =
     let w = contains_from_below (drops_in d places policed cycle) bridges x h in
     let v = contains_from_below (drops_at d policed cycle w.0) places x w.2 in
     let p = contains_from_flat (λ (p : Policed). drop_by cycle w.0 p.received p.verdict) (filter (is_of_place d cycle v.0) (policed w.0)) x v.2 in
     dropped_cycle cycle w.0 p.0.received p.0.verdict x p.2
 
-module _ (run : Run) (others : List (List Row)) (lists : ℕ → List Entry) (cycles longer : ℕ) (net : Network) (shorter : IsShorter cycles longer run.tables others) (legal : IsLegalNetwork run lists longer net) where
+module _ (run : Run) (others : List (List Row)) (lists : ℕ → List Entry) (cycles longer : ℕ) (net : Network)
+    (shorter : IsShorter cycles longer run.tables others) (legal : IsLegalNetwork run lists longer net) where
   -- a link sends within the run
   sent_in_run : (l : ℕ) → l < length run.domain.links → (x : Sent) → Contains (net.carried l) x → x.start.0 < longer * run.domain.cycle_time
   sent_in_run l h =
-      sent_within run.domain (lists l) (longer * run.domain.cycle_time) l (comes_before run net.carried l longer) (net.carried l) (net.backed l) (legal.sends l h)
+      sent_within run.domain (lists l) (longer * run.domain.cycle_time) l (comes_before run net.carried l longer) (net.carried l) (net.backed l)
+      (legal.sends l h)
 
   -- its background frames too
   backed_in_run : (l : ℕ) → l < length run.domain.links → (x : Start) → Contains (net.backed l) x → x.start.0 < longer * run.domain.cycle_time
   backed_in_run l h =
-      backed_within run.domain (lists l) (longer * run.domain.cycle_time) l (comes_before run net.carried l longer) (net.carried l) (net.backed l) (legal.sends l h)
+      backed_within run.domain (lists l) (longer * run.domain.cycle_time) l (comes_before run net.carried l longer) (net.carried l) (net.backed l)
+      (legal.sends l h)
 
   -- what the shorter run's links carry
   abbrev short : Carried
@@ -117,7 +124,8 @@ module _ (run : Run) (others : List (List Row)) (lists : ℕ → List Entry) (cy
       record { tables = shorter.tables_same; links = λ l h. sym (sent_before_less n n (net.carried l) (omega arith)) }
 
   -- in a cycle of the shorter run the frames at a bridge come before its end
-  filter_same : (bridge cycle place : ℕ) → cycle < cycles → filter (is_of_place run.domain cycle place) (policed bridge) ≡ filter (is_of_place run.domain cycle place) (policed_short bridge)
+  filter_same : (bridge cycle place : ℕ) → cycle < cycles →
+      filter (is_of_place run.domain cycle place) (policed bridge) ≡ filter (is_of_place run.domain cycle place) (policed_short bridge)
   filter_same bridge cycle place k =
       let d = run.domain in
       let n = cycles * d.cycle_time in
@@ -128,12 +136,15 @@ module _ (run : Run) (others : List (List Row)) (lists : ℕ → List Entry) (cy
       let later : (p : Policed) → Contains f.rest p → test p ≡ false =
       λ p h. let late = f.late p h in
       let after : cycles ≤ cycle_of d p.received.at = le-div cycles p.received.at d.cycle_time (takes_time d.cycle_time p.received.at longer late.1) late.0 in
-      and_left (cycle_of d p.received.at == cycle) (p.received.frame == place + 1) (ne_eqb (cycle_of d p.received.at) cycle (λ e. omega (arith, e, after, k))) in
-      ap (filter test) f.is ∙ filter-append test front f.rest ∙ ap (λ (ps : List Policed). filter test front ++ ps) (filter_none test f.rest later) ∙ append-nil (filter test front)
+      and_left (cycle_of d p.received.at == cycle) (p.received.frame == place + 1)
+      (ne_eqb (cycle_of d p.received.at) cycle (λ e. omega (arith, e, after, k))) in
+      ap (filter test) f.is ∙ filter-append test front f.rest ∙ ap (λ (ps : List Policed). filter test front ++ ps) (filter_none test f.rest later)
+      ∙ append-nil (filter test front)
       ∙ ap (filter test) (bridges_by_past run others net.carried short cycles bridge one_past)
 
   -- so its drops are the beginning
-  drops_beginning : drops_before_cycle cycles (drops_of run.domain longer (length run.offers) policed) ≡ drops_of run.domain cycles (length run.offers) policed_short
+  drops_beginning : drops_before_cycle cycles (drops_of run.domain longer (length run.offers) policed) ≡ drops_of run.domain cycles
+      (length run.offers) policed_short
   drops_beginning =
       let d = run.domain in
       let bridges = length d.bridges in
@@ -153,12 +164,14 @@ module _ (run : Run) (others : List (List Row)) (lists : ℕ → List Entry) (cy
       starts_beginning (λ (sent : Sent). sent.start.0) started (λ cycle link x. refl) run.domain cycles longer net.carried shorter.fewer sent_in_run
 
   -- and of background frames
-  background_beginning : starts_before_cycle cycles (background_of run.domain longer net.backed) ≡ background_of run.domain cycles (λ l. backed_before (cycles * run.domain.cycle_time) (net.backed l))
+  background_beginning : starts_before_cycle cycles (background_of run.domain longer net.backed) ≡ background_of run.domain cycles
+      (λ l. backed_before (cycles * run.domain.cycle_time) (net.backed l))
   background_beginning =
       starts_beginning (λ (start : Start). start.start.0) started_backed (λ cycle link x. refl) run.domain cycles longer net.backed shorter.fewer backed_in_run
 
 -- the book of a shorter run
-pub book_beginning : LegalPartIsLegalForTheSamePast → (run : Run) (others : List (List Row)) (lists : ℕ → List Entry) (cycles longer : ℕ) (book : Contents) → IsShorter cycles longer run.tables others → IsBook run lists longer book → IsBook (with_tables run others) lists cycles (book_before_cycle cycles book)
+pub book_beginning : LegalPartIsLegalForTheSamePast → (run : Run) (others : List (List Row)) (lists : ℕ → List Entry) (cycles longer : ℕ) (book : Contents) →
+    IsShorter cycles longer run.tables others → IsBook run lists longer book → IsBook (with_tables run others) lists cycles (book_before_cycle cycles book)
 book_beginning part run others lists cycles longer book shorter is =
     record {
       net = network_before (cycles * run.domain.cycle_time) is.net;

@@ -14,7 +14,8 @@ use Rattle.cqf_model.specs.Domain.{Domain, bridge_of, cycle_of, enters, octet_ti
 use Rattle.cqf_model.specs.Network.{QueuedFrame, backed_in, comes_before, comes_in, queued_before, queued_in, queued_to}
 use Rattle.cqf_model.specs.Run.{Run}
 use Rattle.cqf_model.specs.Table.{table_of}
-use Rattle.cqf_model.specs.Traffic.{Carried, Received, offered_at, police_all, policed_before, received_at, received_before, relayed_at, sent_received, whole_at}
+use Rattle.cqf_model.specs.Traffic.{Carried, Received, offered_at, police_all, policed_before, received_at, received_before, relayed_at, sent_received}
+use Rattle.cqf_model.specs.Traffic.{whole_at}
 use Rattle.cqf_model.proofs.Coming.{before_when, comes_in_late, queued_front}
 use Rattle.cqf_model.proofs.Links.{octet_positive}
 use Rattle.cqf_model.proofs.Policing.{police_same}
@@ -37,8 +38,10 @@ abbrev TablesAgree : Run → List (List Row) → ℕ → Type 0
 TablesAgree run others n = (u : ℕ) → u < n → table_of run.tables (cycle_of run.domain u) ≡ table_of others (cycle_of run.domain u)
 
 -- the tables of the cycles of a run
-tables_until : (run : Run) (others : List (List Row)) (cycles : ℕ) → HaveTheSameTables cycles run.tables others → TablesAgree run others (cycles * run.domain.cycle_time)
-tables_until run others cycles same u l = same (cycle_of run.domain u) (div_below u run.domain.cycle_time cycles (takes_time run.domain.cycle_time u cycles l) l)
+tables_until : (run : Run) (others : List (List Row)) (cycles : ℕ) → HaveTheSameTables cycles run.tables others →
+    TablesAgree run others (cycles * run.domain.cycle_time)
+tables_until run others cycles same u l =
+    same (cycle_of run.domain u) (div_below u run.domain.cycle_time cycles (takes_time run.domain.cycle_time u cycles l) l)
 
 module _ (run : Run) (others : List (List Row)) (carried other : Carried) (t : ℕ) (alike : CarryTheSame run.domain t carried other) where
   -- what is whole by an instant at which the same was sent is the same
@@ -50,28 +53,33 @@ module _ (run : Run) (others : List (List Row)) (carried other : Carried) (t : �
       let sooner : (sent : Sent) → whole sent ≡ true → before sent ≡ true =
       λ sent w. lt-ltb sent.start.0 t (omega (arith, whole_later d m sent h, eqb-true (whole_at d m sent) u w, le)) in
       let same : filter whole (carried m) ≡ filter whole (other m) =
-      filter_weaker whole before (carried m) (λ sent c. sooner sent) ∙ ap (filter whole) (alike m h) ∙ sym (filter_weaker whole before (other m) (λ sent c. sooner sent)) in
+      filter_weaker whole before (carried m) (λ sent c. sooner sent) ∙ ap (filter whole) (alike m h)
+      ∙ sym (filter_weaker whole before (other m) (λ sent c. sooner sent)) in
       ap (λ (sents : List Sent). cond (enters d m bridge) (map (sent_received d m) sents) []) same
 
   -- so what comes to a bridge at such an instant is the same
   received_same : (bridge u : ℕ) → u ≤ t → received_at run carried bridge u ≡ received_at run other bridge u
   received_same bridge u le =
       ap (λ (xs : List Received). xs ++ offered_at run.offers bridge u)
-      (same_below (relayed_at run.domain carried bridge u) (relayed_at run.domain other bridge u) (length run.domain.links) (λ m h. relayed_same bridge u m h le))
+      (same_below (relayed_at run.domain carried bridge u) (relayed_at run.domain other bridge u) (length run.domain.links)
+      (λ m h. relayed_same bridge u m h le))
 
   -- and the verdicts up to it are, by tables that agree there
-  pub policed_same : (bridge n : ℕ) → n ≤ suc t → TablesAgree run others n → policed_before run carried bridge n ≡ policed_before (with_tables run others) other bridge n
+  pub policed_same : (bridge n : ℕ) → n ≤ suc t → TablesAgree run others n →
+      policed_before run carried bridge n ≡ policed_before (with_tables run others) other bridge n
   policed_same bridge n le same =
       let d = run.domain in
       police_same d run.tables bridge others [] (received_before run carried bridge n) (λ x h. same x.at (before_when run carried bridge n x h))
-      ∙ ap (λ (xs : List Received). police_all d others bridge [] xs) (same_below (received_at run carried bridge) (received_at run other bridge) n (λ u l. received_same bridge u (omega (arith, l, le))))
+      ∙ ap (λ (xs : List Received). police_all d others bridge [] xs)
+      (same_below (received_at run carried bridge) (received_at run other bridge) n (λ u l. received_same bridge u (omega (arith, l, le))))
 
   -- and what is queued to a port
   queued_same : (l n : ℕ) → n ≤ suc t → TablesAgree run others n → queued_before run carried l n ≡ queued_before (with_tables run others) other l n
   queued_same l n le same = ap (queued_to run.domain l) (policed_same (bridge_of run.domain l) n le same)
 
   -- and what comes to it in the cycles that are over by then
-  pub comes_same : (l cycles : ℕ) → cycles * run.domain.cycle_time ≤ suc t → TablesAgree run others (cycles * run.domain.cycle_time) → comes_before run carried l cycles ≡ comes_before (with_tables run others) other l cycles
+  pub comes_same : (l cycles : ℕ) → cycles * run.domain.cycle_time ≤ suc t → TablesAgree run others (cycles * run.domain.cycle_time) →
+      comes_before run carried l cycles ≡ comes_before (with_tables run others) other l cycles
   comes_same l cycles le same =
       let d = run.domain in
       let beyond = with_tables run others in
@@ -81,13 +89,15 @@ module _ (run : Run) (others : List (List Row)) (carried other : Carried) (t : �
       (queued_same l ((cycle + 1) * d.cycle_time) (omega (arith, upto, le)) (λ u h. same u (omega (arith, h, upto)))))
 
 -- two runs of one past get the same at their bridges
-pub bridges_by_past : (run : Run) (others : List (List Row)) (carried other : Carried) (cycles bridge : ℕ) → HaveOnePast run others carried other cycles → policed_before run carried bridge (cycles * run.domain.cycle_time) ≡ policed_before (with_tables run others) other bridge (cycles * run.domain.cycle_time)
+pub bridges_by_past : (run : Run) (others : List (List Row)) (carried other : Carried) (cycles bridge : ℕ) → HaveOnePast run others carried other cycles →
+    policed_before run carried bridge (cycles * run.domain.cycle_time) ≡ policed_before (with_tables run others) other bridge (cycles * run.domain.cycle_time)
 bridges_by_past run others carried other cycles bridge past =
     let end = cycles * run.domain.cycle_time in
     policed_same run others carried other end past.links bridge end (omega arith) (tables_until run others cycles past.tables)
 
 -- and at their ports
-pub ports_by_past : (run : Run) (others : List (List Row)) (carried other : Carried) (cycles l : ℕ) → HaveOnePast run others carried other cycles → comes_before run carried l cycles ≡ comes_before (with_tables run others) other l cycles
+pub ports_by_past : (run : Run) (others : List (List Row)) (carried other : Carried) (cycles l : ℕ) → HaveOnePast run others carried other cycles →
+    comes_before run carried l cycles ≡ comes_before (with_tables run others) other l cycles
 ports_by_past run others carried other cycles l past =
     comes_same run others carried other (cycles * run.domain.cycle_time) past.links l cycles (omega arith) (tables_until run others cycles past.tables)
 
@@ -102,10 +112,12 @@ pub record HaveOneFront (n : ℕ) (xs ys : List QueuedFrame) : Type 0 where
 abbrev front_at : Run → Carried → ℕ → ℕ → ℕ → List QueuedFrame
 front_at run carried l cycle n =
     comes_before run carried l cycle
-    ++ (backed_in run.domain run.background l cycle ++ filter (λ (x : QueuedFrame). cycle_of run.domain x.arrival.at.0 == cycle) (queued_before run carried l n))
+    ++ (backed_in run.domain run.background l cycle ++ filter (λ (x : QueuedFrame). cycle_of run.domain x.arrival.at.0 == cycle)
+    (queued_before run carried l n))
 
 -- it is the front of what comes in them
-comes_front : (run : Run) (carried : Carried) (l cycle n : ℕ) → n ≤ (cycle + 1) * run.domain.cycle_time → Front (comes_before run carried l (suc cycle)) (front_at run carried l cycle n) (Late n)
+comes_front : (run : Run) (carried : Carried) (l cycle n : ℕ) → n ≤ (cycle + 1) * run.domain.cycle_time →
+    Front (comes_before run carried l (suc cycle)) (front_at run carried l cycle n) (Late n)
 comes_front run carried l cycle n le =
     let last = (cycle + 1) * run.domain.cycle_time in
     let of_cycle = λ (x : QueuedFrame). cycle_of run.domain x.arrival.at.0 == cycle in
@@ -115,7 +127,8 @@ comes_front run carried l cycle n le =
     (front_behind own (queued_in run carried l cycle) (filter of_cycle (queued_before run carried l n)) (Late n) queued)
 
 -- where two networks carry the same before an instant, what comes to a port by them has one front up to it
-pub one_front : (run : Run) (carried other : Carried) (t : ℕ) → CarryTheSame run.domain t carried other → (l n cycles : ℕ) → n ≤ suc t → HaveOneFront n (comes_before run carried l cycles) (comes_before run other l cycles)
+pub one_front : (run : Run) (carried other : Carried) (t : ℕ) → CarryTheSame run.domain t carried other → (l n cycles : ℕ) → n ≤ suc t →
+    HaveOneFront n (comes_before run carried l cycles) (comes_before run other l cycles)
 one_front run carried other t alike l n zero le =
     record { front = []; first = front_whole [] [] (Late n) refl; second = front_whole [] [] (Late n) refl }
 one_front run carried other t alike l n (suc cycle) le =
@@ -128,7 +141,8 @@ one_front run carried other t alike l n (suc cycle) le =
           let last : suc cycle * d.cycle_time ≤ suc t = omega (arith, over, le) in
           record {
             front = whole;
-            first = front_whole (comes_before run carried l (suc cycle)) whole (Late n) (comes_same run run.tables carried other t alike l (suc cycle) last (λ u h. refl));
+            first = front_whole (comes_before run carried l (suc cycle)) whole (Late n)
+                (comes_same run run.tables carried other t alike l (suc cycle) last (λ u h. refl));
             second = front_whole whole whole (Late n) refl;
           }
       | inl within ↦ elim (cases_lt n begins) [
@@ -136,18 +150,22 @@ one_front run carried other t alike l n (suc cycle) le =
             let r = one_front run carried other t alike l n cycle le in
             record {
               front = r.front;
-              first = front_more (comes_before run carried l cycle) r.front (comes_in run carried l cycle) (Late n) r.first (λ x h. omega (arith, before, comes_in_late run carried l cycle x h));
-              second = front_more (comes_before run other l cycle) r.front (comes_in run other l cycle) (Late n) r.second (λ x h. omega (arith, before, comes_in_late run other l cycle x h));
+              first = front_more (comes_before run carried l cycle) r.front (comes_in run carried l cycle) (Late n) r.first
+                  (λ x h. omega (arith, before, comes_in_late run carried l cycle x h));
+              second = front_more (comes_before run other l cycle) r.front (comes_in run other l cycle) (Late n) r.second
+                  (λ x h. omega (arith, before, comes_in_late run other l cycle x h));
             }
         | inr begun ↦
             let same : front_at run other l cycle n ≡ front_at run carried l cycle n =
-            ap₂ (λ (xs ys : List QueuedFrame). xs ++ (backed_in d run.background l cycle ++ filter (λ (x : QueuedFrame). cycle_of d x.arrival.at.0 == cycle) ys))
+            ap₂ (λ (xs ys : List QueuedFrame). xs
+            ++ (backed_in d run.background l cycle ++ filter (λ (x : QueuedFrame). cycle_of d x.arrival.at.0 == cycle) ys))
             (sym (comes_same run run.tables carried other t alike l cycle (omega (arith, begun, le)) (λ u h. refl)))
             (sym (queued_same run run.tables carried other t alike l n le (λ u h. refl))) in
             record {
               front = front_at run carried l cycle n;
               first = comes_front run carried l cycle n (omega (arith, within));
-              second = subst (λ (xs : List QueuedFrame). Front (comes_before run other l (suc cycle)) xs (Late n)) same (comes_front run other l cycle n (omega (arith, within)));
+              second = subst (λ (xs : List QueuedFrame). Front (comes_before run other l (suc cycle)) xs (Late n)) same
+                  (comes_front run other l cycle n (omega (arith, within)));
             }
       ]
     ]

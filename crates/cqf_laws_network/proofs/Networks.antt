@@ -21,7 +21,8 @@ use Rattle.cqf_model.specs.Traffic.{Carried}
 use Rattle.cqf_model.proofs.Coming.{comes_in_late}
 use Rattle.cqf_model.proofs.Legal.{none_at_0}
 use Rattle.cqf_laws_port.specs.PortLaws.{LegalPartIsLegalForTheSamePast, LegalStartsExist, OnlyThePastCounts}
-use Rattle.cqf_laws_network.specs.NetworkLaws.{CarryTheSame, HaveOnePast, HaveTheSameTables, IsShorter, SendTheSame, backed_before, carried_before, network_before, sent_before, with_tables}
+use Rattle.cqf_laws_network.specs.NetworkLaws.{CarryTheSame, HaveOnePast, HaveTheSameTables, IsShorter, SendTheSame, backed_before, carried_before}
+use Rattle.cqf_laws_network.specs.NetworkLaws.{network_before, sent_before, with_tables}
 use Rattle.cqf_laws_network.proofs.Came.{Late, one_front, ports_by_past}
 use Rattle.cqf_laws_network.proofs.Ports.{backed_before_end, port_part, port_past, sends_before_end}
 
@@ -32,7 +33,8 @@ sent_before_0 sents = filter_none (λ (sent : Sent). nat_lt sent.start.0 0) sent
 -- what is sent before an instant, of that before a later one
 pub sent_before_less : (t n : ℕ) (sents : List Sent) → t ≤ n → sent_before t (sent_before n sents) ≡ sent_before t sents
 sent_before_less t n sents le =
-    sym (filter_weaker (λ (sent : Sent). nat_lt sent.start.0 t) (λ (sent : Sent). nat_lt sent.start.0 n) sents (λ sent c h. lt-ltb sent.start.0 n (omega (arith, le, ltb-true sent.start.0 t h))))
+    sym (filter_weaker (λ (sent : Sent). nat_lt sent.start.0 t) (λ (sent : Sent). nat_lt sent.start.0 n) sents
+    (λ sent c h. lt-ltb sent.start.0 n (omega (arith, le, ltb-true sent.start.0 t h))))
 
 -- two networks are one where each link sends the same in both, of both kinds
 one_network : (net other : Network) → ((l : ℕ) → net.carried l ≡ other.carried l) → ((l : ℕ) → net.backed l ≡ other.backed l) → net ≡ other
@@ -42,26 +44,33 @@ one_network net other carried backed =
 
 -- each link of the domain sends what is legal up to an instant, for what comes in the run's cycles
 abbrev IsLegalUntil : Run → (ℕ → List Entry) → ℕ → ℕ → Network → Type 0
-IsLegalUntil run lists cycles end net = (l : ℕ) → l < length run.domain.links → Sends run.domain (lists l) end l (comes_before run net.carried l cycles) (net.carried l) (net.backed l)
+IsLegalUntil run lists cycles end net = (l : ℕ) → l < length run.domain.links →
+    Sends run.domain (lists l) end l (comes_before run net.carried l cycles) (net.carried l) (net.backed l)
 
 module _ (run : Run) (lists : ℕ → List Entry) (cycles : ℕ) where
   -- two networks that are legal up to an end send the same before each instant up to it
-  both_until : OnlyThePastCounts → (end t : ℕ) (net other : Network) → IsLegalUntil run lists cycles end net → IsLegalUntil run lists cycles end other → suc t ≤ end → CarryTheSame run.domain t net.carried other.carried → (l : ℕ) → l < length run.domain.links → SendTheSame (suc t) (net.carried l) (other.carried l) (net.backed l) (other.backed l)
+  both_until : OnlyThePastCounts → (end t : ℕ) (net other : Network) → IsLegalUntil run lists cycles end net → IsLegalUntil run lists cycles end other →
+      suc t ≤ end → CarryTheSame run.domain t net.carried other.carried → (l : ℕ) → l < length run.domain.links →
+      SendTheSame (suc t) (net.carried l) (other.carried l) (net.backed l) (other.backed l)
   both_until past end t net other a b le alike l h =
       let f = one_front run net.carried other.carried t alike l (suc t) cycles (omega arith) in
-      port_past run.domain (lists l) l (suc t) end (comes_before run net.carried l cycles) (comes_before run other.carried l cycles) f.front (net.carried l) (net.backed l) f.first f.second (a l h) past end (other.carried l) (other.backed l) le le (b l h)
+      port_past run.domain (lists l) l (suc t) end (comes_before run net.carried l cycles) (comes_before run other.carried l cycles) f.front (net.carried l)
+      (net.backed l) f.first f.second (a l h) past end (other.carried l) (other.backed l) le le (b l h)
 
   -- of streams' frames
-  same_until : OnlyThePastCounts → (end : ℕ) (net other : Network) → IsLegalUntil run lists cycles end net → IsLegalUntil run lists cycles end other → (t : ℕ) → t ≤ end → CarryTheSame run.domain t net.carried other.carried
+  same_until : OnlyThePastCounts → (end : ℕ) (net other : Network) → IsLegalUntil run lists cycles end net → IsLegalUntil run lists cycles end other → (t : ℕ) →
+      t ≤ end → CarryTheSame run.domain t net.carried other.carried
   same_until past end net other a b zero le l h = sent_before_0 (net.carried l) ∙ sym (sent_before_0 (other.carried l))
   same_until past end net other a b (suc t) le l h =
       (both_until past end t net other a b le (same_until past end net other a b t (omega (arith, le))) l h).sent
 
   -- and before the end of both kinds
-  same_at_end : OnlyThePastCounts → (end : ℕ) (net other : Network) → IsLegalUntil run lists cycles end net → IsLegalUntil run lists cycles end other → (l : ℕ) → l < length run.domain.links → SendTheSame end (net.carried l) (other.carried l) (net.backed l) (other.backed l)
+  same_at_end : OnlyThePastCounts → (end : ℕ) (net other : Network) → IsLegalUntil run lists cycles end net → IsLegalUntil run lists cycles end other →
+      (l : ℕ) → l < length run.domain.links → SendTheSame end (net.carried l) (other.carried l) (net.backed l) (other.backed l)
   same_at_end past end net other a b l h =
       let f = one_front run net.carried other.carried end (same_until past end net other a b end (omega arith)) l end cycles (omega arith) in
-      port_past run.domain (lists l) l end end (comes_before run net.carried l cycles) (comes_before run other.carried l cycles) f.front (net.carried l) (net.backed l) f.first f.second (a l h) past end (other.carried l) (other.backed l) (omega arith) (omega arith) (b l h)
+      port_past run.domain (lists l) l end end (comes_before run net.carried l cycles) (comes_before run other.carried l cycles) f.front (net.carried l)
+      (net.backed l) f.first f.second (a l h) past end (other.carried l) (other.backed l) (omega arith) (omega arith) (b l h)
 
   -- legal networks are unique
   pub network_same : OnlyThePastCounts → (net other : Network) → IsLegalNetwork run lists cycles net → IsLegalNetwork run lists cycles other → net ≡ other
@@ -87,7 +96,8 @@ module _ (run : Run) (lists : ℕ → List Entry) (cycles : ℕ) where
       ])
 
   -- what a port gets in the run is the front of what it gets in a longer one
-  longer_front : (carried : Carried) (l longer : ℕ) → cycles ≤ longer → Front (comes_before run carried l longer) (comes_before run carried l cycles) (Late (cycles * run.domain.cycle_time))
+  longer_front : (carried : Carried) (l longer : ℕ) → cycles ≤ longer →
+      Front (comes_before run carried l longer) (comes_before run carried l cycles) (Late (cycles * run.domain.cycle_time))
   longer_front carried l longer le =
       let f = each_front (comes_in run carried l) cycles longer le in
       record {
@@ -100,7 +110,8 @@ module _ (run : Run) (lists : ℕ → List Entry) (cycles : ℕ) where
       }
 
   -- a longer run's beginning is legal
-  pub beginning : LegalPartIsLegalForTheSamePast → (others : List (List Row)) (longer : ℕ) (net : Network) → IsShorter cycles longer run.tables others → IsLegalNetwork run lists longer net → IsLegalNetwork (with_tables run others) lists cycles (network_before (cycles * run.domain.cycle_time) net)
+  pub beginning : LegalPartIsLegalForTheSamePast → (others : List (List Row)) (longer : ℕ) (net : Network) → IsShorter cycles longer run.tables others →
+      IsLegalNetwork run lists longer net → IsLegalNetwork (with_tables run others) lists cycles (network_before (cycles * run.domain.cycle_time) net)
   beginning part others longer net shorter legal =
       let d = run.domain in
       let n = cycles * d.cycle_time in
@@ -111,13 +122,16 @@ module _ (run : Run) (lists : ℕ → List Entry) (cycles : ℕ) where
         sends = λ l h.
             let ys = comes_before (with_tables run others) short l cycles in
             let e : comes_before run net.carried l cycles ≡ ys = ports_by_past run others net.carried short cycles l past in
-            let front = subst (λ (xs : List QueuedFrame). Front (comes_before run net.carried l longer) xs (Late n)) e (longer_front net.carried l longer shorter.fewer) in
-            port_part d (lists l) l n (longer * d.cycle_time) (comes_before run net.carried l longer) ys ys (net.carried l) (net.backed l) front (front_whole ys ys (Late n) refl) (legal.sends l h) part (mul-le-mul_right d.cycle_time shorter.fewer);
+            let front = subst (λ (xs : List QueuedFrame). Front (comes_before run net.carried l longer) xs (Late n)) e
+            (longer_front net.carried l longer shorter.fewer) in
+            port_part d (lists l) l n (longer * d.cycle_time) (comes_before run net.carried l longer) ys ys (net.carried l) (net.backed l) front
+            (front_whole ys ys (Late n) refl) (legal.sends l h) part (mul-le-mul_right d.cycle_time shorter.fewer);
         no_others = λ l g. (ap (sent_before n) (legal.no_others l g).0, ap (backed_before n) (legal.no_others l g).1);
       }
 
   -- a network that is legal up to an instant goes on
-  longer_until : LegalPartIsLegalForTheSamePast → OnlyThePastCounts → LegalStartsExist → (end : ℕ) (net : Network) → IsLegalUntil run lists cycles end net → (more : Network) × IsLegalUntil run lists cycles (suc end) more
+  longer_until : LegalPartIsLegalForTheSamePast → OnlyThePastCounts → LegalStartsExist → (end : ℕ) (net : Network) → IsLegalUntil run lists cycles end net →
+      (more : Network) × IsLegalUntil run lists cycles (suc end) more
   longer_until part past exist end net legal =
       let d = run.domain in
       let queue = λ (l : ℕ). comes_before run net.carried l cycles in
@@ -127,15 +141,19 @@ module _ (run : Run) (lists : ℕ → List Entry) (cycles : ℕ) where
       let sends : (l : ℕ) → Sends d (lists l) (suc end) l (queue l) (more.carried l) (more.backed l) =
       λ l. record { starts = starts l; legal = (exist (rules l) (arrivals_of (queue l)) (suc end)).1; are_sent = refl; are_backed = refl } in
       let alike : CarryTheSame d end net.carried more.carried =
-      λ l h. (port_past d (lists l) l end end (queue l) (queue l) (queue l) (net.carried l) (net.backed l) (front_whole (queue l) (queue l) (Late end) refl) (front_whole (queue l) (queue l) (Late end) refl) (legal l h) past (suc end) (more.carried l) (more.backed l) (omega arith) (omega arith) (sends l)).sent in (
+      λ l h. (port_past d (lists l) l end end (queue l) (queue l) (queue l) (net.carried l) (net.backed l) (front_whole (queue l) (queue l) (Late end) refl)
+      (front_whole (queue l) (queue l) (Late end) refl) (legal l h) past (suc end) (more.carried l) (more.backed l) (omega arith) (omega arith)
+      (sends l)).sent in (
         more,
         λ l h.
             let f = one_front run net.carried more.carried end alike l (suc end) cycles (omega arith) in
             let ys = comes_before run more.carried l cycles in
             let part_sends : Sends d (lists l) (suc end) l ys (sent_before (suc end) (more.carried l)) (backed_before (suc end) (more.backed l)) =
             port_part d (lists l) l (suc end) (suc end) (queue l) ys f.front (more.carried l) (more.backed l) f.first f.second (sends l) part (omega arith) in
-            subst (λ (sents : List Sent). Sends d (lists l) (suc end) l ys sents (more.backed l)) (sends_before_end d (lists l) l (suc end) (queue l) (more.carried l) (more.backed l) (sends l))
-            (subst (λ (backed : List Start). Sends d (lists l) (suc end) l ys (sent_before (suc end) (more.carried l)) backed) (backed_before_end d (lists l) l (suc end) (queue l) (more.carried l) (more.backed l) (sends l)) part_sends),
+            subst (λ (sents : List Sent). Sends d (lists l) (suc end) l ys sents (more.backed l))
+            (sends_before_end d (lists l) l (suc end) (queue l) (more.carried l) (more.backed l) (sends l))
+            (subst (λ (backed : List Start). Sends d (lists l) (suc end) l ys (sent_before (suc end) (more.carried l)) backed)
+            (backed_before_end d (lists l) l (suc end) (queue l) (more.carried l) (more.backed l) (sends l)) part_sends),
       )
 
   -- some network is legal up to each instant

@@ -21,7 +21,8 @@ use Rattle.cqf_laws_network.specs.NetworkLaws.{PortGoesByThePast, SendTheSame, b
 use Rattle.cqf_laws_network.proofs.Came.{Late}
 
 -- a frame that came before the instant stands in the front
-in_front : (n : ℕ) (front rest : List QueuedFrame) → ((x : QueuedFrame) → Contains rest x → Late n x) → (p : ℕ) → p < length (front ++ rest) → (slice_index_or (front ++ rest) p no_frame).arrival.at.0 < n → p < length front
+in_front : (n : ℕ) (front rest : List QueuedFrame) → ((x : QueuedFrame) → Contains rest x → Late n x) → (p : ℕ) → p < length (front ++ rest) →
+    (slice_index_or (front ++ rest) p no_frame).arrival.at.0 < n → p < length front
 in_front n front rest late p l came =
     elim (cases_lt p (length front)) [
       | inl k ↦ k
@@ -31,11 +32,18 @@ in_front n front rest late p l came =
           let inside : k < length rest = omega (arith, l, g, length-append front rest) in
           let e : slice_index_or (front ++ rest) p no_frame ≡ slice_index_or rest k no_frame =
           ap (λ (i : ℕ). slice_index_or (front ++ rest) i no_frame) at ∙ get_or-append-add front rest k no_frame in
-          absurd (omega (arith, came, ap (λ (x : QueuedFrame). x.arrival.at.0) e, late (slice_index_or rest k no_frame) (Contains-get_or rest k no_frame inside)))
+          absurd (omega (
+            arith,
+            came,
+            ap (λ (x : QueuedFrame). x.arrival.at.0) e,
+            late (slice_index_or rest k no_frame)
+                (Contains-get_or rest k no_frame inside),
+          ))
     ]
 
 -- the arrival at a place is that of the frame queued there
-arrival_at : (queued : List QueuedFrame) (p : ℕ) → p < length queued → slice_index_or (arrivals_of queued) p no_arrival ≡ (slice_index_or queued p no_frame).arrival
+arrival_at : (queued : List QueuedFrame) (p : ℕ) → p < length queued →
+    slice_index_or (arrivals_of queued) p no_arrival ≡ (slice_index_or queued p no_frame).arrival
 arrival_at queued p l = get_or-map (λ (x : QueuedFrame). x.arrival) queued p no_frame no_arrival l
 
 -- places of arrivals are places of queued frames
@@ -43,17 +51,20 @@ place_of : (queued : List QueuedFrame) (p : ℕ) → p < length (arrivals_of que
 place_of queued p l = omega (arith, l, length-map queued (λ (x : QueuedFrame). x.arrival))
 
 -- an arrival of before the instant is of a frame in the front
-arrived_in_front : (n : ℕ) (queued front : List QueuedFrame) → Front queued front (Late n) → (p : ℕ) → p < length (arrivals_of queued) → instant_of (arrivals_of queued) p < n → (p < length front) × (slice_index_or queued p no_frame ≡ slice_index_or front p no_frame)
+arrived_in_front : (n : ℕ) (queued front : List QueuedFrame) → Front queued front (Late n) → (p : ℕ) → p < length (arrivals_of queued) →
+    instant_of (arrivals_of queued) p < n → (p < length front) × (slice_index_or queued p no_frame ≡ slice_index_or front p no_frame)
 arrived_in_front n queued front f p l came =
     let inside : p < length (front ++ f.rest) = omega (arith, place_of queued p l, ap (length {A = QueuedFrame}) f.is) in
-    let at : slice_index_or queued p no_frame ≡ slice_index_or (front ++ f.rest) p no_frame = ap (λ (xs : List QueuedFrame). slice_index_or xs p no_frame) f.is in
+    let at : slice_index_or queued p no_frame ≡ slice_index_or (front ++ f.rest) p no_frame =
+    ap (λ (xs : List QueuedFrame). slice_index_or xs p no_frame) f.is in
     let before : (slice_index_or (front ++ f.rest) p no_frame).arrival.at.0 < n =
     omega (arith, came, ap (λ (x : Arrival). x.at.0) (arrival_at queued p (place_of queued p l)), ap (λ (x : QueuedFrame). x.arrival.at.0) at) in
     let k = in_front n front f.rest f.late p inside before in
     (k, at ∙ get_or_append_left front f.rest no_frame p k)
 
 -- a place in the front is one of the queue, with the same frame
-front_place : (n : ℕ) (queued front : List QueuedFrame) → Front queued front (Late n) → (p : ℕ) → p < length front → (p < length queued) × (slice_index_or queued p no_frame ≡ slice_index_or front p no_frame)
+front_place : (n : ℕ) (queued front : List QueuedFrame) → Front queued front (Late n) → (p : ℕ) → p < length front → (p < length queued) ×
+    (slice_index_or queued p no_frame ≡ slice_index_or front p no_frame)
 front_place n queued front f p l = (
   omega (arith, l, ap (length {A = QueuedFrame}) f.is, length-append front f.rest),
   ap (λ (xs : List QueuedFrame). slice_index_or xs p no_frame) f.is ∙ get_or_append_left front f.rest no_frame p l,
@@ -69,7 +80,9 @@ same_before n xs ys front f g p l came =
     )
 
 -- and a transmission before it is of the same frame in both
-same_frame : (n end : ℕ) (rules : PortRules) (xs ys front : List QueuedFrame) (starts : List Transmission) → Front xs front (Late n) → Front ys front (Late n) → AreLegal rules (arrivals_of xs) end starts → (x : Transmission) → Contains (starts_before n starts) x → slice_index_or xs x.0 no_frame ≡ slice_index_or ys x.0 no_frame
+same_frame : (n end : ℕ) (rules : PortRules) (xs ys front : List QueuedFrame) (starts : List Transmission) → Front xs front (Late n) → Front ys front (Late n) →
+    AreLegal rules (arrivals_of xs) end starts → (x : Transmission) → Contains (starts_before n starts) x →
+    slice_index_or xs x.0 no_frame ≡ slice_index_or ys x.0 no_frame
 same_frame n end rules xs ys front starts f g legal x h =
     let w = contains_from_filter (λ (start : Transmission). nat_lt start.1 n) starts x h in
     let waits = (legal.first x.0 x.1 w.0).waits in
@@ -79,20 +92,24 @@ same_frame n end rules xs ys front starts f g legal x h =
     a.1 ∙ sym b.1
 
 module _ (d : Domain) (entries : List Entry) (l : ℕ) where
+  -- the rules of the port
   abbrev rules : PortRules
   rules = record { entries = entries; octet_time = octet_time_of d l }
 
   -- a port sends nothing from its end on
-  pub sends_before_end : (end : ℕ) (queued : List QueuedFrame) (sents : List Sent) (backed : List Start) → Sends d entries end l queued sents backed → sent_before end sents ≡ sents
+  pub sends_before_end : (end : ℕ) (queued : List QueuedFrame) (sents : List Sent) (backed : List Start) → Sends d entries end l queued sents backed →
+      sent_before end sents ≡ sents
   sends_before_end end queued sents backed s =
       filter_each (λ (sent : Sent). nat_lt sent.start.0 end) sents (λ x h. lt-ltb x.start.0 end (sent_within d entries end l queued sents backed s x h))
 
   -- no background frame either
-  pub backed_before_end : (end : ℕ) (queued : List QueuedFrame) (sents : List Sent) (backed : List Start) → Sends d entries end l queued sents backed → backed_before end backed ≡ backed
+  pub backed_before_end : (end : ℕ) (queued : List QueuedFrame) (sents : List Sent) (backed : List Start) → Sends d entries end l queued sents backed →
+      backed_before end backed ≡ backed
   backed_before_end end queued sents backed s =
       filter_each (λ (start : Start). nat_lt start.start.0 end) backed (λ x h. lt-ltb x.start.0 end (backed_within d entries end l queued sents backed s x h))
 
-  module _ (n end : ℕ) (xs ys front : List QueuedFrame) (sents : List Sent) (backed : List Start) (f : Front xs front (Late n)) (g : Front ys front (Late n)) (s : Sends d entries end l xs sents backed) where
+  module _ (n end : ℕ) (xs ys front : List QueuedFrame) (sents : List Sent) (backed : List Start) (f : Front xs front (Late n)) (g : Front ys front (Late n))
+      (s : Sends d entries end l xs sents backed) where
     -- what it sends before an instant, of what another port gets with the same front
     sent_of_other : sent_before n sents ≡ flat_map (sent_of ys) (starts_before n s.starts)
     sent_of_other =
@@ -116,13 +133,16 @@ module _ (d : Domain) (entries : List Entry) (l : ℕ) where
         }
 
     -- and the other sends the same before the instant
-    pub port_past : OnlyThePastCounts → (other_end : ℕ) (others : List Sent) (other_backed : List Start) → n ≤ end → n ≤ other_end → Sends d entries other_end l ys others other_backed → SendTheSame n sents others backed other_backed
+    pub port_past : OnlyThePastCounts → (other_end : ℕ) (others : List Sent) (other_backed : List Start) → n ≤ end → n ≤ other_end →
+        Sends d entries other_end l ys others other_backed → SendTheSame n sents others backed other_backed
     port_past past other_end others other_backed le other_le t =
         let same : starts_before n s.starts ≡ starts_before n t.starts =
-        past rules (arrivals_of xs) (arrivals_of ys) n end other_end s.starts t.starts le other_le (same_before n xs ys front f g) (same_before n ys xs front g f) s.legal t.legal in
+        past rules (arrivals_of xs) (arrivals_of ys) n end other_end s.starts t.starts le other_le (same_before n xs ys front f g)
+        (same_before n ys xs front g f) s.legal t.legal in
         record {
           sent = sent_of_other ∙ ap (flat_map (sent_of ys)) same ∙ sym (sent_then (λ u. nat_lt u n) ys t.starts) ∙ sym (ap (sent_before n) t.are_sent);
-          background = backed_of_other ∙ ap (flat_map (backed_of ys)) same ∙ sym (backed_then (λ u. nat_lt u n) ys t.starts) ∙ sym (ap (backed_before n) t.are_backed);
+          background = backed_of_other ∙ ap (flat_map (backed_of ys)) same ∙ sym (backed_then (λ u. nat_lt u n) ys t.starts)
+              ∙ sym (ap (backed_before n) t.are_backed);
         }
 
 -- a port goes by the past
@@ -130,4 +150,5 @@ pub port_by_past : OnlyThePastCounts → PortGoesByThePast
 port_by_past past d entries l end front rest other_rest late other_late one other le other_le =
     let f : Front (front ++ rest) front (Late end) = record { rest = rest; is = refl; late = late } in
     let g : Front (front ++ other_rest) front (Late end) = record { rest = other_rest; is = refl; late = other_late } in
-    port_past d entries l end one.end (front ++ rest) (front ++ other_rest) front one.sents one.backed f g one.sends past other.end other.sents other.backed le other_le other.sends
+    port_past d entries l end one.end (front ++ rest)
+    (front ++ other_rest) front one.sents one.backed f g one.sends past other.end other.sents other.backed le other_le other.sends

@@ -27,13 +27,16 @@ use Rattle.cqf_laws_cycle.specs.Compiled.{PortListSends}
 use Rattle.cqf_laws_pages.specs.BridgeCycle.{IsCompiledNetwork, received_in}
 
 -- a transmission has the octets of the frame that was queued
-octets_sent : (queued : List QueuedFrame) (place : ℕ) → place < length (arrivals_of queued) → octets_of (arrivals_of queued) place ≡ (slice_index_or queued place no_frame).arrival.octets
+octets_sent : (queued : List QueuedFrame) (place : ℕ) → place < length (arrivals_of queued) →
+    octets_of (arrivals_of queued) place ≡ (slice_index_or queued place no_frame).arrival.octets
 octets_sent queued place l =
-    ap (λ (x : Arrival). x.octets) (get_or-map (λ (x : QueuedFrame). x.arrival) queued place no_frame no_arrival (omega (arith, l, length-map queued (λ (x : QueuedFrame). x.arrival))))
+    ap (λ (x : Arrival). x.octets)
+    (get_or-map (λ (x : QueuedFrame). x.arrival) queued place no_frame no_arrival (omega (arith, l, length-map queued (λ (x : QueuedFrame). x.arrival))))
 
 module _ (run : Run) (cycles : ℕ) (net : Network) (compiled : IsCompiledNetwork run cycles net) (sends : PortListSends) where
   -- what a link of the domain sends is whole in its own cycle
-  link_whole : (m : ℕ) (sent : Sent) → m < length run.domain.links → Contains (net.carried m) sent → cycle_of run.domain (whole_at run.domain m sent) ≡ cycle_of run.domain sent.start.0
+  link_whole : (m : ℕ) (sent : Sent) → m < length run.domain.links → Contains (net.carried m) sent →
+      cycle_of run.domain (whole_at run.domain m sent) ≡ cycle_of run.domain sent.start.0
   link_whole m sent in_links h =
       let d = run.domain in
       let queued = comes_before run net.carried m cycles in
@@ -46,12 +49,16 @@ module _ (run : Run) (cycles : ℕ) (net : Network) (compiled : IsCompiledNetwor
       let cycle = cycle_of d start in
       let some : 0 < d.cycle_time = omega (arith, compiled.accepted.guard_short) in
       let same_start : start ≡ sent.start.0 = sym (sent_of_when queued w.0 sent w.2) in
-      let same_octets : octets ≡ sent.octets = octets_sent queued place (s.legal.first place start w.1).waits.inside ∙ sym (sent_of_octets queued w.0 sent w.2) in
+      let same_octets : octets ≡ sent.octets = octets_sent queued place (s.legal.first place start w.1).waits.inside
+      ∙ sym (sent_of_octets queued w.0 sent w.2) in
       let same_time : (octets + 8) * octet_time ≡ (sent.octets + 8) * octet_time = ap (λ (n : ℕ). (n + 8) * octet_time) same_octets in
-      let ended = ((sends d.cycle_time d.guard cycle start (ending_of start octets octet_time) (class_of (arrivals_of queued) place) compiled.accepted.guard_some compiled.accepted.guard_short
-      (cycle_from d.cycle_time start, cycle_upto d.cycle_time start some) (ends_later start octets octet_time (octet_positive d m in_links))).0 (s.legal.eligible place start w.1)).1 in
+      let ended = ((sends d.cycle_time d.guard cycle start (ending_of start octets octet_time)
+      (class_of (arrivals_of queued) place) compiled.accepted.guard_some compiled.accepted.guard_short
+      (cycle_from d.cycle_time start, cycle_upto d.cycle_time start some) (ends_later start octets octet_time (octet_positive d m in_links))).0
+      (s.legal.eligible place start w.1)).1 in
       let delay = delay_within d m compiled.accepted in_links in
-      cycle_is d.cycle_time cycle (whole_at d m sent) (omega (arith, cycle_from d.cycle_time start, same_start)) (omega (arith, ended, same_start, same_time, delay, compiled.accepted.guard_short))
+      cycle_is d.cycle_time cycle (whole_at d m sent) (omega (arith, cycle_from d.cycle_time start, same_start))
+      (omega (arith, ended, same_start, same_time, delay, compiled.accepted.guard_short))
       ∙ ap (cycle_of d) same_start
 
   -- so is what any link sends
@@ -63,7 +70,8 @@ module _ (run : Run) (cycles : ℕ) (net : Network) (compiled : IsCompiledNetwor
       ]
 
   -- a batch is whole in its cycle
-  pub batch_whole : (m cycle : ℕ) (sent : Sent) → Contains (batch run.domain net.carried m cycle) sent → cycle_of run.domain (whole_at run.domain m sent) ≡ cycle
+  pub batch_whole : (m cycle : ℕ) (sent : Sent) → Contains (batch run.domain net.carried m cycle) sent →
+      cycle_of run.domain (whole_at run.domain m sent) ≡ cycle
   batch_whole m cycle sent h =
       let w = contains_from_filter (λ (x : Sent). cycle_of run.domain x.start.0 == cycle) (net.carried m) sent h in
       sent_whole m sent w.0 ∙ eqb-true (cycle_of run.domain sent.start.0) cycle w.1
@@ -91,7 +99,8 @@ module _ (run : Run) (cycles : ℕ) (net : Network) (compiled : IsCompiledNetwor
     cycle_brings =
         let d = run.domain in
         let begins = cycle * d.cycle_time in
-        same_below (λ offset. received_at run batches bridge (begins + offset)) (λ offset. received_at run net.carried bridge (begins + offset)) d.cycle_time (λ offset l.
+        same_below (λ offset. received_at run batches bridge (begins + offset)) (λ offset. received_at run net.carried bridge (begins + offset)) d.cycle_time
+        (λ offset l.
         let t = begins + offset in
         let here : cycle_of d t ≡ cycle = cycle_is d.cycle_time cycle t (omega arith) (omega (arith, l)) in
         ap (λ (xs : List Received). xs ++ offered_at run.offers bridge t)
@@ -102,25 +111,29 @@ later_whole : (s t r o p delay : ℕ) → 0 < r → s + (o + 20) * r ≤ t → s
 later_whole s t r o p delay positive free = grind arith
 
 -- the frames of a link are whole in the order in which they were sent
-link_in_order : (d : Domain) (entries : List Entry) (end m : ℕ) (queued : List QueuedFrame) (sents : List Sent) (backed : List Start) → 0 < octet_time_of d m → Sends d entries end m queued sents backed → AllPairs (λ (a b : Sent). whole_at d m a < whole_at d m b) sents
+link_in_order : (d : Domain) (entries : List Entry) (end m : ℕ) (queued : List QueuedFrame) (sents : List Sent) (backed : List Start) → 0 < octet_time_of d m →
+    Sends d entries end m queued sents backed → AllPairs (λ (a b : Sent). whole_at d m a < whole_at d m b) sents
 link_in_order d entries end m queued sents backed positive s =
     let R = λ (a b : Sent). whole_at d m a < whole_at d m b in
     let r = octet_time_of d m in
     subst (AllPairs R) (sym s.are_sent)
     (pairs_of_flat (sent_of queued) (λ (a b : Transmission). a.1 < b.1) R s.starts (λ x in_x. sent_of_once R queued x) (λ x y u v in_x in_y l of_x of_y.
     let free = s.legal.idle y.0 y.1 in_y x.0 x.1 in_x l in
-    let same : octets_of (arrivals_of queued) x.0 ≡ u.octets = octets_sent queued x.0 (s.legal.first x.0 x.1 in_x).waits.inside ∙ sym (sent_of_octets queued x u of_x) in
+    let same : octets_of (arrivals_of queued) x.0 ≡ u.octets = octets_sent queued x.0 (s.legal.first x.0 x.1 in_x).waits.inside
+    ∙ sym (sent_of_octets queued x u of_x) in
     let began : u.start.0 ≡ x.1 = sent_of_when queued x u of_x in
     let begins : v.start.0 ≡ y.1 = sent_of_when queued y v of_y in
     later_whole u.start.0 v.start.0 r u.octets v.octets (delay_of d m) positive (omega (arith, free, began, begins, ap (λ (n : ℕ). (n + 20) * r) same)))
     s.legal.in_order)
 
 -- so are those of each link of a legal network
-pub frames_in_order : (run : Run) (lists : ℕ → List Entry) (cycles m : ℕ) (net : Network) → IsLegalNetwork run lists cycles net → AllPairs (λ (a b : Sent). whole_at run.domain m a < whole_at run.domain m b) (net.carried m)
+pub frames_in_order : (run : Run) (lists : ℕ → List Entry) (cycles m : ℕ) (net : Network) → IsLegalNetwork run lists cycles net →
+    AllPairs (λ (a b : Sent). whole_at run.domain m a < whole_at run.domain m b) (net.carried m)
 frames_in_order run lists cycles m net legal =
     let d = run.domain in
     let R = λ (a b : Sent). whole_at d m a < whole_at d m b in
     elim (cases_lt m (length d.links)) [
-      | inl l ↦ link_in_order d (lists m) (cycles * d.cycle_time) m (comes_before run net.carried m cycles) (net.carried m) (net.backed m) (octet_positive d m l) (legal.sends m l)
+      | inl l ↦ link_in_order d (lists m) (cycles * d.cycle_time) m (comes_before run net.carried m cycles) (net.carried m) (net.backed m)
+          (octet_positive d m l) (legal.sends m l)
       | inr g ↦ subst (AllPairs R) (sym (legal.no_others m g).0) (pairs_none R)
     ]

@@ -1,15 +1,14 @@
 -- The drops of a cycle, by frame.
-use Rattle.std.proofs.Common.{◌≡◌, ℕ, ◌+◌, ◌*◌, ◌<◌, ◌≤◌, Bool, true, false, List, Option, Some, None, length, sym, refl, ap, ◌∙◌, inl, inr, arith, subst, eq-eqb, ne_eqb, Contains}
-use Rattle.std.specs.Prelude.{[], ◌++◌, ◌==◌, ◌&&◌, map, filter, if◌then◌else◌, not}
+use Rattle.std.proofs.Common.{◌≡◌, ℕ, ◌+◌, ◌*◌, ◌<◌, ◌≤◌, Bool, List, length, sym, refl, ap, ◌∙◌, inl, inr, arith, subst, eq-eqb, ne_eqb, Contains}
+use Rattle.std.specs.Prelude.{[], ◌++◌, ◌==◌, ◌&&◌, map, filter}
 use Rattle.std.specs.List.{enumerate_from}
 use Rattle.std.proofs.lemmas.List.Elements.{Contains-append_cases}
 use Rattle.std.proofs.lemmas.List.FromFn.{get_or-enumerate_from, length-enumerate_from}
 use Rattle.cqf_lists.specs.Lists.{each_below}
-use Rattle.cqf_lists.proofs.EachBelow.{contains_from_below, filter_none, same_below}
+use Rattle.cqf_lists.proofs.EachBelow.{below_plus, contains_from_below, filter_none, same_below}
 use Rattle.cqf_lists.proofs.Keys.{by_key}
-use Rattle.cqf_lists.proofs.Made.{contains_if, contains_one, filter_made}
-use Rattle.cqf_lists.proofs.Members.{contains_filter, contains_from_filter, contains_from_flat, contains_from_map, contains_none}
-use Rattle.cqf_lists.proofs.Picked.{each_more}
+use Rattle.cqf_lists.proofs.Made.{contains_if, filter_made}
+use Rattle.cqf_lists.proofs.Members.{contains_filter, contains_from_filter, contains_from_flat, contains_from_map, contains_none, contains_one}
 use Rattle.cqf_model.specs.declared.frames.Dropped.{Dropped}
 use Rattle.cqf_model.specs.declared.frames.Offer.{Offer}
 use Rattle.cqf_model.specs.declared.frames.Offered.{Offered}
@@ -17,28 +16,19 @@ use Rattle.cqf_model.specs.declared.frames.Reason.{Reason}
 use Rattle.cqf_model.specs.declared.frames.Sent.{Sent}
 use Rattle.cqf_model.specs.declared.topology.Row.{Row}
 use Rattle.cqf_model.specs.Book.{drop_by, drops_in, is_of_place}
-use Rattle.cqf_model.specs.Domain.{Domain, cycle_of, enters}
+use Rattle.cqf_model.specs.Domain.{cycle_of, enters}
 use Rattle.cqf_model.specs.Run.{Run}
-use Rattle.cqf_model.specs.Table.{goes_on, row_of, table_of}
-use Rattle.cqf_model.specs.Traffic.{Carried, DroppedFor, ExceedsGate, LacksRow, Policed, Queued, Received, Relayed, Verdict, inside_verdict, is_offered_at, numbered, offer_received, offered_at, police, police_all, received_at, relayed_at, sent_received, verdict_by, whole_at, within_gate}
-use Rattle.cqf_model.proofs.Policing.{behind_those_before, police_member}
+use Rattle.cqf_model.specs.Table.{row_of, table_of}
+use Rattle.cqf_model.specs.Traffic.{Carried, DroppedFor, ExceedsGate, LacksRow, Policed, Queued, Received, Relayed, Verdict, is_offered_at, numbered}
+use Rattle.cqf_model.specs.Traffic.{offer_received, offered_at, police, police_all, received_at, relayed_at, sent_received, verdict_by, whole_at, within_gate}
+use Rattle.cqf_model.proofs.Policing.{behind_those_before, inside_drops_none, police_member}
 use Rattle.cqf_laws_pages.specs.BridgeCycle.{policed_in, received_in}
 use Rattle.cqf_laws_pages.specs.Gathered.{IsInOrderOf, dropped_of}
 use Rattle.cqf_laws_pages.proofs.Continued.{policed_when}
 
--- a frame that has a row isn't dropped inside
-never_dropped : (row : Row) (reason : Reason) (lacks exceeds : Bool) → (if lacks then LacksRow else (if exceeds then ExceedsGate else Queued row)) ≡ DroppedFor reason → ⊥
-never_dropped row reason true exceeds e = absurd (cc)
-never_dropped row reason false true e = absurd (cc)
-never_dropped row reason false false e = absurd (cc)
-
--- so no frame that came by a link is dropped
-inside_never_dropped : (d : Domain) (bridge m : ℕ) (passes : Row → Bool) (found : Option Row) (reason : Reason) → inside_verdict d bridge m passes found ≡ DroppedFor reason → ⊥
-inside_never_dropped d bridge m passes None reason e = absurd (cc)
-inside_never_dropped d bridge m passes (Some row) reason e = never_dropped row reason (not (goes_on d row (Some m) bridge)) (not (passes row)) e
-
 -- a drop has its frame's number, and a reason
-dropped_frame : (cycle bridge : ℕ) (x : Received) (verdict : Verdict) (drop : Dropped) → Contains (drop_by cycle bridge x verdict) drop → (reason : Reason) × (verdict ≡ DroppedFor reason) × (drop.frame ≡ x.frame)
+dropped_frame : (cycle bridge : ℕ) (x : Received) (verdict : Verdict) (drop : Dropped) → Contains (drop_by cycle bridge x verdict) drop → (reason : Reason) ×
+    (verdict ≡ DroppedFor reason) × (drop.frame ≡ x.frame)
 dropped_frame cycle bridge x (DroppedFor reason) drop h =
     let own : Dropped = record { cycle = record { 0 = cycle }; bridge = bridge; frame = x.frame; octets = x.octets; reason = reason } in
     (reason, refl, sym (ap (λ (y : Dropped). y.frame) (contains_one own drop h)))
@@ -75,7 +65,8 @@ offer_numbered offers bridge t x h =
 
 module _ (run : Run) (carried : Carried) where
   -- no frame that a link brings is dropped
-  relayed_never_dropped : (bridge t m : ℕ) (earlier : List Policed) (x : Received) (reason : Reason) → Contains (relayed_at run.domain carried bridge t m) x → (police run.domain run.tables bridge earlier x).verdict ≡ DroppedFor reason → ⊥
+  relayed_never_dropped : (bridge t m : ℕ) (earlier : List Policed) (x : Received) (reason : Reason) → Contains (relayed_at run.domain carried bridge t m) x →
+      (police run.domain run.tables bridge earlier x).verdict ≡ DroppedFor reason → ⊥
   relayed_never_dropped bridge t m earlier x reason h e =
       let d = run.domain in
       let whole = λ (sent : Sent). whole_at d m sent == t in
@@ -84,11 +75,13 @@ module _ (run : Run) (carried : Carried) where
       let way : x.way ≡ Relayed m w.0.stream = sym (ap (λ (y : Received). y.way) w.2) in
       let table = table_of run.tables (cycle_of d x.at) in
       let passes : Row → Bool = λ row. within_gate d earlier row x in
-      let inside : verdict_by d table bridge (cycle_of d x.at) passes (Relayed m w.0.stream) ≡ DroppedFor reason = sym (ap (verdict_by d table bridge (cycle_of d x.at) passes) way) ∙ e in
-      inside_never_dropped d bridge m passes (row_of table w.0.stream) reason inside
+      let inside : verdict_by d table bridge (cycle_of d x.at) passes (Relayed m w.0.stream) ≡ DroppedFor reason =
+      sym (ap (verdict_by d table bridge (cycle_of d x.at) passes) way) ∙ e in
+      inside_drops_none d bridge m passes (row_of table w.0.stream) reason inside
 
   -- so what is dropped was offered
-  dropped_numbered : (bridge t : ℕ) (earlier : List Policed) (x : Received) (reason : Reason) → Contains (received_at run carried bridge t) x → (police run.domain run.tables bridge earlier x).verdict ≡ DroppedFor reason → IsNumbered (length run.offers) x.frame
+  dropped_numbered : (bridge t : ℕ) (earlier : List Policed) (x : Received) (reason : Reason) → Contains (received_at run carried bridge t) x →
+      (police run.domain run.tables bridge earlier x).verdict ≡ DroppedFor reason → IsNumbered (length run.offers) x.frame
   dropped_numbered bridge t earlier x reason h e =
       let relayed = relayed_at run.domain carried bridge t in
       elim (Contains-append_cases (each_below relayed (length run.domain.links)) (offered_at run.offers bridge t) x h) [
@@ -106,7 +99,8 @@ module _ (run : Run) (carried : Carried) where
     dropped = dropped_of cycle bridge policed
 
     -- each verdict of the cycle is on a frame of one of its instants
-    came : (p : Policed) → Contains policed p → (offset : ℕ) × (offset < run.domain.cycle_time) × Contains (received_at run carried bridge (cycle * run.domain.cycle_time + offset)) p.received
+    came : (p : Policed) → Contains policed p → (offset : ℕ) × (offset < run.domain.cycle_time) ×
+        Contains (received_at run carried bridge (cycle * run.domain.cycle_time + offset)) p.received
     came p h =
         contains_from_below (λ offset. received_at run carried bridge (cycle * run.domain.cycle_time + offset)) run.domain.cycle_time p.received
         (police_member run.domain run.tables bridge (earlier bridge) (received_in run carried bridge cycle) p h)
@@ -127,12 +121,15 @@ module _ (run : Run) (carried : Carried) where
         subst (IsNumbered (length run.offers)) (sym f.2) (dropped_numbered bridge (cycle * d.cycle_time + k.0) before p.received f.0 k.2 verdict)
 
     -- the drops of a frame are those of its place
-    drops_of_frame : (place : ℕ) → filter (λ (x : Dropped). x.frame == place + 1) dropped ≡ dropped_of cycle bridge (filter (is_of_place run.domain cycle place) policed)
+    drops_of_frame : (place : ℕ) →
+        filter (λ (x : Dropped). x.frame == place + 1) dropped ≡ dropped_of cycle bridge (filter (is_of_place run.domain cycle place) policed)
     drops_of_frame place =
-        filter_made (λ (p : Policed). drop_by cycle bridge p.received p.verdict) (is_of_place run.domain cycle place) (λ (x : Dropped). x.frame == place + 1) policed (λ p drop h k.
+        filter_made (λ (p : Policed). drop_by cycle bridge p.received p.verdict) (is_of_place run.domain cycle place)
+        (λ (x : Dropped). x.frame == place + 1) policed (λ p drop h k.
         let f = dropped_frame cycle bridge p.received p.verdict drop k in
         ap (λ (n : ℕ). n == place + 1) f.2
-        ∙ sym (ap (λ (b : Bool). b && (p.received.frame == place + 1)) (eq-eqb (cycle_of run.domain p.received.at) cycle (policed_when run carried bridge cycle (earlier bridge) p h))))
+        ∙ sym (ap (λ (b : Bool). b && (p.received.frame == place + 1))
+        (eq-eqb (cycle_of run.domain p.received.at) cycle (policed_when run carried bridge cycle (earlier bridge) p h))))
 
     module _ (sorted : List Dropped) (is : IsInOrderOf (λ (x : Dropped). x.frame) dropped sorted) where
       -- what is sorted was dropped
@@ -150,7 +147,7 @@ module _ (run : Run) (carried : Carried) where
           let none_0 : by 0 ≡ [] =
           filter_none (λ (x : Dropped). x.frame == 0) sorted (λ x h. ne_eqb x.frame 0 (λ e. omega (arith, e, (was_dropped x h).from_1))) in
           by_key (λ (x : Dropped). x.frame) (1 + places) sorted is.in_order (λ x h. omega (arith, (was_dropped x h).within))
-          ∙ each_more by 1 places
+          ∙ below_plus by 1 places
           ∙ ap (λ (xs : List Dropped). xs ++ each_below (λ place. by (1 + place)) places) none_0
           ∙ same_below (λ place. by (1 + place)) (λ place. dropped_of cycle bridge (filter (is_of_place run.domain cycle place) policed)) places (λ place l.
           let e : 1 + place ≡ place + 1 = omega arith in

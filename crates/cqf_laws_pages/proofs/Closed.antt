@@ -1,5 +1,6 @@
 -- Arrivals whose gate is closed since they came change nothing.
-use Rattle.std.proofs.Common.{◌≡◌, ℕ, ◌+◌, ◌-◌, ◌*◌, ◌<◌, ◌≤◌, ◌⊎◌, List, length, sym, ap, ◌∙◌, inl, inr, arith, subst, append_assoc, append-nil, length-append, get_or-append-add}
+use Rattle.std.proofs.Common.{◌≡◌, ℕ, ◌+◌, ◌-◌, ◌*◌, ◌<◌, ◌≤◌, ◌⊎◌, List, length, sym, ap, ◌∙◌, inl, inr, arith, subst, append_assoc, append-nil, length-append}
+use Rattle.std.proofs.Common.{get_or-append-add}
 use Rattle.std.specs.Prelude.{[], ◌∷◌, ◌++◌, Contains, slice_index_or}
 use Rattle.std.proofs.lemmas.Bool.{cases_lt}
 use Rattle.std.proofs.lemmas.List.{get_or_append_left}
@@ -33,13 +34,15 @@ in_either xs ys p l =
           inr (subst (λ (x : Arrival). Contains ys x) (sym e) (Contains-get_or ys k no_arrival inside))
     ]
 
-module _ (rules : PortRules) (xs ys : List Arrival) (end : ℕ) (positive : 0 < rules.octet_time) (closed : (x : Arrival) → Contains ys x → IsClosedUntil rules end x) where
+module _ (rules : PortRules) (xs ys : List Arrival) (end : ℕ) (positive : 0 < rules.octet_time)
+    (closed : (x : Arrival) → Contains ys x → IsClosedUntil rules end x) where
   -- so what is eligible is of the front
   in_front : (p t : ℕ) → p < length (xs ++ ys) → (slice_index_or (xs ++ ys) p no_arrival).at.0 ≤ t → t < end → IsEligible rules (xs ++ ys) p t → p < length xs
   in_front p t inside came l e =
       elim (in_either xs ys p inside) [
         | inl k ↦ k
-        | inr m ↦ absurd (closed (slice_index_or (xs ++ ys) p no_arrival) m t came l (e t (omega arith) (ends_later t (octets_of (xs ++ ys) p) rules.octet_time positive)))
+        | inr m ↦ absurd (closed (slice_index_or (xs ++ ys) p no_arrival) m t came l
+            (e t (omega arith) (ends_later t (octets_of (xs ++ ys) p) rules.octet_time positive)))
       ]
 
   -- what waits in the front waits alone
@@ -50,7 +53,11 @@ module _ (rules : PortRules) (xs ys : List Arrival) (end : ℕ) (positive : 0 < 
   -- and beside the others
   waits_more : (starts : List Transmission) (p t : ℕ) → Waits xs starts p t → Waits (xs ++ ys) starts p t
   waits_more starts p t w =
-      record { inside = omega (arith, w.inside, length-append xs ys); come = omega (arith, w.come, ap (λ (y : Arrival). y.at.0) (kept xs ys p w.inside)); not_started = w.not_started }
+      record {
+        inside = omega (arith, w.inside, length-append xs ys);
+        come = omega (arith, w.come, ap (λ (y : Arrival). y.at.0) (kept xs ys p w.inside));
+        not_started = w.not_started;
+      }
 
   -- what is first is first in the front alone
   first_fewer : (starts : List Transmission) (p t : ℕ) → p < length xs → IsFirst (xs ++ ys) starts p t → IsFirst xs starts p t
@@ -103,7 +110,8 @@ module _ (rules : PortRules) (xs ys : List Arrival) (end : ℕ) (positive : 0 < 
       }
 
 -- and what is legal for the front is legal with them
-pub more_legal : LateArrivalChangesNothing → (rules : PortRules) (xs ys : List Arrival) (end : ℕ) (starts : List Transmission) → 0 < rules.octet_time → ((x : Arrival) → Contains ys x → IsClosedUntil rules end x) → AreLegal rules xs end starts → AreLegal rules (xs ++ ys) end starts
+pub more_legal : LateArrivalChangesNothing → (rules : PortRules) (xs ys : List Arrival) (end : ℕ) (starts : List Transmission) → 0 < rules.octet_time →
+    ((x : Arrival) → Contains ys x → IsClosedUntil rules end x) → AreLegal rules xs end starts → AreLegal rules (xs ++ ys) end starts
 more_legal late rules xs [] end starts positive closed legal = subst (λ (zs : List Arrival). AreLegal rules zs end starts) (sym (append-nil xs)) legal
 more_legal late rules xs (y ∷ ys) end starts positive closed legal =
     let one : AreLegal rules (xs ++ y ∷ []) end starts = late rules xs y end starts positive (closed y (contains_here y ys)) legal in

@@ -7,9 +7,8 @@ use Rattle.std.proofs.lemmas.Bool.{and_left}
 use Rattle.std.proofs.lemmas.List.Concat.{flat_map-append}
 use Rattle.std.proofs.lemmas.List.Elements.{filter-append}
 use Rattle.std.proofs.lemmas.Nat.{le-div}
-use Rattle.cqf_lists.proofs.EachBelow.{contains_from_below, filter_each, filter_none, same_below}
+use Rattle.cqf_lists.proofs.EachBelow.{below_plus, contains_from_below, filter_each, filter_none, same_below}
 use Rattle.cqf_lists.proofs.Members.{contains_from_flat}
-use Rattle.cqf_lists.proofs.Picked.{each_more}
 use Rattle.cqf_units.proofs.Cycles.{cycle_from, cycle_is, takes_time}
 use Rattle.cqf_model.specs.declared.frames.Dropped.{Dropped}
 use Rattle.cqf_model.specs.Book.{drop_by, drops_in, is_of_place}
@@ -28,11 +27,13 @@ module _ (run : Run) (carried : Carried) where
   so_far bridge cycle = policed_before run carried bridge (cycle * run.domain.cycle_time)
 
   -- a frame that comes in a cycle is of the cycle
-  pub policed_when : (bridge cycle : ℕ) (earlier : List Policed) (p : Policed) → Contains (policed_in run carried bridge cycle earlier) p → cycle_of run.domain p.received.at ≡ cycle
+  pub policed_when : (bridge cycle : ℕ) (earlier : List Policed) (p : Policed) → Contains (policed_in run carried bridge cycle earlier) p →
+      cycle_of run.domain p.received.at ≡ cycle
   policed_when bridge cycle earlier p h =
       let d = run.domain in
       let begins = cycle * d.cycle_time in
-      let w = contains_from_below (λ offset. received_at run carried bridge (begins + offset)) d.cycle_time p.received (police_member d run.tables bridge earlier (received_in run carried bridge cycle) p h) in
+      let w = contains_from_below (λ offset. received_at run carried bridge (begins + offset)) d.cycle_time p.received
+      (police_member d run.tables bridge earlier (received_in run carried bridge cycle) p h) in
       let at = received_when run carried bridge (begins + w.0) p.received w.2 in
       cycle_is d.cycle_time cycle p.received.at (omega (arith, at)) (omega (arith, at, w.1))
 
@@ -49,7 +50,7 @@ module _ (run : Run) (carried : Carried) where
       let begins = cycle * d.cycle_time in
       let ends : (cycle + 1) * d.cycle_time ≡ begins + d.cycle_time = omega arith in
       ap (policed_before run carried bridge) ends
-      ∙ ap (police_all d run.tables bridge []) (each_more (received_at run carried bridge) begins d.cycle_time)
+      ∙ ap (police_all d run.tables bridge []) (below_plus (received_at run carried bridge) begins d.cycle_time)
       ∙ police_more d run.tables bridge [] (received_before run carried bridge begins) (received_in run carried bridge cycle)
 
   -- what its bridge queues to a port in a cycle
@@ -99,7 +100,8 @@ module _ (run : Run) (carried : Carried) where
 
     -- one of another cycle isn't
     fails : (p : Policed) → (cycle_of run.domain p.received.at ≡ cycle → ⊥) → test p ≡ false
-    fails p differ = and_left (cycle_of run.domain p.received.at == cycle) (p.received.frame == place + 1) (ne_eqb (cycle_of run.domain p.received.at) cycle differ)
+    fails p differ = and_left (cycle_of run.domain p.received.at == cycle) (p.received.frame == place + 1)
+        (ne_eqb (cycle_of run.domain p.received.at) cycle differ)
 
     -- nor is one of before
     none_earlier : filter test (so_far bridge cycle) ≡ []
@@ -112,11 +114,13 @@ module _ (run : Run) (carried : Carried) where
     of_the_cycle =
         let d = run.domain in
         let these = policed_of run carried bridge cycle in
-        let f = policed_front run carried bridge ((cycle + 1) * d.cycle_time) (cycles * d.cycle_time) (mul-le-mul_right d.cycle_time (omega (arith, within_run))) in
+        let f = policed_front run carried bridge ((cycle + 1) * d.cycle_time) (cycles * d.cycle_time)
+        (mul-le-mul_right d.cycle_time (omega (arith, within_run))) in
         let later : filter test f.rest ≡ [] =
         filter_none test f.rest (λ p h. fails p (λ e.
         let when = f.late p h in
-        let after : cycle + 1 ≤ cycle_of d p.received.at = le-div (cycle + 1) p.received.at d.cycle_time (takes_time d.cycle_time p.received.at cycles when.1) when.0 in
+        let after : cycle + 1 ≤ cycle_of d p.received.at =
+        le-div (cycle + 1) p.received.at d.cycle_time (takes_time d.cycle_time p.received.at cycles when.1) when.0 in
         omega (arith, after, e))) in
         ap (filter test) f.is
         ∙ filter-append test (so_far bridge (cycle + 1)) f.rest
@@ -127,9 +131,11 @@ module _ (run : Run) (carried : Carried) where
         ∙ ap (λ (ps : List Policed). ps ++ filter test these) none_earlier
 
   -- so the drops of a cycle are among what comes in it
-  pub drops_of_the_cycle : (cycles cycle bridge places : ℕ) → cycle < cycles → drops_in run.domain places (λ b. so_far b cycles) cycle bridge ≡ drops_in run.domain places (λ b. policed_of run carried b cycle) cycle bridge
+  pub drops_of_the_cycle : (cycles cycle bridge places : ℕ) → cycle < cycles →
+      drops_in run.domain places (λ b. so_far b cycles) cycle bridge ≡ drops_in run.domain places (λ b. policed_of run carried b cycle) cycle bridge
   drops_of_the_cycle cycles cycle bridge places within_run =
       let dropped : List Policed → List Dropped = flat_map (λ (p : Policed). drop_by cycle bridge p.received p.verdict) in
       let these = policed_of run carried bridge cycle in
-      same_below (λ place. dropped (filter (is_of_place run.domain cycle place) (so_far bridge cycles))) (λ place. dropped (filter (is_of_place run.domain cycle place) these)) places
+      same_below (λ place. dropped (filter (is_of_place run.domain cycle place) (so_far bridge cycles)))
+      (λ place. dropped (filter (is_of_place run.domain cycle place) these)) places
       (λ place l. ap dropped (of_the_cycle cycles cycle bridge place within_run))

@@ -1,5 +1,6 @@
 -- What a port sends in a cycle hangs on what came to it before the cycle, and on the background frames of the cycle.
-use Rattle.std.proofs.Common.{◌≡◌, ℕ, ◌+◌, ◌*◌, ◌<◌, ◌≤◌, ◌⊎◌, Bool, true, List, length, sym, refl, ap, ◌∙◌, inl, inr, arith, subst, eq-eqb, ne_eqb, eqb-true, Contains}
+use Rattle.std.proofs.Common.{◌≡◌, ℕ, ◌+◌, ◌*◌, ◌<◌, ◌≤◌, ◌⊎◌, Bool, true, List, length, sym, refl, ap, ◌∙◌, inl, inr, arith, subst, eq-eqb, ne_eqb, eqb-true}
+use Rattle.std.proofs.Common.{Contains}
 use Rattle.std.specs.Prelude.{[], ◌∷◌, ◌++◌, ◌==◌, filter, nat_lt, slice_index_or}
 use Rattle.std.specs.List.{flat_map, list_any}
 use Rattle.std.proofs.lemmas.Bool.{lt-ltb}
@@ -7,15 +8,16 @@ use Rattle.std.proofs.lemmas.List.{get_or_append_left, length-map, map-append}
 use Rattle.std.proofs.lemmas.List.Elements.{Contains-append_right, filter-append}
 use Rattle.cqf_lists.proofs.EachBelow.{filter_each, filter_none}
 use Rattle.cqf_lists.proofs.Filters.{filter_weaker}
-use Rattle.cqf_lists.proofs.Made.{contains_if, contains_one}
-use Rattle.cqf_lists.proofs.Members.{contains_from_filter, contains_from_flat, contains_from_map, contains_none}
+use Rattle.cqf_lists.proofs.Made.{contains_if}
+use Rattle.cqf_lists.proofs.Members.{contains_from_filter, contains_from_flat, contains_from_map, contains_none, contains_one}
 use Rattle.cqf_units.proofs.Cycles.{cycle_from, cycle_is, cycle_upto, parity}
 use Rattle.cqf_model.specs.declared.frames.Sent.{Sent}
 use Rattle.cqf_model.specs.declared.ports.Arrival.{Arrival}
 use Rattle.cqf_model.specs.declared.ports.Start.{Start}
 use Rattle.cqf_model.specs.Domain.{Domain, bridge_of, cycle_of, octet_time_of}
 use Rattle.cqf_model.specs.GateList.{Entry, IsOpen}
-use Rattle.cqf_model.specs.Network.{Network, QueuedFrame, Sends, arrivals_of, backed_of, comes_before, compiled_lists, no_frame, queued_before, queued_by, queued_frame, queued_in, queued_to, sent_of}
+use Rattle.cqf_model.specs.Network.{Network, QueuedFrame, Sends, arrivals_of, backed_of, comes_before, compiled_lists, no_frame, queued_before, queued_by}
+use Rattle.cqf_model.specs.Network.{queued_frame, queued_in, queued_to, sent_of}
 use Rattle.cqf_model.specs.Port.{AreLegal, PortRules, Transmission}
 use Rattle.cqf_model.specs.Run.{Run}
 use Rattle.cqf_model.specs.Table.{goes_to}
@@ -45,7 +47,8 @@ gives_no_open c sent =
     ]
 
 -- a queued frame has the class that its cycle gives
-queued_class : GateGivesClass → (d : Domain) (l : ℕ) (x : Received) (verdict : Verdict) (q : QueuedFrame) → 0 < d.cycle_time → Contains (queued_by d l x verdict) q → q.arrival.class ≡ given_class (cycle_of d q.arrival.at.0)
+queued_class : GateGivesClass → (d : Domain) (l : ℕ) (x : Received) (verdict : Verdict) (q : QueuedFrame) → 0 < d.cycle_time →
+    Contains (queued_by d l x verdict) q → q.arrival.class ≡ given_class (cycle_of d q.arrival.at.0)
 queued_class gives d l x (Queued row) q some h =
     let k = contains_if (list_any (λ next. next == l) (goes_to row (came_by x.way))) (queued_frame d x row ∷ []) q h in
     let is = contains_one (queued_frame d x row) q k in
@@ -55,7 +58,9 @@ queued_class gives d l x LacksRow q some h = absurd (contains_none q h)
 queued_class gives d l x ExceedsGate q some h = absurd (contains_none q h)
 
 -- so its class is closed up to the end of the cycle
-pub queued_waits : GateGivesClass → PortListIsOpen → (d : Domain) (l t : ℕ) (policed : List Policed) (q : QueuedFrame) → d.guard < d.cycle_time → Contains (queued_to d l policed) q → q.arrival.at.0 ≤ t → t < (cycle_of d q.arrival.at.0 + 1) * d.cycle_time → IsOpen (compiled_lists d l) q.arrival.class t → ⊥
+pub queued_waits : GateGivesClass → PortListIsOpen → (d : Domain) (l t : ℕ) (policed : List Policed) (q : QueuedFrame) → d.guard < d.cycle_time →
+    Contains (queued_to d l policed) q → q.arrival.at.0 ≤ t → t < (cycle_of d q.arrival.at.0 + 1) * d.cycle_time →
+    IsOpen (compiled_lists d l) q.arrival.class t → ⊥
 queued_waits gives opens d l t policed q short h from upto is_open =
     let w = contains_from_flat (λ (p : Policed). queued_by d l p.received p.verdict) policed q h in
     let given = queued_class gives d l w.0.received w.0.verdict q (omega (arith, short)) w.2 in
@@ -65,7 +70,9 @@ queued_waits gives opens d l t policed q short h from upto is_open =
     gives_no_open c (subst (λ (class : ℕ). (class ≡ open_class c) ⊎ (class < 6)) given sends.0)
 
 -- of what is queued in a cycle each gate is closed up to the cycle's end
-closed_in_cycle : GateGivesClass → PortListIsOpen → (run : Run) (carried : Carried) (l cycle : ℕ) → run.domain.guard < run.domain.cycle_time → (x : Arrival) → Contains (arrivals_of (queued_in run carried l cycle)) x → IsClosedUntil (record { entries = compiled_lists run.domain l; octet_time = octet_time_of run.domain l }) ((cycle + 1) * run.domain.cycle_time) x
+closed_in_cycle : GateGivesClass → PortListIsOpen → (run : Run) (carried : Carried) (l cycle : ℕ) → run.domain.guard < run.domain.cycle_time → (x : Arrival) →
+    Contains (arrivals_of (queued_in run carried l cycle)) x →
+    IsClosedUntil (record { entries = compiled_lists run.domain l; octet_time = octet_time_of run.domain l }) ((cycle + 1) * run.domain.cycle_time) x
 closed_in_cycle gives opens run carried l cycle short x h t came upto is_open =
     let d = run.domain in
     let last = (cycle + 1) * d.cycle_time in
@@ -78,7 +85,9 @@ closed_in_cycle gives opens run carried l cycle short x h t came upto is_open =
     (omega (arith, upto, ap (λ (c : ℕ). (c + 1) * d.cycle_time) here))
     (subst (λ (y : Arrival). IsOpen (compiled_lists d l) y.class t) (sym w.2) is_open)
 
-module _ (d : Domain) (entries : List Entry) (end l : ℕ) (front more : List QueuedFrame) (sents : List Sent) (backed : List Start) (positive : 0 < octet_time_of d l) (closed : (x : Arrival) → Contains (arrivals_of more) x → IsClosedUntil (record { entries = entries; octet_time = octet_time_of d l }) end x) where
+module _ (d : Domain) (entries : List Entry) (end l : ℕ) (front more : List QueuedFrame) (sents : List Sent) (backed : List Start)
+    (positive : 0 < octet_time_of d l)
+    (closed : (x : Arrival) → Contains (arrivals_of more) x → IsClosedUntil (record { entries = entries; octet_time = octet_time_of d l }) end x) where
   -- the port's gate list and link
   abbrev rules : PortRules
   rules = record { entries = entries; octet_time = octet_time_of d l }
@@ -88,7 +97,8 @@ module _ (d : Domain) (entries : List Entry) (end l : ℕ) (front more : List Qu
   parts = map-append (λ (x : QueuedFrame). x.arrival) front more
 
   -- a transmission that is legal for the front is of a frame of it
-  kept : (starts : List Transmission) → AreLegal rules (arrivals_of front) end starts → (x : Transmission) → Contains starts x → slice_index_or (front ++ more) x.0 no_frame ≡ slice_index_or front x.0 no_frame
+  kept : (starts : List Transmission) → AreLegal rules (arrivals_of front) end starts → (x : Transmission) → Contains starts x →
+      slice_index_or (front ++ more) x.0 no_frame ≡ slice_index_or front x.0 no_frame
   kept starts legal x h =
       let inside : x.0 < length front = omega (arith, (legal.first x.0 x.1 h).waits.inside, length-map front (λ (q : QueuedFrame). q.arrival)) in
       get_or_append_left front more no_frame x.0 inside
@@ -97,7 +107,8 @@ module _ (d : Domain) (entries : List Entry) (end l : ℕ) (front more : List Qu
   pub fewer_sends : Sends d entries end l (front ++ more) sents backed → Sends d entries end l front sents backed
   fewer_sends s =
       let legal : AreLegal rules (arrivals_of front) end s.starts =
-      front_legal rules (arrivals_of front) (arrivals_of more) end positive closed s.starts (subst (λ (xs : List Arrival). AreLegal rules xs end s.starts) parts s.legal) in
+      front_legal rules (arrivals_of front) (arrivals_of more) end positive closed s.starts
+      (subst (λ (xs : List Arrival). AreLegal rules xs end s.starts) parts s.legal) in
       record {
         starts = s.starts;
         legal = legal;
@@ -110,22 +121,29 @@ module _ (d : Domain) (entries : List Entry) (end l : ℕ) (front more : List Qu
   more_sends late s =
       record {
         starts = s.starts;
-        legal = subst (λ (xs : List Arrival). AreLegal rules xs end s.starts) (sym parts) (more_legal late rules (arrivals_of front) (arrivals_of more) end s.starts positive closed s.legal);
+        legal = subst (λ (xs : List Arrival). AreLegal rules xs end s.starts) (sym parts)
+            (more_legal late rules (arrivals_of front) (arrivals_of more) end s.starts positive closed s.legal);
         are_sent = s.are_sent ∙ sym (sent_same (front ++ more) front s.starts (kept s.starts s.legal));
         are_backed = s.are_backed ∙ sym (backed_same (front ++ more) front s.starts (kept s.starts s.legal));
       }
 
 -- where a port sends up to the end of a cycle what its gate list demands for what it has when it sends the cycle, it sends
 -- what that demands for all that comes by then
-pub sends_of_all : LateArrivalChangesNothing → GateGivesClass → PortListIsOpen → (run : Run) (carried : Carried) (cycle l : ℕ) (sents : List Sent) (backed : List Start) → run.domain.guard < run.domain.cycle_time → l < length run.domain.links → Sends run.domain (compiled_lists run.domain l) ((cycle + 1) * run.domain.cycle_time) l (waits_in run carried l cycle) sents backed → Sends run.domain (compiled_lists run.domain l) ((cycle + 1) * run.domain.cycle_time) l (comes_before run carried l (cycle + 1)) sents backed
+pub sends_of_all : LateArrivalChangesNothing → GateGivesClass → PortListIsOpen →
+    (run : Run) (carried : Carried) (cycle l : ℕ) (sents : List Sent) (backed : List Start) → run.domain.guard < run.domain.cycle_time →
+    l < length run.domain.links →
+    Sends run.domain (compiled_lists run.domain l) ((cycle + 1) * run.domain.cycle_time) l (waits_in run carried l cycle) sents backed →
+    Sends run.domain (compiled_lists run.domain l) ((cycle + 1) * run.domain.cycle_time) l (comes_before run carried l (cycle + 1)) sents backed
 sends_of_all late gives opens run carried cycle l sents backed short in_links s =
     let d = run.domain in
     let last = (cycle + 1) * d.cycle_time in
     let closed = closed_in_cycle gives opens run carried l cycle short in
     subst (λ (xs : List QueuedFrame). Sends d (compiled_lists d l) last l xs sents backed) (sym (waits_on run carried l cycle))
-    (more_sends d (compiled_lists d l) last l (waits_in run carried l cycle) (queued_in run carried l cycle) sents backed (octet_positive d l in_links) closed late s)
+    (more_sends d (compiled_lists d l) last l (waits_in run carried l cycle) (queued_in run carried l cycle) sents backed
+    (octet_positive d l in_links) closed late s)
 
-module _ (run : Run) (cycles cycle l : ℕ) (net : Network) (compiled : IsCompiledNetwork run cycles net) (in_cycles : cycle < cycles) (in_links : l < length run.domain.links) (beginning : BeginningIsLegal) (ports : PortsGetThePast) (gives : GateGivesClass) (opens : PortListIsOpen) where
+module _ (run : Run) (cycles cycle l : ℕ) (net : Network) (compiled : IsCompiledNetwork run cycles net) (in_cycles : cycle < cycles)
+    (in_links : l < length run.domain.links) (beginning : BeginningIsLegal) (ports : PortsGetThePast) (gives : GateGivesClass) (opens : PortListIsOpen) where
   -- the cycle's beginning and end
   abbrev first : ℕ
   first = cycle * run.domain.cycle_time
@@ -184,7 +202,8 @@ module _ (run : Run) (cycles cycle l : ℕ) (net : Network) (compiled : IsCompil
         let d = run.domain in
         let when = λ (x : Transmission). of_cycle x.1 in
         let none_before : filter when before ≡ [] =
-        filter_none when before (λ x h. ne_eqb (cycle_of d x.1) cycle (λ e. omega (arith, is.sooner x.0 x.1 h, cycle_from d.cycle_time x.1, ap (λ (c : ℕ). c * d.cycle_time) e))) in
+        filter_none when before (λ x h. ne_eqb (cycle_of d x.1) cycle
+        (λ e. omega (arith, is.sooner x.0 x.1 h, cycle_from d.cycle_time x.1, ap (λ (c : ℕ). c * d.cycle_time) e))) in
         let all_made : filter when made ≡ made =
         filter_each when made (λ x h.
         let upto : x.1 < last = is.legal.before_end x.0 x.1 (Contains-append_right before made x h) in

@@ -23,7 +23,8 @@ use Rattle.cqf_model.proofs.Coming.{backed_in_late}
 use Rattle.cqf_model.proofs.Legal.{none_at_0}
 use Rattle.cqf_model.proofs.Sending.{backed_within, sent_within}
 use Rattle.cqf_laws_port.specs.PortLaws.{LateArrivalChangesNothing, LegalStartsExist}
-use Rattle.cqf_laws_network.specs.NetworkLaws.{BeginningIsLegal, BridgesGoByThePast, CarryTheSame, HaveOnePast, HaveTheSameTables, IsShorter, backed_before, PortGoesByThePast, PortsGetThePast, Sending, ShorterRunIsTheBeginning, network_before, sent_before, with_tables}
+use Rattle.cqf_laws_network.specs.NetworkLaws.{BeginningIsLegal, BridgesGoByThePast, CarryTheSame, HaveOnePast, HaveTheSameTables, IsShorter, backed_before}
+use Rattle.cqf_laws_network.specs.NetworkLaws.{PortGoesByThePast, PortsGetThePast, Sending, ShorterRunIsTheBeginning, network_before, sent_before, with_tables}
 use Rattle.cqf_laws_cycle.specs.Compiled.{GateGivesClass, PortListIsOpen}
 use Rattle.cqf_laws_pages.specs.BridgeCycle.{IsCompiledNetwork, policed_of}
 use Rattle.cqf_laws_pages.specs.PortCycle.{waits_in}
@@ -50,7 +51,9 @@ begins exist run lists =
     }
 
 -- with one more cycle it is legal again
-pub run_goes_on : PortGoesByThePast → PortsGetThePast → LateArrivalChangesNothing → GateGivesClass → PortListIsOpen → (run : Run) (cycles : ℕ) (net more : Network) → run.domain.guard < run.domain.cycle_time → IsLegalNetwork run (compiled_lists run.domain) cycles net → SendsOneMore run cycles net more → IsLegalNetwork run (compiled_lists run.domain) (cycles + 1) more
+pub run_goes_on : PortGoesByThePast → PortsGetThePast → LateArrivalChangesNothing → GateGivesClass → PortListIsOpen →
+    (run : Run) (cycles : ℕ) (net more : Network) → run.domain.guard < run.domain.cycle_time → IsLegalNetwork run (compiled_lists run.domain) cycles net →
+    SendsOneMore run cycles net more → IsLegalNetwork run (compiled_lists run.domain) (cycles + 1) more
 run_goes_on port ports late gives opens run cycles net more short legal one_more =
     let d = run.domain in
     let first = cycles * d.cycle_time in
@@ -59,10 +62,17 @@ run_goes_on port ports late gives opens run cycles net more short legal one_more
     λ l h. (let came = comes_before run net.carried l cycles in
     let own = backed_in d run.background l cycles in
     let so_far : Sending d (compiled_lists d l) l (came ++ []) =
-    record { end = first; sents = net.carried l; backed = net.backed l; sends = subst (λ (xs : List QueuedFrame). Sends d (compiled_lists d l) first l xs (net.carried l) (net.backed l)) (sym (append-nil came)) (legal.sends l h) } in
+    record {
+      end = first;
+      sents = net.carried l;
+      backed = net.backed l;
+      sends =
+          subst (λ (xs : List QueuedFrame). Sends d (compiled_lists d l) first l xs (net.carried l) (net.backed l)) (sym (append-nil came)) (legal.sends l h);
+    } in
     let on : Sending d (compiled_lists d l) l (came ++ own) =
     record { end = last; sents = more.carried l; backed = more.backed l; sends = one_more.sends l h } in
-    (port d (compiled_lists d l) l first came [] own (λ x c. absurd (contains_none x c)) (backed_in_late d run.background l cycles) so_far on (omega arith) (omega arith)).sent) in
+    (port d (compiled_lists d l) l first came [] own (λ x c. absurd (contains_none x c)) (backed_in_late d run.background l cycles) so_far on (omega arith)
+    (omega arith)).sent) in
     let past : HaveOnePast run run.tables net.carried more.carried cycles = record { tables = λ c k. refl; links = alike } in
     record {
       sends = λ l h.
@@ -74,7 +84,8 @@ run_goes_on port ports late gives opens run cycles net more short legal one_more
     }
 
 -- where something happens within a longer run, in a cycle of the shorter one, it happens before that one's end
-early : (t cycle cycles longer cycle_time : ℕ) → t < longer * cycle_time → cycle < cycles → (t / cycle_time == cycle) ≡ true → nat_lt t (cycles * cycle_time) ≡ true
+early : (t cycle cycles longer cycle_time : ℕ) → t < longer * cycle_time → cycle < cycles → (t / cycle_time == cycle) ≡ true →
+    nat_lt t (cycles * cycle_time) ≡ true
 early t cycle cycles longer cycle_time within k e =
     lt-ltb t (cycles * cycle_time) (before_cycle cycle_time t cycle cycles (takes_time cycle_time t longer within) (eqb-true (t / cycle_time) cycle e) k)
 
@@ -84,7 +95,8 @@ module _ (run : Run) (lists : ℕ → List Entry) (cycles longer : ℕ) (net : N
   sent_in_run : (l : ℕ) (x : Sent) → Contains (net.carried l) x → x.start.0 < longer * run.domain.cycle_time
   sent_in_run l x h =
       elim (cases_lt l (length run.domain.links)) [
-        | inl k ↦ sent_within run.domain (lists l) (longer * run.domain.cycle_time) l (comes_before run net.carried l longer) (net.carried l) (net.backed l) (legal.sends l k) x h
+        | inl k ↦ sent_within run.domain (lists l) (longer * run.domain.cycle_time) l (comes_before run net.carried l longer) (net.carried l) (net.backed l)
+            (legal.sends l k) x h
         | inr g ↦ absurd (contains_none x (subst (λ (xs : List Sent). Contains xs x) (legal.no_others l g).0 h))
       ]
 
@@ -92,29 +104,37 @@ module _ (run : Run) (lists : ℕ → List Entry) (cycles longer : ℕ) (net : N
   backed_in_run : (l : ℕ) (x : Start) → Contains (net.backed l) x → x.start.0 < longer * run.domain.cycle_time
   backed_in_run l x h =
       elim (cases_lt l (length run.domain.links)) [
-        | inl k ↦ backed_within run.domain (lists l) (longer * run.domain.cycle_time) l (comes_before run net.carried l longer) (net.carried l) (net.backed l) (legal.sends l k) x h
+        | inl k ↦ backed_within run.domain (lists l) (longer * run.domain.cycle_time) l (comes_before run net.carried l longer) (net.carried l) (net.backed l)
+            (legal.sends l k) x h
         | inr g ↦ absurd (contains_none x (subst (λ (xs : List Start). Contains xs x) (legal.no_others l g).1 h))
       ]
 
   -- so the batches of the first cycles are of the beginning
-  batch_kept : (l cycle : ℕ) → cycle < cycles → batch run.domain net.carried l cycle ≡ batch run.domain (network_before (cycles * run.domain.cycle_time) net).carried l cycle
+  batch_kept : (l cycle : ℕ) → cycle < cycles →
+      batch run.domain net.carried l cycle ≡ batch run.domain (network_before (cycles * run.domain.cycle_time) net).carried l cycle
   batch_kept l cycle k =
-      filter_weaker (λ (sent : Sent). cycle_of run.domain sent.start.0 == cycle) (λ (sent : Sent). nat_lt sent.start.0 (cycles * run.domain.cycle_time)) (net.carried l)
+      filter_weaker (λ (sent : Sent). cycle_of run.domain sent.start.0 == cycle) (λ (sent : Sent). nat_lt sent.start.0 (cycles * run.domain.cycle_time))
+      (net.carried l)
       (λ x m e. early x.start.0 cycle cycles longer run.domain.cycle_time (sent_in_run l x m) k e)
 
   -- those of background frames too
-  background_kept : (l cycle : ℕ) → cycle < cycles → backed_batch run.domain net.backed l cycle ≡ backed_batch run.domain (network_before (cycles * run.domain.cycle_time) net).backed l cycle
+  background_kept : (l cycle : ℕ) → cycle < cycles →
+      backed_batch run.domain net.backed l cycle ≡ backed_batch run.domain (network_before (cycles * run.domain.cycle_time) net).backed l cycle
   background_kept l cycle k =
-      filter_weaker (λ (start : Start). cycle_of run.domain start.start.0 == cycle) (λ (start : Start). nat_lt start.start.0 (cycles * run.domain.cycle_time)) (net.backed l)
+      filter_weaker (λ (start : Start). cycle_of run.domain start.start.0 == cycle) (λ (start : Start). nat_lt start.start.0 (cycles * run.domain.cycle_time))
+      (net.backed l)
       (λ x m e. early x.start.0 cycle cycles longer run.domain.cycle_time (backed_in_run l x m) k e)
 
 -- what is sent before an instant, of that before a later one
 sent_before_less : (t n : ℕ) (sents : List Sent) → t ≤ n → sent_before t sents ≡ sent_before t (sent_before n sents)
 sent_before_less t n sents le =
-    filter_weaker (λ (sent : Sent). nat_lt sent.start.0 t) (λ (sent : Sent). nat_lt sent.start.0 n) sents (λ sent c h. lt-ltb sent.start.0 n (omega (arith, le, ltb-true sent.start.0 t h)))
+    filter_weaker (λ (sent : Sent). nat_lt sent.start.0 t) (λ (sent : Sent). nat_lt sent.start.0 n) sents
+    (λ sent c h. lt-ltb sent.start.0 n (omega (arith, le, ltb-true sent.start.0 t h)))
 
 -- the last table of a run waits
-pub last_table_waits : BeginningIsLegal → PortGoesByThePast → PortsGetThePast → LateArrivalChangesNothing → GateGivesClass → PortListIsOpen → (run : Run) (others : List (List Row)) (cycles : ℕ) (net : Network) → HaveTheSameTables cycles run.tables others → IsCompiledNetwork run (cycles + 1) net → IsCompiledNetwork (with_tables run others) (cycles + 1) net
+pub last_table_waits : BeginningIsLegal → PortGoesByThePast → PortsGetThePast → LateArrivalChangesNothing → GateGivesClass → PortListIsOpen →
+    (run : Run) (others : List (List Row)) (cycles : ℕ) (net : Network) → HaveTheSameTables cycles run.tables others → IsCompiledNetwork run (cycles + 1) net →
+    IsCompiledNetwork (with_tables run others) (cycles + 1) net
 last_table_waits beginning port ports late gives opens run others cycles net same compiled =
     let d = run.domain in
     let other = with_tables run others in
@@ -134,9 +154,11 @@ last_table_waits beginning port ports late gives opens run others cycles net sam
           let own = compiled.legal.sends l h in
           let s = sends_of_before run (cycles + 1) cycles l net compiled (omega arith) h beginning ports gives opens in
           let all : sent_before last (net.carried l) ≡ net.carried l =
-          filter_each (λ (sent : Sent). nat_lt sent.start.0 last) (net.carried l) (λ x c. lt-ltb x.start.0 last (sent_within d (compiled_lists d l) last l came (net.carried l) (net.backed l) own x c)) in
+          filter_each (λ (sent : Sent). nat_lt sent.start.0 last) (net.carried l)
+          (λ x c. lt-ltb x.start.0 last (sent_within d (compiled_lists d l) last l came (net.carried l) (net.backed l) own x c)) in
           let all_backed : backed_before last (net.backed l) ≡ net.backed l =
-          filter_each (λ (start : Start). nat_lt start.start.0 last) (net.backed l) (λ x c. lt-ltb x.start.0 last (backed_within d (compiled_lists d l) last l came (net.carried l) (net.backed l) own x c)) in
+          filter_each (λ (start : Start). nat_lt start.start.0 last) (net.backed l)
+          (λ x c. lt-ltb x.start.0 last (backed_within d (compiled_lists d l) last l came (net.carried l) (net.backed l) own x c)) in
           subst (λ (xs : List QueuedFrame). Sends d (compiled_lists d l) last l xs (net.carried l) (net.backed l)) waits
           (subst (λ (sents : List Sent). Sends d (compiled_lists d l) last l queue sents (net.backed l)) all
           (subst (λ (backed : List Start). Sends d (compiled_lists d l) last l queue (sent_before last (net.carried l)) backed) all_backed s));
@@ -144,11 +166,14 @@ last_table_waits beginning port ports late gives opens run others cycles net sam
     } in
     record {
       accepted = compiled.accepted;
-      legal = run_goes_on port ports late gives opens other cycles short net compiled.accepted.guard_short (beginning run others (compiled_lists d) cycles (cycles + 1) net shorter compiled.legal) one_more;
+      legal = run_goes_on port ports late gives opens other cycles short net compiled.accepted.guard_short
+          (beginning run others (compiled_lists d) cycles (cycles + 1) net shorter compiled.legal) one_more;
     }
 
 -- a longer run keeps the cycles of a shorter one
-pub cycles_kept : ShorterRunIsTheBeginning → BridgesGoByThePast → PortsGetThePast → (run : Run) (others : List (List Row)) (lists : ℕ → List Entry) (cycles longer : ℕ) (net more : Network) → IsShorter cycles longer run.tables others → IsLegalNetwork (with_tables run others) lists cycles net → IsLegalNetwork run lists longer more → KeepsItsCycles run others cycles net more
+pub cycles_kept : ShorterRunIsTheBeginning → BridgesGoByThePast → PortsGetThePast →
+    (run : Run) (others : List (List Row)) (lists : ℕ → List Entry) (cycles longer : ℕ) (net more : Network) → IsShorter cycles longer run.tables others →
+    IsLegalNetwork (with_tables run others) lists cycles net → IsLegalNetwork run lists longer more → KeepsItsCycles run others cycles net more
 cycles_kept beginning bridges ports run others lists cycles longer net more shorter short legal =
     let d = run.domain in
     let end = cycles * d.cycle_time in
@@ -157,17 +182,20 @@ cycles_kept beginning bridges ports run others lists cycles longer net more shor
     λ cycle k. (let upto : cycle * d.cycle_time ≤ end = mul-le-mul_right d.cycle_time k in
     record {
       tables = λ c h. shorter.tables_same c (omega (arith, h, k));
-      links = λ l h. sent_before_less (cycle * d.cycle_time) end (more.carried l) upto ∙ sym (ap (λ (n : Network). sent_before (cycle * d.cycle_time) (n.carried l)) is);
+      links = λ l h. sent_before_less (cycle * d.cycle_time) end (more.carried l) upto
+          ∙ sym (ap (λ (n : Network). sent_before (cycle * d.cycle_time) (n.carried l)) is);
     }) in
     record {
       sends = λ l cycle k. batch_kept run lists cycles longer more legal l cycle k ∙ sym (ap (λ (n : Network). batch d n.carried l cycle) is);
-      sends_background = λ l cycle k. background_kept run lists cycles longer more legal l cycle k ∙ sym (ap (λ (n : Network). backed_batch d n.backed l cycle) is);
+      sends_background = λ l cycle k. background_kept run lists cycles longer more legal l cycle k
+          ∙ sym (ap (λ (n : Network). backed_batch d n.backed l cycle) is);
       takes = λ bridge cycle k. bridges run others more.carried net.carried cycle bridge (past cycle k);
       waits = λ l cycle k. ports run others more.carried net.carried cycle l (past cycle k);
     }
 
 -- a run is its cycles
-pub run_is_cycles : (run : Run) (carried : Carried) (bridge cycles : ℕ) → policed_before run carried bridge (cycles * run.domain.cycle_time) ≡ each_below (policed_of run carried bridge) cycles
+pub run_is_cycles : (run : Run) (carried : Carried) (bridge cycles : ℕ) →
+    policed_before run carried bridge (cycles * run.domain.cycle_time) ≡ each_below (policed_of run carried bridge) cycles
 run_is_cycles run carried bridge zero =
     let e : 0 * run.domain.cycle_time ≡ 0 = omega arith in ap (policed_before run carried bridge) e
 run_is_cycles run carried bridge (suc cycles) =
@@ -177,15 +205,19 @@ run_is_cycles run carried bridge (suc cycles) =
     ∙ ap (λ (ps : List Policed). ps ++ policed_of run carried bridge cycles) (run_is_cycles run carried bridge cycles)
 
 -- what is lost in it is lost in one of them
-pub lost_in_cycle : (run : Run) (carried : Carried) (cycles bridge : ℕ) (policed : Policed) → IsLost run carried cycles bridge policed → IsLostIn run carried cycles bridge policed
+pub lost_in_cycle : (run : Run) (carried : Carried) (cycles bridge : ℕ) (policed : Policed) → IsLost run carried cycles bridge policed →
+    IsLostIn run carried cycles bridge policed
 lost_in_cycle run carried cycles bridge policed x =
-    let w = contains_from_below (policed_of run carried bridge) cycles policed (subst (λ (ps : List Policed). Contains ps policed) (run_is_cycles run carried bridge cycles) x.came) in
+    let w = contains_from_below (policed_of run carried bridge) cycles policed
+    (subst (λ (ps : List Policed). Contains ps policed) (run_is_cycles run carried bridge cycles) x.came) in
     record { cycle = w.0; within_run = w.1; came = w.2; lost = x.lost }
 
 -- and back
-pub lost_in_run : (run : Run) (carried : Carried) (cycles bridge : ℕ) (policed : Policed) → IsLostIn run carried cycles bridge policed → IsLost run carried cycles bridge policed
+pub lost_in_run : (run : Run) (carried : Carried) (cycles bridge : ℕ) (policed : Policed) → IsLostIn run carried cycles bridge policed →
+    IsLost run carried cycles bridge policed
 lost_in_run run carried cycles bridge policed x =
     record {
-      came = subst (λ (ps : List Policed). Contains ps policed) (sym (run_is_cycles run carried bridge cycles)) (contains_below (policed_of run carried bridge) cycles x.cycle policed x.within_run x.came);
+      came = subst (λ (ps : List Policed). Contains ps policed) (sym (run_is_cycles run carried bridge cycles))
+          (contains_below (policed_of run carried bridge) cycles x.cycle policed x.within_run x.came);
       lost = x.lost;
     }

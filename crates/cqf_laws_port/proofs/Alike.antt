@@ -21,6 +21,7 @@ pub record StartedAlike (t : ℕ) (a b : List Transmission) : Type 0 where
 pub came_back : {t : ℕ} {xs ys : List Arrival} → CameAlike t xs ys → CameAlike t ys xs
 came_back x = record { to = x.from; from = x.to }
 
+-- alike the other way round
 pub started_back : {t : ℕ} {a b : List Transmission} → StartedAlike t a b → StartedAlike t b a
 started_back s = record { to = s.from; from = s.to }
 
@@ -39,7 +40,8 @@ waits_alike t xs ys a b x s p w =
     }
 
 -- what is the first of its class for the one is so for the other
-pub first_alike : (t : ℕ) (xs ys : List Arrival) (a b : List Transmission) → CameAlike t xs ys → StartedAlike t a b → (p : ℕ) → IsFirst xs a p t → IsFirst ys b p t
+pub first_alike : (t : ℕ) (xs ys : List Arrival) (a b : List Transmission) → CameAlike t xs ys → StartedAlike t a b → (p : ℕ) → IsFirst xs a p t →
+    IsFirst ys b p t
 first_alike t xs ys a b x s p f =
     let class = λ (y : Arrival). y.class in
     let h = x.to p f.waits.inside f.waits.come in
@@ -51,7 +53,8 @@ first_alike t xs ys a b x s p f =
     }
 
 -- where the one is idle the other is
-pub idle_alike : (rules : PortRules) (end t : ℕ) (xs ys : List Arrival) (a b : List Transmission) → AreLegal rules xs end a → CameAlike t xs ys → StartedAlike t a b → IsIdle rules xs a t → IsIdle rules ys b t
+pub idle_alike : (rules : PortRules) (end t : ℕ) (xs ys : List Arrival) (a b : List Transmission) → AreLegal rules xs end a → CameAlike t xs ys →
+    StartedAlike t a b → IsIdle rules xs a t → IsIdle rules ys b t
 idle_alike rules end t xs ys a b legal x s idle p u k l =
     let m = s.from p u l k in
     let w = (legal.first p u m).waits in
@@ -60,7 +63,8 @@ idle_alike rules end t xs ys a b legal x s idle p u k l =
     omega (arith, e, idle p u m l)
 
 -- and the other way round, by the legality of the same list
-pub idle_back : (rules : PortRules) (end t : ℕ) (xs ys : List Arrival) (a b : List Transmission) → AreLegal rules xs end a → CameAlike t xs ys → StartedAlike t a b → IsIdle rules ys b t → IsIdle rules xs a t
+pub idle_back : (rules : PortRules) (end t : ℕ) (xs ys : List Arrival) (a b : List Transmission) → AreLegal rules xs end a → CameAlike t xs ys →
+    StartedAlike t a b → IsIdle rules ys b t → IsIdle rules xs a t
 idle_back rules end t xs ys a b legal x s idle p u m l =
     let w = (legal.first p u m).waits in
     let h = x.to p w.inside (omega (arith, w.come, l)) in
@@ -68,7 +72,9 @@ idle_back rules end t xs ys a b legal x s idle p u m l =
     omega (arith, e, idle p u (s.to p u l m) l)
 
 -- legal up to the end for what came by then: legal for another list that came alike, with the same starts
-pub legal_alike : (rules : PortRules) (earlier end : ℕ) (xs ys : List Arrival) (a b : List Transmission) → earlier ≤ end → ((t : ℕ) → t < earlier → CameAlike t xs ys) → StartedAlike earlier a b → AllPairs (λ (x y : Transmission). x.1 < y.1) b → ((p s : ℕ) → Contains b (p, s) → s < earlier) → AreLegal rules xs end a → AreLegal rules ys earlier b
+pub legal_alike : (rules : PortRules) (earlier end : ℕ) (xs ys : List Arrival) (a b : List Transmission) → earlier ≤ end →
+    ((t : ℕ) → t < earlier → CameAlike t xs ys) → StartedAlike earlier a b → AllPairs (λ (x y : Transmission). x.1 < y.1) b →
+    ((p s : ℕ) → Contains b (p, s) → s < earlier) → AreLegal rules xs end a → AreLegal rules ys earlier b
 legal_alike rules earlier end xs ys a b le came started ordered before legal =
     let same : (p s : ℕ) → Contains b (p, s) → (p < length ys) × (slice_index_or xs p no_arrival ≡ slice_index_or ys p no_arrival) =
     λ p s k. (let w = (legal.first p s (started.from p s (before p s k) k)).waits in (came s (before p s k)).to p w.inside w.come) in
@@ -78,7 +84,8 @@ legal_alike rules earlier end xs ys a b le came started ordered before legal =
       in_order = ordered;
       before_end = before;
       once = λ p s t h k. legal.once p s t (started.from p s (before p s h) h) (started.from p t (before p t k) k);
-      idle = λ p s k. idle_alike rules end s xs ys a b legal (came s (before p s k)) (until s (before p s k)) (legal.idle p s (started.from p s (before p s k) k));
+      idle = λ p s k. idle_alike rules end s xs ys a b legal (came s (before p s k)) (until s (before p s k))
+          (legal.idle p s (started.from p s (before p s k) k));
       first = λ p s k. first_alike s xs ys a b (came s (before p s k)) (until s (before p s k)) p (legal.first p s (started.from p s (before p s k) k));
       eligible = λ p s k. eligible_alike rules xs ys p s (same p s k).1 (legal.eligible p s (started.from p s (before p s k) k));
       strict_priority = λ p s other k c f e.
@@ -86,7 +93,8 @@ legal_alike rules earlier end xs ys a b le came started ordered before legal =
           let g = first_alike s ys xs b a (came_back (came s l)) (started_back (until s l)) other f in
           let h = (came s l).to other g.waits.inside g.waits.come in
           let class = λ (y : Arrival). y.class in
-          legal.strict_priority p s other (started.from p s l k) (omega (arith, c, ap class (same p s k).1, ap class h.1)) g (eligible_alike rules ys xs other s (sym h.1) e);
+          legal.strict_priority p s other (started.from p s l k) (omega (arith, c, ap class (same p s k).1, ap class h.1)) g
+          (eligible_alike rules ys xs other s (sym h.1) e);
       work_conserving = λ t other l i f e.
           let idle_before : IsIdle rules xs a t = idle_back rules end t xs ys a b legal (came t l) (until t l) i in
           let g = first_alike t ys xs b a (came_back (came t l)) (started_back (until t l)) other f in

@@ -8,27 +8,33 @@ use Rattle.std.proofs.lemmas.List.Elements.{All-contains, All-from_get_or, Conta
 abbrev pub Told : Type 0 → Type 0
 Told P = P ⊎ (P → ⊥)
 
+-- of two that are told, both are
 pub told_both : {P Q : Type 0} → Told P → Told Q → Told (P × Q)
 told_both (inl p) (inl q) = inl (p, q)
 told_both (inl p) (inr never) = inr (λ w. never w.1)
 told_both (inr never) q = inr (λ w. never w.0)
 
+-- and whether the first gives the second
 pub told_if : {P Q : Type 0} → Told P → Told Q → Told (P → Q)
 told_if p (inl q) = inl (λ x. q)
 told_if (inl p) (inr never) = inr (λ f. never (f p))
 told_if (inr other) (inr never) = inl (λ p. absurd (other p))
 
+-- what is told is told not to hold
 pub told_not : {P : Type 0} → Told P → Told (P → ⊥)
 told_not (inl p) = inr (λ f. f p)
 told_not (inr never) = inl never
 
+-- what is the same as something that is told
 pub told_like : {P Q : Type 0} → (P → Q) → (Q → P) → Told P → Told Q
 told_like to from (inl p) = inl (to p)
 told_like to from (inr never) = inr (λ q. never (from q))
 
+-- less is told
 pub told_lt : (m n : ℕ) → Told (m < n)
 told_lt m n = elim (cases_lt m n) [ inl l ↦ inl l | inr g ↦ inr (λ l. omega (arith, l, g)) ]
 
+-- and so is at most
 pub told_le : (m n : ℕ) → Told (m ≤ n)
 told_le m n = elim (cases_lt n m) [ inl l ↦ inr (λ g. omega (arith, l, g)) | inr g ↦ inl g ]
 
@@ -55,11 +61,13 @@ pub record IsBest (P : ℕ → Type 0) (measure : ℕ → ℕ) (n k : ℕ) : Typ
   pub holds : P k
   pub best : (j : ℕ) → j < n → P j → measure j ≤ measure k
 
+-- the best of finitely many, or none of them
 pub best_below : (P : ℕ → Type 0) (measure : ℕ → ℕ) → ((k : ℕ) → Told (P k)) → (n : ℕ) → ((k : ℕ) × IsBest P measure n k) ⊎ ((k : ℕ) → k < n → P k → ⊥)
 best_below P measure told zero = inr (λ k l p. omega (arith, l))
 best_below P measure told (suc n) = further P measure n (best_below P measure told n) (told n)
   where
-    further : (P : ℕ → Type 0) (measure : ℕ → ℕ) (n : ℕ) → ((k : ℕ) × IsBest P measure n k) ⊎ ((k : ℕ) → k < n → P k → ⊥) → Told (P n) → ((k : ℕ) × IsBest P measure (suc n) k) ⊎ ((k : ℕ) → k < suc n → P k → ⊥)
+    further : (P : ℕ → Type 0) (measure : ℕ → ℕ) (n : ℕ) → ((k : ℕ) × IsBest P measure n k) ⊎ ((k : ℕ) → k < n → P k → ⊥) → Told (P n) →
+        ((k : ℕ) × IsBest P measure (suc n) k) ⊎ ((k : ℕ) → k < suc n → P k → ⊥)
     further P measure n (inl w) (inr never) =
         inl (
           w.0,
@@ -77,7 +85,11 @@ best_below P measure told (suc n) = further P measure n (best_below P measure to
           record {
             below = omega arith;
             holds = p;
-            best = λ j l q. elim (cases_lt j n) [ inl m ↦ absurd (none j m q) | inr g ↦ (let e : j ≡ n = omega (arith, l, g) in subst (λ (x : ℕ). measure j ≤ measure x) e (omega arith)) ];
+            best = λ j l q. elim (cases_lt j n) [
+              | inl m ↦ absurd (none j m q)
+              | inr g ↦
+                  (let e : j ≡ n = omega (arith, l, g) in subst (λ (x : ℕ). measure j ≤ measure x) e (omega arith))
+            ];
           },
         )
     further P measure n (inl w) (inl p) =
@@ -87,7 +99,11 @@ best_below P measure told (suc n) = further P measure n (best_below P measure to
             record {
               below = omega arith;
               holds = p;
-              best = λ j l q. elim (cases_lt j n) [ inl m ↦ omega (arith, less, w.1.best j m q) | inr g ↦ (let e : j ≡ n = omega (arith, l, g) in subst (λ (x : ℕ). measure j ≤ measure x) e (omega arith)) ];
+              best = λ j l q. elim (cases_lt j n) [
+                | inl m ↦ omega (arith, less, w.1.best j m q)
+                | inr g ↦
+                    (let e : j ≡ n = omega (arith, l, g) in subst (λ (x : ℕ). measure j ≤ measure x) e (omega arith))
+              ];
             },
           )
           | inr more ↦ inl (
@@ -95,7 +111,11 @@ best_below P measure told (suc n) = further P measure n (best_below P measure to
             record {
               below = omega (arith, w.1.below);
               holds = w.1.holds;
-              best = λ j l q. elim (cases_lt j n) [ inl m ↦ w.1.best j m q | inr g ↦ (let e : n ≡ j = omega (arith, l, g) in subst (λ (x : ℕ). measure x ≤ measure w.0) e more) ];
+              best = λ j l q. elim (cases_lt j n) [
+                | inl m ↦ w.1.best j m q
+                | inr g ↦
+                    (let e : n ≡ j = omega (arith, l, g) in subst (λ (x : ℕ). measure x ≤ measure w.0) e more)
+              ];
             },
           )
         ]

@@ -11,15 +11,18 @@ use Rattle.cqf_model.specs.Port.{AreLegal, IsEligible, IsFirst, IsIdle, PortRule
 use Rattle.cqf_laws_port.proofs.Alike.{StartedAlike, came_same, first_alike, idle_alike, idle_back, started_back}
 use Rattle.cqf_laws_port.proofs.Decide.{IsBest, Told, best_below, told_below, told_both, told_if, told_le, told_like, told_lt, told_members, told_not}
 
+-- whether a class is open
 told_open : (entries : List Entry) (class t : ℕ) → Told (IsOpen entries class t)
 told_open entries class t = told_not (cases_eq _ _)
 
+-- whether it stays open
 told_through : (entries : List Entry) (class first last : ℕ) → Told (IsOpenThrough entries class first last)
 told_through entries class first last =
     told_like {P = (t : ℕ) → t < last → first ≤ t → IsOpen entries class t}
     (λ f t g l. f t l g) (λ f t l g. f t g l)
     (told_below (λ t. first ≤ t → IsOpen entries class t) (λ t. told_if (told_le first t) (told_open entries class t)) last)
 
+-- whether an arrival waits
 told_waits : (xs : List Arrival) (starts : List Transmission) (p t : ℕ) → Told (Waits xs starts p t)
 told_waits xs starts p t =
     told_like {P = (p < length xs) × (instant_of xs p ≤ t) × ((x : Transmission) → Contains starts x → x.0 ≡ p → t ≤ x.1)}
@@ -31,6 +34,7 @@ told_waits xs starts p t =
     told_three : {P Q R : Type 0} → Told P → Told Q → Told R → Told (P × Q × R)
     told_three p q r = told_like (λ w. (w.0, w.1.0, w.1.1)) (λ w. (w.0, (w.1, w.2))) (told_both p (told_both q r))
 
+-- whether it is the first that waits
 told_first : (xs : List Arrival) (starts : List Transmission) (p t : ℕ) → Told (IsFirst xs starts p t)
 told_first xs starts p t =
     told_like {P = Waits xs starts p t × ((other : ℕ) → other < p → class_of xs other ≡ class_of xs p → Waits xs starts other t → ⊥)}
@@ -40,22 +44,26 @@ told_first xs starts p t =
     (told_below (λ other. class_of xs other ≡ class_of xs p → Waits xs starts other t → ⊥)
     (λ other. told_if (cases_eq (class_of xs other) (class_of xs p)) (told_not (told_waits xs starts other t))) p))
 
+-- whether the port is idle
 told_idle : (rules : PortRules) (xs : List Arrival) (starts : List Transmission) (t : ℕ) → Told (IsIdle rules xs starts t)
 told_idle rules xs starts t =
     told_like {P = (x : Transmission) → Contains starts x → x.1 < t → free_from rules xs x.0 x.1 ≤ t}
     (λ f p s h l. f (p, s) h l) (λ f x h l. f x.0 x.1 h l)
-    (told_members (λ (x : Transmission). x.1 < t → free_from rules xs x.0 x.1 ≤ t) (λ x. told_if (told_lt x.1 t) (told_le (free_from rules xs x.0 x.1) t)) (0, 0) starts)
+    (told_members (λ (x : Transmission). x.1 < t → free_from rules xs x.0 x.1 ≤ t) (λ x. told_if (told_lt x.1 t) (told_le (free_from rules xs x.0 x.1) t))
+    (0, 0) starts)
 
 -- what may start at an instant, but for the other classes
 abbrev MayStart : PortRules → List Arrival → List Transmission → ℕ → ℕ → Type 0
 MayStart rules xs starts t p = IsFirst xs starts p t × IsEligible rules xs p t
 
+-- whether an arrival may start
 told_may_start : (rules : PortRules) (xs : List Arrival) (starts : List Transmission) (t p : ℕ) → Told (MayStart rules xs starts t p)
 told_may_start rules xs starts t p =
     told_both (told_first xs starts p t) (told_through rules.entries (class_of xs p) t (ending_of t (octets_of xs p) rules.octet_time))
 
 -- nothing may start at the end: legal one instant longer
-pub legal_without : (rules : PortRules) (xs : List Arrival) (end : ℕ) (starts : List Transmission) → AreLegal rules xs end starts → (IsIdle rules xs starts end → (p : ℕ) → MayStart rules xs starts end p → ⊥) → AreLegal rules xs (suc end) starts
+pub legal_without : (rules : PortRules) (xs : List Arrival) (end : ℕ) (starts : List Transmission) → AreLegal rules xs end starts →
+    (IsIdle rules xs starts end → (p : ℕ) → MayStart rules xs starts end p → ⊥) → AreLegal rules xs (suc end) starts
 legal_without rules xs end starts legal none =
     record {
       in_order = legal.in_order;
@@ -96,16 +104,21 @@ was_start starts p end q s h =
     ]
 
 -- the best of what may start at the end does: legal one instant longer
-pub legal_with : (rules : PortRules) (xs : List Arrival) (end : ℕ) (starts : List Transmission) (p : ℕ) → AreLegal rules xs end starts → IsIdle rules xs starts end → IsBest (MayStart rules xs starts end) (class_of xs) (length xs) p → AreLegal rules xs (suc end) (with_start starts p end)
+pub legal_with : (rules : PortRules) (xs : List Arrival) (end : ℕ) (starts : List Transmission) (p : ℕ) → AreLegal rules xs end starts →
+    IsIdle rules xs starts end → IsBest (MayStart rules xs starts end) (class_of xs) (length xs) p → AreLegal rules xs (suc end) (with_start starts p end)
 legal_with rules xs end starts p legal idle best =
     let more = with_start starts p end in
     let not_before : (s : ℕ) → Contains starts (p, s) → ⊥ = λ s h. omega (arith, legal.before_end p s h, best.holds.0.waits.not_started s h) in
-    let first_more : (t q : ℕ) → t ≤ end → IsFirst xs starts q t → IsFirst xs more q t = λ t q le. first_alike t xs xs starts more (came_same t xs) (alike_before starts p end t le) q in
-    let first_less : (t q : ℕ) → t ≤ end → IsFirst xs more q t → IsFirst xs starts q t = λ t q le. first_alike t xs xs more starts (came_same t xs) (started_back (alike_before starts p end t le)) q in
-    let idle_more : (t : ℕ) → t ≤ end → IsIdle rules xs starts t → IsIdle rules xs more t = λ t le. idle_alike rules end t xs xs starts more legal (came_same t xs) (alike_before starts p end t le) in
+    let first_more : (t q : ℕ) → t ≤ end → IsFirst xs starts q t → IsFirst xs more q t =
+    λ t q le. first_alike t xs xs starts more (came_same t xs) (alike_before starts p end t le) q in
+    let first_less : (t q : ℕ) → t ≤ end → IsFirst xs more q t → IsFirst xs starts q t =
+    λ t q le. first_alike t xs xs more starts (came_same t xs) (started_back (alike_before starts p end t le)) q in
+    let idle_more : (t : ℕ) → t ≤ end → IsIdle rules xs starts t → IsIdle rules xs more t =
+    λ t le. idle_alike rules end t xs xs starts more legal (came_same t xs) (alike_before starts p end t le) in
     let within : (q s : ℕ) → Contains starts (q, s) → s ≤ end = λ q s h. omega (arith, legal.before_end q s h) in
     record {
-      in_order = all_pairs_push (λ (x y : Transmission). x.1 < y.1) starts (p, end) legal.in_order (λ k d l. legal.before_end (slice_index_or starts k d).0 (slice_index_or starts k d).1 (Contains-get_or starts k d l));
+      in_order = all_pairs_push (λ (x y : Transmission). x.1 < y.1) starts (p, end) legal.in_order
+          (λ k d l. legal.before_end (slice_index_or starts k d).0 (slice_index_or starts k d).1 (Contains-get_or starts k d l));
       before_end = λ q s h. elim (was_start starts p end q s h) [ inl k ↦ omega (arith, legal.before_end q s k) | inr e ↦ omega (arith, e.1) ];
       once = λ q s t h k. elim (was_start starts p end q s h) [
         | inl old ↦ elim (was_start starts p end q t k) [
@@ -123,7 +136,8 @@ legal_with rules xs end starts p legal idle best =
       ];
       first = λ q s h. elim (was_start starts p end q s h) [
         | inl k ↦ first_more s q (within q s k) (legal.first q s k)
-        | inr e ↦ subst (λ (x : ℕ). IsFirst xs more q x) (sym e.1) (subst (λ (x : ℕ). IsFirst xs more x end) (sym e.0) (first_more end p (omega arith) best.holds.0))
+        | inr e ↦ subst (λ (x : ℕ). IsFirst xs more q x) (sym e.1)
+            (subst (λ (x : ℕ). IsFirst xs more x end) (sym e.0) (first_more end p (omega arith) best.holds.0))
       ];
       eligible = λ q s h. elim (was_start starts p end q s h) [
         | inl k ↦ legal.eligible q s k
@@ -148,7 +162,8 @@ legal_with rules xs end starts p legal idle best =
     }
 
 -- one instant longer
-legal_longer : (rules : PortRules) (xs : List Arrival) (end : ℕ) (starts : List Transmission) → AreLegal rules xs end starts → (more : List Transmission) × AreLegal rules xs (suc end) more
+legal_longer : (rules : PortRules) (xs : List Arrival) (end : ℕ) (starts : List Transmission) → AreLegal rules xs end starts → (more : List Transmission) ×
+    AreLegal rules xs (suc end) more
 legal_longer rules xs end starts legal =
     elim (told_idle rules xs starts end) [
       | inr busy ↦ (starts, legal_without rules xs end starts legal (λ idle p may. busy idle))
@@ -158,6 +173,7 @@ legal_longer rules xs end starts legal =
       ]
     ]
 
+-- at instant 0 it is legal that nothing has started
 nothing_legal : (rules : PortRules) (xs : List Arrival) → AreLegal rules xs 0 []
 nothing_legal rules xs =
     let never : (x : Transmission) → Contains [] x → ⊥ = λ x h. omega (arith, h.1) in

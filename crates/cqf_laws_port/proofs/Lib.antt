@@ -1,4 +1,3 @@
-pub mod Members
 pub mod Alike
 pub mod Spans
 pub mod Settled

@@ -6,11 +6,13 @@ use Rattle.std.proofs.lemmas.List.Kept.{AllPairs-filter}
 use Rattle.cqf_model.specs.declared.ports.Arrival.{Arrival}
 use Rattle.cqf_model.specs.Port.{AreLegal, IsEligible, IsFirst, IsIdle, PortRules, Transmission, class_of}
 use Rattle.cqf_laws_port.specs.PortLaws.{HasAllBefore, starts_before}
-use Rattle.cqf_laws_port.proofs.Members.{contains_filter, contains_from_filter, same_ordered}
+use Rattle.cqf_lists.proofs.Members.{contains_filter, contains_from_filter}
+use Rattle.cqf_lists.proofs.Pairs.{same_ordered}
 use Rattle.cqf_laws_port.proofs.Alike.{CameAlike, StartedAlike, came_same, first_alike, idle_alike, legal_alike, started_back}
 
 -- at an instant before which the same started, two firsts of which neither yields to the other are one
-same_choice : (xs : List Arrival) (b : List Transmission) (p q t : ℕ) → IsFirst xs b p t → IsFirst xs b q t → (class_of xs p < class_of xs q → ⊥) → (class_of xs q < class_of xs p → ⊥) → p ≡ q
+same_choice : (xs : List Arrival) (b : List Transmission) (p q t : ℕ) → IsFirst xs b p t → IsFirst xs b q t → (class_of xs p < class_of xs q → ⊥) →
+    (class_of xs q < class_of xs p → ⊥) → p ≡ q
 same_choice xs b p q t f g above below =
     elim (cases_order (class_of xs p) (class_of xs q)) [
       | inl e ↦ elim (cases_order p q) [
@@ -24,7 +26,8 @@ same_choice xs b p q t f g above below =
     ]
 
 -- what starts in the one legal list at an instant starts in the other, if the same started before
-start_same : (rules : PortRules) (xs : List Arrival) (end : ℕ) (a b : List Transmission) → AreLegal rules xs end a → AreLegal rules xs end b → (t : ℕ) → StartedAlike t a b → (p : ℕ) → Contains a (p, t) → Contains b (p, t)
+start_same : (rules : PortRules) (xs : List Arrival) (end : ℕ) (a b : List Transmission) → AreLegal rules xs end a → AreLegal rules xs end b → (t : ℕ) →
+    StartedAlike t a b → (p : ℕ) → Contains a (p, t) → Contains b (p, t)
 start_same rules xs end a b la lb t s p h =
     let came = came_same t xs in
     let f : IsFirst xs a p t = la.first p t h in
@@ -40,7 +43,8 @@ start_same rules xs end a b la lb t s p h =
     subst (λ (x : ℕ). Contains b (x, t)) (sym same) w.1
 
 -- two legal lists start the same before each instant
-started_same : (rules : PortRules) (xs : List Arrival) (end : ℕ) (a b : List Transmission) → AreLegal rules xs end a → AreLegal rules xs end b → (n : ℕ) → StartedAlike n a b
+started_same : (rules : PortRules) (xs : List Arrival) (end : ℕ) (a b : List Transmission) → AreLegal rules xs end a → AreLegal rules xs end b → (n : ℕ) →
+    StartedAlike n a b
 started_same rules xs end a b la lb zero = record { to = λ p s l h. absurd (omega (arith, l)); from = λ p s l h. absurd (omega (arith, l)) }
 started_same rules xs end a b la lb (suc n) =
     let before = started_same rules xs end a b la lb n in
@@ -53,7 +57,8 @@ started_same rules xs end a b la lb (suc n) =
       from = λ p s l h. elim (cases_lt s n) [
         | inl k ↦ before.from p s k h
         | inr g ↦ let e : s ≡ n = omega (arith, l, g) in
-            subst (λ (x : ℕ). Contains a (p, x)) (sym e) (start_same rules xs end b a lb la n (started_back before) p (subst (λ (x : ℕ). Contains b (p, x)) e h))
+            subst (λ (x : ℕ). Contains a (p, x)) (sym e)
+            (start_same rules xs end b a lb la n (started_back before) p (subst (λ (x : ℕ). Contains b (p, x)) e h))
       ];
     }
 
@@ -61,19 +66,21 @@ started_same rules xs end a b la lb (suc n) =
 pub legal_same : (rules : PortRules) (xs : List Arrival) (end : ℕ) (a b : List Transmission) → AreLegal rules xs end a → AreLegal rules xs end b → a ≡ b
 legal_same rules xs end a b la lb =
     let s = started_same rules xs end a b la lb end in
-    same_ordered (λ (x y : Transmission). x.1 < y.1) (λ x y l m. omega (arith, l, m)) a b la.in_order lb.in_order (λ z h. s.to z.0 z.1 (la.before_end z.0 z.1 h) h) (λ z h. s.from z.0 z.1 (lb.before_end z.0 z.1 h) h)
+    same_ordered (λ (x y : Transmission). x.1 < y.1) (λ x y l m. omega (arith, l, m)) a b la.in_order lb.in_order
+    (λ z h. s.to z.0 z.1 (la.before_end z.0 z.1 h) h) (λ z h. s.from z.0 z.1 (lb.before_end z.0 z.1 h) h)
 
 -- the starts before an instant are those of the whole list there
 pub started_before : (earlier : ℕ) (starts : List Transmission) → StartedAlike earlier starts (starts_before earlier starts)
 started_before earlier starts =
     let test = λ (x : Transmission). nat_lt x.1 earlier in
     record {
-      to = λ p s l h. contains_filter test starts (p, s) (lt-ltb s earlier l) h;
+      to = λ p s l h. contains_filter test starts (p, s) h (lt-ltb s earlier l);
       from = λ p s l h. (contains_from_filter test starts (p, s) h).0;
     }
 
 -- the part before an earlier end is legal up to it, also for arrivals that differ only in what comes later
-pub part_legal : (rules : PortRules) (xs ys : List Arrival) (earlier end : ℕ) (starts : List Transmission) → earlier ≤ end → ((t : ℕ) → t < earlier → CameAlike t xs ys) → AreLegal rules xs end starts → AreLegal rules ys earlier (starts_before earlier starts)
+pub part_legal : (rules : PortRules) (xs ys : List Arrival) (earlier end : ℕ) (starts : List Transmission) → earlier ≤ end →
+    ((t : ℕ) → t < earlier → CameAlike t xs ys) → AreLegal rules xs end starts → AreLegal rules ys earlier (starts_before earlier starts)
 part_legal rules xs ys earlier end starts le came legal =
     let test = λ (x : Transmission). nat_lt x.1 earlier in
     legal_alike rules earlier end xs ys starts (starts_before earlier starts) le came (started_before earlier starts)
@@ -85,12 +92,16 @@ part_legal rules xs ys earlier end starts le came legal =
 same_past : (xs ys : List Arrival) (earlier : ℕ) → HasAllBefore earlier xs ys → HasAllBefore earlier ys xs → (t : ℕ) → t < earlier → CameAlike t xs ys
 same_past xs ys earlier to from t l = record { to = λ p h k. to p h (omega (arith, k, l)); from = λ p h k. from p h (omega (arith, k, l)) }
 
-pub part_legal_past : (rules : PortRules) (xs ys : List Arrival) (earlier end : ℕ) (starts : List Transmission) → earlier ≤ end → HasAllBefore earlier xs ys → HasAllBefore earlier ys xs → AreLegal rules xs end starts → AreLegal rules ys earlier (starts_before earlier starts)
+-- a legal part stays legal for arrivals that agree before its end
+pub part_legal_past : (rules : PortRules) (xs ys : List Arrival) (earlier end : ℕ) (starts : List Transmission) → earlier ≤ end → HasAllBefore earlier xs ys →
+    HasAllBefore earlier ys xs → AreLegal rules xs end starts → AreLegal rules ys earlier (starts_before earlier starts)
 part_legal_past rules xs ys earlier end starts le to from legal =
     part_legal rules xs ys earlier end starts le (same_past xs ys earlier to from) legal
 
 -- what comes before an instant settles what is sent before it
-pub past_counts : (rules : PortRules) (xs ys : List Arrival) (earlier end other_end : ℕ) (a b : List Transmission) → earlier ≤ end → earlier ≤ other_end → HasAllBefore earlier xs ys → HasAllBefore earlier ys xs → AreLegal rules xs end a → AreLegal rules ys other_end b → starts_before earlier a ≡ starts_before earlier b
+pub past_counts : (rules : PortRules) (xs ys : List Arrival) (earlier end other_end : ℕ) (a b : List Transmission) → earlier ≤ end → earlier ≤ other_end →
+    HasAllBefore earlier xs ys → HasAllBefore earlier ys xs → AreLegal rules xs end a → AreLegal rules ys other_end b →
+    starts_before earlier a ≡ starts_before earlier b
 past_counts rules xs ys earlier end other_end a b le other_le to from la lb =
     legal_same rules ys earlier (starts_before earlier a) (starts_before earlier b)
     (part_legal_past rules xs ys earlier end a le to from la)

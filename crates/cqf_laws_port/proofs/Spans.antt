@@ -15,8 +15,10 @@ round_cons e es = sum_by-cons (λ (x : Entry). x.1) e es
 
 -- where the spans of the later entries begin
 begins_cons : (e : Entry) (es : List Entry) (place offset : ℕ) → round_of (take (suc place) (e ∷ es)) + offset ≡ e.1 + (round_of (take place es) + offset)
-begins_cons e es place offset = let cons : round_of (take (suc place) (e ∷ es)) ≡ e.1 + round_of (take place es) = round_cons e (take place es) in omega (arith, cons)
+begins_cons e es place offset = let cons : round_of (take (suc place) (e ∷ es)) ≡ e.1 + round_of (take place es) = round_cons e (take place es) in
+    omega (arith, cons)
 
+-- 0 and a number
 zero_add : (n : ℕ) → 0 + n ≡ n
 zero_add n = omega arith
 
@@ -24,22 +26,26 @@ zero_add n = omega arith
 states_here : (e : Entry) (es : List Entry) (x : ℕ) → x < e.1 → states_in (e ∷ es) x ≡ e.0
 states_here e es x l = ap (λ (b : Bool). cond b e.0 (states_in es (x - e.1))) (lt-ltb x e.1 l)
 
+-- behind the first entry the states are those of the rest
 states_there : (e : Entry) (es : List Entry) (x y : ℕ) → x ≡ e.1 + y → states_in (e ∷ es) x ≡ states_in es y
 states_there e es x y h =
     let same : x - e.1 ≡ y = omega (arith, h) in
     ap (λ (b : Bool). cond b e.0 (states_in es (x - e.1))) (le-ltb x e.1 (omega (arith, h))) ∙ ap (states_in es) same
 
 -- the states within the span of an entry are that entry's
-states_in_span : (entries : List Entry) (place offset : ℕ) → offset < (slice_index_or entries place (0, 0)).1 → states_in entries (round_of (take place entries) + offset) ≡ (slice_index_or entries place (0, 0)).0
+states_in_span : (entries : List Entry) (place offset : ℕ) → offset < (slice_index_or entries place (0, 0)).1 →
+    states_in entries (round_of (take place entries) + offset) ≡ (slice_index_or entries place (0, 0)).0
 states_in_span [] place offset h = absurd (omega (arith, h))
 states_in_span (e ∷ es) zero offset h =
     let l : offset < e.1 = h in
     states_here e es (0 + offset) (omega (arith, l))
 states_in_span (e ∷ es) (suc place) offset h =
-    states_there e es (round_of (take (suc place) (e ∷ es)) + offset) (round_of (take place es) + offset) (begins_cons e es place offset) ∙ states_in_span es place offset h
+    states_there e es (round_of (take (suc place) (e ∷ es)) + offset) (round_of (take place es) + offset) (begins_cons e es place offset)
+    ∙ states_in_span es place offset h
 
 -- the span of an entry ends within the round
-span_in_round : (entries : List Entry) (place offset : ℕ) → offset < (slice_index_or entries place (0, 0)).1 → round_of (take place entries) + offset < round_of entries
+span_in_round : (entries : List Entry) (place offset : ℕ) → offset < (slice_index_or entries place (0, 0)).1 →
+    round_of (take place entries) + offset < round_of entries
 span_in_round [] place offset h = absurd (omega (arith, h))
 span_in_round (e ∷ es) zero offset h =
     let l : offset < e.1 = h in
@@ -54,13 +60,16 @@ record At (entries : List Entry) (x place offset : ℕ) : Type 0 where
   is : x ≡ round_of (take place entries) + offset
   within : offset < (slice_index_or entries place (0, 0)).1
 
+-- an instant within the first entry
 at_here : (e : Entry) (es : List Entry) (x : ℕ) → x < e.1 → At (e ∷ es) x zero x
 at_here e es x l = record { inside = omega arith; is = sym (zero_add x); within = l }
 
+-- and one behind it
 at_there : (e : Entry) (es : List Entry) (x place offset : ℕ) → e.1 ≤ x → At es (x - e.1) place offset → At (e ∷ es) x (suc place) offset
 at_there e es x place offset g a =
     record { inside = omega (arith, a.inside); is = omega (arith, a.is, g, begins_cons e es place offset); within = a.within }
 
+-- each instant of a round is in an entry
 some_at : (entries : List Entry) (x : ℕ) → x < round_of entries → (place : ℕ) × (offset : ℕ) × At entries x place offset
 some_at [] x h = absurd (omega (arith, h))
 some_at (e ∷ es) x h =
@@ -70,7 +79,9 @@ some_at (e ∷ es) x h =
           (suc r.0, r.1, at_there e es x r.0 r.1 g r.2)
     ]
 
-one_at : (entries : List Entry) (p o q u : ℕ) → o < (slice_index_or entries p (0, 0)).1 → u < (slice_index_or entries q (0, 0)).1 → round_of (take p entries) + o ≡ round_of (take q entries) + u → (p ≡ q) × (o ≡ u)
+-- and in one alone
+one_at : (entries : List Entry) (p o q u : ℕ) → o < (slice_index_or entries p (0, 0)).1 → u < (slice_index_or entries q (0, 0)).1 →
+    round_of (take p entries) + o ≡ round_of (take q entries) + u → (p ≡ q) × (o ≡ u)
 one_at [] p o q u h k e = absurd (omega (arith, h))
 one_at (x ∷ xs) zero o zero u h k e =
     let f : 0 + o ≡ 0 + u = e in (refl, omega (arith, f))
@@ -92,7 +103,8 @@ in_round entries t place offset f =
     ap (λ (z : ℕ). z % r) same ∙ mod-mul-add f.round r x (span_in_round entries place offset f.within)
 
 -- the states at an instant are those of the entry in force
-pub states_of_entry : (entries : List Entry) (t place offset : ℕ) → InForce entries t place offset → states_at entries t ≡ (slice_index_or entries place (0, 0)).0
+pub states_of_entry : (entries : List Entry) (t place offset : ℕ) → InForce entries t place offset →
+    states_at entries t ≡ (slice_index_or entries place (0, 0)).0
 states_of_entry entries t place offset f =
     ap (states_in entries) (in_round entries t place offset f) ∙ states_in_span entries place offset f.within
 
@@ -119,7 +131,8 @@ always_open entries class t h all =
     subst (λ (x : ℕ). IsBitSet x class) (sym (states_of_entry entries t w.0 w.1 w.2)) (all w.0 (0, 0) w.2.inside)
 
 -- a frame that ends after it began fits exactly where the class stays open for it
-pub fits_while_open : (entries : List Entry) (class t ending : ℕ) (open_for : OpenFor) → 0 < round_of entries → t < ending → IsOpenFor entries class t open_for → (IsOpenThrough entries class t ending ↔ Fits open_for ending)
+pub fits_while_open : (entries : List Entry) (class t ending : ℕ) (open_for : OpenFor) → 0 < round_of entries → t < ending →
+    IsOpenFor entries class t open_for → (IsOpenThrough entries class t ending ↔ Fits open_for ending)
 fits_while_open entries class t ending Closed h l o = (λ through. o (through t (omega arith) l), λ never. absurd never)
 fits_while_open entries class t ending Always h l o = (λ through. tt, λ fits u a b. always_open entries class u h o)
 fits_while_open entries class t ending (Until end) h l o = (

@@ -22,7 +22,8 @@ SomeEntryIsInForce =
 -- no two entries are in force at one instant, and one is so at one offset alone
 abbrev pub OneEntryIsInForce : Type 0
 OneEntryIsInForce =
-    (entries : List Entry) (t place offset other other_offset : ℕ) → InForce entries t place offset → InForce entries t other other_offset → (place ≡ other) × (offset ≡ other_offset)
+    (entries : List Entry) (t place offset other other_offset : ℕ) → InForce entries t place offset → InForce entries t other other_offset → (place ≡ other) ×
+    (offset ≡ other_offset)
 
 -- a frame that ends at this instant is sent before the next close of its gate
 abbrev pub Fits : OpenFor → ℕ → Type 0
@@ -34,4 +35,5 @@ Fits (Until end) ending = ending ≤ end.0
 -- before the next gate-close event (IEEE Std 802.1Q-2018, 8.6.8.4)
 abbrev pub FrameFitsWhileOpen : Type 0
 FrameFitsWhileOpen =
-    (entries : List Entry) (class t octets octet_time : ℕ) (open_for : OpenFor) → 0 < round_of entries → 0 < octet_time → IsOpenFor entries class t open_for → (let ending = ending_of t octets octet_time in (IsOpenThrough entries class t ending ↔ Fits open_for ending))
+    (entries : List Entry) (class t octets octet_time : ℕ) (open_for : OpenFor) → 0 < round_of entries → 0 < octet_time → IsOpenFor entries class t open_for →
+    (let ending = ending_of t octets octet_time in (IsOpenThrough entries class t ending ↔ Fits open_for ending))

@@ -7,7 +7,8 @@ use Rattle.cqf_model.specs.Port.{Transmission, PortRules, AreLegal, instant_of, 
 -- what a port sends is settled: for the same gate list, link and arrivals no two lists of transmissions are legal
 abbrev pub LegalStartsAreUnique : Type 0
 LegalStartsAreUnique =
-    (rules : PortRules) (arrivals : List Arrival) (end : ℕ) (starts others : List Transmission) → AreLegal rules arrivals end starts → AreLegal rules arrivals end others → starts ≡ others
+    (rules : PortRules) (arrivals : List Arrival) (end : ℕ) (starts others : List Transmission) → AreLegal rules arrivals end starts →
+    AreLegal rules arrivals end others → starts ≡ others
 
 -- a port can always go on: whatever its gate list, link and arrivals are, some list of transmissions is legal
 abbrev pub LegalStartsExist : Type 0
@@ -20,25 +21,32 @@ starts_before end starts = filter (λ (start : Transmission). nat_lt start.1 end
 -- a port doesn't look ahead: of what it legally sends, the part before an earlier end is legal up to that end
 abbrev pub LegalPartIsLegal : Type 0
 LegalPartIsLegal =
-    (rules : PortRules) (arrivals : List Arrival) (earlier end : ℕ) (starts : List Transmission) → earlier ≤ end → AreLegal rules arrivals end starts → AreLegal rules arrivals earlier (starts_before earlier starts)
+    (rules : PortRules) (arrivals : List Arrival) (earlier end : ℕ) (starts : List Transmission) → earlier ≤ end → AreLegal rules arrivals end starts →
+    AreLegal rules arrivals earlier (starts_before earlier starts)
 
 -- of what comes before an instant, each arrival of the one list stands in the other, at the same place
 abbrev pub HasAllBefore : ℕ → List Arrival → List Arrival → Type 0
 HasAllBefore earlier arrivals others =
-    (place : ℕ) → place < length arrivals → instant_of arrivals place < earlier → (place < length others) × (slice_index_or arrivals place no_arrival ≡ slice_index_or others place no_arrival)
+    (place : ℕ) → place < length arrivals → instant_of arrivals place < earlier → (place < length others) ×
+    (slice_index_or arrivals place no_arrival ≡ slice_index_or others place no_arrival)
 
 -- of what a port legally sends, the part before an instant is legal up to it for any arrivals that are the same before it
 abbrev pub LegalPartIsLegalForTheSamePast : Type 0
 LegalPartIsLegalForTheSamePast =
-    (rules : PortRules) (arrivals others : List Arrival) (earlier end : ℕ) (starts : List Transmission) → earlier ≤ end → HasAllBefore earlier arrivals others → HasAllBefore earlier others arrivals → AreLegal rules arrivals end starts → AreLegal rules others earlier (starts_before earlier starts)
+    (rules : PortRules) (arrivals others : List Arrival) (earlier end : ℕ) (starts : List Transmission) → earlier ≤ end → HasAllBefore earlier arrivals others →
+    HasAllBefore earlier others arrivals → AreLegal rules arrivals end starts → AreLegal rules others earlier (starts_before earlier starts)
 
 -- only the past counts: two ports by the same rules, to which the same comes before an instant, send the same before it
 abbrev pub OnlyThePastCounts : Type 0
 OnlyThePastCounts =
-    (rules : PortRules) (arrivals others : List Arrival) (earlier end other_end : ℕ) (starts other_starts : List Transmission) → earlier ≤ end → earlier ≤ other_end → HasAllBefore earlier arrivals others → HasAllBefore earlier others arrivals → AreLegal rules arrivals end starts → AreLegal rules others other_end other_starts → starts_before earlier starts ≡ starts_before earlier other_starts
+    (rules : PortRules) (arrivals others : List Arrival) (earlier end other_end : ℕ) (starts other_starts : List Transmission) → earlier ≤ end →
+    earlier ≤ other_end → HasAllBefore earlier arrivals others → HasAllBefore earlier others arrivals → AreLegal rules arrivals end starts →
+    AreLegal rules others other_end other_starts → starts_before earlier starts ≡ starts_before earlier other_starts
 
 -- an arrival that is told late changes nothing, if its gate was closed all the time since it came: what was sent without
 -- it stays legal with it
 abbrev pub LateArrivalChangesNothing : Type 0
 LateArrivalChangesNothing =
-    (rules : PortRules) (arrivals : List Arrival) (late : Arrival) (reached : ℕ) (starts : List Transmission) → 0 < rules.octet_time → ((t : ℕ) → late.at.0 ≤ t → t < reached → ¬ IsOpen rules.entries late.class t) → AreLegal rules arrivals reached starts → AreLegal rules (arrivals ++ late ∷ []) reached starts
+    (rules : PortRules) (arrivals : List Arrival) (late : Arrival) (reached : ℕ) (starts : List Transmission) → 0 < rules.octet_time →
+    ((t : ℕ) → late.at.0 ≤ t → t < reached → ¬ IsOpen rules.entries late.class t) → AreLegal rules arrivals reached starts →
+    AreLegal rules (arrivals ++ late ∷ []) reached starts

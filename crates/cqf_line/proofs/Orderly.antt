@@ -2,8 +2,7 @@
 use Rattle.std.proofs.Common.{ℕ, ◌≡◌, ◌≢◌, ◌∙◌, ◌<◌, ◌≤◌, inl, inr, true, false, List, [], ◌∷◌, Some, None, refl, sym, ap, subst, arith, zero, suc, Contains, AllPairs, slice_get, lit≤}
 use Rattle.std.proofs.lemmas.Bool.{cases_lt}
 use Rattle.std.proofs.Math.ListN.{get_or-eq_default}
-use Rattle.cqf_lists.proofs.Members.{all_from_members, contains_none}
-use Rattle.cqf_lists.proofs.Made.{contains_one}
+use Rattle.cqf_lists.proofs.Members.{all_from_members, contains_none, contains_one}
 use Rattle.cqf_model.specs.declared.topology.Hop.{Hop}
 use Rattle.cqf_model.specs.declared.topology.Link.{Link}
 use Rattle.cqf_model.specs.declared.topology.Row.{Row}

@@ -8,10 +8,10 @@ use Rattle.std.proofs.Math.Nat.{div-mul-le_self}
 use Rattle.std.proofs.lemmas.List.{get_or-map, length-map}
 use Rattle.std.proofs.lemmas.List.Elements.{Contains-get_or}
 use Rattle.cqf_lists.specs.Lists.{each_below}
-use Rattle.cqf_lists.proofs.Members.{contains_from_filter, contains_from_flat, contains_from_map, contains_none}
+use Rattle.cqf_lists.proofs.Members.{contains_from_filter, contains_from_flat, contains_from_map, contains_none, contains_one}
 use Rattle.cqf_lists.proofs.EachBelow.{map_below, same_below}
 use Rattle.cqf_lists.proofs.Keys.{by_key}
-use Rattle.cqf_lists.proofs.Made.{contains_if, contains_one, map_same}
+use Rattle.cqf_lists.proofs.Made.{contains_if, map_same}
 use Rattle.cqf_lists.proofs.Ones.{flat_map_ones}
 use Rattle.cqf_lists.proofs.Kept.{flat_none}
 use Rattle.cqf_units.proofs.Cycles.{cycle_below}

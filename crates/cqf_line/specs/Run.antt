@@ -1,6 +1,5 @@
 -- What the line has taken and sent.
 use Rattle.std.specs.Prelude.{ℕ, ◌≡◌, List, [], map}
-use Rattle.cqf_model.specs.declared.frames.Book.{Book}
 use Rattle.cqf_model.specs.declared.frames.Dropped.{Dropped}
 use Rattle.cqf_model.specs.declared.frames.Offer.{Offer}
 use Rattle.cqf_model.specs.declared.frames.Started.{Started}
@@ -9,7 +8,6 @@ use Rattle.cqf_model.specs.declared.ports.Arrival.{Arrival}
 use Rattle.cqf_model.specs.declared.ports.Start.{Start}
 use Rattle.cqf_model.specs.GateList.{port_list}
 use Rattle.cqf_model.specs.Port.{Transmission, PortRules, AreLegal}
-use Rattle.cqf_model.specs.Book.{Contents}
 use Rattle.cqf_model.specs.Domain.{cycle_of}
 use Rattle.cqf_model.specs.Traffic.{Policed, police_all}
 use Rattle.cqf_gates.specs.StreamGate.{Gate}
@@ -18,10 +16,6 @@ use Rattle.cqf_order.specs.declared.Due.{Due}
 use Rattle.cqf_order.specs.InTime.{received_of}
 use Rattle.cqf_line.specs.Line.{line_domain, line_tables}
 use Rattle.cqf_line.specs.Edge.{HasPoliced}
-
--- what a book has
-abbrev pub contents_of : Book → Contents
-contents_of book = record { starts = book.starts.items; background = book.background.items; drops = book.drops.items }
 
 -- a start of the one link as a book has it
 abbrev pub started_by : Start → Started

@@ -3,11 +3,11 @@ ghost use Rattle.std.specs.Prelude.{◌≡◌, ◌+◌, ◌*◌, ◌^◌, ◌<�
 ghost use Rattle.std.specs.List.Sorted.{IsNonDecreasingBy};
 ghost use Rattle.cqf_model.specs.declared.ports.Start.{Start as AStart};
 ghost use Rattle.cqf_model.specs.Run.{AreOffers};
-ghost use Rattle.cqf_model.specs.Book.{Contents, IsOneThreadBook};
+ghost use Rattle.cqf_model.specs.Book.{Contents, IsOneThreadBook, contents_of};
 ghost use Rattle.cqf_order.specs.InTime.{IsDue};
 ghost use Rattle.cqf_shift.specs.Books.{SaysTheShift};
 ghost use Rattle.cqf_line.specs.Line.{line_domain, line_run};
-ghost use Rattle.cqf_line.specs.Run.{contents_of, line_rules, started_by, HasTaken, HasRun};
+ghost use Rattle.cqf_line.specs.Run.{line_rules, started_by, HasTaken, HasRun};
 
 use crate::compiled::CYCLE_TIME;
 use crate::edge::Edge;

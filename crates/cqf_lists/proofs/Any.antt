@@ -1,12 +1,12 @@
 -- Whether some element of a list passes a test.
-use Rattle.std.proofs.Common.{◌≡◌, ℕ, ◌+◌, Bool, true, false, cond, not, nat_lt, List, [], ◌∷◌, ◌&&◌, ◌||◌, Some, None, length, position, refl, sym, ap, ◌∙◌, inl, inr, arith, map}
+use Rattle.std.proofs.Common.{◌≡◌, ℕ, ◌+◌, Bool, true, false, cond, not, nat_lt, List, [], ◌∷◌, ◌&&◌, ◌||◌, Some, None, length, position, refl, ap, ◌∙◌, inl}
+use Rattle.std.proofs.Common.{inr, arith, map}
 use Rattle.std.specs.Prelude.{is_some, suc}
 use Rattle.std.specs.Prelude.{filter}
 use Rattle.std.specs.List.{Contains, list_any, prefix_len}
 use Rattle.std.proofs.lemmas.Bool.{both_ways, cases_Bool, lt-ltb}
 use Rattle.std.proofs.lemmas.Bool.Decides.{nat_tests}
-use Rattle.std.proofs.lemmas.List.Folds.{list_any_at}
-use Rattle.cqf_lists.proofs.Contained.{contains_here, contains_there}
+use Rattle.cqf_lists.proofs.Members.{member_any}
 
 -- of a mapped list, the test of what each element is mapped to
 pub list_any-map : {X Y : Type 0} (p : Y → Bool) (f : X → Y) (xs : List X) → list_any p (map f xs) ≡ list_any (λ x. p (f x)) xs
@@ -22,18 +22,6 @@ list_any-filter {X} p q (x ∷ xs) = kept (q x) ∙ ap (λ (b : Bool). (q x && p
     kept true = refl
     kept false = refl
 
--- an element that passes is a witness
-pub any_member : {X : Type 0} (p : X → Bool) (xs : List X) → list_any p xs ≡ true → (x : X) × Contains xs x × (p x ≡ true)
-any_member p [] e = absurd cc
-any_member p (x ∷ xs) e = elim (cases_Bool (p x)) [
-  | inl t ↦ (x, contains_here x x xs refl, t)
-  | inr f ↦ let later = any_member p xs (sym (ap (λ (b : Bool). b || list_any p xs) f) ∙ e) in (later.0, contains_there x later.0 xs later.1, later.2)
-]
-
--- and a member that passes settles the answer
-pub member_any : {X : Type 0} (p : X → Bool) (xs : List X) (x : X) → Contains xs x → p x ≡ true → list_any p xs ≡ true
-member_any p xs x (k, h, e) t = list_any_at p xs k x h (ap p e ∙ t)
-
 -- where no element passes, a member doesn't
 pub none_member : {X : Type 0} (p : X → Bool) (xs : List X) (x : X) → list_any p xs ≡ false → Contains xs x → p x ≡ false
 none_member p xs x e c = elim (cases_Bool (p x)) [
@@ -41,21 +29,25 @@ none_member p xs x e c = elim (cases_Bool (p x)) [
   | inr f ↦ f
 ]
 
--- a first place is there where some element passes
-one_more : (n m : ℕ) → nat_lt (1 + n) (suc m) ≡ nat_lt n m
+-- one more on both sides doesn't change which is less
+pub one_more : (n m : ℕ) → nat_lt (1 + n) (suc m) ≡ nat_lt n m
 one_more n m = grind (arith, nat_tests)
 
+-- the elements before the first that passes are fewer than all where some element passes
 place_found : {X : Type 0} (p : X → Bool) (xs : List X) → nat_lt (prefix_len (λ x. not (p x)) xs) (length xs) ≡ list_any p xs
 place_found p [] = refl
 place_found {X} p (x ∷ xs) = by_test (p x) (place_found p xs)
   where
-    by_test : (b : Bool) → nat_lt (prefix_len (λ z. not (p z)) xs) (length xs) ≡ list_any p xs → nat_lt (cond (not b) (1 + prefix_len (λ z. not (p z)) xs) 0) (suc (length xs)) ≡ (b || list_any p xs)
+    by_test : (b : Bool) → nat_lt (prefix_len (λ z. not (p z)) xs) (length xs) ≡ list_any p xs →
+        nat_lt (cond (not b) (1 + prefix_len (λ z. not (p z)) xs) 0) (suc (length xs)) ≡ (b || list_any p xs)
     by_test true e = lt-ltb 0 (suc (length xs)) (omega arith)
     by_test false e = one_more (prefix_len (λ z. not (p z)) xs) (length xs) ∙ e
 
+-- some number stands under a test where the test passes
 some_cond : (b : Bool) (n : ℕ) → is_some (cond b (Some n) None) ≡ b
 some_cond true n = refl
 some_cond false n = refl
 
+-- there is a first place that passes where some element does
 pub position_any : {X : Type 0} (p : X → Bool) (xs : List X) → is_some (position p xs) ≡ list_any p xs
 position_any p xs = some_cond (nat_lt (prefix_len (λ x. not (p x)) xs) (length xs)) (prefix_len (λ x. not (p x)) xs) ∙ place_found p xs

@@ -1,12 +1,13 @@
 -- Lists end to end, and what filters keep of them.
-use Rattle.std.proofs.Common.{◌≡◌, ℕ, zero, suc, ◌<◌, ◌∷◌, [], ◌++◌, List, Bool, true, false, ◌&&◌, map, filter, inl, inr, sym, ap, ap₂, fold, ◌∙◌, subst, arith, refl, append_assoc, append-nil, Contains, ◌+◌, add-suc, add-zero}
-use Rattle.std.proofs.lemmas.Bool.{cases_Bool, cases_order, cond-true, cond-false}
-use Rattle.std.proofs.lemmas.List.{map-append}
+use Rattle.std.proofs.Common.{◌≡◌, ℕ, zero, suc, ◌<◌, ◌∷◌, [], ◌++◌, List, Bool, true, false, ◌&&◌, map, filter, inl, inr, sym, ap, ap₂, fold, ◌∙◌, subst}
+use Rattle.std.proofs.Common.{arith, refl, append_assoc, append-nil, Contains, ◌+◌, ◌-◌, length, get_or, length-append, add-suc, add-zero}
+use Rattle.std.proofs.lemmas.Bool.{cases_Bool, cases_lt, cases_order, cond-true, cond-false}
+use Rattle.std.proofs.lemmas.List.{get_or-append_right, get_or_append_left, map-append}
 use Rattle.std.proofs.lemmas.List.Elements.{Contains-append_left, Contains-append_right, Contains-append_cases, filter-append}
 use Rattle.cqf_lists.specs.Lists.{each_below}
 use Rattle.cqf_lists.proofs.Members.{contains_here, contains_later, contains_none}
 
--- members of lists end to end
+-- a member of one of the lists is one of them end to end
 pub contains_below : {X : Type 0} (f : ℕ → List X) (n k : ℕ) (x : X) → k < n → Contains (f k) x → Contains (each_below f n) x
 contains_below f zero k x l c = absurd (omega (arith, l))
 contains_below f (suc n) k x l c = elim (cases_order k n) [
@@ -25,7 +26,7 @@ contains_from_below f (suc n) x c = elim (Contains-append_cases (each_below f n)
   | inr h ↦ (n, omega arith, h)
 ]
 
--- lists end to end that are the same one by one, and that are empty
+-- lists that are the same one by one are the same end to end
 pub same_below : {X : Type 0} (f g : ℕ → List X) (n : ℕ) → ((k : ℕ) → k < n → f k ≡ g k) → each_below f n ≡ each_below g n
 same_below f g zero same = refl
 same_below f g (suc n) same = ap (λ z. z ++ f n) (same_below f g n (λ k l. same k (omega (arith, l)))) ∙ ap (λ z. each_below g n ++ z) (same n (omega arith))
@@ -40,18 +41,21 @@ pub filter_below : {X : Type 0} (p : X → Bool) (f : ℕ → List X) (n : ℕ) 
 filter_below p f zero = refl
 filter_below p f (suc n) = filter-append p (each_below f n) (f n) ∙ ap (λ z. z ++ filter p (f n)) (filter_below p f n)
 
--- no element passes, each does
+-- where no element passes, none is kept
 pub filter_none : {X : Type 0} (p : X → Bool) (xs : List X) → ((x : X) → Contains xs x → p x ≡ false) → filter p xs ≡ []
 filter_none p [] no_one = refl
-filter_none p (x ∷ xs) no_one = cond-false (p x) (x ∷ filter p xs) (filter p xs) (no_one x (contains_here x xs)) ∙ filter_none p xs (λ y c. no_one y (contains_later x xs y c))
+filter_none p (x ∷ xs) no_one = cond-false (p x) (x ∷ filter p xs) (filter p xs) (no_one x (contains_here x xs))
+    ∙ filter_none p xs (λ y c. no_one y (contains_later x xs y c))
 
 -- where each element passes, all are kept
 pub filter_each : {X : Type 0} (p : X → Bool) (xs : List X) → ((x : X) → Contains xs x → p x ≡ true) → filter p xs ≡ xs
 filter_each p [] each = refl
-filter_each p (x ∷ xs) each = cond-true (p x) (x ∷ filter p xs) (filter p xs) (each x (contains_here x xs)) ∙ ap (λ z. x ∷ z) (filter_each p xs (λ y c. each y (contains_later x xs y c)))
+filter_each p (x ∷ xs) each = cond-true (p x) (x ∷ filter p xs) (filter p xs) (each x (contains_here x xs))
+    ∙ ap (λ z. x ∷ z) (filter_each p xs (λ y c. each y (contains_later x xs y c)))
 
 -- one element of a filter of a filter
-filter_twice_step : {X : Type 0} (p q : X → Bool) (x : X) (xs : List X) (a b : Bool) → p x ≡ a → q x ≡ b → filter p (filter q xs) ≡ filter (λ x. p x && q x) xs → filter p (filter q (x ∷ xs)) ≡ filter (λ x. p x && q x) (x ∷ xs)
+filter_twice_step : {X : Type 0} (p q : X → Bool) (x : X) (xs : List X) (a b : Bool) → p x ≡ a → q x ≡ b →
+    filter p (filter q xs) ≡ filter (λ x. p x && q x) xs → filter p (filter q (x ∷ xs)) ≡ filter (λ x. p x && q x) (x ∷ xs)
 filter_twice_step p q x xs true true pe qe rest =
     ap (filter p) (cond-true (q x) (x ∷ filter q xs) (filter q xs) qe)
     ∙ cond-true (p x) (x ∷ filter p (filter q xs)) (filter p (filter q xs)) pe
@@ -77,10 +81,12 @@ filter_twice p q [] = refl
 filter_twice p q (x ∷ xs) = filter_twice_step p q x xs (p x) (q x) refl refl (filter_twice p q xs)
 
 -- a fold passes over what changes nothing
-pub fold_filter : {X A : Type 0} (step : A → X → A) (p : X → Bool) (a : A) (xs : List X) → ((b : A) (x : X) → Contains xs x → p x ≡ false → step b x ≡ b) → fold step a xs ≡ fold step a (filter p xs)
+pub fold_filter : {X A : Type 0} (step : A → X → A) (p : X → Bool) (a : A) (xs : List X) → ((b : A) (x : X) → Contains xs x → p x ≡ false → step b x ≡ b) →
+    fold step a xs ≡ fold step a (filter p xs)
 fold_filter step p a [] idle = refl
 fold_filter step p a (x ∷ xs) idle = elim (cases_Bool (p x)) [
-  | inl t ↦ fold_filter step p (step a x) xs (λ b y c. idle b y (contains_later x xs y c)) ∙ ap (fold step a) (sym (cond-true (p x) (x ∷ filter p xs) (filter p xs) t))
+  | inl t ↦ fold_filter step p (step a x) xs (λ b y c. idle b y (contains_later x xs y c))
+      ∙ ap (fold step a) (sym (cond-true (p x) (x ∷ filter p xs) (filter p xs) t))
   | inr f ↦
       ap (λ z. fold step z xs) (idle a x (contains_here x xs) f)
       ∙ fold_filter step p a xs (λ b y c. idle b y (contains_later x xs y c))
@@ -88,9 +94,11 @@ fold_filter step p a (x ∷ xs) idle = elim (cases_Bool (p x)) [
 ]
 
 -- folds by steps that are the same at each member
-pub fold_same : {X A : Type 0} (one two : A → X → A) (a : A) (xs : List X) → ((b : A) (x : X) → Contains xs x → one b x ≡ two b x) → fold one a xs ≡ fold two a xs
+pub fold_same : {X A : Type 0} (one two : A → X → A) (a : A) (xs : List X) → ((b : A) (x : X) → Contains xs x → one b x ≡ two b x) →
+    fold one a xs ≡ fold two a xs
 fold_same one two a [] same = refl
-fold_same one two a (x ∷ xs) same = ap (λ z. fold one z xs) (same a x (contains_here x xs)) ∙ fold_same one two (two a x) xs (λ b y c. same b y (contains_later x xs y c))
+fold_same one two a (x ∷ xs) same = ap (λ z. fold one z xs) (same a x (contains_here x xs))
+    ∙ fold_same one two (two a x) xs (λ b y c. same b y (contains_later x xs y c))
 
 -- a map goes through lists end to end
 pub map_below : {X Y : Type 0} (g : X → Y) (f : ℕ → List X) (n : ℕ) → map g (each_below f n) ≡ each_below (λ k. map g (f k)) n
@@ -126,3 +134,23 @@ first_below f (suc n) =
     ap (λ z. z ++ f (suc n)) (first_below f n)
     ∙ append_assoc (f 0) (each_below (λ k. f (k + 1)) n) (f (suc n))
     ∙ ap (λ z. f 0 ++ (each_below (λ k. f (k + 1)) n ++ z)) next
+
+-- where each list is of one element, they are as many as the numbers
+pub length-singles : {A : Type 0} (f : ℕ → A) (n : ℕ) → length (each_below (λ k. f k ∷ []) n) ≡ n
+length-singles f zero = refl
+length-singles f (suc n) = length-append (each_below (λ k. f k ∷ []) n) (f n ∷ []) ∙ grown (length (each_below (λ k. f k ∷ []) n)) (length-singles f n)
+  where
+    grown : (m : ℕ) → m ≡ n → m + 1 ≡ suc n
+    grown m e = omega (arith, e)
+
+-- and each stands at its place
+pub get_or-singles : {A : Type 0} (f : ℕ → A) (n k : ℕ) (d : A) → k < n → get_or (each_below (λ k. f k ∷ []) n) k d ≡ f k
+get_or-singles f zero k d h = absurd (omega (arith, h))
+get_or-singles f (suc n) k d h =
+    elim (cases_lt k n) [
+      | inl l ↦ get_or_append_left (each_below (λ k. f k ∷ []) n) (f n ∷ []) d k (omega (arith, l, length-singles f n)) ∙ get_or-singles f n k d l
+      | inr g ↦ get_or-append_right (each_below (λ k. f k ∷ []) n) (f n ∷ []) n k d (length-singles f n) g ∙ at_last k (omega (arith, g, h))
+    ]
+  where
+    at_last : (m : ℕ) → m ≡ n → get_or (f n ∷ []) (m - n) d ≡ f m
+    at_last m e = let z : m - n ≡ 0 = omega (arith, e) in ap (λ (i : ℕ). get_or (f n ∷ []) i d) z ∙ ap f (sym e)

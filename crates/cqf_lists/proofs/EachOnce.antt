@@ -1,18 +1,22 @@
 -- The first of each, where some are the same; and the elements of lists end to end.
-use Rattle.std.proofs.Common.{◌≡◌, ℕ, ◌+◌, ◌<◌, ◌⊎◌, Bool, true, false, cond, List, Some, length, refl, sym, ap, ◌∙◌, inl, inr, arith, subst, append_assoc, append-nil}
+use Rattle.std.proofs.Common.{◌≡◌, ℕ, ◌+◌, ◌<◌, ◌⊎◌, Bool, true, false, cond, List, Some, length, refl, sym, ap, ◌∙◌, inl, inr, arith, subst, append_assoc}
+use Rattle.std.proofs.Common.{append-nil}
 use Rattle.std.specs.Prelude.{[], ◌∷◌, ◌++◌, fold, slice_get, take, zero, suc}
 use Rattle.std.specs.List.{AllPairs, Contains, flat_map, list_any}
 use Rattle.std.proofs.lemmas.List.{take-append-le, take_at}
-use Rattle.std.proofs.lemmas.List.Elements.{Contains-append_left, Contains-append_right, Contains-append_cases, Contains-push}
+use Rattle.std.proofs.lemmas.List.Elements.{Contains-append_left, Contains-append_cases, Contains-push}
 use Rattle.std.proofs.lemmas.Option.{same_Some, slice_get_within}
 use Rattle.cqf_lists.specs.Lists.{each_once}
-use Rattle.cqf_lists.proofs.Any.{any_member, none_member}
-use Rattle.cqf_lists.proofs.Contained.{contains_at, contains_cons, contains_here, contains_nil, contains_there, pairs_nil, pairs_push, slice_get_parts, slice_get-take}
+use Rattle.cqf_lists.proofs.Any.{none_member}
+use Rattle.cqf_lists.proofs.Members.{any_member, contains_at, contains_cases, contains_here, contains_later, contains_none}
+use Rattle.cqf_lists.proofs.Pairs.{pairs_none, pairs_push}
+use Rattle.cqf_lists.proofs.Places.{slice_get-take, slice_get_parts}
 
 -- those kept, with one element more where it is none of them
 abbrev pub kept_with : {X : Type 0} → Bool → List X → X → List X
 kept_with b kept x = cond b kept (kept ++ x ∷ [])
 
+-- those kept, with the next one where it is none of them
 abbrev pub keep : {X : Type 0} → (X → X → Bool) → List X → X → List X
 keep same kept x = kept_with (list_any (λ y. same y x) kept) kept x
 
@@ -21,11 +25,12 @@ kept_front : {X : Type 0} (b : Bool) (kept : List X) (x : X) → (rest : List X)
 kept_front true kept x = ([], sym (append-nil kept))
 kept_front false kept x = (x ∷ [], refl)
 
+-- what is kept was kept before, or is the new one
 kept_cases : {X : Type 0} (b : Bool) (kept : List X) (x z : X) → Contains (kept_with b kept x) z → Contains kept z ⊎ (x ≡ z)
 kept_cases true kept x z c = inl c
 kept_cases false kept x z c = elim (Contains-append_cases kept (x ∷ []) z c) [
   | inl k ↦ inl k
-  | inr k ↦ elim (contains_cons x z [] k) [ inl e ↦ inr e | inr n ↦ absurd (contains_nil z n) ]
+  | inr k ↦ elim (contains_cases x [] z k) [ inl e ↦ inr e | inr n ↦ absurd (contains_none z n) ]
 ]
 
 module _ {X : Type 0} (same : X → X → Bool) where
@@ -37,14 +42,20 @@ module _ {X : Type 0} (same : X → X → Bool) where
       let more = front (keep same kept x) xs in
       (one.0 ++ more.0, more.1 ∙ ap (λ (ys : List X). ys ++ more.0) one.1 ∙ append_assoc kept one.0 more.0)
 
+  -- what is kept stays
   stays : (kept xs : List X) (z : X) → Contains kept z → Contains (fold (keep same) kept xs) z
   stays kept xs z c = let f = front kept xs in subst (λ (ys : List X). Contains ys z) (sym f.1) (Contains-append_left kept f.0 z c)
 
+  -- what is kept at the end was kept or is one of the list
   from : (kept xs : List X) (z : X) → Contains (fold (keep same) kept xs) z → Contains kept z ⊎ Contains xs z
   from kept [] z c = inl c
   from kept (x ∷ xs) z c = elim (from (keep same kept x) xs z c) [
-    | inl k ↦ elim (kept_cases (list_any (λ y. same y x) kept) kept x z k) [ inl a ↦ inl a | inr e ↦ inr (contains_here x z xs e) ]
-    | inr k ↦ inr (contains_there x z xs k)
+    | inl k ↦ elim (kept_cases (list_any (λ y. same y x) kept) kept x z k) [
+      | inl a ↦ inl a
+      | inr e ↦
+          inr (subst (λ (y : X). Contains (x ∷ xs) y) e (contains_here x xs))
+    ]
+    | inr k ↦ inr (contains_later x xs z k)
   ]
 
   -- an element of the list is the same as one that is kept
@@ -57,8 +68,8 @@ module _ {X : Type 0} (same : X → X → Bool) where
         by_test false e = (x, Contains-push kept x, itself x)
 
     cover : (kept xs : List X) (z : X) → Contains xs z → (y : X) × Contains (fold (keep same) kept xs) y × (same y z ≡ true)
-    cover kept [] z c = absurd (contains_nil z c)
-    cover kept (x ∷ xs) z c = elim (contains_cons x z xs c) [
+    cover kept [] z c = absurd (contains_none z c)
+    cover kept (x ∷ xs) z c = elim (contains_cases x xs z c) [
       | inl e ↦ let y = one_kept kept x in (y.0, stays (keep same kept x) xs y.0 y.1, subst (λ w. same y.0 w ≡ true) e y.2)
       | inr k ↦ cover (keep same kept x) xs z k
     ]
@@ -68,7 +79,7 @@ module _ {X : Type 0} (same : X → X → Bool) where
 
   -- what is kept stood in the list
   pub once_from : (xs : List X) (z : X) → Contains (each_once same xs) z → Contains xs z
-  once_from xs z c = elim (from [] xs z c) [ inl n ↦ absurd (contains_nil z n) | inr k ↦ k ]
+  once_from xs z c = elim (from [] xs z c) [ inl n ↦ absurd (contains_none z n) | inr k ↦ k ]
 
   -- no two of those kept are the same
   pairs_step : (kept : List X) (x : X) → AllPairs (λ (a b : X). same a b ≡ false) kept → AllPairs (λ (a b : X). same a b ≡ false) (keep same kept x)
@@ -78,15 +89,18 @@ module _ {X : Type 0} (same : X → X → Bool) where
       by_test true e = p
       by_test false e = pairs_push (λ (a c : X). same a c ≡ false) kept x p (λ y c. none_member (λ z. same z x) kept y e c)
 
+  -- those kept are apart
   pairs : (kept xs : List X) → AllPairs (λ (a b : X). same a b ≡ false) kept → AllPairs (λ (a b : X). same a b ≡ false) (fold (keep same) kept xs)
   pairs kept [] p = p
   pairs kept (x ∷ xs) p = pairs (keep same kept x) xs (pairs_step kept x p)
 
+  -- so no two that are the same are left
   pub once_apart : (xs : List X) → AllPairs (λ (a b : X). same a b ≡ false) (each_once same xs)
-  once_apart xs = pairs [] xs (pairs_nil (λ (a b : X). same a b ≡ false))
+  once_apart xs = pairs [] xs (pairs_none (λ (a b : X). same a b ≡ false))
 
   -- one that is kept stands in the list behind those from which the ones before it are kept
-  new_place : (b : Bool) (kept : List X) (x : X) (p : ℕ) (z : X) → slice_get (kept_with b kept x) p ≡ Some z → (slice_get kept p ≡ Some z) ⊎ ((b ≡ false) × (p ≡ length kept) × (x ≡ z))
+  new_place : (b : Bool) (kept : List X) (x : X) (p : ℕ) (z : X) → slice_get (kept_with b kept x) p ≡ Some z →
+      (slice_get kept p ≡ Some z) ⊎ ((b ≡ false) × (p ≡ length kept) × (x ≡ z))
   new_place true kept x p z e = inl e
   new_place false kept x p z e = elim (slice_get_parts kept (x ∷ []) p z e) [
     | inl a ↦ inl a
@@ -101,7 +115,9 @@ module _ {X : Type 0} (same : X → X → Bool) where
       here zero f = same_Some x z f
       here (suc k) f = absurd cc
 
-  place : (kept xs : List X) (p : ℕ) (z : X) → slice_get (fold (keep same) kept xs) p ≡ Some z → (slice_get kept p ≡ Some z) ⊎ ((i : ℕ) × (slice_get xs i ≡ Some z) × (take p (fold (keep same) kept xs) ≡ fold (keep same) kept (take i xs)))
+  -- what is kept stood in the list, and before it what is kept of those before
+  place : (kept xs : List X) (p : ℕ) (z : X) → slice_get (fold (keep same) kept xs) p ≡ Some z →
+      (slice_get kept p ≡ Some z) ⊎ ((i : ℕ) × (slice_get xs i ≡ Some z) × (take p (fold (keep same) kept xs) ≡ fold (keep same) kept (take i xs)))
   place kept [] p z e = inl e
   place kept (x ∷ xs) p z e = elim (place (keep same kept x) xs p z e) [
     | inr w ↦ inr (suc w.0, w.1, w.2)
@@ -109,31 +125,20 @@ module _ {X : Type 0} (same : X → X → Bool) where
       | inl k ↦ inl k
       | inr w ↦ (let f = front (keep same kept x) xs in
           let grown : keep same kept x ≡ kept ++ x ∷ [] = ap (λ (b : Bool). kept_with b kept x) w.0 in
-          let whole : fold (keep same) (keep same kept x) xs ≡ kept ++ (x ∷ [] ++ f.0) = f.1 ∙ ap (λ (ys : List X). ys ++ f.0) grown ∙ append_assoc kept (x ∷ []) f.0 in
+          let whole : fold (keep same) (keep same kept x) xs ≡ kept ++ (x ∷ [] ++ f.0) = f.1 ∙ ap (λ (ys : List X). ys ++ f.0) grown
+          ∙ append_assoc kept (x ∷ []) f.0 in
           inr (0, ap (λ y. Some y) w.2, ap (λ (ys : List X). take p ys) whole ∙ take_at kept (x ∷ [] ++ f.0) p (sym w.1)))
     ]
   ]
 
-  pub once_place : (xs : List X) (p : ℕ) (z : X) → slice_get (each_once same xs) p ≡ Some z → (i : ℕ) × (slice_get xs i ≡ Some z) × (take p (each_once same xs) ≡ each_once same (take i xs))
+  -- what is kept stood in the list, behind what is kept before it
+  pub once_place : (xs : List X) (p : ℕ) (z : X) → slice_get (each_once same xs) p ≡ Some z → (i : ℕ) × (slice_get xs i ≡ Some z) ×
+      (take p (each_once same xs) ≡ each_once same (take i xs))
   once_place xs p z e = elim (place [] xs p z e) [ inl n ↦ absurd cc | inr w ↦ w ]
 
 -- ---- lists end to end
 
 module _ {X A : Type 0} (f : X → List A) where
-  pub flat_from : (xs : List X) (z : A) → Contains (flat_map f xs) z → (x : X) × Contains xs x × Contains (f x) z
-  flat_from [] z c = absurd (contains_nil z c)
-  flat_from (x ∷ xs) z c = elim (Contains-append_cases (f x) (flat_map f xs) z c) [
-    | inl k ↦ (x, contains_here x x xs refl, k)
-    | inr k ↦ let w = flat_from xs z k in (w.0, contains_there x w.0 xs w.1, w.2)
-  ]
-
-  pub flat_member : (xs : List X) (x : X) (z : A) → Contains xs x → Contains (f x) z → Contains (flat_map f xs) z
-  flat_member [] x z c k = absurd (contains_nil x c)
-  flat_member (y ∷ xs) x z c k = elim (contains_cons y x xs c) [
-    | inl e ↦ Contains-append_left (f y) (flat_map f xs) z (subst (λ (v : X). Contains (f v) z) (sym e) k)
-    | inr d ↦ Contains-append_right (f y) (flat_map f xs) z (flat_member xs x z d k)
-  ]
-
   -- an element of one of the lists, of which all before it stands before it
   pub record StandsIn (xs : List X) (i : ℕ) (z : A) : Type 0 where
     pub x : X
@@ -142,10 +147,11 @@ module _ {X A : Type 0} (f : X → List A) where
     pub at : slice_get (f x) k ≡ Some z
     pub before : (y : A) (j : ℕ) → j < k → slice_get (f x) j ≡ Some y → Contains (take i (flat_map f xs)) y
 
+  -- an element of the first list
   in_first : (x : X) (xs : List X) (i : ℕ) (z : A) → slice_get (f x) i ≡ Some z → StandsIn (x ∷ xs) i z
   in_first x xs i z e = record {
     x = x;
-    of_list = contains_here x x xs refl;
+    of_list = contains_here x xs;
     k = i;
     at = e;
     before = λ y j h g.
@@ -153,13 +159,14 @@ module _ {X A : Type 0} (f : X → List A) where
         (contains_at (take i (f x)) j y (slice_get-take (f x) i j h ∙ g));
   }
 
+  -- each element of lists end to end is one of a list
   pub flat_place : (xs : List X) (i : ℕ) (z : A) → slice_get (flat_map f xs) i ≡ Some z → StandsIn xs i z
   flat_place [] i z e = absurd cc
   flat_place (x ∷ xs) i z e = elim (slice_get_parts (f x) (flat_map f xs) i z e) [
     | inl a ↦ in_first x xs i z a
     | inr w ↦ (let r = flat_place xs w.0 z w.2 in record {
       x = r.x;
-      of_list = contains_there x r.x xs r.of_list;
+      of_list = contains_later x xs r.x r.of_list;
       k = r.k;
       at = r.at;
       before = λ y j h g. behind (f x) (flat_map f xs) i w.0 y w.1 (r.before y j h g);
@@ -169,4 +176,4 @@ module _ {X A : Type 0} (f : X → List A) where
       behind : (front rest : List A) (i k : ℕ) (y : A) → i ≡ length front + k → Contains (take k rest) y → Contains (take i (front ++ rest)) y
       behind [] rest i k y e c = let same_i : k ≡ i = omega (arith, e) in subst (λ (n : ℕ). Contains (take n rest) y) same_i c
       behind (a ∷ front) rest zero k y e c = absurd (omega (arith, e))
-      behind (a ∷ front) rest (suc i) k y e c = contains_there a y (take i (front ++ rest)) (behind front rest i k y (omega (arith, e)) c)
+      behind (a ∷ front) rest (suc i) k y e c = contains_later a (take i (front ++ rest)) y (behind front rest i k y (omega (arith, e)) c)

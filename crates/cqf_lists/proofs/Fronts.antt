@@ -1,5 +1,6 @@
 -- A list as a front and a rest of which something holds.
-use Rattle.std.proofs.Common.{◌≡◌, ℕ, zero, suc, ◌<◌, ◌≤◌, ◌++◌, [], List, Bool, true, false, filter, inl, inr, sym, ap, ◌∙◌, arith, append_assoc, append-nil, Contains}
+use Rattle.std.proofs.Common.{◌≡◌, ℕ, zero, suc, ◌<◌, ◌≤◌, ◌++◌, [], List, Bool, true, false, filter, inl, inr, sym, ap, ◌∙◌, arith, append_assoc, append-nil}
+use Rattle.std.proofs.Common.{Contains}
 use Rattle.std.proofs.lemmas.Bool.{cases_lt}
 use Rattle.std.proofs.lemmas.List.Elements.{Contains-append_cases, filter-append}
 use Rattle.cqf_lists.specs.Lists.{each_below}
@@ -17,7 +18,8 @@ pub front_whole : {X : Type 0} (xs ys : List X) (Late : X → Type 0) → xs ≡
 front_whole xs ys Late e = record { rest = []; is = e ∙ sym (append-nil ys); late = λ x h. absurd (contains_none x h) }
 
 -- with more of the same behind it, the front stays
-pub front_more : {X : Type 0} (whole front more : List X) (Late : X → Type 0) → Front whole front Late → ((x : X) → Contains more x → Late x) → Front (whole ++ more) front Late
+pub front_more : {X : Type 0} (whole front more : List X) (Late : X → Type 0) → Front whole front Late → ((x : X) → Contains more x → Late x) →
+    Front (whole ++ more) front Late
 front_more {X} whole front more Late f late =
     record {
       rest = f.rest ++ more;
@@ -31,7 +33,8 @@ front_behind {X} before whole front Late f =
     record { rest = f.rest; is = ap (λ (xs : List X). before ++ xs) f.is ∙ sym (append_assoc before front f.rest); late = f.late }
 
 -- what a test keeps of the front is the front of what it keeps
-pub front_filter : {X : Type 0} (p : X → Bool) (whole front : List X) (Late : X → Type 0) → Front whole front Late → Front (filter p whole) (filter p front) Late
+pub front_filter : {X : Type 0} (p : X → Bool) (whole front : List X) (Late : X → Type 0) → Front whole front Late →
+    Front (filter p whole) (filter p front) Late
 front_filter p whole front Late f =
     record { rest = filter p f.rest; is = ap (filter p) f.is ∙ filter-append p front f.rest; late = λ x h. f.late x (contains_from_filter p f.rest x h).0 }
 
@@ -57,11 +60,13 @@ each_front {X} f n (suc m) le =
     ]
 
 -- a test that holds just for what is of the lists before a number keeps those
-pub filter_front : {X : Type 0} (p : X → Bool) (f : ℕ → List X) (n m : ℕ) → n ≤ m → ((k : ℕ) (x : X) → k < n → Contains (f k) x → p x ≡ true) → ((k : ℕ) (x : X) → n ≤ k → Contains (f k) x → p x ≡ false) → filter p (each_below f m) ≡ each_below f n
+pub filter_front : {X : Type 0} (p : X → Bool) (f : ℕ → List X) (n m : ℕ) → n ≤ m → ((k : ℕ) (x : X) → k < n → Contains (f k) x → p x ≡ true) →
+    ((k : ℕ) (x : X) → n ≤ k → Contains (f k) x → p x ≡ false) → filter p (each_below f m) ≡ each_below f n
 filter_front {X} p f n m le pass fail =
     let r = each_front f n m le in
     let kept : filter p (each_below f n) ≡ each_below f n =
     filter_each p (each_below f n) (λ x h. let w = contains_from_below f n x h in pass w.0 x w.1 w.2) in
     let left : filter p r.rest ≡ [] =
     filter_none p r.rest (λ x h. let w = r.late x h in fail w.0 x w.1 w.3) in
-    ap (filter p) r.is ∙ filter-append p (each_below f n) r.rest ∙ ap (λ (xs : List X). xs ++ filter p r.rest) kept ∙ ap (λ (xs : List X). each_below f n ++ xs) left ∙ append-nil (each_below f n)
+    ap (filter p) r.is ∙ filter-append p (each_below f n) r.rest ∙ ap (λ (xs : List X). xs ++ filter p r.rest) kept
+    ∙ ap (λ (xs : List X). each_below f n ++ xs) left ∙ append-nil (each_below f n)

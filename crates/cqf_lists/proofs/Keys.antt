@@ -1,5 +1,6 @@
 -- Lists whose keys ascend.
-use Rattle.std.proofs.Common.{◌≡◌, ℕ, zero, suc, ◌<◌, ◌≤◌, ◌==◌, ◌∷◌, ◌++◌, [], List, filter, inl, inr, sym, refl, ap, ◌∙◌, arith, subst, eq-eqb, ne_eqb, Contains}
+use Rattle.std.proofs.Common.{◌≡◌, ℕ, zero, suc, ◌<◌, ◌≤◌, ◌==◌, ◌∷◌, ◌++◌, [], List, filter, inl, inr, sym, refl, ap, ◌∙◌, arith, subst, eq-eqb, ne_eqb}
+use Rattle.std.proofs.Common.{Contains}
 use Rattle.std.specs.List.Sorted.{IsNonDecreasingBy}
 use Rattle.std.proofs.lemmas.Bool.{cases_eq, cond-false, cond-true}
 use Rattle.cqf_lists.specs.Lists.{each_below}
@@ -8,7 +9,8 @@ use Rattle.cqf_lists.proofs.EachBelow.{filter_none, none_below}
 
 module _ {X : Type 0} where
   -- lists end to end of which one has an element more, in front, and those before it have none
-  one_more_first : (f g : ℕ → List X) (n k : ℕ) (x : X) → k < n → ((j : ℕ) → j < k → g j ≡ []) → ((j : ℕ) → (j ≡ k → ⊥) → f j ≡ g j) → f k ≡ x ∷ g k → each_below f n ≡ x ∷ each_below g n
+  one_more_first : (f g : ℕ → List X) (n k : ℕ) (x : X) → k < n → ((j : ℕ) → j < k → g j ≡ []) → ((j : ℕ) → (j ≡ k → ⊥) → f j ≡ g j) → f k ≡ x ∷ g k →
+      each_below f n ≡ x ∷ each_below g n
   one_more_first f g zero k x l none same more = absurd (omega (arith, l))
   one_more_first f g (suc n) k x l none same more =
       elim (cases_eq n k) [
@@ -26,7 +28,8 @@ module _ {X : Type 0} where
       less differ = omega (arith, l, differ)
 
   -- a list whose keys ascend is, key by key, the elements with that key
-  pub by_key : (key : X → ℕ) (n : ℕ) (xs : List X) → IsNonDecreasingBy key xs → ((x : X) → Contains xs x → key x < n) → xs ≡ each_below (λ t. filter (λ x. key x == t) xs) n
+  pub by_key : (key : X → ℕ) (n : ℕ) (xs : List X) → IsNonDecreasingBy key xs → ((x : X) → Contains xs x → key x < n) →
+      xs ≡ each_below (λ t. filter (λ x. key x == t) xs) n
   by_key key n [] ascends below = sym (none_below (λ t. []) n (λ t l. refl))
   by_key key n (x ∷ xs) ascends below =
       let f = λ (t : ℕ). filter (λ (y : X). key y == t) (x ∷ xs) in

@@ -1,9 +1,9 @@
 -- The least number below a bound that passes a test, and the first answer that is there.
 use Rattle.std.proofs.Common.{◌≡◌, ℕ, ◌<◌, Bool, true, false, List, Option, Some, None, refl, inl, inr, arith, subst}
-use Rattle.std.specs.Prelude.{[], ◌∷◌, ◌++◌, if◌then◌else◌, zero, suc}
+use Rattle.std.specs.Prelude.{[], ◌∷◌, ◌++◌, if◌then◌else◌, option_map, zero, suc}
 use Rattle.std.proofs.lemmas.Bool.{cases_lt}
 use Rattle.cqf_lists.specs.Lists.{each_below, least, or_else}
-use Rattle.cqf_lists.proofs.Contained.{nil_from_none}
+use Rattle.cqf_lists.proofs.Places.{nil_from_none}
 
 -- two lists end to end that have no element
 append_nil_parts : {X : Type 0} (xs ys : List X) → xs ++ ys ≡ [] → (xs ≡ []) × (ys ≡ [])
@@ -31,3 +31,8 @@ least_none test n e = none_listed n (nil_from_none (each_below (λ k. if test k 
 pub or_else_none : {A : Type 0} (a b : Option A) → or_else a b ≡ None → (a ≡ None) × (b ≡ None)
 or_else_none None b e = (refl, e)
 or_else_none (Some x) b e = absurd cc
+
+-- what is none when mapped was none
+pub unmapped_none : {A B : Type 0} (f : A → B) (o : Option A) → option_map f o ≡ None → o ≡ None
+unmapped_none f None e = refl
+unmapped_none f (Some x) e = absurd cc

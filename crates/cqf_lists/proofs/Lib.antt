@@ -1,6 +1,4 @@
 pub mod Any
-pub mod Below
-pub mod Contained
 pub mod EachBelow
 pub mod EachOnce
 pub mod Filters
@@ -13,6 +11,7 @@ pub mod Members
 pub mod Ones
 pub mod Pairs
 pub mod Picked
+pub mod Places
 pub mod Ranks
 pub mod Sorted
 pub mod Sums

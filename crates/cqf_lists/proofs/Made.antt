@@ -2,13 +2,9 @@
 use Rattle.std.proofs.Common.{◌≡◌, ◌∷◌, [], ◌++◌, List, Bool, true, false, cond, map, filter, flat_map, inl, inr, sym, ap, ap₂, ◌∙◌, refl, AllPairs, Contains}
 use Rattle.std.proofs.lemmas.Bool.{cases_Bool, cond-true, cond-false}
 use Rattle.std.proofs.lemmas.List.Elements.{filter-append}
-use Rattle.cqf_lists.proofs.Members.{contains_cases, contains_from_flat, contains_here, contains_later, contains_none}
+use Rattle.cqf_lists.proofs.Members.{contains_from_flat, contains_here, contains_later, contains_none}
 use Rattle.cqf_lists.proofs.EachBelow.{filter_each, filter_none}
 use Rattle.cqf_lists.proofs.Pairs.{pairs_append, pairs_head, pairs_none, pairs_tail}
-
--- the member of a list of one
-pub contains_one : {X : Type 0} (y x : X) → Contains (y ∷ []) x → y ≡ x
-contains_one y x c = elim (contains_cases y [] x c) [ inl e ↦ e | inr never ↦ absurd (contains_none x never) ]
 
 -- a list that is there on a condition has its members where it is there
 pub contains_if_there : {X : Type 0} (b : Bool) (xs : List X) (x : X) → Contains (cond b xs []) x → (b ≡ true) × Contains xs x
@@ -29,10 +25,12 @@ map_same {X} {Y} f g (x ∷ xs) same =
 pub flat_map_same : {X Y : Type 0} (f g : X → List Y) (xs : List X) → ((x : X) → Contains xs x → f x ≡ g x) → flat_map f xs ≡ flat_map g xs
 flat_map_same f g [] same = refl
 flat_map_same {X} {Y} f g (x ∷ xs) same =
-    ap (λ (ys : List Y). ys ++ flat_map f xs) (same x (contains_here x xs)) ∙ ap (λ (ys : List Y). g x ++ ys) (flat_map_same f g xs (λ z c. same z (contains_later x xs z c)))
+    ap (λ (ys : List Y). ys ++ flat_map f xs) (same x (contains_here x xs))
+    ∙ ap (λ (ys : List Y). g x ++ ys) (flat_map_same f g xs (λ z c. same z (contains_later x xs z c)))
 
 -- a test of what is made of the members, where it says what a test of the member says
-pub filter_made : {X Y : Type 0} (f : X → List Y) (p : X → Bool) (q : Y → Bool) (xs : List X) → ((x : X) (y : Y) → Contains xs x → Contains (f x) y → q y ≡ p x) → filter q (flat_map f xs) ≡ flat_map f (filter p xs)
+pub filter_made : {X Y : Type 0} (f : X → List Y) (p : X → Bool) (q : Y → Bool) (xs : List X) →
+    ((x : X) (y : Y) → Contains xs x → Contains (f x) y → q y ≡ p x) → filter q (flat_map f xs) ≡ flat_map f (filter p xs)
 filter_made f p q [] same = refl
 filter_made {X} {Y} f p q (x ∷ xs) same =
     let rest : filter q (flat_map f xs) ≡ flat_map f (filter p xs) = filter_made f p q xs (λ z y h. same z y (contains_later x xs z h)) in
@@ -48,9 +46,12 @@ filter_made {X} {Y} f p q (x ∷ xs) same =
     ]
 
 -- the pairs of what is made of a list's members, by the pairs of these
-pub pairs_of_flat : {X Y : Type 0} (f : X → List Y) (S : X → X → Type 0) (R : Y → Y → Type 0) (xs : List X) → ((x : X) → Contains xs x → AllPairs R (f x)) → ((x z : X) (u v : Y) → Contains xs x → Contains xs z → S x z → Contains (f x) u → Contains (f z) v → R u v) → AllPairs S xs → AllPairs R (flat_map f xs)
+pub pairs_of_flat : {X Y : Type 0} (f : X → List Y) (S : X → X → Type 0) (R : Y → Y → Type 0) (xs : List X) → ((x : X) → Contains xs x → AllPairs R (f x)) →
+    ((x z : X) (u v : Y) → Contains xs x → Contains xs z → S x z → Contains (f x) u → Contains (f z) v → R u v) → AllPairs S xs → AllPairs R (flat_map f xs)
 pairs_of_flat f S R [] each across pairs = pairs_none R
 pairs_of_flat f S R (x ∷ xs) each across pairs =
     pairs_append R (f x) (flat_map f xs) (each x (contains_here x xs))
-    (pairs_of_flat f S R xs (λ z c. each z (contains_later x xs z c)) (λ y z u v c e. across y z u v (contains_later x xs y c) (contains_later x xs z e)) (pairs_tail S x xs pairs))
-    (λ u v c e. let w = contains_from_flat f xs v e in across x w.0 u v (contains_here x xs) (contains_later x xs w.0 w.1) (pairs_head S x xs w.0 pairs w.1) c w.2)
+    (pairs_of_flat f S R xs (λ z c. each z (contains_later x xs z c)) (λ y z u v c e. across y z u v (contains_later x xs y c) (contains_later x xs z e))
+    (pairs_tail S x xs pairs))
+    (λ u v c e. let w = contains_from_flat f xs v e in
+    across x w.0 u v (contains_here x xs) (contains_later x xs w.0 w.1) (pairs_head S x xs w.0 pairs w.1) c w.2)

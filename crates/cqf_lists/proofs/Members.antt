@@ -1,10 +1,13 @@
 -- Members of lists.
-use Rattle.std.proofs.Common.{◌≡◌, ℕ, zero, suc, ◌<◌, ◌⊎◌, ◌||◌, ◌∷◌, [], ◌++◌, List, Bool, true, Some, length, get_or, map, filter, flat_map, find, inl, inr, sym, ap, ◌∙◌, subst, arith, refl, All, Contains}
+use Rattle.std.proofs.Common.{◌≡◌, ℕ, zero, suc, ◌<◌, ◌⊎◌, ◌||◌, ◌∷◌, [], ◌++◌, List, Bool, true, Some, length, get_or, map, filter, flat_map, find, take, inl}
+use Rattle.std.proofs.Common.{inr, sym, ap, ◌∙◌, subst, arith, refl, All, Contains}
+use Rattle.std.specs.Prelude.{slice_get}
 use Rattle.std.specs.List.{list_any}
 use Rattle.std.proofs.lemmas.Bool.{cases_Bool, cond-true, cond-false, false≢true}
 use Rattle.std.proofs.lemmas.List.Elements.{Contains-get_or, Contains-append_left, Contains-append_right, Contains-append_cases}
+use Rattle.std.proofs.lemmas.Option.{slice_get-get_or, get_or_from_slice_get, slice_get_within}
 
--- a list's first element, the ones behind it, and no other
+-- a list's first element is a member
 pub contains_here : {X : Type 0} (x : X) (xs : List X) → Contains (x ∷ xs) x
 contains_here x xs = (zero, omega arith, refl)
 
@@ -23,6 +26,10 @@ contains_cases {X} y xs x c = go c.0 c.1 c.2
 -- an empty list has no member
 pub contains_none : {X : Type 0} (x : X) → Contains [] x → ⊥
 contains_none x c = omega (arith, c.1)
+
+-- the member of a list of one
+pub contains_one : {X : Type 0} (y x : X) → Contains (y ∷ []) x → y ≡ x
+contains_one y x c = elim (contains_cases y [] x c) [ inl e ↦ e | inr never ↦ absurd (contains_none x never) ]
 
 -- a fact of each member
 pub all_from_members : {X : Type 0} (P : X → Type 0) (xs : List X) → ((x : X) → Contains xs x → P x) → All P xs
@@ -48,9 +55,11 @@ contains_from_map f (x ∷ xs) y c = elim (contains_cases (f x) (map f xs) y c) 
 pub contains_filter : {X : Type 0} (p : X → Bool) (xs : List X) (x : X) → Contains xs x → p x ≡ true → Contains (filter p xs) x
 contains_filter p [] x c passes = absurd (contains_none x c)
 contains_filter p (y ∷ xs) x c passes = elim (contains_cases y xs x c) [
-  | inl e ↦ subst (λ z. Contains z x) (sym (cond-true (p y) (y ∷ filter p xs) (filter p xs) (ap p e ∙ passes))) (subst (λ z. Contains (y ∷ filter p xs) z) e (contains_here y (filter p xs)))
+  | inl e ↦ subst (λ z. Contains z x) (sym (cond-true (p y) (y ∷ filter p xs) (filter p xs) (ap p e ∙ passes)))
+      (subst (λ z. Contains (y ∷ filter p xs) z) e (contains_here y (filter p xs)))
   | inr h ↦ elim (cases_Bool (p y)) [
-    | inl t ↦ subst (λ z. Contains z x) (sym (cond-true (p y) (y ∷ filter p xs) (filter p xs) t)) (contains_later y (filter p xs) x (contains_filter p xs x h passes))
+    | inl t ↦ subst (λ z. Contains z x) (sym (cond-true (p y) (y ∷ filter p xs) (filter p xs) t))
+        (contains_later y (filter p xs) x (contains_filter p xs x h passes))
     | inr f ↦ subst (λ z. Contains z x) (sym (cond-false (p y) (y ∷ filter p xs) (filter p xs) f)) (contains_filter p xs x h passes)
   ]
 ]
@@ -63,7 +72,8 @@ contains_from_filter p (y ∷ xs) x c = elim (cases_Bool (p y)) [
     | inl e ↦ (subst (λ z. Contains (y ∷ xs) z) e (contains_here y xs), ap p (sym e) ∙ t)
     | inr h ↦ let r = contains_from_filter p xs x h in (contains_later y xs x r.0, r.1)
   ]
-  | inr f ↦ let r = contains_from_filter p xs x (subst (λ z. Contains z x) (cond-false (p y) (y ∷ filter p xs) (filter p xs) f) c) in (contains_later y xs x r.0, r.1)
+  | inr f ↦ let r = contains_from_filter p xs x (subst (λ z. Contains z x) (cond-false (p y) (y ∷ filter p xs) (filter p xs) f) c) in
+      (contains_later y xs x r.0, r.1)
 ]
 
 -- a member of one of the lists
@@ -131,4 +141,21 @@ parted_at [] x c = absurd (contains_none x c)
 parted_at (y ∷ xs) x c = elim (contains_cases y xs x c) [
   | inl e ↦ ([], xs, ap (λ z. z ∷ xs) e)
   | inr h ↦ let r = parted_at xs x h in (y ∷ r.0, r.1, ap (λ z. y ∷ z) r.2)
+]
+
+-- the element at a place is a member
+pub contains_at : {X : Type 0} (xs : List X) (k : ℕ) (x : X) → slice_get xs k ≡ Some x → Contains xs x
+contains_at xs k x e = (k, slice_get_within xs k x e, get_or_from_slice_get xs k x x e)
+
+-- a member stands at some place
+pub place_of_member : {X : Type 0} (xs : List X) (x : X) → Contains xs x → (k : ℕ) × (slice_get xs k ≡ Some x)
+place_of_member xs x (k, h, e) = (k, slice_get-get_or xs k x h ∙ ap (λ z. Some z) e)
+
+-- a member of a front is one of the list
+pub contains_from_take : {X : Type 0} (xs : List X) (n : ℕ) (x : X) → Contains (take n xs) x → Contains xs x
+contains_from_take xs zero x c = absurd (contains_none x c)
+contains_from_take [] (suc n) x c = absurd (contains_none x c)
+contains_from_take (y ∷ xs) (suc n) x c = elim (contains_cases y (take n xs) x c) [
+  | inl e ↦ subst (λ z. Contains (y ∷ xs) z) e (contains_here y xs)
+  | inr k ↦ contains_later y xs x (contains_from_take xs n x k)
 ]

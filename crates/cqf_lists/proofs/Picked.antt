@@ -1,20 +1,13 @@
--- Parts of the lists of all numbers below one.
-use Rattle.std.proofs.Common.{◌≡◌, ℕ, zero, suc, ◌+◌, ◌<◌, ◌++◌, [], List, Bool, false, filter, inl, inr, sym, ap, ◌∙◌, arith, Contains, append_assoc, append-nil}
+-- The one of the lists of all numbers below one that a test keeps.
+use Rattle.std.proofs.Common.{◌≡◌, ℕ, zero, suc, ◌<◌, ◌++◌, [], List, Bool, false, filter, inl, inr, ap, ◌∙◌, arith, Contains, append-nil}
 use Rattle.std.proofs.lemmas.Bool.{cases_eq}
 use Rattle.std.proofs.lemmas.List.Elements.{filter-append}
 use Rattle.cqf_lists.specs.Lists.{each_below}
 use Rattle.cqf_lists.proofs.EachBelow.{contains_from_below, filter_none}
 
--- the lists of all numbers below a sum
-pub each_more : {X : Type 0} (f : ℕ → List X) (n m : ℕ) → each_below f (n + m) ≡ each_below f n ++ each_below (λ k. f (n + k)) m
-each_more f n zero =
-    let e : n + 0 ≡ n = omega arith in ap (each_below f) e ∙ sym (append-nil (each_below f n))
-each_more {X} f n (suc m) =
-    let e : n + suc m ≡ suc (n + m) = omega arith in
-    ap (each_below f) e ∙ ap (λ (xs : List X). xs ++ f (n + m)) (each_more f n m) ∙ append_assoc (each_below f n) (each_below (λ k. f (n + k)) m) (f (n + m))
-
 -- where a test holds of one list's members alone, it keeps that list's part
-pub filter_one : {X : Type 0} (p : X → Bool) (f : ℕ → List X) (n k : ℕ) → k < n → ((j : ℕ) (x : X) → (j ≡ k → ⊥) → Contains (f j) x → p x ≡ false) → filter p (each_below f n) ≡ filter p (f k)
+pub filter_one : {X : Type 0} (p : X → Bool) (f : ℕ → List X) (n k : ℕ) → k < n → ((j : ℕ) (x : X) → (j ≡ k → ⊥) → Contains (f j) x → p x ≡ false) →
+    filter p (each_below f n) ≡ filter p (f k)
 filter_one p f zero k l apart = absurd (omega (arith, l))
 filter_one {X} p f (suc n) k l apart =
     let split = filter-append p (each_below f n) (f n) in

@@ -1,5 +1,5 @@
 -- The places that elements of a list have among those of it that a filter keeps.
-use Rattle.std.proofs.Common.{◌≡◌, ℕ, zero, suc, ◌<◌, ◌∷◌, [], List, Bool, true, false, cond, length, get_or, take, map, filter, ap, ◌∙◌, arith, refl, subst, AllPairs}
+use Rattle.std.proofs.Common.{◌≡◌, ℕ, zero, suc, ◌<◌, ◌∷◌, [], List, Bool, true, false, cond, length, get_or, take, map, filter, ap, ◌∙◌, arith, refl}
 use Rattle.std.proofs.lemmas.Bool.{false≢true}
 use Rattle.std.proofs.lemmas.List.{length-map, take-map}
 use Rattle.cqf_lists.proofs.Filters.{filter-map}
@@ -14,7 +14,8 @@ pub record StandsAtRank {X : Type 0} (keeps : X → Bool) (xs : List X) (place :
   pub same : get_or (filter keeps xs) (rank keeps xs place) d ≡ get_or xs place d
 
 -- and so does each one that is kept
-pub kept_at_rank : {X : Type 0} (keeps : X → Bool) (xs : List X) (place : ℕ) (d : X) → place < length xs → keeps (get_or xs place d) ≡ true → StandsAtRank keeps xs place d
+pub kept_at_rank : {X : Type 0} (keeps : X → Bool) (xs : List X) (place : ℕ) (d : X) → place < length xs → keeps (get_or xs place d) ≡ true →
+    StandsAtRank keeps xs place d
 kept_at_rank keeps [] place d inside passes = absurd (omega (arith, inside))
 kept_at_rank {X} keeps (x ∷ xs) zero d inside passes = let r = first (keeps x) (filter keeps xs) passes in record { inside = r.0; same = r.1 }
   where
@@ -26,12 +27,14 @@ kept_at_rank {X} keeps (x ∷ xs) (suc place) d inside passes =
     let s = one_more (keeps x) (filter keeps (take place xs)) (filter keeps xs) r.inside r.same in
     record { inside = s.0; same = s.1 }
   where
-    one_more : (b : Bool) (ys zs : List X) → length ys < length zs → get_or zs (length ys) d ≡ get_or xs place d → (length (cond b (x ∷ ys) ys) < length (cond b (x ∷ zs) zs)) × (get_or (cond b (x ∷ zs) zs) (length (cond b (x ∷ ys) ys)) d ≡ get_or xs place d)
+    one_more : (b : Bool) (ys zs : List X) → length ys < length zs → get_or zs (length ys) d ≡ get_or xs place d →
+        (length (cond b (x ∷ ys) ys) < length (cond b (x ∷ zs) zs)) × (get_or (cond b (x ∷ zs) zs) (length (cond b (x ∷ ys) ys)) d ≡ get_or xs place d)
     one_more true ys zs less same = (omega (arith, less), same)
     one_more false ys zs less same = (less, same)
 
 -- a kept element counts for the rank of each later one
-pub rank_less : {X : Type 0} (keeps : X → Bool) (xs : List X) (i j : ℕ) (d : X) → i < j → i < length xs → keeps (get_or xs i d) ≡ true → rank keeps xs i < rank keeps xs j
+pub rank_less : {X : Type 0} (keeps : X → Bool) (xs : List X) (i j : ℕ) (d : X) → i < j → i < length xs → keeps (get_or xs i d) ≡ true →
+    rank keeps xs i < rank keeps xs j
 rank_less keeps [] i j d less inside passes = absurd (omega (arith, inside))
 rank_less keeps (x ∷ xs) i zero d less inside passes = absurd (omega (arith, less))
 rank_less {X} keeps (x ∷ xs) zero (suc j) d less inside passes = some (keeps x) (filter keeps (take j xs)) passes
@@ -39,33 +42,31 @@ rank_less {X} keeps (x ∷ xs) zero (suc j) d less inside passes = some (keeps x
     some : (b : Bool) (ys : List X) → b ≡ true → 0 < length (cond b (x ∷ ys) ys)
     some true ys is_true = omega arith
     some false ys is_true = absurd (false≢true is_true)
-rank_less {X} keeps (x ∷ xs) (suc i) (suc j) d less inside passes = one_more (keeps x) (filter keeps (take i xs)) (filter keeps (take j xs)) (rank_less keeps xs i j d (omega (arith, less)) (omega (arith, inside)) passes)
+rank_less {X} keeps (x ∷ xs) (suc i) (suc j) d less inside passes =
+    one_more (keeps x) (filter keeps (take i xs)) (filter keeps (take j xs)) (rank_less keeps xs i j d (omega (arith, less)) (omega (arith, inside)) passes)
   where
     one_more : (b : Bool) (ys zs : List X) → length ys < length zs → length (cond b (x ∷ ys) ys) < length (cond b (x ∷ zs) zs)
     one_more true ys zs less = omega (arith, less)
     one_more false ys zs less = less
 
 -- each place among the kept ones is the rank of a kept element
-pub ranked : {X : Type 0} (keeps : X → Bool) (xs : List X) (k : ℕ) (d : X) → k < length (filter keeps xs) → (place : ℕ) × (place < length xs) × (keeps (get_or xs place d) ≡ true) × (rank keeps xs place ≡ k)
+pub ranked : {X : Type 0} (keeps : X → Bool) (xs : List X) (k : ℕ) (d : X) → k < length (filter keeps xs) → (place : ℕ) × (place < length xs) ×
+    (keeps (get_or xs place d) ≡ true) × (rank keeps xs place ≡ k)
 ranked keeps [] k d inside = absurd (omega (arith, inside))
 ranked {X} keeps (x ∷ xs) k d inside = by_test (λ n n_inside. ranked keeps xs n d n_inside) (keeps x) refl k inside
   where
-    later : (b : Bool) (place : ℕ) → keeps x ≡ b → rank keeps (x ∷ xs) (suc place) ≡ length (cond b (x ∷ filter keeps (take place xs)) (filter keeps (take place xs)))
+    later : (b : Bool) (place : ℕ) → keeps x ≡ b →
+        rank keeps (x ∷ xs) (suc place) ≡ length (cond b (x ∷ filter keeps (take place xs)) (filter keeps (take place xs)))
     later b place is = ap (λ z. length (cond z (x ∷ filter keeps (take place xs)) (filter keeps (take place xs)))) is
 
-    by_test : ((n : ℕ) → n < length (filter keeps xs) → (place : ℕ) × (place < length xs) × (keeps (get_or xs place d) ≡ true) × (rank keeps xs place ≡ n)) → (b : Bool) → keeps x ≡ b → (k : ℕ) → k < length (cond b (x ∷ filter keeps xs) (filter keeps xs)) → (place : ℕ) × (place < length (x ∷ xs)) × (keeps (get_or (x ∷ xs) place d) ≡ true) × (rank keeps (x ∷ xs) place ≡ k)
+    by_test : ((n : ℕ) → n < length (filter keeps xs) → (place : ℕ) × (place < length xs) × (keeps (get_or xs place d) ≡ true) × (rank keeps xs place ≡ n)) →
+        (b : Bool) → keeps x ≡ b → (k : ℕ) → k < length (cond b (x ∷ filter keeps xs) (filter keeps xs)) → (place : ℕ) × (place < length (x ∷ xs)) ×
+        (keeps (get_or (x ∷ xs) place d) ≡ true) × (rank keeps (x ∷ xs) place ≡ k)
     by_test behind true is zero inside = (zero, omega arith, is, refl)
     by_test behind true is (suc k) inside = let r = behind k (omega (arith, inside)) in (suc r.0, omega (arith, r.1), r.2, later true r.0 is ∙ ap suc r.3)
     by_test behind false is k inside = let r = behind k inside in (suc r.0, omega (arith, r.1), r.2, later false r.0 is ∙ r.3)
 
 -- a test of what a list is mapped to gives the same ranks before
 pub rank_map : {X Y : Type 0} (keeps : Y → Bool) (f : X → Y) (xs : List X) (place : ℕ) → rank keeps (map f xs) place ≡ rank (λ x. keeps (f x)) xs place
-rank_map keeps f xs place = ap (λ z. length (filter keeps z)) (take-map f place xs) ∙ ap length (filter-map f keeps (take place xs)) ∙ length-map (filter (λ x. keeps (f x)) (take place xs)) f
-
--- what holds of the pairs of kept elements holds of each pair of elements that are kept
-pub pairs_from_filter : {X : Type 0} (R : X → X → Type 0) (keeps : X → Bool) (xs : List X) → AllPairs R (filter keeps xs) → AllPairs (λ (a b : X). keeps a ≡ true → keeps b ≡ true → R a b) xs
-pairs_from_filter R keeps xs all i j e less inside first second =
-    let before = kept_at_rank keeps xs i e (omega (arith, less, inside)) first in
-    let behind = kept_at_rank keeps xs j e inside second in
-    let pair = all (rank keeps xs i) (rank keeps xs j) e (rank_less keeps xs i j e less (omega (arith, less, inside)) first) behind.inside in
-    subst (λ z. R z (get_or xs j e)) before.same (subst (λ z. R (get_or (filter keeps xs) (rank keeps xs i) e) z) behind.same pair)
+rank_map keeps f xs place = ap (λ z. length (filter keeps z)) (take-map f place xs) ∙ ap length (filter-map f keeps (take place xs))
+    ∙ length-map (filter (λ x. keeps (f x)) (take place xs)) f

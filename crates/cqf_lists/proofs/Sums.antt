@@ -1,5 +1,7 @@
 -- Sums over lists: members, groups, and matched elements.
-use Rattle.std.proofs.Common.{◌≡◌, ℕ, zero, suc, ◌+◌, ◌<◌, ◌≤◌, ◌⊎◌, length, get_or, take, ◌∷◌, [], List, Bool, true, map, filter, flat_map, inl, inr, sym, ap, ap₂, ◌∙◌, subst, arith, refl, AllPairs, Contains, sum_by, if◌then◌else◌, ◌==◌, nat_lt, le_trans, zero-add, lt-ltb, le-ltb, ne_eqb, eq-eqb}
+use Rattle.std.proofs.Common.{◌≡◌, ℕ, zero, suc, ◌+◌, ◌<◌, ◌≤◌, ◌⊎◌, length, get_or, take, ◌∷◌, [], List, Bool, true, map, filter, flat_map, inl, inr, sym, ap}
+use Rattle.std.proofs.Common.{ap₂, ◌∙◌, subst, arith, refl, AllPairs, Contains, sum_by, if◌then◌else◌, ◌==◌, nat_lt, le_trans, zero-add, lt-ltb, le-ltb, ne_eqb}
+use Rattle.std.proofs.Common.{eq-eqb}
 use Rattle.std.specs.List.{enumerate_from}
 use Rattle.std.proofs.lemmas.Bool.{cases_Bool, cases_order, cases_lt, cases_eq, cond-true, cond-false}
 use Rattle.std.proofs.lemmas.List.Sums.{sum_by-cons, sum_by-append, sum_by_more_le, get_or-le-sum_by}
@@ -11,7 +13,8 @@ use Rattle.cqf_lists.proofs.Pairs.{pairs_head, pairs_tail}
 -- term by term over the members
 pub sum_le_members : {X : Type 0} (f g : X → ℕ) (xs : List X) → ((x : X) → Contains xs x → f x ≤ g x) → sum_by f xs ≤ sum_by g xs
 sum_le_members f g [] each = omega arith
-sum_le_members f g (x ∷ xs) each = omega (arith, sum_by-cons f x xs, sum_by-cons g x xs, each x (contains_here x xs), sum_le_members f g xs (λ y c. each y (contains_later x xs y c)))
+sum_le_members f g (x ∷ xs) each =
+    omega (arith, sum_by-cons f x xs, sum_by-cons g x xs, each x (contains_here x xs), sum_le_members f g xs (λ y c. each y (contains_later x xs y c)))
 
 -- a sum of nothing but 0
 pub sum_none : {X : Type 0} (f : X → ℕ) (xs : List X) → ((x : X) → Contains xs x → f x ≡ 0) → sum_by f xs ≡ 0
@@ -35,7 +38,8 @@ sum_flat f g (x ∷ xs) = sum_by-append f (g x) (flat_map g xs) ∙ ap (λ z. su
 -- places change no sum
 pub sum_places : {X : Type 0} (f : X → ℕ) (n : ℕ) (xs : List X) → sum_by (λ (x : ℕ × X). f x.1) (enumerate_from n xs) ≡ sum_by f xs
 sum_places f n [] = refl
-sum_places {X} f n (x ∷ xs) = sum_by-cons (λ (x : ℕ × X). f x.1) (n, x) (enumerate_from (n + 1) xs) ∙ ap (λ z. f x + z) (sum_places f (n + 1) xs) ∙ sym (sum_by-cons f x xs)
+sum_places {X} f n (x ∷ xs) = sum_by-cons (λ (x : ℕ × X). f x.1) (n, x) (enumerate_from (n + 1) xs) ∙ ap (λ z. f x + z) (sum_places f (n + 1) xs)
+    ∙ sym (sum_by-cons f x xs)
 
 -- the sum of two terms each
 pub sum_plus : {X : Type 0} (f g : X → ℕ) (xs : List X) → sum_by (λ x. f x + g x) xs ≡ sum_by f xs + sum_by g xs
@@ -52,7 +56,8 @@ double {X} {Y} h (x ∷ xs) ys =
     ∙ ap (λ (f : Y → ℕ). sum_by f ys) (λ i. λ y. sym (sum_by-cons (λ x. h x y) x xs) i)
 
 -- of elements that exclude one another, one counts
-pub sum_at_most_one : {X : Type 0} (test : X → Bool) (v : ℕ) (xs : List X) → AllPairs (λ x y. test x ≡ true → test y ≡ true → ⊥) xs → sum_by (λ x. if test x then v else 0) xs ≤ v
+pub sum_at_most_one : {X : Type 0} (test : X → Bool) (v : ℕ) (xs : List X) → AllPairs (λ x y. test x ≡ true → test y ≡ true → ⊥) xs →
+    sum_by (λ x. if test x then v else 0) xs ≤ v
 sum_at_most_one test v [] apart = omega arith
 sum_at_most_one {X} test v (x ∷ xs) apart =
     let f : X → ℕ = λ x. if test x then v else 0 in
@@ -64,7 +69,13 @@ sum_at_most_one {X} test v (x ∷ xs) apart =
           ]) in
           omega (arith, sum_by-cons f x xs, none, cond-true (test x) v 0 t)
       | inr u ↦
-          omega (arith, sum_by-cons f x xs, cond-false (test x) v 0 u, sum_at_most_one test v xs (pairs_tail (λ x y. test x ≡ true → test y ≡ true → ⊥) x xs apart))
+          omega (
+            arith,
+            sum_by-cons f x xs,
+            cond-false (test x) v 0 u,
+            sum_at_most_one test v xs
+                (pairs_tail (λ x y. test x ≡ true → test y ≡ true → ⊥) x xs apart),
+          )
     ]
 
 -- each element that counts has one of the other list to itself that is as large
@@ -93,7 +104,8 @@ pub sum_below : {X : Type 0} (f : X → ℕ) (g : ℕ → List X) (n : ℕ) → 
 sum_below f g n = sum_by-append f (each_below g n) (g n)
 
 -- of lists end to end, one counts
-pub sum_one_below : {X : Type 0} (f : X → ℕ) (g : ℕ → List X) (m n : ℕ) → ((k : ℕ) → (k ≡ m → ⊥) → sum_by f (g k) ≡ 0) → sum_by f (each_below g n) ≤ sum_by f (g m)
+pub sum_one_below : {X : Type 0} (f : X → ℕ) (g : ℕ → List X) (m n : ℕ) → ((k : ℕ) → (k ≡ m → ⊥) → sum_by f (g k) ≡ 0) →
+    sum_by f (each_below g n) ≤ sum_by f (g m)
 sum_one_below f g m zero others = omega arith
 sum_one_below f g m (suc n) others = elim (cases_eq n m) [
   | inl same ↦
@@ -110,13 +122,18 @@ sum_one_below f g m (suc n) others = elim (cases_eq n m) [
 pub sum_filter : {X : Type 0} (f : X → ℕ) (p : X → Bool) (xs : List X) → sum_by f (filter p xs) ≡ sum_by (λ x. if p x then f x else 0) xs
 sum_filter f p [] = refl
 sum_filter f p (x ∷ xs) = elim (cases_Bool (p x)) [
-  | inl t ↦ ap (sum_by f) (cond-true (p x) (x ∷ filter p xs) (filter p xs) t) ∙ sum_by-cons f x (filter p xs) ∙ ap₂ (λ a b. a + b) (sym (cond-true (p x) (f x) 0 t)) (sum_filter f p xs) ∙ sym (sum_by-cons (λ x. if p x then f x else 0) x xs)
-  | inr u ↦ ap (sum_by f) (cond-false (p x) (x ∷ filter p xs) (filter p xs) u) ∙ sum_filter f p xs ∙ sym (sum_by-cons (λ x. if p x then f x else 0) x xs ∙ ap (λ z. z + sum_by (λ x. if p x then f x else 0) xs) (cond-false (p x) (f x) 0 u) ∙ zero-add (sum_by (λ x. if p x then f x else 0) xs))
+  | inl t ↦ ap (sum_by f) (cond-true (p x) (x ∷ filter p xs) (filter p xs) t) ∙ sum_by-cons f x (filter p xs)
+      ∙ ap₂ (λ a b. a + b) (sym (cond-true (p x) (f x) 0 t)) (sum_filter f p xs) ∙ sym (sum_by-cons (λ x. if p x then f x else 0) x xs)
+  | inr u ↦ ap (sum_by f) (cond-false (p x) (x ∷ filter p xs) (filter p xs) u) ∙ sum_filter f p xs
+      ∙ sym (sum_by-cons (λ x. if p x then f x else 0) x xs ∙ ap (λ z. z + sum_by (λ x. if p x then f x else 0) xs) (cond-false (p x) (f x) 0 u)
+      ∙ zero-add (sum_by (λ x. if p x then f x else 0) xs))
 ]
 
 -- the elements by their keys, each once
-pub sum_by_keys : {X : Type 0} (f : X → ℕ) (key : X → ℕ) (xs : List X) (n : ℕ) → sum_by f (each_below (λ t. filter (λ x. key x == t) xs) n) ≡ sum_by (λ x. if nat_lt (key x) n then f x else 0) xs
-sum_by_keys f key xs zero = sym (sum_none (λ x. if nat_lt (key x) 0 then f x else 0) xs (λ x c. cond-false (nat_lt (key x) 0) (f x) 0 (le-ltb (key x) 0 (omega arith))))
+pub sum_by_keys : {X : Type 0} (f : X → ℕ) (key : X → ℕ) (xs : List X) (n : ℕ) →
+    sum_by f (each_below (λ t. filter (λ x. key x == t) xs) n) ≡ sum_by (λ x. if nat_lt (key x) n then f x else 0) xs
+sum_by_keys f key xs zero = sym (sum_none (λ x. if nat_lt (key x) 0 then f x else 0) xs
+    (λ x c. cond-false (nat_lt (key x) 0) (f x) 0 (le-ltb (key x) 0 (omega arith))))
 sum_by_keys {X} f key xs (suc n) =
     sum_below f (λ t. filter (λ x. key x == t) xs) n
     ∙ ap₂ (λ a b. a + b) (sum_by_keys f key xs n) (sum_filter f (λ x. key x == n) xs)
@@ -125,10 +142,28 @@ sum_by_keys {X} f key xs (suc n) =
   where
     one : (k v : ℕ) → (if nat_lt k n then v else 0) + (if k == n then v else 0) ≡ (if nat_lt k (suc n) then v else 0)
     one k v = elim (cases_order k n) [
-      | inl e ↦ omega (arith, cond-false (nat_lt k n) v 0 (le-ltb k n (omega (arith, e))), cond-true (k == n) v 0 (eq-eqb k n e), cond-true (nat_lt k (suc n)) v 0 (lt-ltb k (suc n) (omega (arith, e))))
+      | inl e ↦ omega (
+        arith,
+        cond-false (nat_lt k n) v 0 (le-ltb k n (omega (arith, e))),
+        cond-true (k == n) v 0 (eq-eqb k n e),
+        cond-true
+            (nat_lt k (suc n)) v 0 (lt-ltb k (suc n) (omega (arith, e))),
+      )
       | inr o ↦ elim o [
-        | inl l ↦ omega (arith, cond-true (nat_lt k n) v 0 (lt-ltb k n l), cond-false (k == n) v 0 (ne_eqb k n (λ e. absurd (omega (arith, e, l)))), cond-true (nat_lt k (suc n)) v 0 (lt-ltb k (suc n) (omega (arith, l))))
-        | inr m ↦ omega (arith, cond-false (nat_lt k n) v 0 (le-ltb k n (omega (arith, m))), cond-false (k == n) v 0 (ne_eqb k n (λ e. absurd (omega (arith, e, m)))), cond-false (nat_lt k (suc n)) v 0 (le-ltb k (suc n) (omega (arith, m))))
+        | inl l ↦ omega (
+          arith,
+          cond-true (nat_lt k n) v 0 (lt-ltb k n l),
+          cond-false (k == n) v 0 (ne_eqb k n (λ e. absurd (omega (arith, e, l)))),
+          cond-true
+              (nat_lt k (suc n)) v 0 (lt-ltb k (suc n) (omega (arith, l))),
+        )
+        | inr m ↦ omega (
+          arith,
+          cond-false (nat_lt k n) v 0 (le-ltb k n (omega (arith, m))),
+          cond-false (k == n) v 0
+              (ne_eqb k n (λ e. absurd (omega (arith, e, m)))),
+          cond-false (nat_lt k (suc n)) v 0 (le-ltb k (suc n) (omega (arith, m))),
+        )
       ]
     ]
 
@@ -151,6 +186,7 @@ sum_two f xs i j e less inside =
     omega (arith, first, same, sum_by_more_le f xs j e inside)
 
 -- termwise over lists end to end
-pub sum_le_below : {X Y : Type 0} (f : X → ℕ) (g : Y → ℕ) (a : ℕ → List X) (b : ℕ → List Y) (n : ℕ) → ((k : ℕ) → sum_by f (a k) ≤ sum_by g (b k)) → sum_by f (each_below a n) ≤ sum_by g (each_below b n)
+pub sum_le_below : {X Y : Type 0} (f : X → ℕ) (g : Y → ℕ) (a : ℕ → List X) (b : ℕ → List Y) (n : ℕ) → ((k : ℕ) → sum_by f (a k) ≤ sum_by g (b k)) →
+    sum_by f (each_below a n) ≤ sum_by g (each_below b n)
 sum_le_below f g a b zero each = omega arith
 sum_le_below f g a b (suc n) each = omega (arith, sum_below f a n, sum_below g b n, each n, sum_le_below f g a b n each)

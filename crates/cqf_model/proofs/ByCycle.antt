@@ -24,7 +24,9 @@ module _ (run : Run) (carried : Carried) (l : ℕ) where
       omega (arith, queued_when d l w.0.received w.0.verdict q w.2, before_when run carried bridge end w.0.received came)
 
   -- what is queued before a cycle's end is what is queued before its beginning, and then what is queued in it
-  pub queue_goes_on : (cycle : ℕ) → queued_before run carried l ((cycle + 1) * run.domain.cycle_time) ≡ queued_before run carried l (cycle * run.domain.cycle_time) ++ queued_in run carried l cycle
+  pub queue_goes_on : (cycle : ℕ) →
+      queued_before run carried l ((cycle + 1) * run.domain.cycle_time) ≡ queued_before run carried l (cycle * run.domain.cycle_time)
+      ++ queued_in run carried l cycle
   queue_goes_on cycle =
       let d = run.domain in
       let n = d.cycle_time in
@@ -51,15 +53,18 @@ module _ (run : Run) (carried : Carried) (l : ℕ) where
   queues_end_to_end zero = let none : 0 ≡ 0 * run.domain.cycle_time = omega arith in ap (queued_before run carried l) none
   queues_end_to_end (suc cycle) =
       let next : (cycle + 1) * run.domain.cycle_time ≡ suc cycle * run.domain.cycle_time = omega arith in
-      ap (λ (xs : List QueuedFrame). xs ++ queued_in run carried l cycle) (queues_end_to_end cycle) ∙ sym (queue_goes_on cycle) ∙ ap (queued_before run carried l) next
+      ap (λ (xs : List QueuedFrame). xs ++ queued_in run carried l cycle) (queues_end_to_end cycle) ∙ sym (queue_goes_on cycle)
+      ∙ ap (queued_before run carried l) next
 
 -- without background frames none is for a link in a cycle
 none_backed : (d : Domain) (background : List Background) (l cycle : ℕ) → background ≡ [] → backed_in d background l cycle ≡ []
 none_backed d background l cycle none =
-    ap (λ (xs : List Background). backed_in d xs l cycle) none ∙ none_below (λ offset. backed_at [] l (cycle * d.cycle_time + offset)) d.cycle_time (λ offset soon. refl)
+    ap (λ (xs : List Background). backed_in d xs l cycle) none
+    ∙ none_below (λ offset. backed_at [] l (cycle * d.cycle_time + offset)) d.cycle_time (λ offset soon. refl)
 
 -- and what comes to a port is what is queued to it
-pub comes_without_background : (run : Run) (carried : Carried) (l cycles : ℕ) → run.background ≡ [] → comes_before run carried l cycles ≡ queued_before run carried l (cycles * run.domain.cycle_time)
+pub comes_without_background : (run : Run) (carried : Carried) (l cycles : ℕ) → run.background ≡ [] →
+    comes_before run carried l cycles ≡ queued_before run carried l (cycles * run.domain.cycle_time)
 comes_without_background run carried l cycles none =
     same cycles ∙ queues_end_to_end run carried l cycles
   where

@@ -6,9 +6,9 @@ use Rattle.std.proofs.lemmas.List.Concat.{flat_map-append}
 use Rattle.std.proofs.lemmas.List.Elements.{Contains-append_cases}
 use Rattle.std.specs.List.{list_any}
 use Rattle.cqf_lists.specs.Lists.{each_below}
-use Rattle.cqf_lists.proofs.Members.{contains_from_filter, contains_from_flat, contains_from_map, contains_none}
+use Rattle.cqf_lists.proofs.Members.{contains_from_filter, contains_from_flat, contains_from_map, contains_none, contains_one}
 use Rattle.cqf_lists.proofs.EachBelow.{contains_from_below}
-use Rattle.cqf_lists.proofs.Made.{contains_if, contains_one}
+use Rattle.cqf_lists.proofs.Made.{contains_if}
 use Rattle.cqf_lists.proofs.Fronts.{Front, each_front}
 use Rattle.cqf_units.proofs.Cycles.{cycle_from}
 use Rattle.cqf_model.specs.declared.frames.Background.{Background}
@@ -17,8 +17,10 @@ use Rattle.cqf_model.specs.declared.frames.Sent.{Sent}
 use Rattle.cqf_model.specs.Domain.{Domain, bridge_of, cycle_of, enters}
 use Rattle.cqf_model.specs.Run.{Run}
 use Rattle.cqf_model.specs.Table.{goes_to}
-use Rattle.cqf_model.specs.Traffic.{Carried, DroppedFor, ExceedsGate, LacksRow, Policed, Queued, Received, Verdict, came_by, is_offered_at, numbered, offer_received, offered_at, police_all, policed_before, received_at, received_before, relayed_at, sent_received, whole_at}
-use Rattle.cqf_model.specs.Network.{QueuedFrame, backed_at, backed_frame, backed_in, comes_in, is_backed_at, numbered_background, queued_before, queued_by, queued_frame, queued_in, queued_to}
+use Rattle.cqf_model.specs.Traffic.{Carried, DroppedFor, ExceedsGate, LacksRow, Policed, Queued, Received, Verdict, came_by, is_offered_at, numbered}
+use Rattle.cqf_model.specs.Traffic.{offer_received, offered_at, police_all, policed_before, received_at, received_before, relayed_at, sent_received, whole_at}
+use Rattle.cqf_model.specs.Network.{QueuedFrame, backed_at, backed_frame, backed_in, comes_in, is_backed_at, numbered_background, queued_before, queued_by}
+use Rattle.cqf_model.specs.Network.{queued_frame, queued_in, queued_to}
 use Rattle.cqf_model.proofs.Policing.{police_member, police_more}
 
 -- a frame that a link brings is whole at the instant
@@ -63,7 +65,8 @@ module _ (run : Run) (carried : Carried) (bridge : ℕ) where
       let r = contains_from_below (received_at run carried bridge) n x h in omega (arith, r.1, received_when r.0 x r.2)
 
   -- the verdicts at a bridge before an instant are the front of those before a later one, and the rest are on later frames
-  pub policed_front : (n m : ℕ) → n ≤ m → Front (policed_before run carried bridge m) (policed_before run carried bridge n) (λ p. (n ≤ p.received.at) × (p.received.at < m))
+  pub policed_front : (n m : ℕ) → n ≤ m →
+      Front (policed_before run carried bridge m) (policed_before run carried bridge n) (λ p. (n ≤ p.received.at) × (p.received.at < m))
   policed_front n m le =
       let d = run.domain in
       let r = each_front (received_at run carried bridge) n m le in
@@ -79,7 +82,8 @@ module _ (run : Run) (carried : Carried) (bridge : ℕ) where
       }
 
 -- what a port's queue holds before an instant is the front of what it holds later, and the rest comes later
-pub queued_front : (run : Run) (carried : Carried) (l n m : ℕ) → n ≤ m → Front (queued_before run carried l m) (queued_before run carried l n) (λ q. n ≤ q.arrival.at.0)
+pub queued_front : (run : Run) (carried : Carried) (l n m : ℕ) → n ≤ m →
+    Front (queued_before run carried l m) (queued_before run carried l n) (λ q. n ≤ q.arrival.at.0)
 queued_front run carried l n m le =
     let d = run.domain in
     let by = λ (p : Policed). queued_by d l p.received p.verdict in
@@ -102,22 +106,26 @@ backed_when background l t q h =
     sym at ∙ eqb-true w.0.background.at.0 t (and_parts (w.0.background.link == l) (w.0.background.at.0 == t) k).1
 
 -- those of a cycle come from its beginning on
-pub backed_in_late : (d : Domain) (background : List Background) (l cycle : ℕ) (q : QueuedFrame) → Contains (backed_in d background l cycle) q → cycle * d.cycle_time ≤ q.arrival.at.0
+pub backed_in_late : (d : Domain) (background : List Background) (l cycle : ℕ) (q : QueuedFrame) → Contains (backed_in d background l cycle) q →
+    cycle * d.cycle_time ≤ q.arrival.at.0
 backed_in_late d background l cycle q h =
     let w = contains_from_below (λ offset. backed_at background l (cycle * d.cycle_time + offset)) d.cycle_time q h in
     omega (arith, backed_when background l (cycle * d.cycle_time + w.0) q w.2)
 
 -- so do the streams' frames that are queued in a cycle
-pub queued_in_late : (run : Run) (carried : Carried) (l cycle : ℕ) (q : QueuedFrame) → Contains (queued_in run carried l cycle) q → cycle * run.domain.cycle_time ≤ q.arrival.at.0
+pub queued_in_late : (run : Run) (carried : Carried) (l cycle : ℕ) (q : QueuedFrame) → Contains (queued_in run carried l cycle) q →
+    cycle * run.domain.cycle_time ≤ q.arrival.at.0
 queued_in_late run carried l cycle q h =
     let d = run.domain in
     let at = q.arrival.at.0 in
     let of_cycle = λ (x : QueuedFrame). cycle_of d x.arrival.at.0 == cycle in
-    let is : cycle_of d at ≡ cycle = eqb-true (cycle_of d at) cycle (contains_from_filter of_cycle (queued_before run carried l ((cycle + 1) * d.cycle_time)) q h).1 in
+    let is : cycle_of d at ≡ cycle =
+    eqb-true (cycle_of d at) cycle (contains_from_filter of_cycle (queued_before run carried l ((cycle + 1) * d.cycle_time)) q h).1 in
     omega (arith, cycle_from d.cycle_time at, ap (λ (c : ℕ). c * d.cycle_time) is)
 
 -- so what comes to a port in a cycle comes from its beginning on
-pub comes_in_late : (run : Run) (carried : Carried) (l cycle : ℕ) (q : QueuedFrame) → Contains (comes_in run carried l cycle) q → cycle * run.domain.cycle_time ≤ q.arrival.at.0
+pub comes_in_late : (run : Run) (carried : Carried) (l cycle : ℕ) (q : QueuedFrame) → Contains (comes_in run carried l cycle) q →
+    cycle * run.domain.cycle_time ≤ q.arrival.at.0
 comes_in_late run carried l cycle q h =
     elim (Contains-append_cases (backed_in run.domain run.background l cycle) (queued_in run carried l cycle) q h) [
       | inl k ↦ backed_in_late run.domain run.background l cycle q k

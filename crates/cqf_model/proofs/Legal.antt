@@ -12,11 +12,13 @@ pub ends_later : (t octets octet_time : ℕ) → 0 < octet_time → t < ending_o
 ends_later t octets octet_time h = grind arith
 
 -- one arrival is eligible wherever it stands
-pub eligible_alike : (rules : PortRules) (xs ys : List Arrival) (p t : ℕ) → slice_index_or xs p no_arrival ≡ slice_index_or ys p no_arrival → IsEligible rules xs p t → IsEligible rules ys p t
+pub eligible_alike : (rules : PortRules) (xs ys : List Arrival) (p t : ℕ) → slice_index_or xs p no_arrival ≡ slice_index_or ys p no_arrival →
+    IsEligible rules xs p t → IsEligible rules ys p t
 eligible_alike rules xs ys p t e h =
     subst (λ (y : Arrival). IsOpenThrough rules.entries y.class t (ending_of t y.octets rules.octet_time)) e h
 
 -- up to instant 0 no transmission is legal
-pub none_at_0 : (rules : PortRules) (arrivals : List Arrival) (end : ℕ) (starts : List Transmission) → end ≡ 0 → AreLegal rules arrivals end starts → starts ≡ []
+pub none_at_0 : (rules : PortRules) (arrivals : List Arrival) (end : ℕ) (starts : List Transmission) → end ≡ 0 → AreLegal rules arrivals end starts →
+    starts ≡ []
 none_at_0 rules arrivals end [] e legal = refl
 none_at_0 rules arrivals end (x ∷ xs) e legal = absurd (omega (arith, e, legal.before_end x.0 x.1 (contains_here x xs)))

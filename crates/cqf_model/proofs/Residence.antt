@@ -2,7 +2,7 @@
 use Rattle.std.proofs.Common.{◌≡◌, ℕ, ◌<◌, ◌≤◌, ◌⊎◌, List, Option, Some, None, max, fold, length, refl, sym, ap, ◌∙◌, inl, inr, arith}
 use Rattle.std.proofs.lemmas.Bool.{cases_lt}
 use Rattle.std.specs.Prelude.{[], ◌∷◌, Contains}
-use Rattle.cqf_lists.proofs.Contained.{contains_cons, contains_here, contains_nil, contains_there, place_of_member}
+use Rattle.cqf_lists.proofs.Members.{contains_cases, contains_here, contains_later, contains_none, place_of_member}
 use Rattle.cqf_model.specs.declared.topology.Hop.{Hop}
 use Rattle.cqf_model.specs.declared.topology.Row.{Row}
 use Rattle.cqf_model.specs.Domain.{Domain}
@@ -13,13 +13,15 @@ most_from : (tree : List Hop) (least : ℕ) → least ≤ fold (λ most (hop : H
 most_from [] least = omega arith
 most_from (hop ∷ tree) least = omega (arith, most_from tree (max least hop.depth))
 
+-- no hop is deeper than the greatest depth
 most_of : (tree : List Hop) (least : ℕ) (hop : Hop) → Contains tree hop → hop.depth ≤ fold (λ most (hop : Hop). max most hop.depth) least tree
-most_of [] least hop c = absurd (contains_nil hop c)
-most_of (x ∷ tree) least hop c = elim (contains_cons x hop tree c) [
+most_of [] least hop c = absurd (contains_none hop c)
+most_of (x ∷ tree) least hop c = elim (contains_cases x tree hop c) [
   | inl e ↦ omega (arith, most_from tree (max least x.depth), ap (λ (h : Hop). h.depth) e)
   | inr k ↦ most_of tree (max least x.depth) hop k
 ]
 
+-- no hop is deeper than the residence
 pub depth_within_residence : (row : Row) (hop : Hop) → Contains row.tree.items hop → hop.depth ≤ residence row
 depth_within_residence row hop c = most_of row.tree.items 0 hop c
 
@@ -31,9 +33,10 @@ depth_some d tree hop good c = by_from hop.from refl
     by_from None e = omega (arith, (good.begins hop c e).0)
     by_from (Some m) e = let place = place_of_member tree hop c in omega (arith, (good.follows place.0 m hop place.1 e).2.deeper)
 
+-- a tree that isn't empty has a hop
 first_of : (tree : List Hop) → 0 < length tree → (hop : Hop) × Contains tree hop
 first_of [] h = absurd (omega (arith, h))
-first_of (hop ∷ tree) h = (hop, contains_here hop hop tree refl)
+first_of (hop ∷ tree) h = (hop, contains_here hop tree)
 
 -- so a stream's frames are under way for some cycle
 pub residence_some : (d : Domain) (row : Row) → IsTree d row.tree.items → 0 < residence row
@@ -42,16 +45,19 @@ residence_some d row good =
     omega (arith, depth_some d row.tree.items first.0 good first.1, depth_within_residence row first.0 first.1)
 
 -- some link is so deep
-most_met : (tree : List Hop) (least : ℕ) → (fold (λ most (hop : Hop). max most hop.depth) least tree ≡ least) ⊎ ((hop : Hop) × Contains tree hop × (hop.depth ≡ fold (λ most (hop : Hop). max most hop.depth) least tree))
+most_met : (tree : List Hop) (least : ℕ) →
+    (fold (λ most (hop : Hop). max most hop.depth) least tree ≡ least) ⊎
+    ((hop : Hop) × Contains tree hop × (hop.depth ≡ fold (λ most (hop : Hop). max most hop.depth) least tree))
 most_met [] least = inl refl
 most_met (x ∷ tree) least = elim (most_met tree (max least x.depth)) [
-  | inr w ↦ inr (w.0, contains_there x w.0 tree w.1, w.2)
+  | inr w ↦ inr (w.0, contains_later x tree w.0 w.1, w.2)
   | inl e ↦ elim (cases_lt least x.depth) [
-    | inl l ↦ (let here : x.depth ≡ max least x.depth = omega (arith, l) in inr (x, contains_here x x tree refl, here ∙ sym e))
+    | inl l ↦ (let here : x.depth ≡ max least x.depth = omega (arith, l) in inr (x, contains_here x tree, here ∙ sym e))
     | inr g ↦ (let here : max least x.depth ≡ least = omega (arith, g) in inl (e ∙ here))
   ]
 ]
 
+-- and some hop is as deep as the residence
 pub residence_met : (row : Row) → 0 < length row.tree.items → (link : ℕ) × IsHop row (residence row) link
 residence_met row some = elim (most_met row.tree.items 0) [
   | inr w ↦ (w.0.link, record { hop = w.0; of_tree = w.1; is_depth = w.2; is_link = refl })

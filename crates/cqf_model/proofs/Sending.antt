@@ -2,9 +2,9 @@
 use Rattle.std.proofs.Common.{◌≡◌, ℕ, ◌<◌, Bool, List, Option, Some, None, sym, ap, arith, subst, AllPairs, Contains}
 use Rattle.std.specs.Prelude.{filter, slice_index_or}
 use Rattle.std.specs.List.{flat_map}
-use Rattle.cqf_lists.proofs.Members.{contains_from_flat, contains_none}
+use Rattle.cqf_lists.proofs.Members.{contains_from_flat, contains_none, contains_one}
 use Rattle.cqf_lists.proofs.Pairs.{pairs_none, pairs_one}
-use Rattle.cqf_lists.proofs.Made.{contains_one, filter_made, flat_map_same}
+use Rattle.cqf_lists.proofs.Made.{filter_made, flat_map_same}
 use Rattle.cqf_model.specs.declared.frames.Sent.{Sent}
 use Rattle.cqf_model.specs.declared.ports.Arrival.{Arrival}
 use Rattle.cqf_model.specs.declared.ports.Start.{Start}
@@ -45,7 +45,8 @@ sent_octets t x (Some stream) sent h =
     sym (ap (λ (y : Sent). y.octets) (contains_one own sent h))
 
 -- so what a transmission sends has those of the frame at its place
-pub sent_of_octets : (queued : List QueuedFrame) (x : Transmission) (sent : Sent) → Contains (sent_of queued x) sent → sent.octets ≡ (slice_index_or queued x.0 no_frame).arrival.octets
+pub sent_of_octets : (queued : List QueuedFrame) (x : Transmission) (sent : Sent) → Contains (sent_of queued x) sent →
+    sent.octets ≡ (slice_index_or queued x.0 no_frame).arrival.octets
 sent_of_octets queued x sent h =
     let q = slice_index_or queued x.0 no_frame in sent_octets x.1 q.arrival q.stream sent h
 
@@ -60,33 +61,44 @@ sent_of_once R queued x =
     let q = slice_index_or queued x.0 no_frame in sent_once R x.1 q.arrival q.stream
 
 -- a port sends a stream's frame before its end
-pub sent_within : (d : Domain) (entries : List Entry) (end l : ℕ) (queued : List QueuedFrame) (sents : List Sent) (backed : List Start) → Sends d entries end l queued sents backed → (x : Sent) → Contains sents x → x.start.0 < end
+pub sent_within : (d : Domain) (entries : List Entry) (end l : ℕ) (queued : List QueuedFrame) (sents : List Sent) (backed : List Start) →
+    Sends d entries end l queued sents backed → (x : Sent) → Contains sents x → x.start.0 < end
 sent_within d entries end l queued sents backed s x h =
     let w = contains_from_flat (sent_of queued) s.starts x (subst (λ (xs : List Sent). Contains xs x) s.are_sent h) in
     omega (arith, sent_of_when queued w.0 x w.2, s.legal.before_end w.0.0 w.0.1 w.1)
 
 -- and a background frame
-pub backed_within : (d : Domain) (entries : List Entry) (end l : ℕ) (queued : List QueuedFrame) (sents : List Sent) (backed : List Start) → Sends d entries end l queued sents backed → (x : Start) → Contains backed x → x.start.0 < end
+pub backed_within : (d : Domain) (entries : List Entry) (end l : ℕ) (queued : List QueuedFrame) (sents : List Sent) (backed : List Start) →
+    Sends d entries end l queued sents backed → (x : Start) → Contains backed x → x.start.0 < end
 backed_within d entries end l queued sents backed s x h =
     let w = contains_from_flat (backed_of queued) s.starts x (subst (λ (xs : List Start). Contains xs x) s.are_backed h) in
     omega (arith, backed_of_when queued w.0 x w.2, s.legal.before_end w.0.0 w.0.1 w.1)
 
 -- of what is sent, that at the instants of a test is what the transmissions of these instants send
-pub sent_then : (test : ℕ → Bool) (queued : List QueuedFrame) (starts : List Transmission) → filter (λ (sent : Sent). test sent.start.0) (flat_map (sent_of queued) starts) ≡ flat_map (sent_of queued) (filter (λ (x : Transmission). test x.1) starts)
+pub sent_then : (test : ℕ → Bool) (queued : List QueuedFrame) (starts : List Transmission) →
+    filter (λ (sent : Sent). test sent.start.0) (flat_map (sent_of queued) starts) ≡ flat_map (sent_of queued) (filter (λ (x : Transmission). test x.1) starts)
 sent_then test queued starts =
-    filter_made (sent_of queued) (λ (x : Transmission). test x.1) (λ (sent : Sent). test sent.start.0) starts (λ x sent h k. ap test (sent_of_when queued x sent k))
+    filter_made (sent_of queued) (λ (x : Transmission). test x.1) (λ (sent : Sent). test sent.start.0) starts
+    (λ x sent h k. ap test (sent_of_when queued x sent k))
 
 -- and so it is with background frames
-pub backed_then : (test : ℕ → Bool) (queued : List QueuedFrame) (starts : List Transmission) → filter (λ (start : Start). test start.start.0) (flat_map (backed_of queued) starts) ≡ flat_map (backed_of queued) (filter (λ (x : Transmission). test x.1) starts)
+pub backed_then : (test : ℕ → Bool) (queued : List QueuedFrame) (starts : List Transmission) →
+    filter (λ (start : Start). test start.start.0) (flat_map (backed_of queued) starts) ≡ flat_map (backed_of queued)
+    (filter (λ (x : Transmission). test x.1) starts)
 backed_then test queued starts =
-    filter_made (backed_of queued) (λ (x : Transmission). test x.1) (λ (start : Start). test start.start.0) starts (λ x start h k. ap test (backed_of_when queued x start k))
+    filter_made (backed_of queued) (λ (x : Transmission). test x.1) (λ (start : Start). test start.start.0) starts
+    (λ x start h k. ap test (backed_of_when queued x start k))
 
 -- two lists with the same frames at the places of the transmissions: the same is sent of both
-pub sent_same : (queued others : List QueuedFrame) (starts : List Transmission) → ((x : Transmission) → Contains starts x → slice_index_or queued x.0 no_frame ≡ slice_index_or others x.0 no_frame) → flat_map (sent_of queued) starts ≡ flat_map (sent_of others) starts
+pub sent_same : (queued others : List QueuedFrame) (starts : List Transmission) →
+    ((x : Transmission) → Contains starts x → slice_index_or queued x.0 no_frame ≡ slice_index_or others x.0 no_frame) →
+    flat_map (sent_of queued) starts ≡ flat_map (sent_of others) starts
 sent_same queued others starts same =
     flat_map_same (sent_of queued) (sent_of others) starts (λ x h. ap (λ (q : QueuedFrame). sent_by x.1 q.arrival q.stream) (same x h))
 
 -- of background frames too
-pub backed_same : (queued others : List QueuedFrame) (starts : List Transmission) → ((x : Transmission) → Contains starts x → slice_index_or queued x.0 no_frame ≡ slice_index_or others x.0 no_frame) → flat_map (backed_of queued) starts ≡ flat_map (backed_of others) starts
+pub backed_same : (queued others : List QueuedFrame) (starts : List Transmission) →
+    ((x : Transmission) → Contains starts x → slice_index_or queued x.0 no_frame ≡ slice_index_or others x.0 no_frame) →
+    flat_map (backed_of queued) starts ≡ flat_map (backed_of others) starts
 backed_same queued others starts same =
     flat_map_same (backed_of queued) (backed_of others) starts (λ x h. ap (λ (q : QueuedFrame). backed_by x.1 q.arrival q.stream) (same x h))

@@ -2,6 +2,7 @@
 use Rattle.std.specs.Prelude.{ℕ, ◌≡◌, ◌+◌, ◌*◌, ◌&&◌, ◌==◌, List, [], ◌∷◌, Bool, filter, map, length}
 use Rattle.std.specs.List.{flat_map}
 use Rattle.cqf_lists.specs.Lists.{each_below}
+use Rattle.cqf_model.specs.declared.frames.Book.{Book}
 use Rattle.cqf_model.specs.declared.frames.Dropped.{Dropped}
 use Rattle.cqf_model.specs.declared.frames.Sent.{Sent}
 use Rattle.cqf_model.specs.declared.frames.Started.{Started}
@@ -65,6 +66,10 @@ pub record Contents : Type 0 where
   pub starts : List Started
   pub background : List Started
   pub drops : List Dropped
+
+-- what the program's book has
+abbrev pub contents_of : Book → Contents
+contents_of book = record { starts = book.starts.items; background = book.background.items; drops = book.drops.items }
 
 -- the book of the legal network, over so many cycles
 pub record IsBook (run : Run) (lists : ℕ → List Entry) (cycles : ℕ) (book : Contents) : Type 0 where

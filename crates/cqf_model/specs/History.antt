@@ -1,6 +1,7 @@
 -- The history of admission control: calls with the answers that they got, the streams that it accepted, and the table of
 -- each cycle. All of it is said of the whole list of entries, with no running state (profile).
-use Rattle.std.specs.Prelude.{ℕ, ◌≡◌, ◌+◌, ◌-◌, ◌≤◌, List, [], ◌∷◌, Bool, true, false, not, ◌==◌, ◌&&◌, ◌||◌, if◌then◌else◌, nat_le, nat_lt, filter, find, length, take, Option, Some, None, is_none, option_map, slice_get, slice_index_or, count_by, position, suc, zero}
+use Rattle.std.specs.Prelude.{ℕ, ◌≡◌, ◌+◌, ◌-◌, ◌≤◌, List, [], ◌∷◌, Bool, true, false, not, ◌==◌, ◌&&◌, ◌||◌, if◌then◌else◌, nat_le, nat_lt, filter, find}
+use Rattle.std.specs.Prelude.{length, take, Option, Some, None, is_none, option_map, slice_get, slice_index_or, count_by, position, suc, zero}
 use Rattle.std.specs.Option.{option_map_or}
 use Rattle.std.specs.List.{flat_map, list_any}
 use Rattle.cqf_lists.specs.Lists.{each_below, each_once, least, or_else}
@@ -8,7 +9,8 @@ use Rattle.cqf_units.specs.Name.{is_name}
 use Rattle.cqf_units.specs.Timing.{cost_of}
 use Rattle.cqf_units.specs.declared.reservations.Cycle.{Cycle}
 use Rattle.cqf_model.specs.declared.history.Refused.{Refused}
-use Rattle.cqf_model.specs.declared.history.Refused.TheVariants.{BadName, BadOctets, UnknownNode, BrokenPath, LoopingPath, NotATree, NameHeld, TooManyStreams, BudgetShort, NotHeld, AlreadyWithdrawn}
+use Rattle.cqf_model.specs.declared.history.Refused.TheVariants.{BadName, BadOctets, UnknownNode, BrokenPath, LoopingPath, NotATree, NameHeld, TooManyStreams}
+use Rattle.cqf_model.specs.declared.history.Refused.TheVariants.{BudgetShort, NotHeld, AlreadyWithdrawn}
 use Rattle.cqf_model.specs.declared.history.Reply.{Reply}
 use Rattle.cqf_model.specs.declared.history.Reply.TheVariants.{Accepted, Sealed, Refused as RefusedFor}
 use Rattle.cqf_model.specs.declared.topology.Hop.{Hop}

@@ -1,5 +1,6 @@
 -- The streams that are held in a cycle, and where they go (profile).
-use Rattle.std.specs.Prelude.{ℕ, ◌≡◌, ◌≢◌, ◌+◌, ◌≤◌, ◌<◌, List, [], Bool, true, false, ◌==◌, ◌&&◌, if◌then◌else◌, nat_le, nat_lt, max, fold, map, filter, take, length, All, Option, Some, None, AllPairs, Contains, slice_get, slice_index_or, sum_by, find}
+use Rattle.std.specs.Prelude.{ℕ, ◌≡◌, ◌≢◌, ◌+◌, ◌≤◌, ◌<◌, List, [], Bool, true, false, ◌==◌, ◌&&◌, if◌then◌else◌, nat_le, nat_lt, max, fold, map, filter, take}
+use Rattle.std.specs.Prelude.{length, All, Option, Some, None, AllPairs, Contains, slice_get, slice_index_or, sum_by, find}
 use Rattle.std.specs.Option.{option_map_or}
 use Rattle.std.specs.List.{list_any}
 use Rattle.cqf_lists.specs.Lists.{each_once}

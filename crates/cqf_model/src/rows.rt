@@ -42,13 +42,6 @@ fn leads_on(hops: &[Hop], way: Option<u8>, link: u8) -> bool
         .any(|hop| is_same_way(hop.from, way) && hop.link == link)
 }
 
-/// A mask with one bit more, where it isn't beyond 63.
-fn with_bit(mask: u64, bit: u8) -> u64
-    ensures { (k : ℕ) → k < 64 → IsBitSet result k ↔ (IsBitSet mask k ⊎ (bit ≡ k)) }
-{
-    if bit < 64 { mask | 1 << bit } else { mask }
-}
-
 /// Whether a cycle is less than so many cycles behind an end.
 fn is_under_way(cycle: u32, end: u32, cycles: u8) -> bool
     ensures { result ≡ nat_lt cycle (end + cycles) }
@@ -114,17 +107,6 @@ impl Row {
             links.push(hop.link);
         }
         links
-    }
-
-    /// The links below 64 by which the stream goes: bit l is set where it goes by link l.
-    pub fn link_mask(&self) -> u64
-        ensures { (link : ℕ) → link < 64 → IsBitSet result link ↔ (crosses self.now link ≡ true) }
-    {
-        let mut mask = 0;
-        for hop in self.tree.as_slice() {
-            mask = with_bit(mask, hop.link);
-        }
-        mask
     }
 
     /// The same row once more. A row lies in place and needs no memory, so this can't fail.

@@ -1,5 +1,6 @@
 -- Offers as they are listed.
-use Rattle.std.proofs.Common.{ℕ, ◌≡◌, ◌+◌, ◌<◌, ◌≤◌, ◌==◌, ◌∙◌, true, false, List, [], ◌∷◌, ◌++◌, length, map, filter, take, nat_lt, get_or, refl, sym, ap, arith, append-nil}
+use Rattle.std.proofs.Common.{ℕ, ◌≡◌, ◌+◌, ◌<◌, ◌≤◌, ◌==◌, ◌∙◌, true, false, List, [], ◌∷◌, ◌++◌, length, map, filter, take, nat_lt, get_or, refl, sym, ap}
+use Rattle.std.proofs.Common.{arith, append-nil}
 use Rattle.std.specs.List.{enumerate_from}
 use Rattle.std.proofs.lemmas.List.{take_more, map-append, length-take-le}
 use Rattle.std.proofs.lemmas.Bool.{and_parts, ltb-true, eqb-true}
@@ -58,6 +59,7 @@ passed-more offers bridge end k below miss =
     ∙ ap (λ zs. filter (is_kept bridge end) (numbered (take k offers)) ++ zs) none
     ∙ append-nil _
 
+-- an offer that is due is listed
 pub ListedBefore-kept : (offers : List Offer) (bridge end k : ℕ) (list : List Due) (at : ℕ) → k < length offers → at ≡ (get_or offers k no_offer).at.0
     → is_kept bridge end (at_place offers k) ≡ true
     → ListedBefore offers bridge end k list → ListedBefore offers bridge end (k + 1) (list ++ record { at = at; place = k } ∷ [])
@@ -71,6 +73,7 @@ ListedBefore-kept offers bridge end k list at below is_at hit before =
           (record { inside = below; instant = is_at; early = soon; here = eqb-true (get_or offers k no_offer).bridge bridge parts.0 });
     }
 
+-- and one that isn't is passed by
 pub ListedBefore-passed : (offers : List Offer) (bridge end k : ℕ) (list : List Due) → k < length offers
     → is_kept bridge end (at_place offers k) ≡ false
     → ListedBefore offers bridge end k list → ListedBefore offers bridge end (k + 1) list

@@ -29,7 +29,8 @@ offered-listed offers bridge end t xs soon listed =
     let is_t : x.offer.at.0 ≡ t = eqb-true x.offer.at.0 t parts.1 in
     and_from (x.offer.bridge == bridge) (nat_lt x.offer.at.0 end) parts.0 (lt-ltb x.offer.at.0 end (omega (arith, is_t, soon))) in
     let narrowed : filter (is_offered_at bridge t) (numbered offers) ≡ filter (is_offered_at bridge t) (map (seen offers) xs)
-    = filter_weaker (is_offered_at bridge t) (is_kept bridge end) (numbered offers) (λ x held. implies x) ∙ ap (filter (is_offered_at bridge t)) (sym listed.are) in
+    = filter_weaker (is_offered_at bridge t) (is_kept bridge end) (numbered offers) (λ x held. implies x)
+    ∙ ap (filter (is_offered_at bridge t)) (sym listed.are) in
     let same : (due : Due) → Contains xs due → is_offered_at bridge t (seen offers due) ≡ (due.at == t) =
     λ due held.
     let is : IsDue offers bridge end due = subst (IsDue offers bridge end) held.2 (listed.each held.0 due held.1) in
@@ -44,6 +45,7 @@ offered-listed offers bridge end t xs soon listed =
 probe : ℕ → Due
 probe t = record { at = t; place = 0 }
 
+-- each instant is one of a due offer
 probes : (t : ℕ) → instant (probe t) ≡ t
 unfolding probe
 probes t = refl
@@ -53,7 +55,9 @@ pub taken-in_order : (offers : List Offer) (bridge end : ℕ) (xs ys : List Due)
     → IsPermutation xs ys → IsNonDecreasingBy instant ys → IsStableByKey instant nat_cmp xs ys
     → map (received_of offers) ys ≡ each_below (offered_at offers bridge) end
 taken-in_order offers bridge end xs ys listed moved up stable =
-    ap (map (received_of offers)) (sorted_by_key instant probe probes end xs ys moved up stable (All-weaker (IsDue offers bridge end) (λ (due : Due). due.at < end) (λ due is. is.early) xs listed.each))
+    ap (map (received_of offers))
+    (sorted_by_key instant probe probes end xs ys moved up stable
+    (All-weaker (IsDue offers bridge end) (λ (due : Due). due.at < end) (λ due is. is.early) xs listed.each))
     ∙ map_below (received_of offers) (λ t. filter (λ (due : Due). due.at == t) xs) end
     ∙ same_below (λ t. map (received_of offers) (filter (λ (due : Due). due.at == t) xs)) (offered_at offers bridge) end
     (λ t soon. sym (offered-listed offers bridge end t xs soon listed))

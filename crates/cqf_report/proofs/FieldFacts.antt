@@ -21,11 +21,13 @@ four_of-other (a ∷ b ∷ c ∷ []) other = refl
 four_of-other (a ∷ b ∷ c ∷ d ∷ []) other = absurd (other refl)
 four_of-other (a ∷ b ∷ c ∷ d ∷ e ∷ fields) other = refl
 
+-- a text that is there is one text
 some-inj : (a b : List ℕ) → ◌≡◌ {A = Option (List ℕ)} (Some a) (Some b) → a ≡ b
 some-inj a b e = cc
 
 -- the four fields are those at the four places
-pub four_of-places : (fields : Fields) (p q r s : List ℕ) → length fields ≡ 4 → Some p ≡ field_at fields 0 → Some q ≡ field_at fields 1 → Some r ≡ field_at fields 2 → Some s ≡ field_at fields 3
+pub four_of-places : (fields : Fields) (p q r s : List ℕ) → length fields ≡ 4 → Some p ≡ field_at fields 0 → Some q ≡ field_at fields 1 →
+    Some r ≡ field_at fields 2 → Some s ≡ field_at fields 3
     → four_of fields ≡ Some (p, q, r, s)
 unfolding field_at
 four_of-places [] p q r s size at0 at1 at2 at3 = cc
@@ -45,7 +47,8 @@ in_four-none read (a ∷ b ∷ c ∷ d ∷ []) none = cc
 in_four-none read (a ∷ b ∷ c ∷ d ∷ e ∷ fields) none = refl
 
 -- what four fields write
-pub in_four-some : {A : Type 0} (read : List ℕ → List ℕ → List ℕ → List ℕ → Option A) (fields : Fields) (p q r s : List ℕ) → four_of fields ≡ Some (p, q, r, s) → in_four read fields ≡ read p q r s
+pub in_four-some : {A : Type 0} (read : List ℕ → List ℕ → List ℕ → List ℕ → Option A) (fields : Fields) (p q r s : List ℕ) →
+    four_of fields ≡ Some (p, q, r, s) → in_four read fields ≡ read p q r s
 in_four-some read [] p q r s four = cc
 in_four-some read (a ∷ []) p q r s four = cc
 in_four-some read (a ∷ b ∷ []) p q r s four = cc
@@ -70,7 +73,8 @@ five_of-other (a ∷ b ∷ c ∷ d ∷ e ∷ []) other = absurd (other refl)
 five_of-other (a ∷ b ∷ c ∷ d ∷ e ∷ f ∷ fields) other = refl
 
 -- the five fields are those at the five places
-pub five_of-places : (fields : Fields) (p q r s t : List ℕ) → length fields ≡ 5 → Some p ≡ field_at fields 0 → Some q ≡ field_at fields 1 → Some r ≡ field_at fields 2 → Some s ≡ field_at fields 3 → Some t ≡ field_at fields 4
+pub five_of-places : (fields : Fields) (p q r s t : List ℕ) → length fields ≡ 5 → Some p ≡ field_at fields 0 → Some q ≡ field_at fields 1 →
+    Some r ≡ field_at fields 2 → Some s ≡ field_at fields 3 → Some t ≡ field_at fields 4
     → five_of fields ≡ Some (p, q, r, s, t)
 unfolding field_at
 five_of-places [] p q r s t size at0 at1 at2 at3 at4 = cc
@@ -83,7 +87,8 @@ five_of-places (a ∷ b ∷ c ∷ d ∷ e ∷ []) p q r s t size at0 at1 at2 at3
 five_of-places (a ∷ b ∷ c ∷ d ∷ e ∷ f ∷ fields) p q r s t size at0 at1 at2 at3 at4 = absurd (omega arith)
 
 -- a record that has no five fields writes nothing
-pub in_five-none : {A : Type 0} (read : List ℕ → List ℕ → List ℕ → List ℕ → List ℕ → Option A) (fields : Fields) → five_of fields ≡ None → in_five read fields ≡ None
+pub in_five-none : {A : Type 0} (read : List ℕ → List ℕ → List ℕ → List ℕ → List ℕ → Option A) (fields : Fields) → five_of fields ≡ None →
+    in_five read fields ≡ None
 in_five-none read [] none = refl
 in_five-none read (a ∷ []) none = refl
 in_five-none read (a ∷ b ∷ []) none = refl
@@ -93,12 +98,14 @@ in_five-none read (a ∷ b ∷ c ∷ d ∷ e ∷ []) none = cc
 in_five-none read (a ∷ b ∷ c ∷ d ∷ e ∷ f ∷ fields) none = refl
 
 -- what five fields write
-pub in_five-some : {A : Type 0} (read : List ℕ → List ℕ → List ℕ → List ℕ → List ℕ → Option A) (fields : Fields) (p q r s t : List ℕ) → five_of fields ≡ Some (p, q, r, s, t) → in_five read fields ≡ read p q r s t
+pub in_five-some : {A : Type 0} (read : List ℕ → List ℕ → List ℕ → List ℕ → List ℕ → Option A) (fields : Fields) (p q r s t : List ℕ) →
+    five_of fields ≡ Some (p, q, r, s, t) → in_five read fields ≡ read p q r s t
 in_five-some read [] p q r s t five = cc
 in_five-some read (a ∷ []) p q r s t five = cc
 in_five-some read (a ∷ b ∷ []) p q r s t five = cc
 in_five-some read (a ∷ b ∷ c ∷ []) p q r s t five = cc
 in_five-some read (a ∷ b ∷ c ∷ d ∷ []) p q r s t five = cc
 in_five-some read (a ∷ b ∷ c ∷ d ∷ e ∷ []) p q r s t five =
-    ap (λ (o : Option (List ℕ × List ℕ × List ℕ × List ℕ × List ℕ)). option_map_or (λ (f : List ℕ × List ℕ × List ℕ × List ℕ × List ℕ). read f.0 f.1 f.2 f.3 f.4) o None) five
+    ap (λ (o : Option (List ℕ × List ℕ × List ℕ × List ℕ × List ℕ)). option_map_or
+    (λ (f : List ℕ × List ℕ × List ℕ × List ℕ × List ℕ). read f.0 f.1 f.2 f.3 f.4) o None) five
 in_five-some read (a ∷ b ∷ c ∷ d ∷ e ∷ f ∷ fields) p q r s t five = cc

@@ -1,19 +1,14 @@
 -- The fault that is told of a table's rows is the first.
-use Rattle.std.proofs.Common.{◌≡◌, ◌≤◌, ◌<◌, ◌+◌, ℕ, zero, suc, List, [], ◌∷◌, ◌++◌, Bool, true, false, cond, Option, Some, None, Result, Ok, Err, MatchResult, nat_lt, length, slice_get, refl, ap, sym, subst, ◌∙◌, append_assoc, append-nil, length-append, ◌⊎◌, inl, inr, arith}
+use Rattle.std.proofs.Common.{◌≡◌, ◌≤◌, ◌<◌, ◌+◌, ℕ, List, [], ◌∷◌, ◌++◌, Bool, true, false, cond, Option, Some, None, Result, Ok, Err, MatchResult, nat_lt}
+use Rattle.std.proofs.Common.{length, slice_get, refl, ap, sym, subst, ◌∙◌, append_assoc, append-nil, length-append, ◌⊎◌, inl, inr, arith}
 use Rattle.std.proofs.lemmas.Bool.{cases_lt}
 use Rattle.std.proofs.lemmas.Bool.Decides.{nat_tests}
+use Rattle.cqf_lists.proofs.Places.{slice_get_behind}
 use Rattle.cqf_report.specs.Records.{Fields}
 use Rattle.cqf_report.specs.Table.{most_rows, row_then, rows_from, with_row}
 use Rattle.cqf_report.specs.TableLaws.{AreGoodBefore, IsFirstBack, IsFirstFault, IsGood, TellsFirst, Writes}
 use Rattle.cqf_report.specs.declared.tables.TableFault.{TableFault}
 use Rattle.cqf_report.specs.declared.tables.TableFault.TheVariants.{TooMany, OutOfOrder}
-
--- what stands right behind the front
-at-end : {X : Type 0} (xs ys : List X) (x : X) (i : ℕ) → i ≡ length xs → slice_get (xs ++ x ∷ ys) i ≡ Some x
-at-end [] ys x zero e = refl
-at-end [] ys x (suc i) e = absurd (omega arith)
-at-end (y ∷ xs) ys x zero e = absurd (omega arith)
-at-end (y ∷ xs) ys x (suc i) e = at-end xs ys x i (omega arith)
 
 module _ {A : Type 0} (read : Fields → Option A) (instant : A → ℕ) where
   -- a record writes one row
@@ -35,6 +30,7 @@ module _ {A : Type 0} (read : Fields → Option A) (instant : A → ℕ) where
     writes : Writes read rows k earlier
     its : instant earlier ≡ before
 
+  -- a row of an earlier instant than the one before it
   abbrev IsBefore : List Fields → ℕ → ℕ → Type 0
   IsBefore rows place before = ((place ≡ 0) × (before ≡ 0)) ⊎ IsLast rows place before
 
@@ -49,7 +45,8 @@ module _ {A : Type 0} (read : Fields → Option A) (instant : A → ℕ) where
       omega (arith, its, h)
 
   -- one good record more
-  good-more : (rows : List Fields) (place : ℕ) → AreGoodBefore read instant rows place → IsGood read instant rows place → AreGoodBefore read instant rows (place + 1)
+  good-more : (rows : List Fields) (place : ℕ) → AreGoodBefore read instant rows place → IsGood read instant rows place →
+      AreGoodBefore read instant rows (place + 1)
   good-more rows place good here k below = elim (cases_lt k place) [
     | inl before ↦ good k before
     | inr not_before ↦ let same : place ≡ k = omega (arith, below, not_before) in subst (λ m. IsGood read instant rows m) same here
@@ -72,6 +69,7 @@ module _ {A : Type 0} (read : Fields → Option A) (instant : A → ℕ) where
       → AreGoodBefore read instant (front ++ rest) (length front) → IsBefore (front ++ rest) (length front) before
       → Told (front ++ rest) (rows_from read instant number before rest)
 
+  -- what is told of a text holds behind each front of it
   told-behind-front : (rest : List Fields) → TellsBehind rest
   told-behind-front [] front number before numbered few good last =
       let whole : length (front ++ []) ≡ length front = ap length (append-nil front) in
@@ -82,23 +80,34 @@ module _ {A : Type 0} (read : Fields → Option A) (instant : A → ℕ) where
       rows = front ++ fields ∷ rest
 
       stands : slice_get rows (length front) ≡ Some fields
-      stands = at-end front rest fields (length front) refl
+      stands = slice_get_behind front fields rest (length front) refl
 
       long : length rows ≡ length front + (length rest + 1)
       long = length-append front (fields ∷ rest) ∙ omega arith
 
-      next : TellsBehind rest → (row : A) → read fields ≡ Some row → before ≤ instant row → number ≤ most_rows → Told rows (rows_from read instant (number + 1) (instant row) rest)
+      next : TellsBehind rest → (row : A) → read fields ≡ Some row → before ≤ instant row → number ≤ most_rows →
+          Told rows (rows_from read instant (number + 1) (instant row) rest)
       next again row means h within =
           let writes : Writes read rows (length front) row = record { fields = fields; stands = stands; means = means } in
-          let here : IsGood read instant rows (length front) = record { row = row; writes = writes; in_order = in-order rows (length front) before row last h } in
+          let here : IsGood read instant rows (length front) =
+          record { row = row; writes = writes; in_order = in-order rows (length front) before row last h } in
           let moved : (front ++ fields ∷ []) ++ rest ≡ rows = append_assoc front (fields ∷ []) rest in
           let one : length (front ++ fields ∷ []) ≡ length front + 1 = length-append front (fields ∷ []) in
           subst (λ all. Told all (rows_from read instant (number + 1) (instant row) rest)) moved
           (again (front ++ fields ∷ []) (number + 1) (instant row) (omega (arith, numbered, one)) (omega (arith, within))
-          (subst (λ all. AreGoodBefore read instant all (length (front ++ fields ∷ []))) (sym moved) (subst (λ n. AreGoodBefore read instant rows n) (sym one) (good-more rows (length front) good here)))
-          (inr (record { earlier = row; k = length front; next = sym one; writes = subst (λ all. Writes read all (length front) row) (sym moved) writes; its = refl })))
+          (subst (λ all. AreGoodBefore read instant all (length (front ++ fields ∷ []))) (sym moved)
+          (subst (λ n. AreGoodBefore read instant rows n) (sym one) (good-more rows (length front) good here)))
+          (inr (record {
+            earlier = row;
+            k = length front;
+            next = sym one;
+            writes = subst (λ all. Writes read all (length front) row) (sym moved) writes;
+            its =
+                refl;
+          })))
 
-      back : (row : A) → read fields ≡ Some row → instant row < before → number ≤ most_rows → IsBefore rows (length front) before → IsFirstBack read instant rows number
+      back : (row : A) → read fields ≡ Some row → instant row < before → number ≤ most_rows → IsBefore rows (length front) before →
+          IsFirstBack read instant rows number
       back row means h within (inl start) = absurd (omega (arith, start.1, h))
       back row means h within (inr last) =
           let here : length front ≡ last.k + 1 = sym last.next in
@@ -117,17 +126,24 @@ module _ {A : Type 0} (read : Fields → Option A) (instant : A → ℕ) where
       by_back : TellsBehind rest → (row : A) → read fields ≡ Some row → number ≤ most_rows → (b : Bool) → nat_lt (instant row) before ≡ b
           → Told rows (cond b (Err (OutOfOrder number)) (with_row row (rows_from read instant (number + 1) (instant row) rest)))
       by_back again row means within true e = back row means (grind (arith, nat_tests)) within last
-      by_back again row means within false e = told-behind rows row (rows_from read instant (number + 1) (instant row) rest) (next again row means (grind (arith, nat_tests)) within)
+      by_back again row means within false e =
+          told-behind rows row (rows_from read instant (number + 1) (instant row) rest) (next again row means (grind (arith, nat_tests)) within)
 
-      by_row : TellsBehind rest → (o : Option A) → read fields ≡ o → number ≤ most_rows → Told rows (row_then instant number before o (λ last. rows_from read instant (number + 1) last rest))
-      by_row again None means within = record { place = length front; numbered = numbered; few = within; good_before = good; fields = fields; stands = stands; means_nothing = means }
+      by_row : TellsBehind rest → (o : Option A) → read fields ≡ o → number ≤ most_rows →
+          Told rows (row_then instant number before o (λ last. rows_from read instant (number + 1) last rest))
+      by_row again None means within =
+          record { place = length front; numbered = numbered; few = within; good_before = good; fields = fields; stands = stands; means_nothing = means }
       by_row again (Some row) means within = by_back again row means within (nat_lt (instant row) before) refl
 
       by_many : TellsBehind rest → (b : Bool) → nat_lt most_rows number ≡ b
           → Told rows (cond b (Err TooMany) (row_then instant number before (read fields) (λ last. rows_from read instant (number + 1) last rest)))
       by_many again true e =
           let beyond : most_rows < number = grind (arith, nat_tests) in
-          record { many = omega (arith, beyond, numbered, long); good_before = subst (λ n. AreGoodBefore read instant rows n) (omega (arith, beyond, few, numbered)) good }
+          record {
+            many = omega (arith, beyond, numbered, long);
+            good_before =
+                subst (λ n. AreGoodBefore read instant rows n) (omega (arith, beyond, few, numbered)) good;
+          }
       by_many again false e = by_row again (read fields) refl (grind (arith, nat_tests))
 
   -- of all of them

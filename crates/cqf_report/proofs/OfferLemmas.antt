@@ -18,11 +18,13 @@ bridge-place None None b e = cc
 bridge-place None (Some s) b e = cc
 bridge-place (Some a) s b e = e
 
+-- a bridge that is named is one of the domain's
 bridge-inside : (d : Domain) (name : List ℕ) (b : ℕ) → bridge_named d name ≡ Some b → b < length d.bridges
 bridge-inside d name b e = by (is_name name) e
   where
     by : (test : Bool) → (if test then as_bridge (node_named d name) else None) ≡ Some b → b < length d.bridges
-    by true e = (position-Some (λ (other : List ℕ). is_text other name) d.bridges b [] (bridge-place (position (λ other. is_text other name) d.bridges) (position (λ other. is_text other name) d.stations) b e)).0
+    by true e = (position-Some (λ (other : List ℕ). is_text other name) d.bridges b []
+        (bridge-place (position (λ other. is_text other name) d.bridges) (position (λ other. is_text other name) d.stations) b e)).0
     by false e = cc
 
 -- an offer that four fields write may be handed to a run
@@ -36,13 +38,21 @@ offer-with d (Some at) (Some bridge) (Some stream) None offer early inside sized
 offer-with d (Some at) (Some bridge) (Some stream) (Some octets) offer early inside sized e =
     let made : Offer = record { at = record { 0 = at }; bridge = bridge; stream = stream; octets = octets } in
     let same : made ≡ offer = cc in
-    subst (IsOffer d) same (record { at_bridge = inside bridge refl; least = (sized octets refl).0; most = (sized octets refl).1; early = omega (arith, early at refl) })
+    subst (IsOffer d) same (record {
+      at_bridge = inside bridge refl;
+      least = (sized octets refl).0;
+      most = (sized octets refl).1;
+      early =
+          omega (arith, early at refl);
+    })
 
+-- an offer that four fields write may be handed to a run
 offer-four : (d : Domain) (at bridge stream octets : List ℕ) (offer : Offer) → offer_of d at bridge stream octets ≡ Some offer → IsOffer d offer
 offer-four d at bridge stream octets offer e =
     offer-with d (decimal_in 0 999999999999 at) (bridge_named d bridge) (name_in stream) (decimal_in 64 1522 octets) offer
     (λ n is. (decimal_in-range 0 999999999999 at n is).1) (λ n is. bridge-inside d bridge n is) (λ n is. decimal_in-range 64 1522 octets n is) e
 
+-- and so may one of a record
 offer-row : (d : Domain) (fields : Fields) (offer : Offer) → in_four (offer_of d) fields ≡ Some offer → IsOffer d offer
 offer-row d [] offer e = cc
 offer-row d (a ∷ []) offer e = cc
@@ -53,7 +63,8 @@ offer-row d (a ∷ b ∷ c ∷ x ∷ y ∷ fields) offer e = cc
 
 -- each offer of a text may be handed to a run
 pub offers-good : (d : Domain) (text : List ℕ) (offers : List Offer) → offers_of d text ≡ Ok offers → AreOffers d offers
-offers-good d text offers e = table-each (IsOffer d) (in_four (offer_of d)) offer_instant (λ fields offer is. offer-row d fields offer is) offer_header (records_of text) offers e
+offers-good d text offers e =
+    table-each (IsOffer d) (in_four (offer_of d)) offer_instant (λ fields offer is. offer-row d fields offer is) offer_header (records_of text) offers e
 
 -- and there are at most 1,000,000
 pub offers-few : (d : Domain) (text : List ℕ) (offers : List Offer) → offers_of d text ≡ Ok offers → length offers ≤ 1000000

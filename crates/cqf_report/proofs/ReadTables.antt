@@ -1,6 +1,7 @@
 -- What every table that is read has: what holds of each row that may be read, at most 1,000,000 rows, and instants in
 -- order.
-use Rattle.std.proofs.Common.{◌≡◌, ◌≤◌, ◌+◌, ◌-◌, ◌&&◌, ℕ, Bool, true, false, List, [], ◌∷◌, All, AllPairs, Option, Some, None, Result, Ok, Err, if◌then◌else◌, nat_lt, nat_le, length, refl, subst, sym, ap, arith}
+use Rattle.std.proofs.Common.{◌≡◌, ◌≤◌, ◌+◌, ◌-◌, ◌&&◌, ℕ, Bool, true, false, List, [], ◌∷◌, All, AllPairs, Option, Some, None, Result, Ok, Err, if◌then◌else◌}
+use Rattle.std.proofs.Common.{nat_lt, nat_le, length, refl, subst, sym, ap, arith}
 use Rattle.std.proofs.lemmas.Bool.{and_parts, leb-true}
 use Rattle.std.proofs.lemmas.Grind.{common_steps}
 use Rattle.std.proofs.lemmas.List.Elements.{All-cons, All-nil}
@@ -14,13 +15,17 @@ use Rattle.cqf_text.specs.Decimal.{decimal_in, decimal_value, within}
 
 -- what holds of each row that is read holds of each row of a table
 module _ {A : Type 0} (P : A → Type 0) (read : Fields → Option A) (instant : A → ℕ) (each : (fields : Fields) (row : A) → read fields ≡ Some row → P row) where
-  cons-each : (row : A) (others : Result (List A) TableFault) (items : List A) → P row → ((rest : List A) → others ≡ Ok rest → All P rest) → with_row row others ≡ Ok items → All P items
+  -- one row more of which the fact holds
+  cons-each : (row : A) (others : Result (List A) TableFault) (items : List A) → P row → ((rest : List A) → others ≡ Ok rest → All P rest) →
+      with_row row others ≡ Ok items → All P items
   cons-each row (Ok others) items first more e =
       let same : row ∷ others ≡ items = cc in
       subst (All P) same (All-cons P row others first (more others refl))
   cons-each row (Err fault) items first more e = cc
 
-  row-each : (number before : ℕ) (fields : Fields) (o : Option A) (others : ℕ → Result (List A) TableFault) (items : List A) → read fields ≡ o → ((last : ℕ) (rest : List A) → others last ≡ Ok rest → All P rest)
+  -- one record more
+  row-each : (number before : ℕ) (fields : Fields) (o : Option A) (others : ℕ → Result (List A) TableFault) (items : List A) → read fields ≡ o →
+      ((last : ℕ) (rest : List A) → others last ≡ Ok rest → All P rest)
       → row_then instant number before o others ≡ Ok items → All P items
   row-each number before fields None others items is more e = cc
   row-each number before fields (Some row) others items is more e = by (nat_lt (instant row) before) e
@@ -29,16 +34,20 @@ module _ {A : Type 0} (P : A → Type 0) (read : Fields → Option A) (instant :
       by true e = cc
       by false e = cons-each row (others (instant row)) items (each fields row is) (more (instant row)) e
 
+  -- what holds of each row holds of the rows of a text
   pub rows-each : (number before : ℕ) (rows : List Fields) (items : List A) → rows_from read instant number before rows ≡ Ok items → All P items
   rows-each number before [] items e = let same : [] ≡ items = cc in subst (All P) same (All-nil P)
   rows-each number before (fields ∷ rows) items e =
-      by (nat_lt most_rows number) (row-each number before fields (read fields) (λ last. rows_from read instant (number + 1) last rows) items refl (λ last rest. rows-each (number + 1) last rows rest)) e
+      by (nat_lt most_rows number) (row-each number before fields (read fields) (λ last. rows_from read instant (number + 1) last rows) items refl
+      (λ last rest. rows-each (number + 1) last rows rest)) e
     where
       by : (b : Bool) → (row_then instant number before (read fields) (λ last. rows_from read instant (number + 1) last rows) ≡ Ok items → All P items)
-          → (if b then Err TooMany else row_then instant number before (read fields) (λ last. rows_from read instant (number + 1) last rows)) ≡ Ok items → All P items
+          → (if b then Err TooMany else row_then instant number before (read fields) (λ last. rows_from read instant (number + 1) last rows)) ≡ Ok items →
+          All P items
       by true more e = cc
       by false more e = more e
 
+  -- and of a table's
   pub table-each : (names : Fields) (rows : List Fields) (items : List A) → rows_under names read instant rows ≡ Ok items → All P items
   table-each names [] items e = cc
   table-each names (first ∷ rows) items e = by (is_header names first) e
@@ -59,6 +68,7 @@ within-range least most m n e = by (nat_le least m && nat_le m most) refl e
         subst InRange same (leb-true least m parts.0, leb-true m most parts.1)
     by false holds e = cc
 
+-- a number that is read is in its range
 pub decimal_in-range : (least most : ℕ) (digits : List ℕ) (n : ℕ) → decimal_in least most digits ≡ Some n → (least ≤ n) × (n ≤ most)
 decimal_in-range least most digits n e = by (decimal_value digits) e
   where
@@ -70,10 +80,13 @@ decimal_in-range least most digits n e = by (decimal_value digits) e
 no_rows : {A : Type 0} (fault : TableFault) (rows : List A) → ¬ (Err fault ≡ Ok rows)
 no_rows fault rows h = cc
 
+-- no rows are none
 nil_ok : {A : Type 0} (rows : List A) → (let read : Result (List A) TableFault = Ok [] in read ≡ Ok rows) → [] ≡ rows
 nil_ok rows h = cc
 
-with_row-few : {A : Type 0} (row : A) (others : Result (List A) TableFault) (rows : List A) (most : ℕ) → ((rest : List A) → others ≡ Ok rest → length rest ≤ most) → with_row row others ≡ Ok rows → length rows ≤ most + 1
+-- one row more is one more
+with_row-few : {A : Type 0} (row : A) (others : Result (List A) TableFault) (rows : List A) (most : ℕ) →
+    ((rest : List A) → others ≡ Ok rest → length rest ≤ most) → with_row row others ≡ Ok rows → length rows ≤ most + 1
 with_row-few row (Ok rest) rows most few h =
     let same : row ∷ rest ≡ rows = cc in
     let short : length rest ≤ most = few rest refl in
@@ -81,21 +94,30 @@ with_row-few row (Ok rest) rows most few h =
     omega (arith, count, short)
 with_row-few row (Err fault) rows most few h = absurd (no_rows fault rows h)
 
-late-few : {A : Type 0} (number : ℕ) (row : A) (others : Result (List A) TableFault) (rows : List A) (most : ℕ) (late : Bool) → ((rest : List A) → others ≡ Ok rest → length rest ≤ most) → (if late then Err (OutOfOrder number) else with_row row others) ≡ Ok rows → length rows ≤ most + 1
+-- where it isn't late
+late-few : {A : Type 0} (number : ℕ) (row : A) (others : Result (List A) TableFault) (rows : List A) (most : ℕ) (late : Bool) →
+    ((rest : List A) → others ≡ Ok rest → length rest ≤ most) → (if late then Err (OutOfOrder number) else with_row row others) ≡ Ok rows →
+    length rows ≤ most + 1
 late-few number row others rows most true few h = absurd (no_rows (OutOfOrder number) rows h)
 late-few number row others rows most false few h = with_row-few row others rows most few h
 
-row_then-few : {A : Type 0} (instant : A → ℕ) (number before : ℕ) (row : Option A) (others : ℕ → Result (List A) TableFault) (rows : List A) (most : ℕ) → ((last : ℕ) (rest : List A) → others last ≡ Ok rest → length rest ≤ most) → row_then instant number before row others ≡ Ok rows → length rows ≤ most + 1
+-- where it is a row
+row_then-few : {A : Type 0} (instant : A → ℕ) (number before : ℕ) (row : Option A) (others : ℕ → Result (List A) TableFault) (rows : List A) (most : ℕ) →
+    ((last : ℕ) (rest : List A) → others last ≡ Ok rest → length rest ≤ most) → row_then instant number before row others ≡ Ok rows → length rows ≤ most + 1
 row_then-few instant number before None others rows most few h = absurd (no_rows (BadRow number) rows h)
 row_then-few instant number before (Some row) others rows most few h =
     late-few number row (others (instant row)) rows most (nat_lt (instant row) before) (few (instant row)) h
 
-unless-few : {A : Type 0} (number : ℕ) (read : Result (List A) TableFault) (rows : List A) (many : Bool) → nat_lt most_rows number ≡ many → (number ≤ 1000000 → read ≡ Ok rows → length rows + number ≤ 1000001) → (if many then Err TooMany else read) ≡ Ok rows → length rows + number ≤ 1000001
+-- where the rows aren't too many
+unless-few : {A : Type 0} (number : ℕ) (read : Result (List A) TableFault) (rows : List A) (many : Bool) → nat_lt most_rows number ≡ many →
+    (number ≤ 1000000 → read ≡ Ok rows → length rows + number ≤ 1000001) → (if many then Err TooMany else read) ≡ Ok rows → length rows + number ≤ 1000001
 unless-few number read rows true test few h = absurd (no_rows TooMany rows h)
 unless-few number read rows false test few h =
     let within : number ≤ 1000000 = grind (arith, common_steps) in few within h
 
-rows_from-few : {A : Type 0} (read : Fields → Option A) (instant : A → ℕ) (number before : ℕ) (records : List Fields) (rows : List A) → number ≤ 1000001 → rows_from read instant number before records ≡ Ok rows → length rows + number ≤ 1000001
+-- so the rows are a million at most
+rows_from-few : {A : Type 0} (read : Fields → Option A) (instant : A → ℕ) (number before : ℕ) (records : List Fields) (rows : List A) → number ≤ 1000001 →
+    rows_from read instant number before records ≡ Ok rows → length rows + number ≤ 1000001
 rows_from-few {A} read instant number before [] rows low h =
     let none : length rows ≡ 0 = ap length (sym (nil_ok rows h)) in omega (arith, none)
 rows_from-few read instant number before (fields ∷ records) rows low h =
@@ -103,15 +125,20 @@ rows_from-few read instant number before (fields ∷ records) rows low h =
     (λ within e.
     let rest_few : length rows ≤ (1000000 - number) + 1 =
     row_then-few instant number before (read fields) (λ last. rows_from read instant (number + 1) last records) rows (1000000 - number)
-    (λ last rest r. let more : length rest + (number + 1) ≤ 1000001 = rows_from-few read instant (number + 1) last records rest (omega arith) r in omega (arith, more)) e in
+    (λ last rest r. let more : length rest + (number + 1) ≤ 1000001 = rows_from-few read instant (number + 1) last records rest (omega arith) r in
+    omega (arith, more)) e in
     omega (arith, rest_few)) h
 
-named-few : {A : Type 0} (read : Fields → Option A) (instant : A → ℕ) (named : Bool) (records : List Fields) (rows : List A) → (if named then rows_from read instant 1 0 records else Err BadHeader) ≡ Ok rows → length rows ≤ 1000000
-named-few read instant true records rows h = let few : length rows + 1 ≤ 1000001 = rows_from-few read instant 1 0 records rows (omega arith) h in omega (arith, few)
+-- under the right header
+named-few : {A : Type 0} (read : Fields → Option A) (instant : A → ℕ) (named : Bool) (records : List Fields) (rows : List A) →
+    (if named then rows_from read instant 1 0 records else Err BadHeader) ≡ Ok rows → length rows ≤ 1000000
+named-few read instant true records rows h = let few : length rows + 1 ≤ 1000001 = rows_from-few read instant 1 0 records rows (omega arith) h in
+    omega (arith, few)
 named-few read instant false records rows h = absurd (no_rows BadHeader rows h)
 
 -- a table has at most 1,000,000 rows
-pub rows_under-few : {A : Type 0} (names : Fields) (read : Fields → Option A) (instant : A → ℕ) (records : List Fields) (rows : List A) → rows_under names read instant records ≡ Ok rows → length rows ≤ 1000000
+pub rows_under-few : {A : Type 0} (names : Fields) (read : Fields → Option A) (instant : A → ℕ) (records : List Fields) (rows : List A) →
+    rows_under names read instant records ≡ Ok rows → length rows ≤ 1000000
 rows_under-few names read instant [] rows h = absurd (no_rows BadHeader rows h)
 rows_under-few names read instant (first ∷ records) rows h = named-few read instant (is_header names first) records rows h
 
@@ -120,51 +147,69 @@ record AreInOrder {A : Type 0} (instant : A → ℕ) (before : ℕ) (rows : List
   from_there : All (λ (row : A). before ≤ instant row) rows
   in_order : AllPairs (λ (a b : A). instant a ≤ instant b) rows
 
+-- no rows are in order
 AreInOrder-nil : {A : Type 0} (instant : A → ℕ) (before : ℕ) → AreInOrder instant before []
 AreInOrder-nil {A} instant before = record {
   from_there = All-nil (λ (row : A). before ≤ instant row);
   in_order = λ i j d lower inside. absurd (omega arith);
 }
 
-AreInOrder-cons : {A : Type 0} (instant : A → ℕ) (before : ℕ) (row : A) (rows : List A) → before ≤ instant row → AreInOrder instant (instant row) rows → AreInOrder instant before (row ∷ rows)
+-- and one that isn't early before rows in order
+AreInOrder-cons : {A : Type 0} (instant : A → ℕ) (before : ℕ) (row : A) (rows : List A) → before ≤ instant row → AreInOrder instant (instant row) rows →
+    AreInOrder instant before (row ∷ rows)
 AreInOrder-cons {A} instant before row rows h more = record {
   from_there = All-cons (λ (a : A). before ≤ instant a) row rows h (λ k d inside. omega (arith, more.from_there k d inside));
   in_order = AllPairs-cons (λ (a b : A). instant a ≤ instant b) row rows more.from_there more.in_order;
 }
 
 -- a row in front of what was read
-with_row-ok : {A : Type 0} (row : A) (others : Result (List A) TableFault) (rows : List A) → with_row row others ≡ Ok rows → (rest : List A) × (others ≡ Ok rest) × (row ∷ rest ≡ rows)
+with_row-ok : {A : Type 0} (row : A) (others : Result (List A) TableFault) (rows : List A) → with_row row others ≡ Ok rows → (rest : List A) ×
+    (others ≡ Ok rest) × (row ∷ rest ≡ rows)
 with_row-ok row (Ok rest) rows h = (rest, refl, cc)
 with_row-ok row (Err fault) rows h = absurd (no_rows fault rows h)
 
-row-in_order : {A : Type 0} (instant : A → ℕ) (before number : ℕ) (row : A) (others : Result (List A) TableFault) (rows : List A) (late : Bool) → nat_lt (instant row) before ≡ late → ((rest : List A) → others ≡ Ok rest → AreInOrder instant (instant row) rest) → (if late then Err (OutOfOrder number) else with_row row others) ≡ Ok rows → AreInOrder instant before rows
+-- a row that isn't late keeps the order
+row-in_order : {A : Type 0} (instant : A → ℕ) (before number : ℕ) (row : A) (others : Result (List A) TableFault) (rows : List A) (late : Bool) →
+    nat_lt (instant row) before ≡ late → ((rest : List A) → others ≡ Ok rest → AreInOrder instant (instant row) rest) →
+    (if late then Err (OutOfOrder number) else with_row row others) ≡ Ok rows → AreInOrder instant before rows
 row-in_order instant before number row others rows true test more h = absurd (no_rows (OutOfOrder number) rows h)
 row-in_order {A} instant before number row others rows false test more h =
     let read = with_row-ok row others rows h in
     let not_before : before ≤ instant row = grind (arith, common_steps) in
     subst (λ (xs : List A). AreInOrder instant before xs) read.2 (AreInOrder-cons instant before row read.0 not_before (more read.0 read.1))
 
-row_then-in_order : {A : Type 0} (instant : A → ℕ) (before number : ℕ) (row : Option A) (others : ℕ → Result (List A) TableFault) (rows : List A) → ((last : ℕ) (rest : List A) → others last ≡ Ok rest → AreInOrder instant last rest) → row_then instant number before row others ≡ Ok rows → AreInOrder instant before rows
+-- where it is a row
+row_then-in_order : {A : Type 0} (instant : A → ℕ) (before number : ℕ) (row : Option A) (others : ℕ → Result (List A) TableFault) (rows : List A) →
+    ((last : ℕ) (rest : List A) → others last ≡ Ok rest → AreInOrder instant last rest) → row_then instant number before row others ≡ Ok rows →
+    AreInOrder instant before rows
 row_then-in_order instant before number None others rows more h = absurd (no_rows (BadRow number) rows h)
 row_then-in_order instant before number (Some row) others rows more h =
     row-in_order instant before number row (others (instant row)) rows (nat_lt (instant row) before) refl (more (instant row)) h
 
-unless-in_order : {A : Type 0} (instant : A → ℕ) (before : ℕ) (read : Result (List A) TableFault) (rows : List A) (many : Bool) → (read ≡ Ok rows → AreInOrder instant before rows) → (if many then Err TooMany else read) ≡ Ok rows → AreInOrder instant before rows
+-- where the rows aren't too many
+unless-in_order : {A : Type 0} (instant : A → ℕ) (before : ℕ) (read : Result (List A) TableFault) (rows : List A) (many : Bool) →
+    (read ≡ Ok rows → AreInOrder instant before rows) → (if many then Err TooMany else read) ≡ Ok rows → AreInOrder instant before rows
 unless-in_order instant before read rows true ordered h = absurd (no_rows TooMany rows h)
 unless-in_order instant before read rows false ordered h = ordered h
 
-rows_from-in_order : {A : Type 0} (read : Fields → Option A) (instant : A → ℕ) (number before : ℕ) (records : List Fields) (rows : List A) → rows_from read instant number before records ≡ Ok rows → AreInOrder instant before rows
-rows_from-in_order {A} read instant number before [] rows h = subst (λ (xs : List A). AreInOrder instant before xs) (nil_ok rows h) (AreInOrder-nil instant before)
+-- so the rows are in order
+rows_from-in_order : {A : Type 0} (read : Fields → Option A) (instant : A → ℕ) (number before : ℕ) (records : List Fields) (rows : List A) →
+    rows_from read instant number before records ≡ Ok rows → AreInOrder instant before rows
+rows_from-in_order {A} read instant number before [] rows h =
+    subst (λ (xs : List A). AreInOrder instant before xs) (nil_ok rows h) (AreInOrder-nil instant before)
 rows_from-in_order read instant number before (fields ∷ records) rows h =
     unless-in_order instant before _ rows (nat_lt most_rows number)
     (row_then-in_order instant before number (read fields) (λ last. rows_from read instant (number + 1) last records) rows
     (λ last rest e. rows_from-in_order read instant (number + 1) last records rest e)) h
 
-named-in_order : {A : Type 0} (read : Fields → Option A) (instant : A → ℕ) (named : Bool) (records : List Fields) (rows : List A) → (if named then rows_from read instant 1 0 records else Err BadHeader) ≡ Ok rows → AreInOrder instant 0 rows
+-- under the right header
+named-in_order : {A : Type 0} (read : Fields → Option A) (instant : A → ℕ) (named : Bool) (records : List Fields) (rows : List A) →
+    (if named then rows_from read instant 1 0 records else Err BadHeader) ≡ Ok rows → AreInOrder instant 0 rows
 named-in_order read instant true records rows h = rows_from-in_order read instant 1 0 records rows h
 named-in_order read instant false records rows h = absurd (no_rows BadHeader rows h)
 
 -- no row of a table is before one that stands before it
-pub rows_under-in_order : {A : Type 0} (names : Fields) (read : Fields → Option A) (instant : A → ℕ) (records : List Fields) (rows : List A) → rows_under names read instant records ≡ Ok rows → AllPairs (λ (a b : A). instant a ≤ instant b) rows
+pub rows_under-in_order : {A : Type 0} (names : Fields) (read : Fields → Option A) (instant : A → ℕ) (records : List Fields) (rows : List A) →
+    rows_under names read instant records ≡ Ok rows → AllPairs (λ (a b : A). instant a ≤ instant b) rows
 rows_under-in_order names read instant [] rows h = absurd (no_rows BadHeader rows h)
 rows_under-in_order names read instant (first ∷ records) rows h = (named-in_order read instant (is_header names first) records rows h).in_order

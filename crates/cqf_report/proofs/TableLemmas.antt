@@ -1,5 +1,6 @@
 -- How the rows of a table follow one another.
-use Rattle.std.proofs.Common.{◌≡◌, ◌≤◌, ◌<◌, ◌+◌, ℕ, true, false, List, [], ◌∷◌, ◌++◌, Option, Some, None, Result, Ok, Err, IfErr, IfOk, IsErrAnd, subst, nat_lt, length, refl, sym, ap, ◌∙◌, rules}
+use Rattle.std.proofs.Common.{◌≡◌, ◌≤◌, ◌<◌, ◌+◌, ℕ, true, false, List, [], ◌∷◌, ◌++◌, Option, Some, None, Result, Ok, Err, IfErr, IfOk, IsErrAnd, subst}
+use Rattle.std.proofs.Common.{nat_lt, length, refl, sym, ap, ◌∙◌, rules}
 use Rattle.std.proofs.lemmas.List.{append-nil}
 use Rattle.std.specs.Str.{bytes_eq}
 use lib.Pointwise.{pointwise_long}
@@ -45,27 +46,34 @@ abbrev pub behind : {A : Type 0} → List A → Result (List A) TableFault → R
 behind [] others = others
 behind (row ∷ rows) others = with_row row (behind rows others)
 
-pub behind-more : {A : Type 0} (rows : List A) (row : A) (others : Result (List A) TableFault) → behind (rows ++ row ∷ []) others ≡ behind rows (with_row row others)
+-- a row more in front of what is read
+pub behind-more : {A : Type 0} (rows : List A) (row : A) (others : Result (List A) TableFault) →
+    behind (rows ++ row ∷ []) others ≡ behind rows (with_row row others)
 behind-more [] row others = refl
 behind-more (first ∷ rows) row others = ap (λ r. with_row first r) (behind-more rows row others)
 
+-- rows behind rows
 pub behind-ok : {A : Type 0} (rows others : List A) → behind rows (Ok others) ≡ Ok (rows ++ others)
 behind-ok [] others = refl
 behind-ok (first ∷ rows) others = ap (λ r. with_row first r) (behind-ok rows others)
 
+-- a fault behind rows is the fault
 pub behind-err : {A : Type 0} (rows : List A) (fault : TableFault) → behind rows (Err fault) ≡ Err fault
 behind-err [] fault = refl
 behind-err (first ∷ rows) fault = ap (λ r. with_row first r) (behind-err rows fault)
 
 -- a row that was taken and writes nothing is the first fault
-pub next-bad : {A R : Type 0} (columns : ℕ) (read : Fields → Option A) (instant : A → ℕ) (remaining : R → Option (List ℕ)) (number before : ℕ) (fields : Fields) (rows : List Fields) (after : Reader R)
-    → number ≤ 1000000 → TakesRow remaining (Some columns) after fields rows → read fields ≡ None → rows_from read instant number before rows ≡ Err (BadRow number)
+pub next-bad : {A R : Type 0} (columns : ℕ) (read : Fields → Option A) (instant : A → ℕ) (remaining : R → Option (List ℕ)) (number before : ℕ) (fields : Fields)
+    (rows : List Fields) (after : Reader R)
+    → number ≤ 1000000 → TakesRow remaining (Some columns) after fields rows → read fields ≡ None →
+    rows_from read instant number before rows ≡ Err (BadRow number)
 next-bad columns read instant remaining number before fields rows after few takes bad =
     rw takes.first (rows_from-bad read instant number before fields takes.rest few bad)
 
 -- a row of another number of fields is the first fault
 pub next-refused : {A : Type 0} (columns : ℕ) (read : Fields → Option A) (instant : A → ℕ) (number before : ℕ) (rows : List Fields)
-    → number ≤ 1000000 → RefusesRow (Some columns) rows → ((fields : Fields) → (columns ≡ length fields → ⊥) → read fields ≡ None) → rows_from read instant number before rows ≡ Err (BadRow number)
+    → number ≤ 1000000 → RefusesRow (Some columns) rows → ((fields : Fields) → (columns ≡ length fields → ⊥) → read fields ≡ None) →
+    rows_from read instant number before rows ≡ Err (BadRow number)
 next-refused columns read instant number before rows few refuses other =
     let count : columns ≡ refuses.count = some-inj columns refuses.count refuses.expects in
     rw refuses.first (rows_from-bad read instant number before refuses.fields refuses.rest few (other refuses.fields (λ e. refuses.other (sym count ∙ e))))
@@ -74,13 +82,16 @@ next-refused columns read instant number before rows few refuses other =
     some-inj a b e = cc
 
 -- a row that was taken and is before the one before it is the first fault
-pub next-back : {A R : Type 0} (columns : ℕ) (read : Fields → Option A) (instant : A → ℕ) (remaining : R → Option (List ℕ)) (number before : ℕ) (fields : Fields) (rows : List Fields) (after : Reader R) (row : A)
-    → number ≤ 1000000 → TakesRow remaining (Some columns) after fields rows → read fields ≡ Some row → instant row < before → rows_from read instant number before rows ≡ Err (OutOfOrder number)
+pub next-back : {A R : Type 0} (columns : ℕ) (read : Fields → Option A) (instant : A → ℕ) (remaining : R → Option (List ℕ)) (number before : ℕ)
+    (fields : Fields) (rows : List Fields) (after : Reader R) (row : A)
+    → number ≤ 1000000 → TakesRow remaining (Some columns) after fields rows → read fields ≡ Some row → instant row < before →
+    rows_from read instant number before rows ≡ Err (OutOfOrder number)
 next-back columns read instant remaining number before fields rows after row few takes good back =
     rw takes.first (rows_from-back read instant number before fields takes.rest row few good back)
 
 -- a row that was taken and stands
-pub next-good : {A R : Type 0} (columns : ℕ) (read : Fields → Option A) (instant : A → ℕ) (remaining : R → Option (List ℕ)) (number before : ℕ) (fields : Fields) (rows : List Fields) (after : Reader R) (row : A)
+pub next-good : {A R : Type 0} (columns : ℕ) (read : Fields → Option A) (instant : A → ℕ) (remaining : R → Option (List ℕ)) (number before : ℕ)
+    (fields : Fields) (rows : List Fields) (after : Reader R) (row : A)
     → number ≤ 1000000 → TakesRow remaining (Some columns) after fields rows → read fields ≡ Some row → before ≤ instant row
     → (rest : List Fields) × StillGives remaining (Some columns) after rest
     × (rows_from read instant number before rows ≡ with_row row (rows_from read instant (number + 1) (instant row) rest))
@@ -95,7 +106,8 @@ Taken columns read instant remaining first number before taken after = (rows : L
     × (rows_from read instant 1 0 rows ≡ behind taken (rows_from read instant number before rest))
 
 -- where the reader gives no further row, the table is what was taken
-pub taken-end : {A R : Type 0} (columns : ℕ) (read : Fields → Option A) (instant : A → ℕ) (remaining : R → Option (List ℕ)) (first : Reader R) (number before : ℕ) (taken : List A) (after : Reader R)
+pub taken-end : {A R : Type 0} (columns : ℕ) (read : Fields → Option A) (instant : A → ℕ) (remaining : R → Option (List ℕ)) (first : Reader R)
+    (number before : ℕ) (taken : List A) (after : Reader R)
     → Taken columns read instant remaining first number before taken after → ((rest : List Fields) → StillGives remaining (Some columns) after rest → rest ≡ [])
     → (rows : List Fields) → StillGives remaining (Some columns) first rows → rows_from read instant 1 0 rows ≡ Ok taken
 taken-end columns read instant remaining first number before taken after so_far none rows gives =
@@ -104,16 +116,21 @@ taken-end columns read instant remaining first number before taken after so_far 
     is ∙ ap (behind taken) ended ∙ behind-ok taken [] ∙ ap Ok (append-nil taken)
 
 -- where the next row has a fault, it is the table's
-pub taken-fault : {A R : Type 0} (columns : ℕ) (read : Fields → Option A) (instant : A → ℕ) (remaining : R → Option (List ℕ)) (first : Reader R) (number before : ℕ) (taken : List A) (after : Reader R) (fault : TableFault)
-    → Taken columns read instant remaining first number before taken after → ((rest : List Fields) → StillGives remaining (Some columns) after rest → rows_from read instant number before rest ≡ Err fault)
+pub taken-fault : {A R : Type 0} (columns : ℕ) (read : Fields → Option A) (instant : A → ℕ) (remaining : R → Option (List ℕ)) (first : Reader R)
+    (number before : ℕ) (taken : List A) (after : Reader R) (fault : TableFault)
+    → Taken columns read instant remaining first number before taken after →
+    ((rest : List Fields) → StillGives remaining (Some columns) after rest → rows_from read instant number before rest ≡ Err fault)
     → (rows : List Fields) → StillGives remaining (Some columns) first rows → rows_from read instant 1 0 rows ≡ Err fault
 taken-fault columns read instant remaining first number before taken after fault so_far bad rows gives =
     let (rest, still, is) = so_far rows gives in
     is ∙ ap (behind taken) (bad rest still) ∙ behind-err taken fault
 
 -- one row more was taken
-pub taken-more : {A R : Type 0} (columns : ℕ) (read : Fields → Option A) (instant : A → ℕ) (remaining : R → Option (List ℕ)) (first : Reader R) (number before : ℕ) (taken : List A) (after next : Reader R) (row : A)
-    → Taken columns read instant remaining first number before taken after → ((rest : List Fields) → StillGives remaining (Some columns) after rest → TakesNext columns read instant remaining number before rest next (Ok (Some row)))
+pub taken-more : {A R : Type 0} (columns : ℕ) (read : Fields → Option A) (instant : A → ℕ) (remaining : R → Option (List ℕ)) (first : Reader R)
+    (number before : ℕ) (taken : List A) (after next : Reader R) (row : A)
+    → Taken columns read instant remaining first number before taken after →
+    ((rest : List Fields) → StillGives remaining (Some columns) after rest →
+    TakesNext columns read instant remaining number before rest next (Ok (Some row)))
     → Taken columns read instant remaining first (number + 1) (instant row) (taken ++ row ∷ []) next
 taken-more columns read instant remaining first number before taken after next row so_far goes rows gives =
     let (rest, still, is) = so_far rows gives in
@@ -126,7 +143,8 @@ pub next-beyond : {A : Type 0} (read : Fields → Option A) (instant : A → ℕ
 next-beyond read instant number before fields rest rows many is = rw is (rows_from-too_many read instant number before fields rest many)
 
 -- an error that is passed on
-pub passed-on : {V : Type 0} (result : Result V TableFault) (fault : TableFault) (P : TableFault → Type 0) → IsErrAnd result (λ e. e ≡ fault) → P fault → IfErr result P
+pub passed-on : {V : Type 0} (result : Result V TableFault) (fault : TableFault) (P : TableFault → Type 0) → IsErrAnd result (λ e. e ≡ fault) → P fault →
+    IfErr result P
 passed-on (Ok v) fault P passed h = absurd passed
 passed-on (Err e) fault P passed h = subst P (sym passed) h
 
@@ -147,7 +165,8 @@ pub header-unrefused : (rows : List Fields) → RefusesRow None rows → ⊥
 header-unrefused rows refuses = let e = refuses.expects in cc
 
 -- the table's rows are those under its header
-pub under-header : {A R : Type 0} (read : Fields → Option A) (instant : A → ℕ) (remaining : R → Option (List ℕ)) (names : Fields) (rows : List Fields) (after : Reader R) (begins : TakesHeader remaining names rows after)
+pub under-header : {A R : Type 0} (read : Fields → Option A) (instant : A → ℕ) (remaining : R → Option (List ℕ)) (names : Fields) (rows : List Fields)
+    (after : Reader R) (begins : TakesHeader remaining names rows after)
     → rows_under names read instant rows ≡ rows_from read instant 1 0 begins.rest
 under-header read instant remaining names rows after begins = rw (begins.begins, begins.named) refl
 
@@ -158,26 +177,32 @@ without-header read instant names [] none = refl
 without-header read instant names (first ∷ rows) none = rw none refl
 
 -- what follows of an answer, where a fact of it follows from another
-pub err-of : {V : Type 0} (result : Result V TableFault) (P Q : TableFault → Type 0) → IfErr result P → ((fault : TableFault) → P fault → Q fault) → IfErr result Q
+pub err-of : {V : Type 0} (result : Result V TableFault) (P Q : TableFault → Type 0) → IfErr result P → ((fault : TableFault) → P fault → Q fault) →
+    IfErr result Q
 err-of (Ok v) P Q h follows = tt
 err-of (Err fault) P Q h follows = follows fault h
 
+-- of what is right, what follows from it
 pub ok-of : {V E : Type 0} (result : Result V E) (P Q : V → Type 0) → IfOk result P → ((v : V) → P v → Q v) → IfOk result Q
 ok-of (Ok v) P Q h follows = follows v h
 ok-of (Err fault) P Q h follows = tt
 
 -- the table's rows, from the rows under its header
-pub table-ok : {A V R : Type 0} (read : Fields → Option A) (instant : A → ℕ) (remaining : R → Option (List ℕ)) (items : V → List A) (names : Fields) (rows : List Fields) (after : Reader R) (result : Result V TableFault)
+pub table-ok : {A V R : Type 0} (read : Fields → Option A) (instant : A → ℕ) (remaining : R → Option (List ℕ)) (items : V → List A) (names : Fields)
+    (rows : List Fields) (after : Reader R) (result : Result V TableFault)
     → TakesHeader remaining names rows after
     → IfOk result (λ v. (rest : List Fields) → StillGives remaining (Some (length names)) after rest → rows_from read instant 1 0 rest ≡ Ok (items v))
     → IfOk result (λ v. rows_under names read instant rows ≡ Ok (items v))
 table-ok read instant remaining items names rows after result begins h =
-    ok-of result _ (λ v. rows_under names read instant rows ≡ Ok (items v)) h (λ v is. under-header read instant remaining names rows after begins ∙ is begins.rest begins.goes_on)
+    ok-of result _ (λ v. rows_under names read instant rows ≡ Ok (items v)) h
+    (λ v is. under-header read instant remaining names rows after begins ∙ is begins.rest begins.goes_on)
 
 -- the table's fault, from the fault of the rows under its header
-pub table-err : {A V R : Type 0} (read : Fields → Option A) (instant : A → ℕ) (remaining : R → Option (List ℕ)) (names : Fields) (rows : List Fields) (after : Reader R) (result : Result V TableFault)
+pub table-err : {A V R : Type 0} (read : Fields → Option A) (instant : A → ℕ) (remaining : R → Option (List ℕ)) (names : Fields) (rows : List Fields)
+    (after : Reader R) (result : Result V TableFault)
     → TakesHeader remaining names rows after
     → IfErr result (λ fault. (rest : List Fields) → StillGives remaining (Some (length names)) after rest → IsFaultOf (rows_from read instant 1 0 rest) fault)
     → IfErr result (λ fault. IsFaultOf (rows_under names read instant rows) fault)
 table-err read instant remaining names rows after result begins h =
-    err-of result _ (λ fault. IsFaultOf (rows_under names read instant rows) fault) h (λ fault is other. under-header read instant remaining names rows after begins ∙ is begins.rest begins.goes_on other)
+    err-of result _ (λ fault. IsFaultOf (rows_under names read instant rows) fault) h
+    (λ fault is other. under-header read instant remaining names rows after begins ∙ is begins.rest begins.goes_on other)

@@ -1,5 +1,6 @@
 -- How lines follow one another in a table that is written.
-use Rattle.std.proofs.Common.{◌≡◌, ◌≢◌, ◌≤◌, ◌<◌, ◌^◌, ◌==◌, nat_le, ◌++◌, ℕ, true, false, List, [], ◌∷◌, Option, Some, None, Result, Ok, Err, IfOk, decimal, take, get_or, ◌+◌, length, refl, sym, ap, ◌∙◌, append_assoc, arith}
+use Rattle.std.proofs.Common.{◌≡◌, ◌≢◌, ◌≤◌, ◌<◌, ◌^◌, ◌==◌, nat_le, ◌++◌, ℕ, true, false, List, [], ◌∷◌, Option, Some, None, Result, Ok, Err, IfOk, decimal}
+use Rattle.std.proofs.Common.{take, get_or, ◌+◌, length, refl, sym, ap, ◌∙◌, append_assoc, arith}
 use Rattle.std.proofs.lemmas.List.{append-nil, take_all, take_more}
 use Rattle.std.proofs.lemmas.Grind.{flat_map-append}
 use Rattle.std.proofs.lemmas.Fmt.{digits_decimal}
@@ -28,7 +29,8 @@ fields-plain : (field : List ℕ) (fields : Fields) → ArePlain fields → fiel
 unfolding fields_text
 fields-plain field [] plain = append-nil field
 fields-plain field (next ∷ fields) plain =
-    ap (λ (text : List ℕ). field ++ (44 ∷ text)) (ap (λ (text : List ℕ). text ++ fields_text default_writer fields) (field-plain next plain.0) ∙ fields-plain next fields plain.1)
+    ap (λ (text : List ℕ). field ++ (44 ∷ text))
+    (ap (λ (text : List ℕ). text ++ fields_text default_writer fields) (field-plain next plain.0) ∙ fields-plain next fields plain.1)
 
 -- a record of two plain fields or more is written as its line
 row-plain : (fields : Fields) → 2 ≤ length fields → ArePlain fields → row_text default_writer fields ≡ line_of fields
@@ -48,12 +50,14 @@ appends-known (Some xs) (Some ys) text more is h = let same : xs ≡ text = cc i
 -- a line was written
 pub writes-line : {W : Type 0} (contents : W → Option (List ℕ)) (old new : Writer W) (fields : Fields) (text : List ℕ)
     → 2 ≤ length fields → ArePlain fields → HasWritten contents old text
-    → (fields_written old ≡ 0 → has_written old ≡ false → (writer_setup old).style ≢ style.NonNumeric → Appends (text_written contents old) (text_written contents new) (row_text (writer_setup old) fields))
+    → (fields_written old ≡ 0 → has_written old ≡ false → (writer_setup old).style ≢ style.NonNumeric →
+    Appends (text_written contents old) (text_written contents new) (row_text (writer_setup old) fields))
     → fields_written new ≡ 0 → has_written new ≡ false → writer_setup new ≡ writer_setup old
     → HasWritten contents new (text ++ line_of fields)
 writes-line contents old new fields text some plain so_far writes between clean setup =
     let unquoted : (writer_setup old).style ≢ style.NonNumeric = rw so_far.plain (λ e. cc) in
-    let appended : Appends (text_written contents old) (text_written contents new) (row_text (writer_setup old) fields) = writes so_far.between so_far.clean unquoted in
+    let appended : Appends (text_written contents old) (text_written contents new) (row_text (writer_setup old) fields) =
+    writes so_far.between so_far.clean unquoted in
     let row : row_text (writer_setup old) fields ≡ line_of fields = ap (λ (c : WriterBuilder). row_text c fields) so_far.plain ∙ row-plain fields some plain in
     record {
       plain = setup ∙ so_far.plain;
@@ -71,12 +75,14 @@ high-plain c high =
     let line_feed : (c == 10) ≡ false = ne_eqb c 10 (λ e. omega arith) in
     rw (comma, quote, carriage_return, line_feed) refl
 
+-- a digit needs no quotes
 digit-plain : (c : ℕ) → is_ascii_digit c ≡ true → needs_byte default_writer c ≡ false
 digit-plain c digit =
     let parts : (nat_le 48 c ≡ true) × (nat_le c 57 ≡ true) = and_parts (nat_le 48 c) (nat_le c 57) digit in
     let low : 48 ≤ c = leb-true 48 c parts.0 in
     high-plain c (omega arith)
 
+-- and neither does a number
 digits-plain : (bytes : List ℕ) → all_ascii_digits bytes ≡ true → IsPlain bytes
 digits-plain [] digits = refl
 digits-plain (c ∷ bytes) digits =
@@ -91,12 +97,14 @@ decimal-plain n small = digits-plain (decimal n) (digits_decimal (numerals_by_va
 name_byte-high : (c : ℕ) → is_name_byte c ≡ true → 44 < c
 name_byte-high c named = grind (arith, nat_tests)
 
+-- nor do a name's bytes
 name_bytes-plain : (bytes : List ℕ) → list_all is_name_byte bytes ≡ true → IsPlain bytes
 name_bytes-plain [] named = refl
 name_bytes-plain (c ∷ bytes) named =
     let parts : (is_name_byte c ≡ true) × (list_all is_name_byte bytes ≡ true) = and_parts (is_name_byte c) (list_all is_name_byte bytes) named in
     rw (high-plain c (name_byte-high c parts.0), name_bytes-plain bytes parts.1) refl
 
+-- so a name is plain
 pub name-plain : (bytes : List ℕ) → is_name bytes ≡ true → IsPlain bytes
 name-plain bytes named = name_bytes-plain bytes (grind arith)
 

@@ -2,7 +2,6 @@
 use Rattle.std.specs.Prelude.{ℕ, ◌++◌, List, [], ◌∷◌, codes, decimal, slice_get, slice_index_or}
 use Rattle.std.specs.List.{flat_map}
 use Rattle.std.specs.Option.{option_map_or}
-use Rattle.cqf_model.specs.declared.frames.Book.{Book}
 use Rattle.cqf_model.specs.declared.frames.Dropped.{Dropped}
 use Rattle.cqf_model.specs.declared.frames.Reason.{Reason}
 use Rattle.cqf_model.specs.declared.frames.Reason.TheVariants.{Octets, OtherBridge, Unknown, Withdrawn}
@@ -47,11 +46,8 @@ started_fields what d started =
 -- a drop's cycle, bridge, frame, size and reason
 abbrev pub dropped_fields : Domain → Dropped → Fields
 dropped_fields d dropped =
-    codes "drop" ∷ decimal dropped.cycle.0 ∷ name_of_bridge d dropped.bridge ∷ decimal dropped.frame ∷ decimal dropped.octets ∷ name_of_reason dropped.reason ∷ []
-
--- what a book has
-abbrev pub contents_of : Book → Contents
-contents_of book = record { starts = book.starts.items; background = book.background.items; drops = book.drops.items }
+    codes "drop" ∷ decimal dropped.cycle.0 ∷ name_of_bridge d dropped.bridge ∷ decimal dropped.frame ∷ decimal dropped.octets ∷ name_of_reason
+    dropped.reason ∷ []
 
 -- one line a transmission, and one line a drop, in their orders
 abbrev pub lines_of_starts : List ℕ → Domain → List Started → List ℕ

@@ -1,7 +1,8 @@
 -- What a text of comma-separated values holds, as the reader of the crate `csv` reads it, and what a reader still gives.
 use Rattle.std.specs.Prelude.{ℕ, ◌≡◌, ◌≢◌, ◌<◌, ⊤, List, [], ◌∷◌, Option, Some, IfSome, false, length}
 use Rattle.csv.specs.Machine.{ends_at_end}
-use Rattle.csv.specs.Reading.{Ready, default_config, expected_len, is_flexible, reader_config, reader_state, reader_trim, records, records_from, source_of, strip_bom}
+use Rattle.csv.specs.Reading.{Ready, default_config, expected_len, is_flexible, reader_config, reader_state, reader_trim, records, records_from, source_of}
+use Rattle.csv.specs.Reading.{strip_bom}
 use Rattle.csv.specs.declared.reader.Reader.{Reader}
 use Rattle.csv.specs.declared.reader.Trim.TheVariants as trim
 use Rattle.cqf_report.specs.declared.records.Taken.{Taken}
@@ -30,7 +31,8 @@ pub record StillGives {R : Type 0} (remaining : R → Option (List ℕ)) (expect
   pub gives : rows ≡ records_from default_config turns (reader_state reader) unread
 
 -- the first of the rows was taken, has as many fields as are expected, and the reader still gives the others
-pub record TakesRow {R : Type 0} (remaining : R → Option (List ℕ)) (expected : Option ℕ) (after : Reader R) (fields : Fields) (rows : List Fields) : Type 0 where
+pub record TakesRow {R : Type 0} (remaining : R → Option (List ℕ)) (expected : Option ℕ) (after : Reader R) (fields : Fields)
+    (rows : List Fields) : Type 0 where
   pub rest : List Fields
   pub first : rows ≡ fields ∷ rest
   pub fits : IfSome expected (λ count. count ≡ length fields)

@@ -94,117 +94,103 @@ pub fn read_arrivals(alloc: Global, text: &[u8]) -> Result<Vec<Arrival>, TableFa
 #[cfg(test)]
 mod tests {
     use super::*;
-    use std::test::Fail;
 
-    #[test]
-    fn rows_are_read_in_order(rt: HostRuntime) -> Result<(), Fail> {
-        let arrivals = read_arrivals(
-            rt.alloc(),
+    /// The arrival that most texts begin with.
+    const FIRST: Arrival = Arrival {
+        at: Nanos(10),
+        class: 6,
+        octets: 64,
+        frame: 1,
+    };
+
+    /// An arrival whose numbers are the greatest.
+    const GREATEST: Arrival = Arrival {
+        at: Nanos(10),
+        class: 7,
+        octets: 1522,
+        frame: u32::MAX,
+    };
+
+    /// Texts, and the arrivals that they have.
+    const READ: &[(&[u8], &[Arrival])] = &[
+        // rows in order
+        (
             b"at,class,octets,frame\n10,6,64,1\n10,7,1522,4294967295\n",
-        )?;
-        assert_eq!(rt; arrivals.len(), 2);
-        let first = Arrival {
-            at: Nanos(10),
-            class: 6,
-            octets: 64,
-            frame: 1,
-        };
-        let second = Arrival {
-            at: Nanos(10),
-            class: 7,
-            octets: 1522,
-            frame: u32::MAX,
-        };
-        assert!(rt; arrivals[0] == first);
-        assert!(rt; arrivals[1] == second);
-        Ok(())
+            &[FIRST, GREATEST],
+        ),
+        // quotes, line ends and empty lines as csv has them
+        (
+            b"\"at\",class,octets,frame\r\n\"10\",6,0064,1\r\n",
+            &[FIRST],
+        ),
+        (b"at,class,octets,frame\n10,6,64,1", &[FIRST]),
+        (b"at,class,octets,frame\n\n10,6,64,1\n\n", &[FIRST]),
+        // a header alone
+        (b"at,class,octets,frame\n", &[]),
+        (b"at,class,octets,frame", &[]),
+    ];
+
+    /// Texts that are refused, and the first fault of each.
+    const REFUSED: &[(&[u8], TableFault)] = &[
+        // another header
+        (b"", TableFault::BadHeader),
+        (b"at,class,octets\n", TableFault::BadHeader),
+        (b"at,class,octets,frame,more\n", TableFault::BadHeader),
+        (b"class,at,octets,frame\n", TableFault::BadHeader),
+        (b"\xff", TableFault::BadHeader),
+        // a bad row, or one out of order
+        (
+            b"at,class,octets,frame\n10,6,64,1\n10,8,64,2\n",
+            TableFault::BadRow(2),
+        ),
+        (b"at,class,octets,frame\n10,6,63,1\n", TableFault::BadRow(1)),
+        (b"at,class,octets,frame\n+5,6,64,1\n", TableFault::BadRow(1)),
+        (
+            b"at,class,octets,frame\n100000001,6,64,1\n",
+            TableFault::BadRow(1),
+        ),
+        (b"at,class,octets,frame\n10,6,64\n", TableFault::BadRow(1)),
+        (
+            b"at,class,octets,frame\n10,6,64,\xff\n",
+            TableFault::BadRow(1),
+        ),
+        (
+            b"at,class,octets,frame\n10,6,64,1\n9,6,64,2\n",
+            TableFault::OutOfOrder(2),
+        ),
+        (
+            b"at,class,octets,frame\n10,6,64,1\n9,8,64,2\n",
+            TableFault::BadRow(2),
+        ),
+    ];
+
+    /// Whether the text has exactly these arrivals.
+    fn are_read(alloc: Global, text: &[u8], wanted: &[Arrival]) -> bool {
+        match read_arrivals(alloc, text) {
+            Ok(arrivals) => arrivals.as_slice() == wanted,
+            Err(_) => false,
+        }
+    }
+
+    /// Whether the text is refused for this fault.
+    fn is_refused(alloc: Global, text: &[u8], wanted: TableFault) -> bool {
+        match read_arrivals(alloc, text) {
+            Ok(_) => false,
+            Err(fault) => fault == wanted,
+        }
     }
 
     #[test]
-    fn quotes_and_line_ends_are_those_of_csv(rt: HostRuntime) -> Result<(), Fail> {
-        for text in [
-            b"\"at\",class,octets,frame\r\n\"10\",6,0064,1\r\n".as_slice(),
-            b"at,class,octets,frame\n10,6,64,1".as_slice(),
-            b"at,class,octets,frame\n\n10,6,64,1\n\n".as_slice(),
-        ] {
-            let arrivals = read_arrivals(rt.alloc(), text)?;
-            assert_eq!(rt; arrivals.len(), 1);
-            assert!(rt;
-                arrivals[0]
-                    == Arrival {
-                        at: Nanos(10),
-                        class: 6,
-                        octets: 64,
-                        frame: 1
-                    }
-            );
+    fn arrivals_are_read_in_order(rt: HostRuntime) {
+        for (text, wanted) in READ {
+            assert!(rt; are_read(rt.alloc(), text, wanted));
         }
-        Ok(())
     }
 
     #[test]
-    fn a_header_may_stand_alone(rt: HostRuntime) -> Result<(), Fail> {
-        for text in [
-            b"at,class,octets,frame\n".as_slice(),
-            b"at,class,octets,frame".as_slice(),
-        ] {
-            assert_eq!(rt; read_arrivals(rt.alloc(), text)?.len(), 0);
+    fn the_first_fault_of_arrivals_is_told(rt: HostRuntime) {
+        for (text, wanted) in REFUSED {
+            assert!(rt; is_refused(rt.alloc(), text, *wanted));
         }
-        Ok(())
-    }
-
-    #[test]
-    fn another_header_is_refused(rt: HostRuntime) -> Result<(), Fail> {
-        for text in [
-            b"".as_slice(),
-            b"at,class,octets\n".as_slice(),
-            b"at,class,octets,frame,more\n".as_slice(),
-            b"class,at,octets,frame\n".as_slice(),
-            b"\xff".as_slice(),
-        ] {
-            assert!(rt; read_arrivals(rt.alloc(), text).err() == Some(TableFault::BadHeader));
-        }
-        Ok(())
-    }
-
-    #[test]
-    fn the_first_bad_row_is_told(rt: HostRuntime) -> Result<(), Fail> {
-        for (text, fault) in [
-            (
-                b"at,class,octets,frame\n10,6,64,1\n10,8,64,2\n".as_slice(),
-                TableFault::BadRow(2),
-            ),
-            (
-                b"at,class,octets,frame\n10,6,63,1\n".as_slice(),
-                TableFault::BadRow(1),
-            ),
-            (
-                b"at,class,octets,frame\n+5,6,64,1\n".as_slice(),
-                TableFault::BadRow(1),
-            ),
-            (
-                b"at,class,octets,frame\n100000001,6,64,1\n".as_slice(),
-                TableFault::BadRow(1),
-            ),
-            (
-                b"at,class,octets,frame\n10,6,64\n".as_slice(),
-                TableFault::BadRow(1),
-            ),
-            (
-                b"at,class,octets,frame\n10,6,64,\xff\n".as_slice(),
-                TableFault::BadRow(1),
-            ),
-            (
-                b"at,class,octets,frame\n10,6,64,1\n9,6,64,2\n".as_slice(),
-                TableFault::OutOfOrder(2),
-            ),
-            (
-                b"at,class,octets,frame\n10,6,64,1\n9,8,64,2\n".as_slice(),
-                TableFault::BadRow(2),
-            ),
-        ] {
-            assert!(rt; read_arrivals(rt.alloc(), text).err() == Some(fault));
-        }
-        Ok(())
     }
 }

@@ -62,25 +62,27 @@ pub fn write_starts(alloc: Global, starts: &[Start], rate: Rate) -> Result<Vec<u
 mod tests {
     use super::*;
     use cqf_units::Nanos;
-    use std::test::Fail;
+
+    /// Whether the starts are written as this text.
+    fn are_written(alloc: Global, starts: &[Start], rate: Rate, wanted: &str) -> bool
+        requires { All (λ start. start.start.0 < 2 ^ 63) starts.now }
+    {
+        match write_starts(alloc, starts, rate) {
+            Ok(text) => text.as_slice() == wanted.as_bytes(),
+            Err(_) => false,
+        }
+    }
 
     #[test]
-    fn a_start_is_written_with_its_end(rt: HostRuntime) -> Result<(), Fail> {
+    fn starts_are_written_with_their_ends(rt: HostRuntime) {
         let start = Start {
             start: Nanos(125_000),
             class: 6,
             octets: 64,
             frame: 1,
         };
-        let text = write_starts(rt.alloc(), &[start], Rate::Mb1000)?;
-        assert!(rt; text.as_slice() == b"class,frame,start,end\n6,1,125000,125576\n".as_slice());
-        Ok(())
-    }
-
-    #[test]
-    fn no_starts_are_the_header_alone(rt: HostRuntime) -> Result<(), Fail> {
-        let text = write_starts(rt.alloc(), &[], Rate::Mb10)?;
-        assert!(rt; text.as_slice() == b"class,frame,start,end\n".as_slice());
-        Ok(())
+        let text = "class,frame,start,end\n6,1,125000,125576\n";
+        assert!(rt; are_written(rt.alloc(), &[start], Rate::Mb1000, text));
+        assert!(rt; are_written(rt.alloc(), &[], Rate::Mb10, "class,frame,start,end\n"));
     }
 }

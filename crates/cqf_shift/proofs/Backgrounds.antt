@@ -5,7 +5,8 @@ use Rattle.std.proofs.lemmas.List.Elements.{Contains-get_or}
 use Rattle.cqf_model.specs.Domain.{Domain, bridge_of}
 use Rattle.cqf_model.specs.Run.{Run}
 use Rattle.cqf_model.specs.Traffic.{Carried, policed_before}
-use Rattle.cqf_model.specs.Network.{IsLegalNetwork, Network, QueuedFrame, Sends, backed_at, backed_by, backed_of, comes_before, comes_in, compiled_lists, no_frame, queued_before, queued_in}
+use Rattle.cqf_model.specs.Network.{IsLegalNetwork, Network, QueuedFrame, Sends, backed_at, backed_by, backed_of, comes_before, comes_in, compiled_lists}
+use Rattle.cqf_model.specs.Network.{no_frame, queued_before, queued_in}
 use Rattle.cqf_model.specs.Book.{drops_of, starts_of}
 use Rattle.cqf_laws_network.specs.NetworkLaws.{LegalNetworkIsUnique}
 use Rattle.cqf_shift.specs.Alone.{IsLegalAlone, SendsAlone, end_of_run}
@@ -46,17 +47,25 @@ module _ (run : Run) (carried : Carried) (some : 0 < run.domain.cycle_time) wher
   -- so a legal run of streams' frames alone is a legal network of the run without background frames
   alone_is_quiet : IsLegalAlone run carried → IsLegalNetwork (quiet run) (compiled_lists d) (length run.tables) (sends_no_background carried)
   alone_is_quiet alone = record {
-    sends = λ l is_link. subst (λ z. Sends d (compiled_lists d l) (length run.tables * d.cycle_time) l z (carried l) []) (sym (comes_queued l (length run.tables))) (sends l (alone.sends l is_link));
+    sends = λ l is_link. subst (λ z. Sends d (compiled_lists d l) (length run.tables * d.cycle_time) l z (carried l) [])
+        (sym (comes_queued l (length run.tables))) (sends l (alone.sends l is_link));
     no_others = λ l past. (alone.no_others l past, refl);
   }
     where
-      sends : (l : ℕ) → SendsAlone d (end_of_run run) l (queued_before run carried l (end_of_run run)) (carried l) → Sends d (compiled_lists d l) (end_of_run run) l (queued_before run carried l (end_of_run run)) (carried l) []
+      sends : (l : ℕ) → SendsAlone d (end_of_run run) l (queued_before run carried l (end_of_run run)) (carried l) →
+          Sends d (compiled_lists d l) (end_of_run run) l (queued_before run carried l (end_of_run run)) (carried l) []
       sends l s = record {
         starts = s.starts;
         legal = s.legal;
         are_sent = s.are_sent;
         are_backed = sym (flat_none (backed_of (queued_before run carried l (end_of_run run))) s.starts (λ start c.
-            no_background l (end_of_run run) start.0 start.1 (omega (arith, (s.legal.first start.0 start.1 c).waits.inside, length-map (queued_before run carried l (end_of_run run)) (λ (q : QueuedFrame). q.arrival)))));
+            no_background l (end_of_run run) start.0 start.1
+            (omega (
+              arith,
+              (s.legal.first start.0 start.1 c).waits.inside,
+              length-map (queued_before run carried l (end_of_run run))
+                  (λ (q : QueuedFrame). q.arrival),
+            ))));
       }
 
 -- so of two runs that differ in background frames alone, the links carry the same
@@ -67,14 +76,17 @@ background_changes_no_start unique beside run background net other one two =
     let second = (beside (with_background run background) other two).legal in
     let same : IsLegalAlone run other.carried = record { sends = λ l is_link. second.sends l is_link; no_others = λ l past. second.no_others l past } in
     ap (λ (z : Network). z.carried)
-    (unique (quiet run) (compiled_lists run.domain) (length run.tables) (sends_no_background net.carried) (sends_no_background other.carried) (alone_is_quiet run net.carried some first) (alone_is_quiet run other.carried some same))
+    (unique (quiet run) (compiled_lists run.domain) (length run.tables) (sends_no_background net.carried) (sends_no_background other.carried)
+    (alone_is_quiet run net.carried some first) (alone_is_quiet run other.carried some same))
 
 -- and their books have the same starts and drops
 pub background_changes_one_list : BackgroundChangesNoStart → BackgroundChangesOneList
 background_changes_one_list no_start run background book other accepted orderly offered backed others one two =
     let first : IsLegalRun run one.net = record { accepted = accepted; orderly = orderly; offered = offered; background = backed; legal = one.legal } in
-    let second : IsLegalRun (with_background run background) two.net = record { accepted = accepted; orderly = orderly; offered = offered; background = others; legal = two.legal } in
+    let second : IsLegalRun (with_background run background) two.net =
+    record { accepted = accepted; orderly = orderly; offered = offered; background = others; legal = two.legal } in
     let same = no_start run background one.net two.net first second in (
       one.are_starts ∙ ap (starts_of run.domain (length run.tables)) same ∙ sym two.are_starts,
-      one.are_drops ∙ ap (λ (carried : Carried). drops_of run.domain (length run.tables) (length run.offers) (λ bridge. policed_before run carried bridge (length run.tables * run.domain.cycle_time))) same ∙ sym two.are_drops,
+      one.are_drops ∙ ap (λ (carried : Carried). drops_of run.domain (length run.tables) (length run.offers)
+          (λ bridge. policed_before run carried bridge (length run.tables * run.domain.cycle_time))) same ∙ sym two.are_drops,
     )

@@ -1,5 +1,6 @@
 -- What comes to a bridge, whatever its links carry: by which way, in which order, and each offer once.
-use Rattle.std.proofs.Common.{◌≡◌, ℕ, zero, suc, ◌+◌, ◌<◌, ◌≤◌, ◌⊎◌, ◌∷◌, [], List, Bool, true, false, inl, inr, sym, ap, ap₂, ◌∙◌, subst, arith, refl, AllPairs, Contains, map, filter, sum_by, length, get_or, eq-eqb, eqb-true, ◌==◌, ◌&&◌, if◌then◌else◌, le_trans, nat_lt}
+use Rattle.std.proofs.Common.{◌≡◌, ℕ, zero, suc, ◌+◌, ◌<◌, ◌≤◌, ◌⊎◌, ◌∷◌, [], List, Bool, true, false, inl, inr, sym, ap, ap₂, ◌∙◌, subst, arith, refl}
+use Rattle.std.proofs.Common.{AllPairs, Contains, map, filter, sum_by, length, get_or, eq-eqb, eqb-true, ◌==◌, ◌&&◌, if◌then◌else◌, le_trans, nat_lt}
 use Rattle.std.specs.List.{enumerate_from}
 use Rattle.std.proofs.lemmas.Bool.{cases_Bool, cond-true, cond-false, and_parts}
 use Rattle.std.proofs.lemmas.List.Elements.{Contains-append_left, Contains-append_cases}
@@ -11,10 +12,12 @@ use Rattle.cqf_model.specs.declared.frames.Sent.{Sent}
 use Rattle.cqf_model.specs.Domain.{Domain, enters}
 use Rattle.cqf_lists.specs.Lists.{each_below}
 use Rattle.cqf_model.specs.Run.{Run}
-use Rattle.cqf_model.specs.Traffic.{Way, AtEdge, Relayed, Carried, Received, Policed, is_offered_at, numbered, offer_received, offered_at, policed_before, received_at, received_before, relayed_at, sent_received, whole_at}
+use Rattle.cqf_model.specs.Traffic.{Way, AtEdge, Relayed, Carried, Received, Policed, is_offered_at, numbered, offer_received, offered_at, policed_before}
+use Rattle.cqf_model.specs.Traffic.{received_at, received_before, relayed_at, sent_received, whole_at}
 use Rattle.cqf_model.specs.Network.{QueuedFrame, queued_before}
 use Rattle.cqf_model.proofs.Coming.{received_when}
-use Rattle.cqf_lists.proofs.Members.{contains_map, contains_from_map, contains_filter, contains_from_filter, contains_here, contains_later, contains_cases, contains_none}
+use Rattle.cqf_lists.proofs.Members.{contains_map, contains_from_map, contains_filter, contains_from_filter, contains_here, contains_later, contains_cases}
+use Rattle.cqf_lists.proofs.Members.{contains_none}
 use Rattle.cqf_lists.proofs.EachBelow.{contains_below, contains_from_below}
 use Rattle.cqf_lists.proofs.Pairs.{one_of_pairs, pairs_below, pairs_map, pairs_members}
 use Rattle.cqf_lists.proofs.Sums.{sum_at_most_one, sum_by_keys, sum_filter, sum_le_below, sum_le_members, sum_map, sum_none}
@@ -31,7 +34,8 @@ placed_member {X} n (y ∷ xs) k x c = elim (contains_cases (n, y) (enumerate_fr
 ]
 
 -- a numbered offer is one of the offers, and its number is its place, from 1
-pub numbered_member : (offers : List Offer) (x : Offered) → Contains (numbered offers) x → Contains offers x.offer × (0 < x.frame) × (x.frame < 1 + length offers)
+pub numbered_member : (offers : List Offer) (x : Offered) → Contains (numbered offers) x → Contains offers x.offer × (0 < x.frame) ×
+    (x.frame < 1 + length offers)
 numbered_member offers x c =
     let r = contains_from_map (λ (x : ℕ × Offer). the_offered x) (enumerate_from 1 offers) x c in
     let m = placed_member 1 offers r.0.0 r.0.1 r.1 in
@@ -43,7 +47,7 @@ numbered_member offers x c =
 
 -- numbers ascend
 pub numbers_ascend : (offers : List Offer) → AllPairs (λ (a b : Offered). a.frame < b.frame) (numbered offers)
-numbers_ascend offers i j e l inside = pairs_map (λ (a b : Offered). a.frame < b.frame) the_offered (e.frame, e.offer) (enumerate_from 1 offers) places i j e l inside
+numbers_ascend offers i j e l inside = pairs_map (λ (a b : Offered). a.frame < b.frame) the_offered (enumerate_from 1 offers) places i j e l inside
   where
     the_offered : ℕ × Offer → Offered
     the_offered x = record { frame = x.0; offer = x.1 }
@@ -51,14 +55,16 @@ numbers_ascend offers i j e l inside = pairs_map (λ (a b : Offered). a.frame < 
     places : AllPairs (λ (a b : ℕ × Offer). a.0 < b.0) (enumerate_from 1 offers)
     places i j e l inside =
         let j_in : j < length offers = omega (arith, inside, length-enumerate_from 1 offers) in
-        let at_i : (get_or (enumerate_from 1 offers) i e).0 ≡ 1 + i = ap (λ (z : ℕ × Offer). z.0) (get_or-enumerate_from 1 offers i e (omega (arith, l, j_in))) in
+        let at_i : (get_or (enumerate_from 1 offers) i e).0 ≡ 1 + i =
+        ap (λ (z : ℕ × Offer). z.0) (get_or-enumerate_from 1 offers i e (omega (arith, l, j_in))) in
         let at_j : (get_or (enumerate_from 1 offers) j e).0 ≡ 1 + j = ap (λ (z : ℕ × Offer). z.0) (get_or-enumerate_from 1 offers j e j_in) in
         omega (arith, at_i, at_j, l)
 
 -- so a number is of one offer
 pub one_number : (offers : List Offer) (x y : Offered) → Contains (numbered offers) x → Contains (numbered offers) y → x.frame ≡ y.frame → x ≡ y
 one_number offers x y cx cy same =
-    one_of_pairs (λ (a b : Offered). a.frame < b.frame) (numbered offers) x y (numbers_ascend offers) cx cy (λ l. absurd (omega (arith, l, same))) (λ l. absurd (omega (arith, l, same)))
+    one_of_pairs (λ (a b : Offered). a.frame < b.frame) (numbered offers) x y (numbers_ascend offers) cx cy (λ l. absurd (omega (arith, l, same)))
+    (λ l. absurd (omega (arith, l, same)))
 
 -- frames of a number that were offered
 abbrev pub offered_counts : ℕ → Way → ℕ → ℕ
@@ -104,10 +110,13 @@ module _ (run : Run) (carried : Carried) (end : ℕ) where
   relayed_by : (bridge t m : ℕ) (x : Received) → t < end → m < length d.links → Contains (relayed_at d carried bridge t m) x → IsRelayed bridge x
   relayed_by bridge t m x early is_link c = elim (cases_Bool (enters d m bridge)) [
     | inl e ↦
-        let r = contains_from_map (sent_received d m) (filter (λ (sent : Sent). whole_at d m sent == t) (carried m)) x (subst (λ z. Contains z x) (cond-true (enters d m bridge) (map (sent_received d m) (filter (λ sent. whole_at d m sent == t) (carried m))) [] e) c) in
+        let r = contains_from_map (sent_received d m) (filter (λ (sent : Sent). whole_at d m sent == t) (carried m)) x
+        (subst (λ z. Contains z x) (cond-true (enters d m bridge)
+        (map (sent_received d m) (filter (λ sent. whole_at d m sent == t) (carried m))) [] e) c) in
         let f = contains_from_filter (λ (sent : Sent). whole_at d m sent == t) (carried m) r.0 r.1 in
         record { m = m; is_link = is_link; here = e; sent = r.0; inside = f.0; is = r.2; early = omega (arith, eqb-true (whole_at d m r.0) t f.1, early) }
-    | inr e ↦ absurd (contains_none x (subst (λ z. Contains z x) (cond-false (enters d m bridge) (map (sent_received d m) (filter (λ sent. whole_at d m sent == t) (carried m))) [] e) c))
+    | inr e ↦ absurd (contains_none x
+        (subst (λ z. Contains z x) (cond-false (enters d m bridge) (map (sent_received d m) (filter (λ sent. whole_at d m sent == t) (carried m))) [] e) c))
   ]
 
   -- what is offered at an instant
@@ -116,7 +125,14 @@ module _ (run : Run) (carried : Carried) (end : ℕ) where
       let r = contains_from_map offer_received (filter (is_offered_at bridge t) (numbered run.offers)) x c in
       let f = contains_from_filter (is_offered_at bridge t) (numbered run.offers) r.0 r.1 in
       let parts = and_parts (r.0.offer.bridge == bridge) (r.0.offer.at.0 == t) f.1 in
-      record { offered = r.0; inside = f.0; here = eqb-true r.0.offer.bridge bridge parts.0; is = r.2; early = omega (arith, eqb-true r.0.offer.at.0 t parts.1, early) }
+      record {
+        offered = r.0;
+        inside = f.0;
+        here = eqb-true r.0.offer.bridge bridge parts.0;
+        is = r.2;
+        early =
+            omega (arith, eqb-true r.0.offer.at.0 t parts.1, early);
+      }
 
   -- each frame came in one of the two ways
   pub came_how : (bridge : ℕ) (x : Received) → Contains (came bridge) x → IsRelayed bridge x ⊎ IsOfferedHere bridge x
@@ -128,12 +144,15 @@ module _ (run : Run) (carried : Carried) (end : ℕ) where
       ]
 
   -- and what a link sends comes to the bridge in which it ends
-  pub relayed_comes : (bridge m : ℕ) (sent : Sent) → m < length d.links → enters d m bridge ≡ true → Contains (carried m) sent → whole_at d m sent < end → Contains (came bridge) (sent_received d m sent)
+  pub relayed_comes : (bridge m : ℕ) (sent : Sent) → m < length d.links → enters d m bridge ≡ true → Contains (carried m) sent → whole_at d m sent < end →
+      Contains (came bridge) (sent_received d m sent)
   relayed_comes bridge m sent is_link here inside early =
       let t = whole_at d m sent in
       let kept = contains_filter (λ (s : Sent). whole_at d m s == t) (carried m) sent inside (eq-eqb t t refl) in
       let mapped = contains_map (sent_received d m) (filter (λ (s : Sent). whole_at d m s == t) (carried m)) sent kept in
-      let here_at : Contains (relayed_at d carried bridge t m) (sent_received d m sent) = subst (λ z. Contains z (sent_received d m sent)) (sym (cond-true (enters d m bridge) (map (sent_received d m) (filter (λ s. whole_at d m s == t) (carried m))) [] here)) mapped in
+      let here_at : Contains (relayed_at d carried bridge t m) (sent_received d m sent) =
+      subst (λ z. Contains z (sent_received d m sent))
+      (sym (cond-true (enters d m bridge) (map (sent_received d m) (filter (λ s. whole_at d m s == t) (carried m))) [] here)) mapped in
       contains_below (received_at run carried bridge) end t (sent_received d m sent) early
       (Contains-append_left (each_below (relayed_at d carried bridge t) (length d.links)) (offered_at run.offers bridge t) (sent_received d m sent)
       (contains_below (relayed_at d carried bridge t) (length d.links) m (sent_received d m sent) is_link here_at))
@@ -142,7 +161,8 @@ module _ (run : Run) (carried : Carried) (end : ℕ) where
   pub sorted : (bridge : ℕ) → AllPairs (λ (a b : Received). a.at ≤ b.at) (came bridge)
   sorted bridge =
       pairs_below (λ (a b : Received). a.at ≤ b.at) (received_at run carried bridge) end
-      (λ t l. pairs_members (λ (a b : Received). a.at ≤ b.at) (received_at run carried bridge t) (λ a b ca cb. omega (arith, received_when run carried bridge t a ca, received_when run carried bridge t b cb)))
+      (λ t l. pairs_members (λ (a b : Received). a.at ≤ b.at) (received_at run carried bridge t)
+      (λ a b ca cb. omega (arith, received_when run carried bridge t a ca, received_when run carried bridge t b cb)))
       (λ s t a b less l ca cb. omega (arith, received_when run carried bridge s a ca, received_when run carried bridge t b cb, less))
 
   -- an offer stands once among what comes to a bridge
@@ -168,7 +188,13 @@ module _ (run : Run) (carried : Carried) (end : ℕ) where
 
       apart : AllPairs (λ (x y : Offered). (x.frame == frame) ≡ true → (y.frame == frame) ≡ true → ⊥) placed
       apart i j e l inside first second =
-          absurd (omega (arith, numbers_ascend run.offers i j e l inside, eqb-true (get_or placed i e).frame frame first, eqb-true (get_or placed j e).frame frame second))
+          absurd (omega (
+            arith,
+            numbers_ascend run.offers i j e l inside,
+            eqb-true (get_or placed i e).frame frame first,
+            eqb-true
+                (get_or placed j e).frame frame second,
+          ))
 
       by_links : (t k : ℕ) → sum_by f (relayed_at d carried bridge t k) ≡ 0
       by_links t k = elim (cases_Bool (enters d k bridge)) [
@@ -181,7 +207,8 @@ module _ (run : Run) (carried : Carried) (end : ℕ) where
 
       no_link : (t n : ℕ) → sum_by f (each_below (relayed_at d carried bridge t) n) ≡ 0
       no_link t zero = refl
-      no_link t (suc n) = sum_by-append f (each_below (relayed_at d carried bridge t) n) (relayed_at d carried bridge t n) ∙ ap₂ (λ a b. a + b) (no_link t n) (by_links t n)
+      no_link t (suc n) = sum_by-append f (each_below (relayed_at d carried bridge t) n) (relayed_at d carried bridge t n)
+          ∙ ap₂ (λ a b. a + b) (no_link t n) (by_links t n)
 
       fewer : (a b : Bool) (v : ℕ) → (if a && b then v else 0) ≤ (if b then v else 0)
       fewer true b v = omega arith
@@ -193,5 +220,6 @@ module _ (run : Run) (carried : Carried) (end : ℕ) where
           let mapped = sum_map f offer_received (filter (is_offered_at bridge t) placed) in
           let kept = sum_filter g (is_offered_at bridge t) placed in
           let all = sum_filter g (λ (x : Offered). x.offer.at.0 == t) placed in
-          let less = sum_le_members (λ x. if is_offered_at bridge t x then g x else 0) (λ (x : Offered). if x.offer.at.0 == t then g x else 0) placed (λ x c. fewer (x.offer.bridge == bridge) (x.offer.at.0 == t) (g x)) in
+          let less = sum_le_members (λ x. if is_offered_at bridge t x then g x else 0) (λ (x : Offered). if x.offer.at.0 == t then g x else 0) placed
+          (λ x c. fewer (x.offer.bridge == bridge) (x.offer.at.0 == t) (g x)) in
           omega (arith, parts, no_link t (length d.links), mapped, kept, all, less)

@@ -1,8 +1,10 @@
 -- What the gates of a bridge decide on an offer is what the reservations decide, by the offers before it alone.
-use Rattle.std.proofs.Common.{◌≡◌, ℕ, ◌+◌, ◌<◌, ◌∷◌, [], ◌++◌, List, Bool, true, false, Some, None, inl, inr, sym, ap, ap₂, ◌∙◌, subst, arith, refl, Contains, filter, map, fold, eqb-true, eq-eqb, ◌==◌, ◌&&◌, nat_le, if◌then◌else◌, append_assoc, append-nil}
+use Rattle.std.proofs.Common.{◌≡◌, ℕ, ◌+◌, ◌<◌, ◌∷◌, [], ◌++◌, List, Bool, true, false, Some, None, inl, inr, sym, ap, ap₂, ◌∙◌, subst, arith, refl, Contains}
+use Rattle.std.proofs.Common.{filter, map, fold, eqb-true, eq-eqb, ◌==◌, ◌&&◌, nat_le, if◌then◌else◌, append_assoc, append-nil}
 use Rattle.std.proofs.lemmas.Bool.{cases_Bool, cond-false, and_parts, and_from, false≢true}
 use Rattle.std.proofs.lemmas.List.Folds.{fold-map}
 use Rattle.std.proofs.lemmas.List.Sums.{sum_by_push}
+use Rattle.cqf_model.proofs.Texts.{is_text_same}
 use Rattle.cqf_model.specs.declared.frames.Offered.{Offered}
 use Rattle.cqf_model.specs.declared.topology.Row.{Row}
 use Rattle.cqf_model.specs.Domain.{Domain, cycle_of, is_text}
@@ -16,13 +18,6 @@ use Rattle.cqf_lists.proofs.Pairs.{one_of_pairs}
 use Rattle.cqf_shift.proofs.Policing.{taken}
 use Rattle.cqf_shift.proofs.Trees.{one_beginning, one_way_at, same_goes_on}
 use Rattle.cqf_shift.proofs.Verdicts.{IsQueuedBy, QueuedAtEdge, edge_passes, queued_of, queued_row, queued_says}
-
--- a text is no other
-is_text_same : (xs ys : List ℕ) → is_text xs ys ≡ true → xs ≡ ys
-is_text_same [] [] e = refl
-is_text_same [] (y ∷ ys) e = absurd (cc)
-is_text_same (x ∷ xs) [] e = absurd (cc)
-is_text_same (x ∷ xs) (y ∷ ys) e = let parts = and_parts (x == y) (is_text xs ys) e in ap₂ (λ a b. a ∷ b) (eqb-true x y parts.0) (is_text_same xs ys parts.1)
 
 -- two tests that pass together are one
 same_tests : (a b : Bool) → (a ≡ true → b ≡ true) → (b ≡ true → a ≡ true) → a ≡ b
@@ -46,12 +41,14 @@ three_and true false c x y z = absurd (cc)
 three_and false b c x y z = absurd (cc)
 
 -- the row of a table that has a name is found by it
-pub found_by_name : (d : Domain) (tables : List (List Row)) → AreOrderly d tables → (c : ℕ) (row : Row) (name : List ℕ) → Contains (table_of tables c) row → is_text row.name name ≡ true → row_named (table_of tables c) name ≡ Some row
+pub found_by_name : (d : Domain) (tables : List (List Row)) → AreOrderly d tables → (c : ℕ) (row : Row) (name : List ℕ) → Contains (table_of tables c) row →
+    is_text row.name name ≡ true → row_named (table_of tables c) name ≡ Some row
 found_by_name d tables orderly c row name inside named =
     let found = find_some (λ (r : Row). is_text r.name name) (table_of tables c) row inside named in
     let member = find_member (λ (r : Row). is_text r.name name) (table_of tables c) found.0 found.1 in
     let names : found.0.name ≡ row.name = is_text_same found.0.name name member.1 ∙ sym (is_text_same row.name name named) in
-    found.1 ∙ ap Some (one_of_pairs (λ (a b : Row). a.name ≡ b.name → ⊥) (table_of tables c) found.0 row (orderly.names c) member.0 inside (λ apart. apart names) (λ apart. apart (sym names)))
+    found.1 ∙ ap Some (one_of_pairs (λ (a b : Row). a.name ≡ b.name → ⊥) (table_of tables c) found.0 row (orderly.names c) member.0 inside
+    (λ apart. apart names) (λ apart. apart (sym names)))
 
 -- the frame was offered at the edge
 abbrev pub is_offered : Way → Bool
@@ -64,13 +61,17 @@ take_by d bridge row c so_far at octets (AtEdge name) =
     if ((cycle_of d at == c) && is_text row.name name && begins_at d row bridge) && nat_le (so_far + octets) row.octets then so_far + octets else so_far
 take_by d bridge row c so_far at octets (Relayed m number) = so_far
 
-module _ (reserves : GateIsReservation) (d : Domain) (some : 0 < d.cycle_time) (tables : List (List Row)) (orderly : AreOrderly d tables) (bridge c : ℕ) (row : Row) (inside : Contains (table_of tables c) row) (live : is_live row c ≡ true) (here : begins_at d row bridge ≡ true) where
+module _ (reserves : GateIsReservation) (d : Domain) (some : 0 < d.cycle_time) (tables : List (List Row)) (orderly : AreOrderly d tables) (bridge c : ℕ)
+    (row : Row) (inside : Contains (table_of tables c) row) (live : is_live row c ≡ true) (here : begins_at d row bridge ≡ true) where
   -- rows of the table that have one number are one
   one_row : (q : Row) → Contains (table_of tables c) q → q.no ≡ row.no → q ≡ row
-  one_row q member same = one_of_pairs (λ (a b : Row). a.no ≡ b.no → ⊥) (table_of tables c) q row (orderly.numbers c) member inside (λ apart. apart same) (λ apart. apart (sym same))
+  one_row q member same = one_of_pairs (λ (a b : Row). a.no ≡ b.no → ⊥) (table_of tables c) q row (orderly.numbers c) member inside (λ apart. apart same)
+      (λ apart. apart (sym same))
 
   -- a frame more: what it takes of the row is what it would of the reservation
-  police_takes : (earlier : List Policed) (x : Received) → octets_before d row.no c (earlier ++ police d tables bridge earlier x ∷ []) ≡ take_by d bridge row c (octets_before d row.no c earlier) x.at x.octets x.way
+  police_takes : (earlier : List Policed) (x : Received) →
+      octets_before d row.no c (earlier ++ police d tables bridge earlier x ∷ []) ≡ take_by d bridge row c
+      (octets_before d row.no c earlier) x.at x.octets x.way
   police_takes earlier x = go x.way refl
     where
       so_far : ℕ
@@ -106,7 +107,8 @@ module _ (reserves : GateIsReservation) (d : Domain) (some : 0 < d.cycle_time) (
         | inr f ↦ f
         | inl t ↦
             let q = queued_of row.no p.verdict (and_parts (is_queued_of row.no p.verdict) (cx == c) t).0 in
-            let by : IsQueuedBy d (table_of tables cx) bridge cx (Relayed m number) q.0 = subst (λ z. IsQueuedBy d (table_of tables cx) bridge cx z q.0) way (says q.0 q.1).0 in
+            let by : IsQueuedBy d (table_of tables cx) bridge cx (Relayed m number) q.0 =
+            subst (λ z. IsQueuedBy d (table_of tables cx) bridge cx z q.0) way (says q.0 q.1).0 in
             let member = queued_row d (table_of tables cx) bridge cx (Relayed m number) q.0 by in
             let tree = (orderly.one_stream cx c q.0 row member inside q.2).tree in
             absurd (two_ways m (one_way_at d row (orderly.trees c row inside) None (Some m) bridge here (same_goes_on d q.0 row (Some m) bridge tree by.here)))
@@ -115,10 +117,14 @@ module _ (reserves : GateIsReservation) (d : Domain) (some : 0 < d.cycle_time) (
           two_ways : (m : ℕ) → None ≡ Some m → ⊥
           two_ways m e = cc
 
-      offered : (name : List ℕ) → x.way ≡ AtEdge name → (is_queued_of row.no p.verdict && (cx == c)) ≡ (((cx == c) && is_text row.name name && begins_at d row bridge) && nat_le (so_far + x.octets) row.octets)
-      offered name way = same_tests (is_queued_of row.no p.verdict && (cx == c)) (((cx == c) && is_text row.name name && begins_at d row bridge) && nat_le (so_far + x.octets) row.octets) to from
+      offered : (name : List ℕ) → x.way ≡ AtEdge name →
+          (is_queued_of row.no p.verdict && (cx == c)) ≡ (((cx == c) && is_text row.name name && begins_at d row bridge) && nat_le
+          (so_far + x.octets) row.octets)
+      offered name way = same_tests (is_queued_of row.no p.verdict && (cx == c))
+          (((cx == c) && is_text row.name name && begins_at d row bridge) && nat_le (so_far + x.octets) row.octets) to from
         where
-          to : (is_queued_of row.no p.verdict && (cx == c)) ≡ true → (((cx == c) && is_text row.name name && begins_at d row bridge) && nat_le (so_far + x.octets) row.octets) ≡ true
+          to : (is_queued_of row.no p.verdict && (cx == c)) ≡ true →
+              (((cx == c) && is_text row.name name && begins_at d row bridge) && nat_le (so_far + x.octets) row.octets) ≡ true
           to t =
               let both = and_parts (is_queued_of row.no p.verdict) (cx == c) t in
               let cycle = eqb-true cx c both.1 in
@@ -131,14 +137,18 @@ module _ (reserves : GateIsReservation) (d : Domain) (some : 0 < d.cycle_time) (
               (three_and (cx == c) (is_text row.name name) (begins_at d row bridge) both.1 (ap (λ (z : Row). is_text z.name name) (sym same) ∙ found.1) here)
               (sym (fits q.0 same cycle) ∙ s.1)
 
-          from : (((cx == c) && is_text row.name name && begins_at d row bridge) && nat_le (so_far + x.octets) row.octets) ≡ true → (is_queued_of row.no p.verdict && (cx == c)) ≡ true
+          from : (((cx == c) && is_text row.name name && begins_at d row bridge) && nat_le (so_far + x.octets) row.octets) ≡ true →
+              (is_queued_of row.no p.verdict && (cx == c)) ≡ true
           from t =
               let both = and_parts ((cx == c) && is_text row.name name && begins_at d row bridge) (nat_le (so_far + x.octets) row.octets) t in
               let three = and_three (cx == c) (is_text row.name name) (begins_at d row bridge) both.0 in
               let cycle = eqb-true cx c three.0 in
-              let is : row_named (table_of tables cx) name ≡ Some row = ap (λ z. row_named (table_of tables z) name) cycle ∙ found_by_name d tables orderly c row name inside three.1 in
-              let q : QueuedAtEdge d bridge cx (row_named (table_of tables cx) name) row = record { is = is; live = ap (is_live row) cycle ∙ live; here = here } in
-              let verdict : p.verdict ≡ Queued row = ap (verdict_by d (table_of tables cx) bridge cx passes) way ∙ edge_passes d bridge cx passes (row_named (table_of tables cx) name) row q (fits row refl cycle ∙ both.1) in
+              let is : row_named (table_of tables cx) name ≡ Some row = ap (λ z. row_named (table_of tables z) name) cycle
+              ∙ found_by_name d tables orderly c row name inside three.1 in
+              let q : QueuedAtEdge d bridge cx (row_named (table_of tables cx) name) row =
+              record { is = is; live = ap (is_live row) cycle ∙ live; here = here } in
+              let verdict : p.verdict ≡ Queued row = ap (verdict_by d (table_of tables cx) bridge cx passes) way
+              ∙ edge_passes d bridge cx passes (row_named (table_of tables cx) name) row q (fits row refl cycle ∙ both.1) in
               and_from (is_queued_of row.no p.verdict) (cx == c) (ap (is_queued_of row.no) verdict ∙ eq-eqb row.no row.no refl) three.0
 
       go : (way : Way) → x.way ≡ way → octets_before d row.no c (earlier ++ p ∷ []) ≡ take_by d bridge row c so_far x.at x.octets way
@@ -146,7 +156,9 @@ module _ (reserves : GateIsReservation) (d : Domain) (some : 0 < d.cycle_time) (
       go (Relayed m number) way = pushed ∙ grown (is_queued_of row.no p.verdict && (cx == c)) false so_far x.octets (relayed m number way)
 
   -- so what all that comes takes is what the reservation gives one after the other
-  all_takes : (earlier : List Policed) (xs : List Received) → octets_before d row.no c (earlier ++ police_all d tables bridge earlier xs) ≡ fold (λ so_far (x : Received). take_by d bridge row c so_far x.at x.octets x.way) (octets_before d row.no c earlier) xs
+  all_takes : (earlier : List Policed) (xs : List Received) →
+      octets_before d row.no c (earlier ++ police_all d tables bridge earlier xs) ≡ fold
+      (λ so_far (x : Received). take_by d bridge row c so_far x.at x.octets x.way) (octets_before d row.no c earlier) xs
   all_takes earlier [] = ap (octets_before d row.no c) (append-nil earlier)
   all_takes earlier (x ∷ xs) =
       let p = police d tables bridge earlier x in
@@ -156,11 +168,17 @@ module _ (reserves : GateIsReservation) (d : Domain) (some : 0 < d.cycle_time) (
       ∙ ap (λ z. fold (λ so_far (x : Received). take_by d bridge row c so_far x.at x.octets x.way) z xs) (police_takes earlier x)
 
   -- and among the offers of the whole domain those at this bridge alone count
-  taken_here : (offers : List Offered) → taken_by d row c offers ≡ fold (λ so_far (y : Offered). take_by d bridge row c so_far y.offer.at.0 y.offer.octets (AtEdge y.offer.stream)) 0 (filter (λ (y : Offered). y.offer.bridge == bridge) offers)
+  taken_here : (offers : List Offered) →
+      taken_by d row c offers ≡ fold (λ so_far (y : Offered). take_by d bridge row c so_far y.offer.at.0 y.offer.octets (AtEdge y.offer.stream)) 0
+      (filter (λ (y : Offered). y.offer.bridge == bridge) offers)
   taken_here offers =
-      fold_filter (take_octets d row c) at_bridge 0 offers (λ so_far y m other. cond-false (claims d row c y && nat_le (so_far + y.offer.octets) row.octets) (so_far + y.offer.octets) so_far (none so_far y other))
-      ∙ fold_same (take_octets d row c) (λ so_far (y : Offered). take_by d bridge row c so_far y.offer.at.0 y.offer.octets (AtEdge y.offer.stream)) 0 (filter at_bridge offers)
-      (λ so_far y m. ap (λ z. if ((cycle_of d y.offer.at.0 == c) && is_text row.name y.offer.stream && begins_at d row z) && nat_le (so_far + y.offer.octets) row.octets then so_far + y.offer.octets else so_far)
+      fold_filter (take_octets d row c) at_bridge 0 offers
+      (λ so_far y m other. cond-false (claims d row c y && nat_le (so_far + y.offer.octets) row.octets) (so_far + y.offer.octets) so_far
+      (none so_far y other))
+      ∙ fold_same (take_octets d row c) (λ so_far (y : Offered). take_by d bridge row c so_far y.offer.at.0 y.offer.octets (AtEdge y.offer.stream)) 0
+      (filter at_bridge offers)
+      (λ so_far y m. ap (λ z. if ((cycle_of d y.offer.at.0 == c) && is_text row.name y.offer.stream && begins_at d row z) && nat_le
+      (so_far + y.offer.octets) row.octets then so_far + y.offer.octets else so_far)
       (eqb-true y.offer.bridge bridge (contains_from_filter at_bridge offers y m).1))
     where
       at_bridge : Offered → Bool
@@ -170,12 +188,14 @@ module _ (reserves : GateIsReservation) (d : Domain) (some : 0 < d.cycle_time) (
       none so_far y other = elim (cases_Bool (claims d row c y && nat_le (so_far + y.offer.octets) row.octets)) [
         | inr f ↦ f
         | inl t ↦
-            let there = (and_three (offer_cycle d y == c) (is_text row.name y.offer.stream) (begins_at d row y.offer.bridge) (and_parts (claims d row c y) (nat_le (so_far + y.offer.octets) row.octets) t).0).2 in
+            let there = (and_three (offer_cycle d y == c) (is_text row.name y.offer.stream) (begins_at d row y.offer.bridge)
+            (and_parts (claims d row c y) (nat_le (so_far + y.offer.octets) row.octets) t).0).2 in
             absurd (false≢true (sym other ∙ eq-eqb y.offer.bridge bridge (one_beginning d row (orderly.trees c row inside) y.offer.bridge bridge there here)))
       ]
 
   -- so behind frames whose offers are those at this bridge among some, the row's octets are what those offers take
-  pub octets_are_taken : (before : List Received) (offers : List Offered) → filter (λ (x : Received). is_offered x.way) before ≡ map offer_received (filter (λ (y : Offered). y.offer.bridge == bridge) offers) →
+  pub octets_are_taken : (before : List Received) (offers : List Offered) →
+      filter (λ (x : Received). is_offered x.way) before ≡ map offer_received (filter (λ (y : Offered). y.offer.bridge == bridge) offers) →
       octets_before d row.no c (police_all d tables bridge [] before) ≡ taken_by d row c offers
   octets_are_taken before offers same =
       all_takes [] before

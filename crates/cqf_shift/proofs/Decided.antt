@@ -1,5 +1,7 @@
 -- Each offer comes to its bridge behind the offers before it, so the gates there decide on it what the reservations do.
-use Rattle.std.proofs.Common.{◌≡◌, ℕ, ◌+◌, ◌<◌, ◌≤◌, ◌∷◌, [], ◌++◌, List, Bool, true, false, not, Option, Some, None, inl, inr, sym, ap, ap₂, ◌∙◌, subst, arith, refl, AllPairs, Contains, filter, map, sum_by, length, get_or, eq-eqb, ◌==◌, nat_le, nat_lt, lt-ltb, le-ltb, leb-true, le-leb, if◌then◌else◌, append_assoc, append-nil}
+use Rattle.std.proofs.Common.{◌≡◌, ℕ, ◌+◌, ◌<◌, ◌≤◌, ◌∷◌, [], ◌++◌, List, Bool, true, false, not, Option, Some, None, inl, inr, sym, ap, ap₂, ◌∙◌, subst, arith}
+use Rattle.std.proofs.Common.{refl, AllPairs, Contains, filter, map, sum_by, length, get_or, eq-eqb, ◌==◌, nat_le, nat_lt, lt-ltb, le-ltb, leb-true, le-leb}
+use Rattle.std.proofs.Common.{if◌then◌else◌, append_assoc, append-nil}
 use Rattle.std.proofs.lemmas.Bool.{cases_Bool, cases_order, leb-false, lt-leb, cond-true, cond-false, and_from}
 use Rattle.std.proofs.lemmas.List.{get_or_default, map-append}
 use Rattle.std.proofs.lemmas.List.Elements.{filter-append, Contains-append_right}
@@ -13,7 +15,9 @@ use Rattle.cqf_lists.specs.Lists.{each_below}
 use Rattle.cqf_model.specs.Network.{IsLoss}
 use Rattle.cqf_model.specs.Run.{Run}
 use Rattle.cqf_model.specs.Table.{AreOrderly, begins_at, is_live, table_of}
-use Rattle.cqf_model.specs.Traffic.{Way, AtEdge, Relayed, Carried, Received, Policed, Verdict, Queued, DroppedFor, LacksRow, ExceedsGate, edge_verdict, is_offered_at, numbered, offer_received, offered_at, police, police_all, received_at, received_before, relayed_at, sent_received, whole_at, within_gate}
+use Rattle.cqf_model.specs.Traffic.{Way, AtEdge, Relayed, Carried, Received, Policed, Verdict, Queued, DroppedFor, LacksRow, ExceedsGate, edge_verdict}
+use Rattle.cqf_model.specs.Traffic.{is_offered_at, numbered, offer_received, offered_at, police, police_all, received_at, received_before, relayed_at}
+use Rattle.cqf_model.specs.Traffic.{sent_received, whole_at, within_gate}
 use Rattle.cqf_model.specs.Shift.{IsCovered, IsReason, IsUncovered, asked_with, offer_cycle, offers_at, offers_before, row_for}
 use Rattle.cqf_model.proofs.Policing.{police_more}
 use Rattle.cqf_shift.specs.Edge.{EdgeIsCovered, GateIsReservation, IsDecided}
@@ -32,14 +36,19 @@ keep x = is_offered x.way
 
 -- no link brings an offer
 no_relayed : (d : Domain) (carried : Carried) (bridge t n : ℕ) → filter keep (each_below (relayed_at d carried bridge t) n) ≡ []
-no_relayed d carried bridge t n = filter_none keep (each_below (relayed_at d carried bridge t) n) (λ x c. let r = contains_from_below (relayed_at d carried bridge t) n x c in of_link r.0 x r.2)
+no_relayed d carried bridge t n =
+    filter_none keep (each_below (relayed_at d carried bridge t) n)
+    (λ x c. let r = contains_from_below (relayed_at d carried bridge t) n x c in of_link r.0 x r.2)
   where
     of_link : (m : ℕ) (x : Received) → Contains (relayed_at d carried bridge t m) x → keep x ≡ false
     of_link m x c = elim (cases_Bool (enters d m bridge)) [
       | inl e ↦
-          let r = contains_from_map (sent_received d m) (filter (λ sent. whole_at d m sent == t) (carried m)) x (subst (λ z. Contains z x) (cond-true (enters d m bridge) (map (sent_received d m) (filter (λ sent. whole_at d m sent == t) (carried m))) [] e) c) in
+          let r = contains_from_map (sent_received d m) (filter (λ sent. whole_at d m sent == t) (carried m)) x
+          (subst (λ z. Contains z x) (cond-true (enters d m bridge)
+          (map (sent_received d m) (filter (λ sent. whole_at d m sent == t) (carried m))) [] e) c) in
           ap keep (sym r.2)
-      | inr e ↦ absurd (contains_none x (subst (λ z. Contains z x) (cond-false (enters d m bridge) (map (sent_received d m) (filter (λ sent. whole_at d m sent == t) (carried m))) [] e) c))
+      | inr e ↦ absurd (contains_none x
+          (subst (λ z. Contains z x) (cond-false (enters d m bridge) (map (sent_received d m) (filter (λ sent. whole_at d m sent == t) (carried m))) [] e) c))
     ]
 
 -- what is made of offers was offered
@@ -47,12 +56,14 @@ each_offer : (xs : List Offered) → filter keep (map offer_received xs) ≡ map
 each_offer xs = filter_each keep (map offer_received xs) (λ x c. let r = contains_from_map offer_received xs x c in ap keep (sym r.2))
 
 -- of all that comes to a bridge, the offers
-pub offers_received : (run : Run) (carried : Carried) (bridge end : ℕ) → filter keep (received_before run carried bridge end) ≡ each_below (offered_at run.offers bridge) end
+pub offers_received : (run : Run) (carried : Carried) (bridge end : ℕ) →
+    filter keep (received_before run carried bridge end) ≡ each_below (offered_at run.offers bridge) end
 offers_received run carried bridge end =
     filter_below keep (received_at run carried bridge) end
     ∙ same_below (λ t. filter keep (received_at run carried bridge t)) (offered_at run.offers bridge) end (λ t l.
     filter-append keep (each_below (relayed_at run.domain carried bridge t) (length run.domain.links)) (offered_at run.offers bridge t)
-    ∙ ap₂ (λ a b. a ++ b) (no_relayed run.domain carried bridge t (length run.domain.links)) (each_offer (filter (is_offered_at bridge t) (numbered run.offers))))
+    ∙ ap₂ (λ a b. a ++ b) (no_relayed run.domain carried bridge t (length run.domain.links))
+    (each_offer (filter (is_offered_at bridge t) (numbered run.offers))))
 
 module _ (offers : List Offer) (x : Offered) where
   -- the instant and the bridge of the offer
@@ -86,18 +97,23 @@ module _ (offers : List Offer) (x : Offered) where
       ∙ ap (filter smaller) (filter-append at_instant before (x ∷ after))
       ∙ filter-append smaller (filter at_instant before) (filter at_instant (x ∷ after))
       ∙ ap₂ (λ a b. a ++ b)
-      (filter_each smaller (filter at_instant before) (λ y c. lt-ltb y.frame x.frame (ascending y x (contains_from_filter at_instant before y c).0 (contains_here x after))))
+      (filter_each smaller (filter at_instant before)
+      (λ y c. lt-ltb y.frame x.frame (ascending y x (contains_from_filter at_instant before y c).0 (contains_here x after))))
       (filter_none smaller (filter at_instant (x ∷ after)) (λ y c. le-ltb y.frame x.frame (behind y (contains_from_filter at_instant (x ∷ after) y c).0)))
       ∙ append-nil (filter at_instant before)
     where
       ascending : (a b : Offered) → Contains before a → Contains (x ∷ after) b → a.frame < b.frame
-      ascending a b = pairs_across (λ (a b : Offered). a.frame < b.frame) before (x ∷ after) a b (subst (λ z. AllPairs (λ (a b : Offered). a.frame < b.frame) z) parts (numbers_ascend offers))
+      ascending a b = pairs_across (λ (a b : Offered). a.frame < b.frame) before (x ∷ after) a b
+          (subst (λ z. AllPairs (λ (a b : Offered). a.frame < b.frame) z) parts (numbers_ascend offers))
 
       behind : (y : Offered) → Contains (x ∷ after) y → x.frame ≤ y.frame
       behind y c = elim (contains_cases x after y c) [
         | inl e ↦ omega (arith, ap (λ (z : Offered). z.frame) e)
         | inr h ↦
-            let less : x.frame < y.frame = pairs_head (λ (a b : Offered). a.frame < b.frame) x after y (pairs_second (λ (a b : Offered). a.frame < b.frame) before (x ∷ after) (subst (λ z. AllPairs (λ (a b : Offered). a.frame < b.frame) z) parts (numbers_ascend offers))) h in
+            let less : x.frame < y.frame =
+            pairs_head (λ (a b : Offered). a.frame < b.frame) x after y
+            (pairs_second (λ (a b : Offered). a.frame < b.frame) before (x ∷ after)
+            (subst (λ z. AllPairs (λ (a b : Offered). a.frame < b.frame) z) parts (numbers_ascend offers))) h in
             omega (arith, less)
       ]
 
@@ -117,7 +133,8 @@ module _ (offers : List Offer) (x : Offered) where
           ap (map offer_received) (filter_twice at_bridge (λ (y : Offered). y.offer.at.0 == s) (numbered offers)))
 
       same_instant : map offer_received (filter at_bridge (filter smaller (offers_at offers t))) ≡ map offer_received (filter together before)
-      same_instant = ap (λ z. map offer_received (filter at_bridge z)) (smaller_before before after parts) ∙ ap (map offer_received) (filter_twice at_bridge at_instant before)
+      same_instant = ap (λ z. map offer_received (filter at_bridge z)) (smaller_before before after parts)
+          ∙ ap (map offer_received) (filter_twice at_bridge at_instant before)
 
 -- where an offer comes: behind the offers before it at its bridge, and relayed frames
 pub record ComesBehind (run : Run) (carried : Carried) (end : ℕ) (x : Offered) : Type 0 where
@@ -127,15 +144,19 @@ pub record ComesBehind (run : Run) (carried : Carried) (end : ℕ) (x : Offered)
   pub offers : filter keep before ≡ map offer_received (filter (λ (y : Offered). y.offer.bridge == x.offer.bridge) (offers_before run.offers x))
 
 -- each offer before the end comes so
-pub comes_behind : (run : Run) (carried : Carried) (end : ℕ) (x : Offered) → Contains (numbered run.offers) x → x.offer.at.0 < end → ComesBehind run carried end x
+pub comes_behind : (run : Run) (carried : Carried) (end : ℕ) (x : Offered) → Contains (numbered run.offers) x → x.offer.at.0 < end →
+    ComesBehind run carried end x
 comes_behind run carried end x inside early = record {
   before = (each_below f t ++ relayed) ++ map offer_received (filter together first);
   after = map offer_received (filter together second) ++ rest.0;
-  parts = rest.1 ∙ ap (λ z. each_below f t ++ ((relayed ++ z) ++ rest.0)) at_once ∙ joined (each_below f t) relayed (map offer_received (filter together first)) (offer_received x) (map offer_received (filter together second)) rest.0;
+  parts = rest.1 ∙ ap (λ z. each_below f t ++ ((relayed ++ z) ++ rest.0)) at_once
+      ∙ joined (each_below f t) relayed (map offer_received (filter together first)) (offer_received x) (map offer_received (filter together second)) rest.0;
   offers =
       filter-append keep (each_below f t ++ relayed) (map offer_received (filter together first))
       ∙ ap₂ (λ a b. a ++ b)
-      (filter-append keep (each_below f t) relayed ∙ ap₂ (λ a b. a ++ b) (offers_received run carried bridge t) (no_relayed run.domain carried bridge t (length run.domain.links)) ∙ append-nil (each_below (offered_at run.offers bridge) t))
+      (filter-append keep (each_below f t) relayed
+      ∙ ap₂ (λ a b. a ++ b) (offers_received run carried bridge t) (no_relayed run.domain carried bridge t (length run.domain.links))
+      ∙ append-nil (each_below (offered_at run.offers bridge) t))
       (each_offer (filter together first))
       ∙ sym (offers_before_here run.offers x first second split.2);
 }
@@ -175,22 +196,27 @@ comes_behind run carried end x inside early = record {
         ap (λ z. map offer_received (filter together z)) split.2
         ∙ ap (map offer_received) (filter-append together first (x ∷ second))
         ∙ map-append offer_received (filter together first) (filter together (x ∷ second))
-        ∙ ap (λ z. map offer_received (filter together first) ++ map offer_received z) (cond-true (together x) (x ∷ filter together second) (filter together second) passes)
+        ∙ ap (λ z. map offer_received (filter together first) ++ map offer_received z)
+        (cond-true (together x) (x ∷ filter together second) (filter together second) passes)
 
     joined : (a b c : List Received) (y : Received) (e r : List Received) → a ++ ((b ++ (c ++ (y ∷ e))) ++ r) ≡ ((a ++ b) ++ c) ++ (y ∷ (e ++ r))
     joined a b c y e r = simp append_assoc
 
 -- the first reason that fits, or that the offer goes on, by the offers before it alone
 abbrev pub judged : Run → Offered → Verdict
-judged run x = edge_verdict run.domain x.offer.bridge (offer_cycle run.domain x) (λ row. nat_le (asked_with run.domain run.offers x row) row.octets) (row_for run.domain run.tables x)
+judged run x = edge_verdict run.domain x.offer.bridge (offer_cycle run.domain x) (λ row. nat_le (asked_with run.domain run.offers x row) row.octets)
+    (row_for run.domain run.tables x)
 
 -- two tests that agree on each row that is live and begins here give one verdict
-edge_same : (d : Domain) (bridge cycle : ℕ) (one two : Row → Bool) (found : Option Row) → ((row : Row) → found ≡ Some row → is_live row cycle ≡ true → begins_at d row bridge ≡ true → one row ≡ two row) → edge_verdict d bridge cycle one found ≡ edge_verdict d bridge cycle two found
+edge_same : (d : Domain) (bridge cycle : ℕ) (one two : Row → Bool) (found : Option Row) →
+    ((row : Row) → found ≡ Some row → is_live row cycle ≡ true → begins_at d row bridge ≡ true → one row ≡ two row) →
+    edge_verdict d bridge cycle one found ≡ edge_verdict d bridge cycle two found
 edge_same d at cycle one two None same = refl
 edge_same d at cycle one two (Some row) same = choice (is_live row cycle) (begins_at d row at) (one row) (two row) (same row refl)
   where
     by : Bool → Bool → Bool → Verdict
-    by live here fits = if not live then DroppedFor Withdrawn else (if not here then DroppedFor OtherBridge else (if not fits then DroppedFor Octets else Queued row))
+    by live here fits =
+        if not live then DroppedFor Withdrawn else (if not here then DroppedFor OtherBridge else (if not fits then DroppedFor Octets else Queued row))
 
     choice : (live here a b : Bool) → (live ≡ true → here ≡ true → a ≡ b) → by live here a ≡ by live here b
     choice true true a b e = ap (by true true) (e refl refl)
@@ -200,18 +226,28 @@ edge_same d at cycle one two (Some row) same = choice (is_live row cycle) (begin
 -- so says a verdict by which an offer goes on
 pub judged_queued : (run : Run) (x : Offered) (row : Row) → Contains (numbered run.offers) x → judged run x ≡ Queued row → IsCovered run x row
 judged_queued run x row inside e =
-    let q = edge_queued run.domain x.offer.bridge (offer_cycle run.domain x) (λ row. nat_le (asked_with run.domain run.offers x row) row.octets) (row_for run.domain run.tables x) row e in
-    record { offered = inside; named = q.0.is; live = q.0.live; first_bridge = q.0.here; within = leb-true (asked_with run.domain run.offers x row) row.octets q.1 }
+    let q = edge_queued run.domain x.offer.bridge (offer_cycle run.domain x) (λ row. nat_le (asked_with run.domain run.offers x row) row.octets)
+    (row_for run.domain run.tables x) row e in
+    record {
+      offered = inside;
+      named = q.0.is;
+      live = q.0.live;
+      first_bridge = q.0.here;
+      within =
+          leb-true (asked_with run.domain run.offers x row) row.octets q.1;
+    }
 
 -- and a covered offer has it
 pub covered_judged : (run : Run) (x : Offered) (row : Row) → IsCovered run x row → judged run x ≡ Queued row
 covered_judged run x row covered =
-    edge_passes run.domain x.offer.bridge (offer_cycle run.domain x) (λ row. nat_le (asked_with run.domain run.offers x row) row.octets) (row_for run.domain run.tables x) row
+    edge_passes run.domain x.offer.bridge (offer_cycle run.domain x) (λ row. nat_le (asked_with run.domain run.offers x row) row.octets)
+    (row_for run.domain run.tables x) row
     (record { is = covered.named; live = covered.live; here = covered.first_bridge })
     (le-leb (asked_with run.domain run.offers x row) row.octets covered.within)
 
 -- so says a verdict by which it is dropped
-pub judged_dropped : (run : Run) (x : Offered) (reason : Reason) → Contains (numbered run.offers) x → judged run x ≡ DroppedFor reason → IsUncovered run x reason
+pub judged_dropped : (run : Run) (x : Offered) (reason : Reason) → Contains (numbered run.offers) x → judged run x ≡ DroppedFor reason →
+    IsUncovered run x reason
 judged_dropped run x reason inside e = record { offered = inside; is_reason = go (row_for run.domain run.tables x) refl e }
   where
     d : Domain
@@ -223,8 +259,10 @@ judged_dropped run x reason inside e = record { offered = inside; is_reason = go
     fits : Row → Bool
     fits row = nat_le (asked_with d run.offers x row) row.octets
 
-    choice : (row : Row) (live here short : Bool) → row_for d run.tables x ≡ Some row → is_live row cycle ≡ live → begins_at d row x.offer.bridge ≡ here → fits row ≡ short →
-        (if not live then DroppedFor Withdrawn else (if not here then DroppedFor OtherBridge else (if not short then DroppedFor Octets else Queued row))) ≡ DroppedFor reason → IsReason run x reason
+    choice : (row : Row) (live here short : Bool) → row_for d run.tables x ≡ Some row → is_live row cycle ≡ live → begins_at d row x.offer.bridge ≡ here →
+        fits row ≡ short →
+        (if not live then DroppedFor Withdrawn else (if not here then DroppedFor OtherBridge else (if not short then DroppedFor Octets else Queued row)))
+        ≡ DroppedFor reason → IsReason run x reason
     choice row true true true named a b c e = absurd (cc)
     choice row true true false named a b c e =
         let is : Octets ≡ reason = cc in
@@ -257,20 +295,23 @@ uncovered_judged run x reason uncovered = go reason uncovered.is_reason
     at_row row named = ap (edge_verdict d x.offer.bridge cycle fits) named
 
     by : Row → Bool → Bool → Bool → Verdict
-    by row live here short = if not live then DroppedFor Withdrawn else (if not here then DroppedFor OtherBridge else (if not short then DroppedFor Octets else Queued row))
+    by row live here short =
+        if not live then DroppedFor Withdrawn else (if not here then DroppedFor OtherBridge else (if not short then DroppedFor Octets else Queued row))
 
     go : (reason : Reason) → IsReason run x reason → judged run x ≡ DroppedFor reason
     go Unknown named = ap (edge_verdict d x.offer.bridge cycle fits) named
     go Withdrawn (row, r) = at_row row r.named ∙ ap (λ z. by row z (begins_at d row x.offer.bridge) (fits row)) r.not_live
     go OtherBridge (row, r) = at_row row r.named ∙ ap₂ (λ y z. by row y z (fits row)) r.live r.elsewhere
-    go Octets (row, r) = at_row row r.named ∙ ap₂ (λ y z. by row y z (fits row)) r.live r.first_bridge ∙ ap (by row true true) (lt-leb (asked_with d run.offers x row) row.octets r.short)
+    go Octets (row, r) = at_row row r.named ∙ ap₂ (λ y z. by row y z (fits row)) r.live r.first_bridge
+        ∙ ap (by row true true) (lt-leb (asked_with d run.offers x row) row.octets r.short)
 
 -- so the verdict is what the definitions say of the offer
 pub is_decided : (run : Run) (x : Offered) → Contains (numbered run.offers) x → IsDecided run x (judged run x)
 is_decided run x inside = go (judged run x) refl
   where
     no_loss : IsLoss (judged run x) → ⊥
-    no_loss = edge_no_loss run.domain x.offer.bridge (offer_cycle run.domain x) (λ row. nat_le (asked_with run.domain run.offers x row) row.octets) (row_for run.domain run.tables x)
+    no_loss = edge_no_loss run.domain x.offer.bridge (offer_cycle run.domain x) (λ row. nat_le (asked_with run.domain run.offers x row) row.octets)
+        (row_for run.domain run.tables x)
 
     go : (v : Verdict) → judged run x ≡ v → IsDecided run x v
     go (Queued row) e = judged_queued run x row inside e
@@ -278,14 +319,17 @@ is_decided run x inside = go (judged run x) refl
     go LacksRow e = no_loss (subst IsLoss (sym e) tt)
     go ExceedsGate e = no_loss (subst IsLoss (sym e) tt)
 
-module _ (reserves : GateIsReservation) (run : Run) (carried : Carried) (end : ℕ) (some : 0 < run.domain.cycle_time) (orderly : AreOrderly run.domain run.tables) where
+module _ (reserves : GateIsReservation) (run : Run) (carried : Carried) (end : ℕ) (some : 0 < run.domain.cycle_time)
+    (orderly : AreOrderly run.domain run.tables) where
   -- each offer before the end has that verdict at its bridge
-  pub offer_policed : (x : Offered) → Contains (numbered run.offers) x → x.offer.at.0 < end → Contains (policed run carried end x.offer.bridge) (record { received = offer_received x; verdict = judged run x })
+  pub offer_policed : (x : Offered) → Contains (numbered run.offers) x → x.offer.at.0 < end →
+      Contains (policed run carried end x.offer.bridge) (record { received = offer_received x; verdict = judged run x })
   offer_policed x inside early =
       subst (λ v. Contains (policed run carried end bridge) (record { received = offer_received x; verdict = v })) same
       (subst (λ z. Contains (police_all d run.tables bridge [] z) p) (sym b.parts)
       (subst (λ z. Contains z p) (sym (police_more d run.tables bridge [] b.before (offer_received x ∷ b.after)))
-      (Contains-append_right earlier (police_all d run.tables bridge earlier (offer_received x ∷ b.after)) p (contains_here p (police_all d run.tables bridge (earlier ++ p ∷ []) b.after)))))
+      (Contains-append_right earlier (police_all d run.tables bridge earlier (offer_received x ∷ b.after)) p
+      (contains_here p (police_all d run.tables bridge (earlier ++ p ∷ []) b.after)))))
     where
       d : Domain
       d = run.domain
@@ -306,14 +350,17 @@ module _ (reserves : GateIsReservation) (run : Run) (carried : Carried) (end : �
       p = police d run.tables bridge earlier (offer_received x)
 
       same : p.verdict ≡ judged run x
-      same = edge_same d bridge cycle (λ row. within_gate d earlier row (offer_received x)) (λ row. nat_le (asked_with d run.offers x row) row.octets) (row_for d run.tables x)
+      same = edge_same d bridge cycle (λ row. within_gate d earlier row (offer_received x)) (λ row. nat_le (asked_with d run.offers x row) row.octets)
+          (row_for d run.tables x)
           (λ row found live here.
           let member = (find_member (λ (r : Row). is_text r.name x.offer.stream) (table_of run.tables cycle) row found).0 in
           reserves d earlier row (offer_received x) some
-          ∙ ap (λ z. nat_le (z + x.offer.octets) row.octets) (octets_are_taken reserves d some run.tables orderly bridge cycle row member live here b.before (offers_before run.offers x) b.offers))
+          ∙ ap (λ z. nat_le (z + x.offer.octets) row.octets)
+          (octets_are_taken reserves d some run.tables orderly bridge cycle row member live here b.before (offers_before run.offers x) b.offers))
 
   -- and no other frame there is that offer
-  one_offered : (bridge : ℕ) (p q : Policed) → Contains (policed run carried end bridge) p → Contains (policed run carried end bridge) q → p.received ≡ q.received → is_offered p.received.way ≡ true → p ≡ q
+  one_offered : (bridge : ℕ) (p q : Policed) → Contains (policed run carried end bridge) p → Contains (policed run carried end bridge) q →
+      p.received ≡ q.received → is_offered p.received.way ≡ true → p ≡ q
   one_offered bridge p q cp cq same offered = elim (cases_order cp.0 cq.0) [
     | inl e ↦ sym cp.2 ∙ ap (λ z. get_or ps z p) e ∙ at_q
     | inr o ↦ elim o [
@@ -344,11 +391,13 @@ module _ (reserves : GateIsReservation) (run : Run) (carried : Carried) (end : �
       single : sum_by f ps ≤ 1
       single =
           subst (λ z. z ≤ 1) (sum_map (λ (x : Received). offered_counts p.received.frame x.way x.frame) (λ (r : Policed). r.received) ps)
-          (subst (λ z. sum_by (λ (x : Received). offered_counts p.received.frame x.way x.frame) z ≤ 1) (sym (received_list run.domain run.tables bridge [] (came run carried end bridge)))
+          (subst (λ z. sum_by (λ (x : Received). offered_counts p.received.frame x.way x.frame) z ≤ 1)
+          (sym (received_list run.domain run.tables bridge [] (came run carried end bridge)))
           (offers_single run carried end bridge p.received.frame))
 
   -- so a frame that was offered here has the verdict of its offer
-  pub offered_judged : (bridge : ℕ) (p : Policed) → Contains (policed run carried end bridge) p → (o : IsOfferedHere run carried end bridge p.received) → p.verdict ≡ judged run o.offered
+  pub offered_judged : (bridge : ℕ) (p : Policed) → Contains (policed run carried end bridge) p → (o : IsOfferedHere run carried end bridge p.received) →
+      p.verdict ≡ judged run o.offered
   offered_judged bridge p c o =
       let q : Policed = record { received = offer_received o.offered; verdict = judged run o.offered } in
       let there = subst (λ z. Contains (policed run carried end z) q) o.here (offer_policed o.offered o.inside o.early) in

@@ -1,5 +1,6 @@
 -- The gate of a reservation lets pass what the reservation has left.
-use Rattle.std.proofs.Common.{◌≡◌, ℕ, suc, ◌+◌, ◌-◌, ◌%◌, ◌<◌, ◌⊎◌, ◌∷◌, [], List, Bool, true, false, inl, inr, sym, ap, ap₂, ◌∙◌, arith, refl, filter, map, sum_by, zero-add, mod-lt, slice_get, ◌==◌, ◌&&◌, nat_le, nat_lt, lt-ltb, le-ltb, if◌then◌else◌}
+use Rattle.std.proofs.Common.{◌≡◌, ℕ, suc, ◌+◌, ◌-◌, ◌%◌, ◌<◌, ◌⊎◌, ◌∷◌, [], List, Bool, true, false, inl, inr, sym, ap, ap₂, ◌∙◌, arith, refl, filter, map}
+use Rattle.std.proofs.Common.{sum_by, zero-add, mod-lt, slice_get, ◌==◌, ◌&&◌, nat_le, nat_lt, lt-ltb, le-ltb, if◌then◌else◌}
 use Rattle.std.specs.Option.{option_map_or}
 use Rattle.std.proofs.lemmas.Bool.{cases_lt, cond-true, cond-false}
 use Rattle.std.proofs.lemmas.List.Sums.{sum_by-cons}
@@ -43,10 +44,13 @@ module _ (counts : GateCountsCycles) (d : Domain) (row : Row) (t : ℕ) (some : 
   kept q = is_queued_of row.no q.verdict
 
   -- one frame more, by whether it passed
-  one_more : (p : Policed) (earlier : List Policed) (b : Bool) → kept p ≡ b → sum_by counted (map call_of (filter kept earlier)) ≡ sum_by reserved earlier → sum_by counted (map call_of (filter kept (p ∷ earlier))) ≡ sum_by reserved (p ∷ earlier)
+  one_more : (p : Policed) (earlier : List Policed) (b : Bool) → kept p ≡ b → sum_by counted (map call_of (filter kept earlier)) ≡ sum_by reserved earlier →
+      sum_by counted (map call_of (filter kept (p ∷ earlier))) ≡ sum_by reserved (p ∷ earlier)
   one_more p earlier true e rest =
       let kept_here : filter kept (p ∷ earlier) ≡ p ∷ filter kept earlier = cond-true (kept p) (p ∷ filter kept earlier) (filter kept earlier) e in
-      let here : counted (call_of p) ≡ reserved p = ap (λ z. if z then p.received.octets else 0) (counts n row.octets p.received.at t some ∙ sym (ap (λ z. z && (cycle_of d p.received.at == cycle_of d t)) e)) in
+      let here : counted (call_of p) ≡ reserved p =
+      ap (λ z. if z then p.received.octets else 0)
+      (counts n row.octets p.received.at t some ∙ sym (ap (λ z. z && (cycle_of d p.received.at == cycle_of d t)) e)) in
       ap (λ z. sum_by counted (map call_of z)) kept_here
       ∙ sum_by-cons counted (call_of p) (map call_of (filter kept earlier))
       ∙ ap₂ (λ a b. a + b) here rest
@@ -59,14 +63,17 @@ module _ (counts : GateCountsCycles) (d : Domain) (row : Row) (t : ℕ) (some : 
       ∙ sym (sum_by-cons reserved p earlier ∙ ap (λ z. z + sum_by reserved earlier) here ∙ zero-add (sum_by reserved earlier))
 
   -- the octets that the gate counts are those of the cycle's frames that went on
-  octets_counted : (earlier : List Policed) → octets_in (stream_list d.cycle_time row.octets) (calls_of row.no earlier) t ≡ octets_before d row.no (cycle_of d t) earlier
+  octets_counted : (earlier : List Policed) →
+      octets_in (stream_list d.cycle_time row.octets) (calls_of row.no earlier) t ≡ octets_before d row.no (cycle_of d t) earlier
   octets_counted [] = refl
   octets_counted (p ∷ earlier) = one_more p earlier (kept p) refl (octets_counted earlier)
 
 -- the gate tests what the reservation has left
 pub gate_is_reservation : GateCountsCycles → GateIsReservation
 gate_is_reservation counts d earlier row x some =
-    at_place (place_at (stream_list n row.octets) x.at) (in_two n row.octets (x.at % (0 + n + n)) (omega (arith, mod-lt x.at {m = 0 + n + n} (omega (arith, some))))) ∙ ap (λ z. nat_le (z + x.octets) row.octets) (octets_counted counts d row x.at some earlier)
+    at_place (place_at (stream_list n row.octets) x.at)
+    (in_two n row.octets (x.at % (0 + n + n)) (omega (arith, mod-lt x.at {m = 0 + n + n} (omega (arith, some)))))
+    ∙ ap (λ z. nat_le (z + x.octets) row.octets) (octets_counted counts d row x.at some earlier)
   where
     n : ℕ
     n = d.cycle_time

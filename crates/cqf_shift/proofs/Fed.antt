@@ -79,22 +79,27 @@ module _ (laws : CycleLaws) (run : Run) (carried : Carried) (planned : IsPlanned
     -- so none of those with a verdict is
     pub least : (bridge : ℕ) → All (λ (p : Policed). 64 ≤ p.received.octets) (policed run carried (end_of_run run) bridge)
     least bridge = all_from_members (λ (p : Policed). 64 ≤ p.received.octets) (policed run carried end bridge) (λ p c.
-        least_before (suc p.received.at) bridge p.received (has_come d run.tables bridge (came run carried end bridge) (policed run carried end bridge) (facts bridge) p c) (omega arith))
+        least_before (suc p.received.at) bridge p.received
+        (has_come d run.tables bridge (came run carried end bridge) (policed run carried end bridge) (facts bridge) p c) (omega arith))
 
     -- what comes to a port in a cycle is within its link's budget
-    pub within_budget : (m cycle : ℕ) → m < length run.domain.links → load run.domain.cycle_time cycle (arrivals_of (queued run carried (end_of_run run) m)) ≤ budget run.domain m
+    pub within_budget : (m cycle : ℕ) → m < length run.domain.links →
+        load run.domain.cycle_time cycle (arrivals_of (queued run carried (end_of_run run) m)) ≤ budget run.domain m
     within_budget m cycle is_link =
         let bridge = bridge_of d m in
-        le_trans (load_within_cost d run.tables bridge (came run carried end bridge) (policed run carried end bridge) (facts bridge) m (least bridge) cycle) (planned.orderly.loads cycle m is_link)
+        le_trans (load_within_cost d run.tables bridge (came run carried end bridge) (policed run carried end bridge) (facts bridge) m (least bridge) cycle)
+        (planned.orderly.loads cycle m is_link)
 
   -- what is queued is in order
   pub queue_sorted : (m : ℕ) → AllPairs (λ (a b : QueuedFrame). a.arrival.at.0 ≤ b.arrival.at.0) (queued run carried (end_of_run run) m)
   queue_sorted m =
       let bridge = bridge_of d m in
-      queue_in_order d m (policed run carried end bridge) (policed_sorted d run.tables bridge (came run carried end bridge) (policed run carried end bridge) (facts bridge) m (sorted run carried end bridge))
+      queue_in_order d m (policed run carried end bridge)
+      (policed_sorted d run.tables bridge (came run carried end bridge) (policed run carried end bridge) (facts bridge) m (sorted run carried end bridge))
 
   -- and has the classes of streams' frames
-  pub queue_class : (m : ℕ) (q : QueuedFrame) → Contains (queued run carried (end_of_run run) m) q → q.arrival.class ≡ given_class (cycle_of run.domain q.arrival.at.0)
+  pub queue_class : (m : ℕ) (q : QueuedFrame) → Contains (queued run carried (end_of_run run) m) q →
+      q.arrival.class ≡ given_class (cycle_of run.domain q.arrival.at.0)
   queue_class m q c =
       let bridge = bridge_of d m in
       class_given d run.tables bridge (came run carried end bridge) (policed run carried end bridge) (facts bridge) m laws.gives some_time q c

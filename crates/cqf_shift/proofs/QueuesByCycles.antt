@@ -1,5 +1,6 @@
 -- What comes to a port beside background frames is, of the streams, what is queued to it.
-use Rattle.std.proofs.Common.{◌≡◌, ℕ, zero, suc, ◌+◌, ◌*◌, ◌<◌, ◌⊎◌, [], ◌++◌, List, Bool, true, false, None, inl, inr, sym, ap, ap₂, ◌∙◌, subst, arith, Contains, filter, eq-eqb, ne_eqb, ◌==◌}
+use Rattle.std.proofs.Common.{◌≡◌, ℕ, zero, suc, ◌+◌, ◌*◌, ◌<◌, ◌⊎◌, [], ◌++◌, List, Bool, true, false, None, inl, inr, sym, ap, ap₂, ◌∙◌, subst, arith}
+use Rattle.std.proofs.Common.{Contains, filter, eq-eqb, ne_eqb, ◌==◌}
 use Rattle.std.specs.List.{enumerate_from}
 use Rattle.std.proofs.lemmas.Grind.{flat_map-append}
 use Rattle.std.proofs.lemmas.List.Elements.{Contains-append_cases, filter-append}
@@ -9,14 +10,14 @@ use Rattle.cqf_model.specs.Domain.{Domain, bridge_of, cycle_of}
 use Rattle.cqf_lists.specs.Lists.{each_below}
 use Rattle.cqf_model.specs.Run.{Run}
 use Rattle.cqf_model.specs.Traffic.{Carried, Received, Policed, police_all, policed_before, received_at, received_before}
-use Rattle.cqf_model.specs.Network.{QueuedFrame, backed_at, backed_frame, backed_in, comes_before, comes_in, is_backed_at, numbered_background, queued_before, queued_by, queued_in, queued_to}
-use Rattle.cqf_lists.proofs.Picked.{each_more}
+use Rattle.cqf_model.specs.Network.{QueuedFrame, backed_at, backed_frame, backed_in, comes_before, comes_in, is_backed_at, numbered_background, queued_before}
+use Rattle.cqf_model.specs.Network.{queued_by, queued_in, queued_to}
 use Rattle.cqf_model.proofs.Coming.{received_when}
 use Rattle.cqf_model.proofs.Policing.{police_more}
 use Rattle.cqf_laws_cycle.specs.Beside.{is_of_stream}
 use Rattle.cqf_units.proofs.Cycles.{cycle_from, cycle_is}
 use Rattle.cqf_lists.proofs.Members.{contains_from_filter, contains_from_map, contains_map}
-use Rattle.cqf_lists.proofs.EachBelow.{contains_from_below, filter_below, filter_each, filter_none, same_below}
+use Rattle.cqf_lists.proofs.EachBelow.{below_plus, contains_from_below, filter_below, filter_each, filter_none, same_below}
 use Rattle.cqf_shift.proofs.Came.{placed_member}
 use Rattle.cqf_shift.proofs.Policing.{received_list}
 use Rattle.cqf_shift.proofs.Queues.{queued_from}
@@ -35,10 +36,16 @@ module _ (run : Run) (carried : Carried) (l : ℕ) where
   b = bridge_of run.domain l
 
   -- what is queued comes at the instant of a frame that came
-  queued_at : (earlier : List Policed) (xs : List Received) (q : QueuedFrame) → Contains (queued_to d l (police_all d run.tables b earlier xs)) q → (x : Received) × Contains xs x × (q.arrival.at.0 ≡ x.at)
+  queued_at : (earlier : List Policed) (xs : List Received) (q : QueuedFrame) → Contains (queued_to d l (police_all d run.tables b earlier xs)) q →
+      (x : Received) × Contains xs x × (q.arrival.at.0 ≡ x.at)
   queued_at earlier xs q c =
-      let from = queued_from d l (police_all d run.tables b earlier xs) q c in
-      (from.p.received, subst (λ z. Contains z from.p.received) (received_list d run.tables b earlier xs) (contains_map (λ (p : Policed). p.received) (police_all d run.tables b earlier xs) from.p from.inside), ap (λ (z : QueuedFrame). z.arrival.at.0) (sym from.is))
+      let from = queued_from d l (police_all d run.tables b earlier xs) q c in (
+        from.p.received,
+        subst (λ z. Contains z from.p.received) (received_list d run.tables b earlier xs)
+            (contains_map (λ (p : Policed). p.received) (police_all d run.tables b earlier xs) from.p from.inside),
+        ap (λ (z : QueuedFrame). z.arrival.at.0)
+            (sym from.is),
+      )
 
   -- what comes in a cycle
   abbrev in_cycle : ℕ → List Received
@@ -53,9 +60,10 @@ module _ (run : Run) (carried : Carried) (l : ℕ) where
   grows c =
       let stretch : (c + 1) * n ≡ c * n + n = omega arith in
       let first = received_before run carried b (c * n) in
-      ap (λ z. queued_to d l (police_all d run.tables b [] z)) (ap (received_before run carried b) stretch ∙ each_more (received_at run carried b) (c * n) n)
+      ap (λ z. queued_to d l (police_all d run.tables b [] z)) (ap (received_before run carried b) stretch ∙ below_plus (received_at run carried b) (c * n) n)
       ∙ ap (queued_to d l) (police_more d run.tables b [] first (in_cycle c))
-      ∙ flat_map-append (λ (p : Policed). queued_by d l p.received p.verdict) (police_all d run.tables b [] first) (police_all d run.tables b (policed_before run carried b (c * n)) (in_cycle c))
+      ∙ flat_map-append (λ (p : Policed). queued_by d l p.received p.verdict) (police_all d run.tables b [] first)
+      (police_all d run.tables b (policed_before run carried b (c * n)) (in_cycle c))
 
   -- that is just what is queued in it
   pub queued_in_is : (c : ℕ) → 0 < n → queued_in run carried l c ≡ queued_now c
@@ -96,7 +104,8 @@ module _ (run : Run) (carried : Carried) (l : ℕ) where
       one_more c n = omega arith
 
   -- a background frame is of no stream
-  backed_none : (c : ℕ) (q : QueuedFrame) → Contains (backed_in d run.background l c) q → (x : Backed) × Contains (numbered_background run.background) x × (backed_frame x ≡ q)
+  backed_none : (c : ℕ) (q : QueuedFrame) → Contains (backed_in d run.background l c) q → (x : Backed) × Contains (numbered_background run.background) x ×
+      (backed_frame x ≡ q)
   backed_none c q m =
       let k = contains_from_below (λ offset. backed_at run.background l (c * d.cycle_time + offset)) d.cycle_time q m in
       let x = contains_from_map backed_frame (filter (is_backed_at l (c * d.cycle_time + k.0)) (numbered_background run.background)) q k.2 in
@@ -114,11 +123,14 @@ module _ (run : Run) (carried : Carried) (l : ℕ) where
       filter-append is_of_stream (backed_in d run.background l c) (queued_in run carried l c)
       ∙ ap₂ (λ x y. x ++ y)
       (filter_none is_of_stream (backed_in d run.background l c) (λ q m. ap is_of_stream (sym (backed_none c q m).2)))
-      (filter_each is_of_stream (queued_in run carried l c) (λ q m. queued_some (policed_before run carried b ((c + 1) * n)) q (contains_from_filter (λ (x : QueuedFrame). cycle_of d x.arrival.at.0 == c) (queued_before run carried l ((c + 1) * n)) q m).0)))
+      (filter_each is_of_stream (queued_in run carried l c)
+      (λ q m. queued_some (policed_before run carried b ((c + 1) * n)) q
+      (contains_from_filter (λ (x : QueuedFrame). cycle_of d x.arrival.at.0 == c) (queued_before run carried l ((c + 1) * n)) q m).0)))
       ∙ queue_by_cycles cycles some
 
   -- each frame that comes is a background frame or a queued one
-  pub comes_of : (cycles : ℕ) (q : QueuedFrame) → Contains (comes_before run carried l cycles) q → ((x : Background) × Contains run.background x × (q.stream ≡ None) × (q.arrival.class ≡ x.class)) ⊎ (is_of_stream q ≡ true)
+  pub comes_of : (cycles : ℕ) (q : QueuedFrame) → Contains (comes_before run carried l cycles) q →
+      ((x : Background) × Contains run.background x × (q.stream ≡ None) × (q.arrival.class ≡ x.class)) ⊎ (is_of_stream q ≡ true)
   comes_of cycles q m =
       let c = contains_from_below (comes_in run carried l) cycles q m in
       elim (Contains-append_cases (backed_in d run.background l c.0) (queued_in run carried l c.0) q c.2) [
@@ -126,8 +138,14 @@ module _ (run : Run) (carried : Carried) (l : ℕ) where
             let x = backed_none c.0 q back in
             let placed = contains_from_map the_backed (enumerate_from 1 run.background) x.0 x.1 in
             let member = placed_member 1 run.background placed.0.0 placed.0.1 placed.1 in
-            inl (x.0.background, subst (λ (z : Backed). Contains run.background z.background) placed.2 member.0, ap (λ (z : QueuedFrame). z.stream) (sym x.2), ap (λ (z : QueuedFrame). z.arrival.class) (sym x.2))
-        | inr queue ↦ inr (queued_some (policed_before run carried b ((c.0 + 1) * n)) q (contains_from_filter (λ (x : QueuedFrame). cycle_of d x.arrival.at.0 == c.0) (queued_before run carried l ((c.0 + 1) * n)) q queue).0)
+            inl (
+              x.0.background,
+              subst (λ (z : Backed). Contains run.background z.background) placed.2 member.0,
+              ap (λ (z : QueuedFrame). z.stream) (sym x.2),
+              ap (λ (z : QueuedFrame). z.arrival.class) (sym x.2),
+            )
+        | inr queue ↦ inr (queued_some (policed_before run carried b ((c.0 + 1) * n)) q
+            (contains_from_filter (λ (x : QueuedFrame). cycle_of d x.arrival.at.0 == c.0) (queued_before run carried l ((c.0 + 1) * n)) q queue).0)
       ]
     where
       the_backed : ℕ × Background → Backed

@@ -1,5 +1,6 @@
 -- A legal run of streams' frames alone: what each link sends, and when.
-use Rattle.std.proofs.Common.{◌≡◌, ℕ, ◌+◌, ◌-◌, ◌*◌, ◌/◌, ◌<◌, ◌≤◌, ◌∷◌, [], ◌++◌, List, sym, ap, ap₂, ◌∙◌, subst, arith, refl, Contains, map, flat_map, length, get_or, mul-le-mul_right}
+use Rattle.std.proofs.Common.{◌≡◌, ℕ, ◌+◌, ◌-◌, ◌*◌, ◌/◌, ◌<◌, ◌≤◌, ◌∷◌, [], List, sym, ap, ◌∙◌, subst, arith, refl, Contains, map, length, get_or}
+use Rattle.std.proofs.Common.{mul-le-mul_right}
 use Rattle.std.specs.Option.{option_map_or}
 use Rattle.std.proofs.lemmas.List.{get_or-map, get_or_default, length-map}
 use Rattle.std.proofs.lemmas.List.Elements.{Contains-get_or}
@@ -16,7 +17,8 @@ use Rattle.cqf_laws_cycle.specs.OnePort.{AreDue, IsWithinBudget, StreamsAt, due,
 use Rattle.cqf_model.proofs.Links.{delay_within, gap_within, octet_positive}
 use Rattle.cqf_shift.specs.Alone.{IsRunAlone, SendsAlone, end_of_run}
 use Rattle.cqf_units.proofs.Cycles.{cycle_is, cycle_from, cycle_below}
-use Rattle.cqf_lists.proofs.Members.{contains_map, contains_from_map, contains_here, contains_later}
+use Rattle.cqf_lists.proofs.Ones.{flat_map_ones}
+use Rattle.cqf_lists.proofs.Members.{contains_map, contains_from_map}
 use Rattle.cqf_lists.proofs.Pairs.{pairs_map}
 use Rattle.cqf_shift.proofs.Came.{policed, queued}
 use Rattle.cqf_shift.proofs.CycleLaws.{CycleLaws}
@@ -30,12 +32,8 @@ number_of q = option_map_or (λ (number : ℕ). number) q.stream 0
 
 -- what a transmission of a stream's frame sends
 abbrev pub sent_at : List QueuedFrame → Transmission → Sent
-sent_at queued start = let x = get_or queued start.0 no_frame in record { start = record { 0 = start.1 }; frame = x.arrival.frame; stream = number_of x; octets = x.arrival.octets }
-
--- where each element makes a list of one, the lists end to end are a map
-flat_map_one : {X Y : Type 0} (f : X → List Y) (g : X → Y) (xs : List X) → ((x : X) → Contains xs x → f x ≡ g x ∷ []) → flat_map f xs ≡ map g xs
-flat_map_one f g [] one = refl
-flat_map_one f g (x ∷ xs) one = ap₂ (λ a b. a ++ b) (one x (contains_here x xs)) (flat_map_one f g xs (λ y c. one y (contains_later x xs y c)))
+sent_at queued start = let x = get_or queued start.0 no_frame in
+    record { start = record { 0 = start.1 }; frame = x.arrival.frame; stream = number_of x; octets = x.arrival.octets }
 
 module _ (laws : CycleLaws) (run : Run) (carried : Carried) (alone : IsRunAlone run carried) where
   -- the run's domain
@@ -69,14 +67,17 @@ module _ (laws : CycleLaws) (run : Run) (carried : Carried) (alone : IsRunAlone 
       the_sent x t = record { start = record { 0 = t }; frame = x.arrival.frame; stream = number_of x; octets = x.arrival.octets }
 
   -- a start is of a place in the queue
-  pub start_in_queue : (m : ℕ) (is_link : m < length run.domain.links) (place s : ℕ) → Contains (sends m is_link).starts (place, s) → place < length (queued run carried (end_of_run run) m)
-  start_in_queue m is_link place s c = omega (arith, ((sends m is_link).legal.first place s c).waits.inside, length-map (waiting m) (λ (q : QueuedFrame). q.arrival))
+  pub start_in_queue : (m : ℕ) (is_link : m < length run.domain.links) (place s : ℕ) → Contains (sends m is_link).starts (place, s) →
+      place < length (queued run carried (end_of_run run) m)
+  start_in_queue m is_link place s c =
+      omega (arith, ((sends m is_link).legal.first place s c).waits.inside, length-map (waiting m) (λ (q : QueuedFrame). q.arrival))
 
   -- so what a link sends are its transmissions
   pub sents_are : (m : ℕ) (is_link : m < length run.domain.links) → carried m ≡ map (sent_at (queued run carried (end_of_run run) m)) (sends m is_link).starts
   sents_are m is_link =
       let s = sends m is_link in
-      s.are_sent ∙ flat_map_one (sent_of (waiting m)) (sent_at (waiting m)) s.starts (λ start c. sends_one m start.0 start.1 (start_in_queue m is_link start.0 start.1 c))
+      s.are_sent ∙ flat_map_ones (sent_of (waiting m)) (sent_at (waiting m)) s.starts
+      (λ start c. sends_one m start.0 start.1 (start_in_queue m is_link start.0 start.1 c))
 
   -- what a link sends was queued to it, no later
   pub record IsSentFor (m : ℕ) (sent : Sent) : Type 0 where
@@ -95,7 +96,8 @@ module _ (laws : CycleLaws) (run : Run) (carried : Carried) (alone : IsRunAlone 
     pub is : sent_at (queued run carried (end_of_run run) m) (place, sent.start.0) ≡ sent
 
   -- each frame that a link sends was queued so
-  pub sent_for : (m : ℕ) (is_link : m < length run.domain.links) (sent : Sent) → Contains (carried m) sent → (x : IsSentFor m sent) × Contains (sends m is_link).starts (x.place, sent.start.0)
+  pub sent_for : (m : ℕ) (is_link : m < length run.domain.links) (sent : Sent) → Contains (carried m) sent → (x : IsSentFor m sent) ×
+      Contains (sends m is_link).starts (x.place, sent.start.0)
   sent_for m is_link sent c =
       let s = sends m is_link in
       let r = contains_from_map (sent_at (waiting m)) s.starts sent (subst (λ z. Contains z sent) (sents_are m is_link) c) in
@@ -104,7 +106,8 @@ module _ (laws : CycleLaws) (run : Run) (carried : Carried) (alone : IsRunAlone 
       let in_queue : place < length (waiting m) = start_in_queue m is_link place r.0.1 r.1 in
       let q = get_or (waiting m) place no_frame in
       let from = queued_from d m (given (bridge_of d m)) q (Contains-get_or (waiting m) place no_frame in_queue) in
-      let instant : instant_of (arrivals_of (waiting m)) place ≡ q.arrival.at.0 = ap (λ (a : Arrival). a.at.0) (get_or-map (λ (q : QueuedFrame). q.arrival) (waiting m) place no_frame no_arrival in_queue) in
+      let instant : instant_of (arrivals_of (waiting m)) place ≡ q.arrival.at.0 =
+      ap (λ (a : Arrival). a.at.0) (get_or-map (λ (q : QueuedFrame). q.arrival) (waiting m) place no_frame no_arrival in_queue) in
       let start : r.0.1 ≡ sent.start.0 = ap (λ (z : Sent). z.start.0) r.2 in (
         record {
           p = from.p;
@@ -128,14 +131,32 @@ module _ (laws : CycleLaws) (run : Run) (carried : Carried) (alone : IsRunAlone 
   pub fed : IsFed laws run carried alone.planned
   fed m is_link sent c =
       let s = (sent_for m is_link sent c).0 in
-      record { p = s.p; inside = s.inside; row = s.row; verdict = s.verdict; goes = s.goes; frame = s.frame; stream = s.stream; octets = s.octets; no_sooner = s.no_sooner }
+      record {
+        p = s.p;
+        inside = s.inside;
+        row = s.row;
+        verdict = s.verdict;
+        goes = s.goes;
+        frame = s.frame;
+        stream = s.stream;
+        octets = s.octets;
+        no_sooner =
+            s.no_sooner;
+      }
 
   -- what is at a place of what the port sees
-  seen : (m place : ℕ) → place < length (waiting m) → (q : QueuedFrame) × Contains (waiting m) q × (get_or (arrivals_of (waiting m)) place no_arrival ≡ q.arrival)
-  seen m place inside = (get_or (waiting m) place no_frame, Contains-get_or (waiting m) place no_frame inside, get_or-map (λ (q : QueuedFrame). q.arrival) (waiting m) place no_frame no_arrival inside)
+  seen : (m place : ℕ) → place < length (waiting m) → (q : QueuedFrame) × Contains (waiting m) q ×
+      (get_or (arrivals_of (waiting m)) place no_arrival ≡ q.arrival)
+  seen m place inside = (
+    get_or (waiting m) place no_frame,
+    Contains-get_or (waiting m) place no_frame inside,
+    get_or-map (λ (q : QueuedFrame). q.arrival)
+        (waiting m) place no_frame no_arrival inside,
+  )
 
   -- it has the class of its cycle
-  class_at : (m place : ℕ) → place < length (waiting m) → class_of (arrivals_of (waiting m)) place ≡ given_class (cycle_of_place d.cycle_time (arrivals_of (waiting m)) place)
+  class_at : (m place : ℕ) → place < length (waiting m) →
+      class_of (arrivals_of (waiting m)) place ≡ given_class (cycle_of_place d.cycle_time (arrivals_of (waiting m)) place)
   class_at m place inside =
       let q = seen m place inside in
       subst (λ (z : Arrival). z.class ≡ given_class (z.at.0 / d.cycle_time)) (sym q.2) (queue_class laws run carried alone.planned m q.0 q.1)
@@ -152,16 +173,20 @@ module _ (laws : CycleLaws) (run : Run) (carried : Carried) (alone : IsRunAlone 
     some_octet = octet_positive d m is_link;
     gap_short = gap_within d m alone.planned.accepted is_link;
     come = record {
-      in_order = λ i j e l inside first second. pairs_map (λ (a b : Arrival). a.at.0 ≤ b.at.0) (λ (q : QueuedFrame). q.arrival) no_frame (waiting m) (queue_sorted laws run carried alone.planned m) i j e l inside;
+      in_order = λ i j e l inside first second. pairs_map (λ (a b : Arrival). a.at.0 ≤ b.at.0) (λ (q : QueuedFrame). q.arrival) (waiting m)
+          (queue_sorted laws run carried alone.planned m) i j e l inside;
       classes = λ place inside streams. class_at m place (omega (arith, inside, length-map (waiting m) (λ (q : QueuedFrame). q.arrival)));
     };
     loads = λ c l. within_budget laws run carried alone.planned fed m c is_link;
   }
 
   -- and each port is one cycle late
-  pub ports_due : (m : ℕ) (is_link : m < length run.domain.links) → AreDue run.domain.cycle_time run.domain.guard (octet_time_of run.domain m) (arrivals_of (queued run carried (end_of_run run) m)) (length run.tables) (length run.tables) (sends m is_link).starts
+  pub ports_due : (m : ℕ) (is_link : m < length run.domain.links) →
+      AreDue run.domain.cycle_time run.domain.guard (octet_time_of run.domain m) (arrivals_of (queued run carried (end_of_run run) m)) (length run.tables)
+      (length run.tables) (sends m is_link).starts
   ports_due m is_link =
-      laws.late d.cycle_time d.guard (octet_time_of d m) (arrivals_of (waiting m)) (length run.tables) (length run.tables) (sends m is_link).starts (within m is_link) (sends m is_link).legal
+      laws.late d.cycle_time d.guard (octet_time_of d m) (arrivals_of (waiting m)) (length run.tables) (length run.tables) (sends m is_link).starts
+      (within m is_link) (sends m is_link).legal
 
   -- what starts starts in the cycle after its arrival's, and is whole in the next node in its cycle
   pub record IsTimed (m at : ℕ) (sent : Sent) : Type 0 where
@@ -170,7 +195,8 @@ module _ (laws : CycleLaws) (run : Run) (carried : Carried) (alone : IsRunAlone 
     pub in_run : whole_at run.domain m sent < end_of_run run
 
   -- each start is timed so
-  timed : (m : ℕ) (is_link : m < length d.links) (sent : Sent) (place at : ℕ) → Contains (sends m is_link).starts (place, sent.start.0) → place < length (waiting m) → instant_of (arrivals_of (waiting m)) place ≡ at → octets_of (arrivals_of (waiting m)) place ≡ sent.octets → IsTimed m at sent
+  timed : (m : ℕ) (is_link : m < length d.links) (sent : Sent) (place at : ℕ) → Contains (sends m is_link).starts (place, sent.start.0) →
+      place < length (waiting m) → instant_of (arrivals_of (waiting m)) place ≡ at → octets_of (arrivals_of (waiting m)) place ≡ sent.octets → IsTimed m at sent
   timed m is_link sent place at c in_queue is_at is_octets =
       let s = sent.start.0 in
       let n = d.cycle_time in
@@ -183,8 +209,13 @@ module _ (laws : CycleLaws) (run : Run) (carried : Carried) (alone : IsRunAlone 
       let over = (ports_due m is_link).over place inside streams due.0 in
       let cycle : s / n ≡ at / n + 1 = ap (λ z. z / n) due.1 ∙ next ∙ ap (λ z. z / n + 1) is_at in
       let from = cycle_from n s in
-      let over_at : s + (sent.octets + 20) * octet_time_of d m ≤ (at / n + 1) * n + (n - d.guard) = at_octets n d.guard (octet_time_of d m) s (instant_of (arrivals_of (waiting m)) place) at (octets_of (arrivals_of (waiting m)) place) sent.octets is_at is_octets (subst (λ z. z + (octets_of (arrivals_of (waiting m)) place + 20) * octet_time_of d m ≤ (instant_of (arrivals_of (waiting m)) place / n + 1) * n + (n - d.guard)) (sym due.1) over) in
-      let in_time : whole_at d m sent < (s / n) * n + n = omega (arith, over_at, delay_within d m alone.planned.accepted is_link, alone.planned.accepted.guard_short, ap (λ z. z * n) cycle) in
+      let over_at : s + (sent.octets + 20) * octet_time_of d m ≤ (at / n + 1) * n + (n - d.guard) =
+      at_octets n d.guard (octet_time_of d m) s (instant_of (arrivals_of (waiting m)) place) at
+      (octets_of (arrivals_of (waiting m)) place) sent.octets is_at is_octets
+      (subst (λ z. z + (octets_of (arrivals_of (waiting m)) place + 20) * octet_time_of d m ≤ (instant_of
+      (arrivals_of (waiting m)) place / n + 1) * n + (n - d.guard)) (sym due.1) over) in
+      let in_time : whole_at d m sent < (s / n) * n + n =
+      omega (arith, over_at, delay_within d m alone.planned.accepted is_link, alone.planned.accepted.guard_short, ap (λ z. z * n) cycle) in
       record {
         cycle = cycle;
         whole = cycle_is n (s / n) (whole_at d m sent) (omega (arith, from)) in_time;
@@ -192,10 +223,12 @@ module _ (laws : CycleLaws) (run : Run) (carried : Carried) (alone : IsRunAlone 
       }
     where
       at_octets : (n g r s a b o p : ℕ) → a ≡ b → o ≡ p → s + (o + 20) * r ≤ (a / n + 1) * n + (n - g) → s + (p + 20) * r ≤ (b / n + 1) * n + (n - g)
-      at_octets n g r s a b o p ea eo h = subst (λ z. s + (z + 20) * r ≤ (b / n + 1) * n + (n - g)) eo (subst (λ z. s + (o + 20) * r ≤ (z / n + 1) * n + (n - g)) ea h)
+      at_octets n g r s a b o p ea eo h =
+          subst (λ z. s + (z + 20) * r ≤ (b / n + 1) * n + (n - g)) eo (subst (λ z. s + (o + 20) * r ≤ (z / n + 1) * n + (n - g)) ea h)
 
   -- the same for each frame that a link sends
-  pub sent_timed : (m : ℕ) (is_link : m < length run.domain.links) (sent : Sent) → Contains (carried m) sent → (x : IsSentFor m sent) × IsTimed m x.p.received.at sent
+  pub sent_timed : (m : ℕ) (is_link : m < length run.domain.links) (sent : Sent) → Contains (carried m) sent → (x : IsSentFor m sent) ×
+      IsTimed m x.p.received.at sent
   sent_timed m is_link sent c =
       let r = sent_for m is_link sent c in
       let x = r.0 in
@@ -207,35 +240,43 @@ module _ (laws : CycleLaws) (run : Run) (carried : Carried) (alone : IsRunAlone 
       )
 
   -- a start is in the cycle after the queued frame's
-  pub start_timed : (m : ℕ) (is_link : m < length run.domain.links) (place s : ℕ) → Contains (sends m is_link).starts (place, s) → cycle_of run.domain s ≡ cycle_of run.domain (get_or (queued run carried (end_of_run run) m) place no_frame).arrival.at.0 + 1
+  pub start_timed : (m : ℕ) (is_link : m < length run.domain.links) (place s : ℕ) → Contains (sends m is_link).starts (place, s) →
+      cycle_of run.domain s ≡ cycle_of run.domain (get_or (queued run carried (end_of_run run) m) place no_frame).arrival.at.0 + 1
   start_timed m is_link place s c =
       let inside = start_in_queue m is_link place s c in
       let arrival = get_or-map (λ (q : QueuedFrame). q.arrival) (waiting m) place no_frame no_arrival inside in
-      (timed m is_link (sent_at (waiting m) (place, s)) place (get_or (waiting m) place no_frame).arrival.at.0 c inside (ap (λ (a : Arrival). a.at.0) arrival) (ap (λ (a : Arrival). a.octets) arrival)).cycle
+      (timed m is_link (sent_at (waiting m) (place, s)) place (get_or (waiting m) place no_frame).arrival.at.0 c inside (ap (λ (a : Arrival). a.at.0) arrival)
+      (ap (λ (a : Arrival). a.octets) arrival)).cycle
 
   -- the same, said of its arrival
-  pub place_timed : (m : ℕ) (is_link : m < length run.domain.links) (place s : ℕ) → Contains (sends m is_link).starts (place, s) → cycle_of run.domain s ≡ cycle_of_place run.domain.cycle_time (arrivals_of (queued run carried (end_of_run run) m)) place + 1
+  pub place_timed : (m : ℕ) (is_link : m < length run.domain.links) (place s : ℕ) → Contains (sends m is_link).starts (place, s) →
+      cycle_of run.domain s ≡ cycle_of_place run.domain.cycle_time (arrivals_of (queued run carried (end_of_run run) m)) place + 1
   place_timed m is_link place s c =
       let inside = start_in_queue m is_link place s c in
       let arrival = get_or-map (λ (q : QueuedFrame). q.arrival) (waiting m) place no_frame no_arrival inside in
       start_timed m is_link place s c ∙ ap (λ (a : Arrival). a.at.0 / d.cycle_time + 1) (sym arrival)
 
   -- and when it is due
-  pub start_due : (m : ℕ) (is_link : m < length run.domain.links) (place s : ℕ) → Contains (sends m is_link).starts (place, s) → s ≡ due run.domain.cycle_time (octet_time_of run.domain m) (arrivals_of (queued run carried (end_of_run run) m)) place
+  pub start_due : (m : ℕ) (is_link : m < length run.domain.links) (place s : ℕ) → Contains (sends m is_link).starts (place, s) →
+      s ≡ due run.domain.cycle_time (octet_time_of run.domain m) (arrivals_of (queued run carried (end_of_run run) m)) place
   start_due m is_link place s c =
       let early = cycle_below d.cycle_time s (length run.tables) ((sends m is_link).legal.before_end place s c) in
       ((ports_due m is_link).only place s c (streams_at m place (start_in_queue m is_link place s c)) (omega (arith, early))).1
 
   -- and what is queued starts, as far as the run goes
-  pub queued_starts : (m : ℕ) (is_link : m < length run.domain.links) (p : Policed) (row : Row) → Contains (policed run carried (end_of_run run) (bridge_of run.domain m)) p → p.verdict ≡ Queued row → GoesBy row (came_by p.received.way) m → cycle_of run.domain p.received.at + 1 < length run.tables →
-      (sent : Sent) × Contains (carried m) sent × (sent.frame ≡ p.received.frame) × (sent.stream ≡ row.no) × (sent.octets ≡ p.received.octets) × IsTimed m p.received.at sent
+  pub queued_starts : (m : ℕ) (is_link : m < length run.domain.links) (p : Policed) (row : Row) →
+      Contains (policed run carried (end_of_run run) (bridge_of run.domain m)) p → p.verdict ≡ Queued row → GoesBy row (came_by p.received.way) m →
+      cycle_of run.domain p.received.at + 1 < length run.tables →
+      (sent : Sent) × Contains (carried m) sent × (sent.frame ≡ p.received.frame) × (sent.stream ≡ row.no) × (sent.octets ≡ p.received.octets) ×
+      IsTimed m p.received.at sent
   queued_starts m is_link p row c verdict goes early =
       let s = sends m is_link in
       let q = queued_frame d p.received row in
       let member = queued_into d m (given (bridge_of d m)) p row c verdict goes in
       let place = member.0 in
       let is : get_or (waiting m) place no_frame ≡ q = get_or_default (waiting m) place no_frame q member.1 ∙ member.2 in
-      let arrival : get_or (arrivals_of (waiting m)) place no_arrival ≡ q.arrival = get_or-map (λ (q : QueuedFrame). q.arrival) (waiting m) place no_frame no_arrival member.1 ∙ ap (λ (z : QueuedFrame). z.arrival) is in
+      let arrival : get_or (arrivals_of (waiting m)) place no_arrival ≡ q.arrival =
+      get_or-map (λ (q : QueuedFrame). q.arrival) (waiting m) place no_frame no_arrival member.1 ∙ ap (λ (z : QueuedFrame). z.arrival) is in
       let at : instant_of (arrivals_of (waiting m)) place ≡ p.received.at = ap (λ (a : Arrival). a.at.0) arrival in
       let cycle : instant_of (arrivals_of (waiting m)) place / d.cycle_time ≡ p.received.at / d.cycle_time = ap (λ z. z / d.cycle_time) at in
       let inside : place < length (arrivals_of (waiting m)) = omega (arith, member.1, length-map (waiting m) (λ (q : QueuedFrame). q.arrival)) in
@@ -247,5 +288,6 @@ module _ (laws : CycleLaws) (run : Run) (carried : Carried) (alone : IsRunAlone 
         ap (λ (z : QueuedFrame). z.arrival.frame) is,
         ap number_of is,
         ap (λ (z : QueuedFrame). z.arrival.octets) is,
-        timed m is_link sent place p.received.at start member.1 at (ap (λ (a : Arrival). a.octets) arrival ∙ ap (λ (z : QueuedFrame). z.arrival.octets) (sym is)),
+        timed m is_link sent place p.received.at start member.1 at
+            (ap (λ (a : Arrival). a.octets) arrival ∙ ap (λ (z : QueuedFrame). z.arrival.octets) (sym is)),
       )

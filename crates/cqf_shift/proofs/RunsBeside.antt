@@ -1,5 +1,6 @@
 -- A legal run beside background frames is for the streams' frames a legal run of them alone.
-use Rattle.std.proofs.Common.{◌≡◌, ℕ, ◌*◌, ◌/◌, ◌<◌, ◌≤◌, [], List, Bool, true, false, Option, Some, None, inl, inr, sym, ap, ◌∙◌, subst, arith, refl, AllPairs, Contains, filter, sum_by, length, get_or, is_some, ◌==◌, if◌then◌else◌, le_trans, le_of_eq, leb-true}
+use Rattle.std.proofs.Common.{◌≡◌, ℕ, ◌*◌, ◌/◌, ◌<◌, ◌≤◌, [], List, Bool, true, false, Option, Some, None, inl, inr, sym, ap, ◌∙◌, subst, arith, refl, AllPairs}
+use Rattle.std.proofs.Common.{Contains, filter, sum_by, length, get_or, is_some, ◌==◌, if◌then◌else◌, le_trans, le_of_eq, leb-true}
 use Rattle.std.proofs.lemmas.Bool.{cases_Bool, cond-true, false≢true}
 use Rattle.std.proofs.lemmas.List.{get_or-map, length-map}
 use Rattle.std.proofs.lemmas.List.Elements.{All-contains, Contains-get_or}
@@ -28,7 +29,8 @@ use Rattle.cqf_shift.proofs.Queues.{gives_streams, queued_from}
 use Rattle.cqf_shift.proofs.QueuesByCycles.{comes_of, streams_that_come}
 
 -- what a frame sends that is of a stream, or of none
-sent_of_frame : (t : ℕ) (x : Arrival) (stream : Option ℕ) (sent : Sent) → Contains (sent_by t x stream) sent → (number : ℕ) × (stream ≡ Some number) × (record { start = record { 0 = t }; frame = x.frame; stream = number; octets = x.octets } ≡ sent)
+sent_of_frame : (t : ℕ) (x : Arrival) (stream : Option ℕ) (sent : Sent) → Contains (sent_by t x stream) sent → (number : ℕ) × (stream ≡ Some number) ×
+    (record { start = record { 0 = t }; frame = x.frame; stream = number; octets = x.octets } ≡ sent)
 sent_of_frame t x None sent c = absurd (contains_none sent c)
 sent_of_frame t x (Some number) sent c =
     (number, refl, elim (contains_cases (the_sent number) [] sent c) [ inl e ↦ e | inr h ↦ absurd (contains_none sent h) ])
@@ -81,9 +83,12 @@ module _ (laws : CycleLaws) (run : Run) (net : Network) (legal : IsLegalRun run 
       let place = start.0.0 in
       let first = s.legal.first place start.0.1 start.1 in
       let in_list : place < length (comes m) = omega (arith, first.waits.inside, length-map (comes m) (λ (q : QueuedFrame). q.arrival)) in
-      from_place place start.0.1 in_list (subst (λ (z : Arrival). z.at.0 ≤ start.0.1) (get_or-map (λ (q : QueuedFrame). q.arrival) (comes m) place no_frame no_arrival in_list) first.waits.come) start.2
+      from_place place start.0.1 in_list
+      (subst (λ (z : Arrival). z.at.0 ≤ start.0.1)
+      (get_or-map (λ (q : QueuedFrame). q.arrival) (comes m) place no_frame no_arrival in_list) first.waits.come) start.2
     where
-      from_frame : (q : QueuedFrame) (t : ℕ) → Contains (comes m) q → q.arrival.at.0 ≤ t → Contains (sent_by t q.arrival q.stream) sent → IsSentOf laws run net.carried planned m sent
+      from_frame : (q : QueuedFrame) (t : ℕ) → Contains (comes m) q → q.arrival.at.0 ≤ t → Contains (sent_by t q.arrival q.stream) sent →
+          IsSentOf laws run net.carried planned m sent
       from_frame q t here come c =
           let is = sent_of_frame t q.arrival q.stream sent c in
           let of_stream : is_of_stream q ≡ true = ap is_some is.1 in
@@ -100,7 +105,8 @@ module _ (laws : CycleLaws) (run : Run) (net : Network) (legal : IsLegalRun run 
             no_sooner = omega (arith, come, ap (λ (z : QueuedFrame). z.arrival.at.0) from.is, ap (λ (z : Sent). z.start.0) is.2);
           }
 
-      from_place : (place t : ℕ) → place < length (comes m) → (get_or (comes m) place no_frame).arrival.at.0 ≤ t → Contains (sent_of (comes m) (place, t)) sent → IsSentOf laws run net.carried planned m sent
+      from_place : (place t : ℕ) → place < length (comes m) → (get_or (comes m) place no_frame).arrival.at.0 ≤ t →
+          Contains (sent_of (comes m) (place, t)) sent → IsSentOf laws run net.carried planned m sent
       from_place place t inside come c = from_frame (get_or (comes m) place no_frame) t (Contains-get_or (comes m) place no_frame inside) come c
 
   -- the class of a queued frame is a stream's
@@ -146,7 +152,8 @@ module _ (laws : CycleLaws) (run : Run) (net : Network) (legal : IsLegalRun run 
   loads m cycle is_link =
       le_trans (le_of_eq (sum_map (wire_in d.cycle_time cycle) (λ (q : QueuedFrame). q.arrival) (comes m)))
       (le_trans (sum_le_members f (λ q. if is_of_stream q then f q else 0) (comes m) each)
-      (le_trans (le_of_eq (sym (sum_filter f is_of_stream (comes m)) ∙ ap (sum_by f) (streams m) ∙ sym (sum_map (wire_in d.cycle_time cycle) (λ (q : QueuedFrame). q.arrival) (waiting m))))
+      (le_trans (le_of_eq (sym (sum_filter f is_of_stream (comes m)) ∙ ap (sum_by f) (streams m)
+      ∙ sym (sum_map (wire_in d.cycle_time cycle) (λ (q : QueuedFrame). q.arrival) (waiting m))))
       (within_budget laws run carried planned fed m cycle is_link)))
     where
       f : QueuedFrame → ℕ
@@ -163,7 +170,8 @@ module _ (laws : CycleLaws) (run : Run) (net : Network) (legal : IsLegalRun run 
   come m = record { in_order = in_order; classes = classes }
     where
       kept : AllPairs (λ (a b : QueuedFrame). is_of_stream a ≡ true → is_of_stream b ≡ true → a.arrival.at.0 ≤ b.arrival.at.0) (comes m)
-      kept = pairs_of_kept (λ (a b : QueuedFrame). a.arrival.at.0 ≤ b.arrival.at.0) is_of_stream (comes m) (subst (λ z. AllPairs (λ (a b : QueuedFrame). a.arrival.at.0 ≤ b.arrival.at.0) z) (sym (streams m)) (queue_sorted laws run carried planned m))
+      kept = pairs_of_kept (λ (a b : QueuedFrame). a.arrival.at.0 ≤ b.arrival.at.0) is_of_stream (comes m)
+          (subst (λ z. AllPairs (λ (a b : QueuedFrame). a.arrival.at.0 ≤ b.arrival.at.0) z) (sym (streams m)) (queue_sorted laws run carried planned m))
 
       ordered : AllPairs (λ (a b : QueuedFrame). IsStreams a.arrival → IsStreams b.arrival → a.arrival.at.0 ≤ b.arrival.at.0) (comes m)
       ordered i j e less inside first second =
@@ -172,12 +180,13 @@ module _ (laws : CycleLaws) (run : Run) (net : Network) (legal : IsLegalRun run 
           (high_is_stream m (get_or (comes m) j e) (Contains-get_or (comes m) j e inside) second)
 
       in_order : AllPairs (λ (a b : Arrival). IsStreams a → IsStreams b → a.at.0 ≤ b.at.0) (arrivals_of (comes m))
-      in_order = pairs_map (λ (a b : Arrival). IsStreams a → IsStreams b → a.at.0 ≤ b.at.0) (λ (q : QueuedFrame). q.arrival) no_frame (comes m) ordered
+      in_order = pairs_map (λ (a b : Arrival). IsStreams a → IsStreams b → a.at.0 ≤ b.at.0) (λ (q : QueuedFrame). q.arrival) (comes m) ordered
 
       class_of_frame : (q : QueuedFrame) → Contains (comes m) q → 6 ≤ q.arrival.class → q.arrival.class ≡ given_class (q.arrival.at.0 / d.cycle_time)
       class_of_frame q c high = queue_class laws run carried planned m q (stream_waits m q c (high_is_stream m q c high))
 
-      classes : (place : ℕ) → place < length (arrivals_of (comes m)) → StreamsAt (arrivals_of (comes m)) place → class_of (arrivals_of (comes m)) place ≡ given_class (cycle_of_place d.cycle_time (arrivals_of (comes m)) place)
+      classes : (place : ℕ) → place < length (arrivals_of (comes m)) → StreamsAt (arrivals_of (comes m)) place →
+          class_of (arrivals_of (comes m)) place ≡ given_class (cycle_of_place d.cycle_time (arrivals_of (comes m)) place)
       classes place inside high =
           let in_list : place < length (comes m) = omega (arith, inside, length-map (comes m) (λ (q : QueuedFrame). q.arrival)) in
           let is = get_or-map (λ (q : QueuedFrame). q.arrival) (comes m) place no_frame no_arrival in_list in
@@ -198,7 +207,8 @@ module _ (laws : CycleLaws) (run : Run) (net : Network) (legal : IsLegalRun run 
   -- and each link sends of the streams what it may send of them alone
   sends_alone : (m : ℕ) → m < length d.links → SendsAlone d (end_of_run run) m (waiting m) (carried m)
   sends_alone m is_link =
-      let s = laws.alone d (length run.tables) m (comes m) (carried m) (net.backed m) (all_from_members IsToldByClass (comes m) (told m)) (within m is_link) (sends m is_link) in
+      let s = laws.alone d (length run.tables) m (comes m) (carried m) (net.backed m) (all_from_members IsToldByClass (comes m) (told m)) (within m is_link)
+      (sends m is_link) in
       let t = subst (λ z. Sends d (compiled_lists d m) (length run.tables * d.cycle_time) m z (carried m) []) (streams m) s in
       record { starts = t.starts; legal = t.legal; are_sent = t.are_sent }
 

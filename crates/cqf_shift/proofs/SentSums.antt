@@ -1,6 +1,7 @@
 -- What a link sends in a cycle, and what comes of it to the next bridge, counts no more than what was queued in the cycle before:
 -- so a stream's octets are within its reservation.
-use Rattle.std.proofs.Common.{◌≡◌, ℕ, ◌+◌, ◌<◌, ◌≤◌, [], List, Bool, true, false, inl, inr, sym, ap, ◌∙◌, subst, arith, refl, AllPairs, Contains, map, filter, sum_by, length, get_or, eq-eqb, eqb-true, ◌==◌, ◌&&◌, if◌then◌else◌, le_trans, le_of_eq, zero-add, nat_lt, ne_eqb}
+use Rattle.std.proofs.Common.{◌≡◌, ℕ, ◌+◌, ◌<◌, ◌≤◌, [], List, Bool, true, false, inl, inr, sym, ap, ◌∙◌, subst, arith, refl, AllPairs, Contains, map, filter}
+use Rattle.std.proofs.Common.{sum_by, length, get_or, eq-eqb, eqb-true, ◌==◌, ◌&&◌, if◌then◌else◌, le_trans, le_of_eq, zero-add, nat_lt, ne_eqb}
 use Rattle.std.specs.List.{enumerate_from}
 use Rattle.std.proofs.lemmas.Bool.{cases_Bool, cond-true, cond-false}
 use Rattle.std.proofs.lemmas.List.Elements.{Contains-get_or}
@@ -13,7 +14,8 @@ use Rattle.cqf_model.specs.Table.{table_of}
 use Rattle.cqf_model.specs.Port.{Transmission}
 use Rattle.cqf_lists.specs.Lists.{each_below}
 use Rattle.cqf_model.specs.Run.{Run}
-use Rattle.cqf_model.specs.Traffic.{Way, AtEdge, Relayed, Carried, Received, Policed, Verdict, is_offered_at, numbered, offer_received, offered_at, received_at, relayed_at, sent_received, whole_at}
+use Rattle.cqf_model.specs.Traffic.{Way, AtEdge, Relayed, Carried, Received, Policed, Verdict, is_offered_at, numbered, offer_received, offered_at, received_at}
+use Rattle.cqf_model.specs.Traffic.{relayed_at, sent_received, whole_at}
 use Rattle.cqf_model.specs.Network.{QueuedFrame, queued_frame, queued_by, no_frame}
 use Rattle.cqf_shift.specs.Alone.{IsRunAlone, SendsAlone, end_of_run}
 use Rattle.cqf_lists.proofs.Members.{contains_from_map}
@@ -29,7 +31,8 @@ use Rattle.cqf_shift.proofs.Runs.{number_of, sends, sent_at, sents_are, sent_tim
 placed_at : {X : Type 0} (xs : List X) (k : ℕ) (e : X) → k < length xs → Contains (enumerate_from 0 xs) (k, get_or xs k e)
 placed_at {X} xs k e inside =
     let numbered : k < length (enumerate_from 0 xs) = omega (arith, inside, length-enumerate_from 0 xs) in
-    subst (λ (z : ℕ × X). Contains (enumerate_from 0 xs) z) (get_or-enumerate_from 0 xs k (k, e) inside ∙ ap (λ (z : ℕ). (z, get_or xs k e)) (zero-add k)) (Contains-get_or (enumerate_from 0 xs) k (k, e) numbered)
+    subst (λ (z : ℕ × X). Contains (enumerate_from 0 xs) z) (get_or-enumerate_from 0 xs k (k, e) inside ∙ ap (λ (z : ℕ). (z, get_or xs k e)) (zero-add k))
+    (Contains-get_or (enumerate_from 0 xs) k (k, e) numbered)
 
 -- how much a frame counts, by its number, its stream's number and its octets
 abbrev pub Weight : Type 0
@@ -58,12 +61,14 @@ module _ (laws : CycleLaws) (run : Run) (carried : Carried) (alone : IsRunAlone 
   arriving_counts cycle x = if cycle_of run.domain x.at == cycle then by_link m (λ stream. w x.frame stream x.octets) x.way else 0
 
   -- no frame starts twice
-  starts_apart : (place : ℕ) → AllPairs (λ (a b : Transmission). (a.0 == place) ≡ true → (b.0 == place) ≡ true → ⊥) (sends laws run carried alone m is_link).starts
+  starts_apart : (place : ℕ) → AllPairs (λ (a b : Transmission). (a.0 == place) ≡ true → (b.0 == place) ≡ true → ⊥)
+      (sends laws run carried alone m is_link).starts
   starts_apart place i j e l inside first second =
       let s = sends laws run carried alone m is_link in
       let a = get_or s.starts i e in
       let b = get_or s.starts j e in
-      let ca : Contains s.starts (place, a.1) = subst (λ z. Contains s.starts (z, a.1)) (eqb-true a.0 place first) (Contains-get_or s.starts i e (omega (arith, l, inside))) in
+      let ca : Contains s.starts (place, a.1) =
+      subst (λ z. Contains s.starts (z, a.1)) (eqb-true a.0 place first) (Contains-get_or s.starts i e (omega (arith, l, inside))) in
       let cb : Contains s.starts (place, b.1) = subst (λ z. Contains s.starts (z, b.1)) (eqb-true b.0 place second) (Contains-get_or s.starts j e inside) in
       omega (arith, s.legal.once place a.1 b.1 ca cb, s.legal.in_order i j e l inside)
 
@@ -72,7 +77,8 @@ module _ (laws : CycleLaws) (run : Run) (carried : Carried) (alone : IsRunAlone 
   sent_was_queued cycle =
       subst (λ z. z ≤ sum_by (queued_counts cycle) q) (sym whole)
       (subst (λ z. sum_by f s.starts ≤ z) (sum_places (queued_counts cycle) 0 q)
-      (sum_matched f (λ (y : ℕ × QueuedFrame). queued_counts cycle y.1) (λ (x : Transmission) (y : ℕ × QueuedFrame). x.0 == y.0) s.starts (enumerate_from 0 q) has (λ y. starts_apart y.0)))
+      (sum_matched f (λ (y : ℕ × QueuedFrame). queued_counts cycle y.1) (λ (x : Transmission) (y : ℕ × QueuedFrame). x.0 == y.0) s.starts
+      (enumerate_from 0 q) has (λ y. starts_apart y.0)))
     where
       s : SendsAlone run.domain (end_of_run run) m (queued run carried (end_of_run run) m) (carried m)
       s = sends laws run carried alone m is_link
@@ -94,15 +100,18 @@ module _ (laws : CycleLaws) (run : Run) (carried : Carried) (alone : IsRunAlone 
           elim (cases_Bool (cycle_of run.domain start.1 == cycle + 1)) [
             | inl now_on ↦
                 let in_cycle : cycle_of run.domain x.arrival.at.0 ≡ cycle = omega (arith, t, eqb-true (cycle_of run.domain start.1) (cycle + 1) now_on) in
-                le_of_eq (cond-true (cycle_of run.domain start.1 == cycle + 1) value 0 now_on ∙ sym (cond-true (cycle_of run.domain x.arrival.at.0 == cycle) value 0 (eq-eqb (cycle_of run.domain x.arrival.at.0) cycle in_cycle)))
+                le_of_eq (cond-true (cycle_of run.domain start.1 == cycle + 1) value 0 now_on
+                ∙ sym (cond-true (cycle_of run.domain x.arrival.at.0 == cycle) value 0 (eq-eqb (cycle_of run.domain x.arrival.at.0) cycle in_cycle)))
             | inr none ↦ omega (arith, cond-false (cycle_of run.domain start.1 == cycle + 1) value 0 none)
           ]
 
-      has : (start : Transmission) → Contains s.starts start → f start ≤ sum_by (λ (y : ℕ × QueuedFrame). if start.0 == y.0 then queued_counts cycle y.1 else 0) (enumerate_from 0 q)
+      has : (start : Transmission) → Contains s.starts start →
+          f start ≤ sum_by (λ (y : ℕ × QueuedFrame). if start.0 == y.0 then queued_counts cycle y.1 else 0) (enumerate_from 0 q)
       has start c =
           let place = start.0 in
           let inside = start_in_queue laws run carried alone m is_link place start.1 c in
-          let own = sum_member (λ (y : ℕ × QueuedFrame). if place == y.0 then queued_counts cycle y.1 else 0) (enumerate_from 0 q) (place, get_or q place no_frame) (placed_at q place no_frame inside) in
+          let own = sum_member (λ (y : ℕ × QueuedFrame). if place == y.0 then queued_counts cycle y.1 else 0) (enumerate_from 0 q)
+          (place, get_or q place no_frame) (placed_at q place no_frame inside) in
           omega (arith, term start c, own, cond-true (place == place) (queued_counts cycle (get_or q place no_frame)) 0 (eq-eqb place place refl))
 
   -- what comes by the link to a bridge in a cycle is what the link sends
@@ -141,22 +150,33 @@ module _ (laws : CycleLaws) (run : Run) (carried : Carried) (alone : IsRunAlone 
           let r = contains_from_map offer_received (filter (is_offered_at bridge t) (numbered run.offers)) x c in
           ap f (sym r.2) ∙ nothing r.0.offer.at.0)
 
-      sent_there : (t k : ℕ) → sum_by f (relayed_at run.domain carried bridge t k) ≤ sum_by (λ (s : Sent). f (sent_received run.domain k s)) (filter (λ (s : Sent). whole_at run.domain k s == t) (carried k))
+      sent_there : (t k : ℕ) → sum_by f (relayed_at run.domain carried bridge t k) ≤ sum_by (λ (s : Sent). f (sent_received run.domain k s))
+          (filter (λ (s : Sent). whole_at run.domain k s == t) (carried k))
       sent_there t k = elim (cases_Bool (enters run.domain k bridge)) [
-        | inl y ↦ le_of_eq (ap (sum_by f) (cond-true (enters run.domain k bridge) (map (sent_received run.domain k) (filter (λ s. whole_at run.domain k s == t) (carried k))) [] y) ∙ sum_map f (sent_received run.domain k) (filter (λ (s : Sent). whole_at run.domain k s == t) (carried k)))
-        | inr u ↦ omega (arith, ap (sum_by f) (cond-false (enters run.domain k bridge) (map (sent_received run.domain k) (filter (λ s. whole_at run.domain k s == t) (carried k))) [] u))
+        | inl y ↦ le_of_eq (ap (sum_by f)
+            (cond-true (enters run.domain k bridge) (map (sent_received run.domain k) (filter (λ s. whole_at run.domain k s == t) (carried k))) [] y)
+            ∙ sum_map f (sent_received run.domain k) (filter (λ (s : Sent). whole_at run.domain k s == t) (carried k)))
+        | inr u ↦ omega (
+          arith,
+          ap (sum_by f)
+              (cond-false (enters run.domain k bridge) (map (sent_received run.domain k) (filter (λ s. whole_at run.domain k s == t) (carried k))) [] u),
+        )
       ]
 
       other_link : (t k : ℕ) → (k ≡ m → ⊥) → sum_by f (relayed_at run.domain carried bridge t k) ≡ 0
       other_link t k differ =
-          let none : sum_by (λ (s : Sent). f (sent_received run.domain k s)) (filter (λ (s : Sent). whole_at run.domain k s == t) (carried k)) ≡ 0 = sum_none (λ (s : Sent). f (sent_received run.domain k s)) (filter (λ (s : Sent). whole_at run.domain k s == t) (carried k)) (λ s c.
-          ap (λ z. if cycle_of run.domain (whole_at run.domain k s) == cycle then z else 0) (cond-false (k == m) (w s.frame s.stream s.octets) 0 (ne_eqb k m differ)) ∙ nothing (whole_at run.domain k s)) in
+          let none : sum_by (λ (s : Sent). f (sent_received run.domain k s)) (filter (λ (s : Sent). whole_at run.domain k s == t) (carried k)) ≡ 0 =
+          sum_none (λ (s : Sent). f (sent_received run.domain k s)) (filter (λ (s : Sent). whole_at run.domain k s == t) (carried k)) (λ s c.
+          ap (λ z. if cycle_of run.domain (whole_at run.domain k s) == cycle then z else 0)
+          (cond-false (k == m) (w s.frame s.stream s.octets) 0 (ne_eqb k m differ)) ∙ nothing (whole_at run.domain k s)) in
           omega (arith, sent_there t k, none)
 
       own_link : (t : ℕ) → sum_by f (relayed_at run.domain carried bridge t m) ≤ sum_by g (filter (λ (s : Sent). whole_at run.domain m s == t) (carried m))
       own_link t =
-          le_trans (sent_there t m) (sum_le_members (λ (s : Sent). f (sent_received run.domain m s)) g (filter (λ (s : Sent). whole_at run.domain m s == t) (carried m)) (λ s c.
-          le_of_eq (ap (λ z. if cycle_of run.domain (whole_at run.domain m s) == cycle then z else 0) (cond-true (m == m) (w s.frame s.stream s.octets) 0 (eq-eqb m m refl)))))
+          le_trans (sent_there t m) (sum_le_members (λ (s : Sent). f (sent_received run.domain m s)) g
+          (filter (λ (s : Sent). whole_at run.domain m s == t) (carried m)) (λ s c.
+          le_of_eq (ap (λ z. if cycle_of run.domain (whole_at run.domain m s) == cycle then z else 0)
+          (cond-true (m == m) (w s.frame s.stream s.octets) 0 (eq-eqb m m refl)))))
 
       at_instant : (t : ℕ) → sum_by f (received_at run carried bridge t) ≤ sum_by g (filter (λ (s : Sent). whole_at run.domain m s == t) (carried m))
       at_instant t =
@@ -166,11 +186,15 @@ module _ (laws : CycleLaws) (run : Run) (carried : Carried) (alone : IsRunAlone 
 
 module _ (laws : CycleLaws) (run : Run) (carried : Carried) (alone : IsRunAlone run carried) (m : ℕ) (is_link : m < length run.domain.links) where
   -- what is queued of a stream is what its gate let pass
-  queued_was_taken : (number cycle : ℕ) → sum_by (queued_counts laws run carried alone m is_link (of_stream number) cycle) (queued run carried (end_of_run run) m) ≤ sum_by (taken run.domain number cycle) (policed run carried (end_of_run run) (bridge_of run.domain m))
+  queued_was_taken : (number cycle : ℕ) →
+      sum_by (queued_counts laws run carried alone m is_link (of_stream number) cycle) (queued run carried (end_of_run run) m) ≤ sum_by
+      (taken run.domain number cycle) (policed run carried (end_of_run run) (bridge_of run.domain m))
   queued_was_taken number cycle =
       let b = bridge_of run.domain m in
-      subst (λ z. z ≤ sum_by (taken run.domain number cycle) (policed run carried (end_of_run run) b)) (sym (sum_flat f (λ (p : Policed). queued_by run.domain m p.received p.verdict) (policed run carried (end_of_run run) b)))
-      (sum_le_members (λ (p : Policed). sum_by f (queued_by run.domain m p.received p.verdict)) (taken run.domain number cycle) (policed run carried (end_of_run run) b) (λ p c. one p.received p.verdict))
+      subst (λ z. z ≤ sum_by (taken run.domain number cycle) (policed run carried (end_of_run run) b))
+      (sym (sum_flat f (λ (p : Policed). queued_by run.domain m p.received p.verdict) (policed run carried (end_of_run run) b)))
+      (sum_le_members (λ (p : Policed). sum_by f (queued_by run.domain m p.received p.verdict)) (taken run.domain number cycle)
+      (policed run carried (end_of_run run) b) (λ p c. one p.received p.verdict))
     where
       f : QueuedFrame → ℕ
       f = queued_counts laws run carried alone m is_link (of_stream number) cycle
@@ -190,5 +214,11 @@ module _ (laws : CycleLaws) (run : Run) (carried : Carried) (alone : IsRunAlone 
       ]
 
   -- so what the link sends of a stream in a cycle is within its reservation
-  pub sent_within : (cycle : ℕ) (row : Row) → Contains (table_of run.tables cycle) row → sum_by (sent_counts laws run carried alone m is_link (of_stream row.no) (cycle + 1)) (carried m) ≤ row.octets
-  sent_within cycle row c = omega (arith, sent_was_queued laws run carried alone m is_link (of_stream row.no) cycle, queued_was_taken row.no cycle, (facts laws run carried alone.planned (bridge_of run.domain m)).reserved cycle row c)
+  pub sent_within : (cycle : ℕ) (row : Row) → Contains (table_of run.tables cycle) row →
+      sum_by (sent_counts laws run carried alone m is_link (of_stream row.no) (cycle + 1)) (carried m) ≤ row.octets
+  sent_within cycle row c = omega (
+    arith,
+    sent_was_queued laws run carried alone m is_link (of_stream row.no) cycle,
+    queued_was_taken row.no cycle,
+    (facts laws run carried alone.planned (bridge_of run.domain m)).reserved cycle row c,
+  )

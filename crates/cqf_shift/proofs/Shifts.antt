@@ -1,7 +1,9 @@
 -- The starts of a legal run are the shift, and its drops are what isn't covered.
-use Rattle.std.proofs.Common.{◌≡◌, ℕ, ◌+◌, ◌-◌, ◌<◌, ◌∷◌, [], ◌++◌, List, inl, inr, sym, ap, ◌∙◌, subst, arith, refl, Contains, filter, flat_map, length, eq-eqb, eqb-true, ◌==◌}
+use Rattle.std.proofs.Common.{◌≡◌, ℕ, ◌+◌, ◌-◌, ◌<◌, ◌∷◌, [], ◌++◌, List, inl, inr, sym, ap, ◌∙◌, subst, arith, refl, Contains, filter, flat_map, length}
+use Rattle.std.proofs.Common.{eq-eqb, eqb-true, ◌==◌}
 use Rattle.std.proofs.lemmas.Bool.{and_from, and_parts}
 use Rattle.std.proofs.lemmas.List.Elements.{All-contains}
+use Rattle.cqf_model.proofs.Policing.{inside_drops_none}
 use Rattle.cqf_model.specs.declared.frames.Dropped.{Dropped}
 use Rattle.cqf_model.specs.declared.frames.Offered.{Offered}
 use Rattle.cqf_model.specs.declared.frames.Reason.{Reason}
@@ -11,7 +13,8 @@ use Rattle.cqf_model.specs.Domain.{Domain, cycle_of, bridge_of}
 use Rattle.cqf_model.specs.Table.{row_of, table_of}
 use Rattle.cqf_lists.specs.Lists.{each_below}
 use Rattle.cqf_model.specs.Run.{IsOffer, Run}
-use Rattle.cqf_model.specs.Traffic.{Relayed, Carried, Received, Policed, Verdict, Queued, DroppedFor, LacksRow, ExceedsGate, offer_received, police_all, verdict_by, within_gate}
+use Rattle.cqf_model.specs.Traffic.{Relayed, Carried, Received, Policed, Verdict, Queued, DroppedFor, LacksRow, ExceedsGate, offer_received, police_all}
+use Rattle.cqf_model.specs.Traffic.{verdict_by, within_gate}
 use Rattle.cqf_model.specs.Network.{Network}
 use Rattle.cqf_model.specs.Shift.{InShift, IsUncovered, offer_cycle}
 use Rattle.cqf_model.specs.Book.{starts_in, started, batch, drops_of, drops_in, drop_by, is_of_place}
@@ -19,7 +22,8 @@ use Rattle.cqf_shift.specs.Alone.{IsPlanned, IsRunAlone, end_of_run}
 use Rattle.cqf_shift.specs.Books.{BookSaysTheShift, IsOfUncovered}
 use Rattle.cqf_shift.specs.Run.{RunBesideIsRunAlone}
 use Rattle.cqf_units.proofs.Cycles.{cycle_below}
-use Rattle.cqf_lists.proofs.Members.{contains_map, contains_from_map, contains_filter, contains_from_filter, contains_flat, contains_from_flat, contains_here, contains_cases, contains_none}
+use Rattle.cqf_lists.proofs.Members.{contains_map, contains_from_map, contains_filter, contains_from_filter, contains_flat, contains_from_flat, contains_here}
+use Rattle.cqf_lists.proofs.Members.{contains_cases, contains_none}
 use Rattle.cqf_lists.proofs.EachBelow.{contains_below, contains_from_below}
 use Rattle.cqf_shift.proofs.Came.{IsOfferedHere, IsRelayed, came, came_how, numbered_member, policed}
 use Rattle.cqf_shift.proofs.CycleLaws.{CycleLaws}
@@ -29,11 +33,11 @@ use Rattle.cqf_shift.proofs.Fed.{before_end, facts, some_time}
 use Rattle.cqf_shift.proofs.Policing.{has_come}
 use Rattle.cqf_shift.proofs.Runs.{queued_starts, sent_timed}
 use Rattle.cqf_shift.proofs.Trees.{hop_inside}
-use Rattle.cqf_shift.proofs.Verdicts.{inside_drops_none}
 use Rattle.cqf_shift.proofs.Ways.{comes_on, covered_tree, on_way}
 
 -- the drop of a verdict
-drop_of_verdict : (cycle bridge : ℕ) (x : Received) (v : Verdict) (y : Dropped) → Contains (drop_by cycle bridge x v) y → (reason : Reason) × (v ≡ DroppedFor reason) × (record { cycle = record { 0 = cycle }; bridge = bridge; frame = x.frame; octets = x.octets; reason = reason } ≡ y)
+drop_of_verdict : (cycle bridge : ℕ) (x : Received) (v : Verdict) (y : Dropped) → Contains (drop_by cycle bridge x v) y → (reason : Reason) ×
+    (v ≡ DroppedFor reason) × (record { cycle = record { 0 = cycle }; bridge = bridge; frame = x.frame; octets = x.octets; reason = reason } ≡ y)
 drop_of_verdict cycle bridge x (Queued row) y c = absurd (contains_none y c)
 drop_of_verdict cycle bridge x (DroppedFor reason) y c = (reason, refl, only_one c)
   where
@@ -47,7 +51,8 @@ drop_of_verdict cycle bridge x ExceedsGate y c = absurd (contains_none y c)
 
 module _ (laws : CycleLaws) (run : Run) (carried : Carried) (alone : IsRunAlone run carried) where
   -- what a link sends is in the shift
-  pub sent_in_shift : (link : ℕ) → link < length run.domain.links → (sent : Sent) → Contains (carried link) sent → InShift run (length run.tables) sent.frame link (cycle_of run.domain sent.start.0)
+  pub sent_in_shift : (link : ℕ) → link < length run.domain.links → (sent : Sent) → Contains (carried link) sent →
+      InShift run (length run.tables) sent.frame link (cycle_of run.domain sent.start.0)
   sent_in_shift link is_link sent c =
       let s = sent_timed laws run carried alone link is_link sent c in
       let way = on_way laws run carried alone (bridge_of run.domain link) s.0.p s.0.row link s.0.inside s.0.verdict s.0.goes in
@@ -76,16 +81,27 @@ module _ (laws : CycleLaws) (run : Run) (carried : Carried) (alone : IsRunAlone 
       let is_link = hop_inside run.domain s.row (covered_tree laws run carried alone s.x s.row s.covered) s.depth link s.is_hop in
       let q = comes_on laws run carried alone s.x s.row s.covered s.depth link s.is_hop (omega (arith, s.is_cycle, s.within_run)) in
       let sent = queued_starts laws run carried alone link is_link q.p q.late q.inside q.verdict q.goes (omega (arith, q.cycle, s.is_cycle, s.within_run)) in
-      record { is_link = is_link; sent = sent.0; inside = sent.1; is_frame = sent.2 ∙ q.frame ∙ sym s.is_frame; is_cycle = sent.5.cycle ∙ q.cycle ∙ sym s.is_cycle }
+      record {
+        is_link = is_link;
+        sent = sent.0;
+        inside = sent.1;
+        is_frame = sent.2 ∙ q.frame ∙ sym s.is_frame;
+        is_cycle = sent.5.cycle ∙ q.cycle
+            ∙ sym s.is_cycle;
+      }
 
 module _ (laws : CycleLaws) (run : Run) (carried : Carried) (planned : IsPlanned run) where
   -- what is dropped is an offer that isn't covered
-  pub dropped_uncovered : (bridge : ℕ) (p : Policed) (reason : Reason) → Contains (policed run carried (end_of_run run) bridge) p → p.verdict ≡ DroppedFor reason → (o : IsOfferedHere run carried (end_of_run run) bridge p.received) × IsUncovered run o.offered reason
+  pub dropped_uncovered : (bridge : ℕ) (p : Policed) (reason : Reason) → Contains (policed run carried (end_of_run run) bridge) p →
+      p.verdict ≡ DroppedFor reason → (o : IsOfferedHere run carried (end_of_run run) bridge p.received) × IsUncovered run o.offered reason
   dropped_uncovered bridge p reason c e =
-      elim (came_how run carried (end_of_run run) bridge p.received (has_come run.domain run.tables bridge (came run carried (end_of_run run) bridge) (policed run carried (end_of_run run) bridge) (facts laws run carried planned bridge) p c)) [
+      elim (came_how run carried (end_of_run run) bridge p.received
+      (has_come run.domain run.tables bridge (came run carried (end_of_run run) bridge) (policed run carried (end_of_run run) bridge)
+      (facts laws run carried planned bridge) p c)) [
         | inl r ↦ absurd (inside r)
         | inr o ↦
-            let verdict = offered_judged (gate_is_reservation laws.counts) run carried (end_of_run run) (some_time laws run carried planned) planned.orderly bridge p c o in
+            let verdict = offered_judged (gate_is_reservation laws.counts) run carried (end_of_run run)
+            (some_time laws run carried planned) planned.orderly bridge p c o in
             (o, judged_dropped run o.offered reason o.inside (sym verdict ∙ e))
       ]
     where
@@ -96,7 +112,8 @@ module _ (laws : CycleLaws) (run : Run) (carried : Carried) (planned : IsPlanned
           let cycle = cycle_of run.domain b.x.at in
           let way : b.x.way ≡ Relayed r.m r.sent.stream = ap (λ (z : Policed). z.received.way) (sym b.is) ∙ ap (λ (z : Received). z.way) (sym r.is) in
           inside_drops_none run.domain bridge r.m (λ k. within_gate run.domain earlier k b.x) (row_of (table_of run.tables cycle) r.sent.stream) reason
-          (sym (ap (verdict_by run.domain (table_of run.tables cycle) bridge cycle (λ k. within_gate run.domain earlier k b.x)) way) ∙ ap (λ (z : Policed). z.verdict) (sym b.is) ∙ e)
+          (sym (ap (verdict_by run.domain (table_of run.tables cycle) bridge cycle (λ k. within_gate run.domain earlier k b.x)) way)
+          ∙ ap (λ (z : Policed). z.verdict) (sym b.is) ∙ e)
 
   -- and what isn't covered is an offer that is dropped
   pub record IsDropped (x : Offered) (reason : Reason) : Type 0 where
@@ -109,11 +126,13 @@ module _ (laws : CycleLaws) (run : Run) (carried : Carried) (planned : IsPlanned
   -- each offer of the run that isn't covered is dropped at its bridge
   pub uncovered_dropped : (x : Offered) (reason : Reason) → IsUncovered run x reason → offer_cycle run.domain x < length run.tables → IsDropped x reason
   uncovered_dropped x reason uncovered in_run =
-      let there = offer_policed (gate_is_reservation laws.counts) run carried (end_of_run run) (some_time laws run carried planned) planned.orderly x uncovered.offered (before_end laws run carried planned x.offer.at.0 in_run) in
+      let there = offer_policed (gate_is_reservation laws.counts) run carried (end_of_run run)
+      (some_time laws run carried planned) planned.orderly x uncovered.offered (before_end laws run carried planned x.offer.at.0 in_run) in
       let placed = numbered_member run.offers x uncovered.offered in
       let good = All-contains (IsOffer run.domain) run.offers x.offer planned.offered placed.0 in
       record {
-        inside = subst (λ z. Contains (policed run carried (end_of_run run) x.offer.bridge) (record { received = offer_received x; verdict = z })) (uncovered_judged run x reason uncovered) there;
+        inside = subst (λ z. Contains (policed run carried (end_of_run run) x.offer.bridge) (record { received = offer_received x; verdict = z }))
+            (uncovered_judged run x reason uncovered) there;
         is_bridge = good.at_bridge;
         place = x.frame - 1;
         is_place = omega (arith, placed.1, placed.2);
@@ -122,7 +141,8 @@ module _ (laws : CycleLaws) (run : Run) (carried : Carried) (planned : IsPlanned
 
 -- the book of the run
 pub book_says_the_shift : CycleLaws → RunBesideIsRunAlone → BookSaysTheShift
-book_says_the_shift laws beside run book accepted orderly offered background is_book = record { only = only; each = each; only_drops = only_drops; each_drop = each_drop }
+book_says_the_shift laws beside run book accepted orderly offered background is_book =
+    record { only = only; each = each; only_drops = only_drops; each_drop = each_drop }
   where
     net : Network
     net = is_book.net
@@ -152,13 +172,16 @@ book_says_the_shift laws beside run book accepted orderly offered background is_
         subst (λ (z : Started). InShift run (length run.tables) z.frame z.link z.cycle.0) sent.2
         (subst (λ z. InShift run (length run.tables) sent.0.frame by_link.0 z) (eqb-true (cycle_of d sent.0.start.0) by_cycle.0 kept.1) shift)
 
-    each : (frame link cycle : ℕ) → InShift run (length run.tables) frame link cycle → (s : Started) × Contains book.starts s × (s.frame ≡ frame) × (s.link ≡ link) × (s.cycle.0 ≡ cycle)
+    each : (frame link cycle : ℕ) → InShift run (length run.tables) frame link cycle → (s : Started) × Contains book.starts s × (s.frame ≡ frame) ×
+        (s.link ≡ link) × (s.cycle.0 ≡ cycle)
     each frame link cycle shift =
         let r = shift_is_sent laws run carried alone frame link cycle shift in
-        let kept = contains_filter (λ (z : Sent). cycle_of d z.start.0 == cycle) (carried link) r.sent r.inside (eq-eqb (cycle_of d r.sent.start.0) cycle r.is_cycle) in
+        let kept = contains_filter (λ (z : Sent). cycle_of d z.start.0 == cycle) (carried link) r.sent r.inside
+        (eq-eqb (cycle_of d r.sent.start.0) cycle r.is_cycle) in
         let mapped = contains_map (started cycle link) (batch d carried link cycle) r.sent kept in
         let s = started cycle link r.sent in
-        let here = contains_below in_cycle (length run.tables) cycle s shift.within_run (contains_below (starts_in d carried cycle) (length d.links) link s r.is_link mapped) in
+        let here = contains_below in_cycle (length run.tables) cycle s shift.within_run
+        (contains_below (starts_in d carried cycle) (length d.links) link s r.is_link mapped) in
         (s, subst (λ z. Contains z s) (sym is_book.are_starts) here, r.is_frame, refl, refl)
 
     of_place : ℕ → ℕ → ℕ → List Dropped
@@ -166,10 +189,12 @@ book_says_the_shift laws beside run book accepted orderly offered background is_
 
     only_drops : (x : Dropped) → Contains book.drops x → IsOfUncovered run x
     only_drops x c =
-        let by_cycle = contains_from_below (λ cycle. each_below (drops_in d (length run.offers) given cycle) (length d.bridges)) (length run.tables) x (subst (λ z. Contains z x) is_book.are_drops c) in
+        let by_cycle = contains_from_below (λ cycle. each_below (drops_in d (length run.offers) given cycle) (length d.bridges)) (length run.tables) x
+        (subst (λ z. Contains z x) is_book.are_drops c) in
         let by_bridge = contains_from_below (drops_in d (length run.offers) given by_cycle.0) (length d.bridges) x by_cycle.2 in
         let by_place = contains_from_below (of_place by_cycle.0 by_bridge.0) (length run.offers) x by_bridge.2 in
-        let p = contains_from_flat (λ (p : Policed). drop_by by_cycle.0 by_bridge.0 p.received p.verdict) (filter (is_of_place d by_cycle.0 by_place.0) (given by_bridge.0)) x by_place.2 in
+        let p = contains_from_flat (λ (p : Policed). drop_by by_cycle.0 by_bridge.0 p.received p.verdict)
+        (filter (is_of_place d by_cycle.0 by_place.0) (given by_bridge.0)) x by_place.2 in
         let kept = contains_from_filter (is_of_place d by_cycle.0 by_place.0) (given by_bridge.0) p.0 p.1 in
         let parts = and_parts (cycle_of d p.0.received.at == by_cycle.0) (p.0.received.frame == by_place.0 + 1) kept.1 in
         let drop = drop_of_verdict by_cycle.0 by_bridge.0 p.0.received p.0.verdict x p.2 in
@@ -191,11 +216,19 @@ book_says_the_shift laws beside run book accepted orderly offered background is_
         let in_run : cycle < length run.tables = omega (arith, u.cycle, u.within_run) in
         let r = uncovered_dropped laws run carried alone.planned u.x x.reason u.uncovered in_run in
         let p : Policed = record { received = offer_received u.x; verdict = DroppedFor x.reason } in
-        let passes = and_from (cycle_of d p.received.at == cycle) (p.received.frame == r.place + 1) (eq-eqb cycle cycle refl) (eq-eqb p.received.frame (r.place + 1) r.frame) in
+        let passes = and_from (cycle_of d p.received.at == cycle) (p.received.frame == r.place + 1) (eq-eqb cycle cycle refl)
+        (eq-eqb p.received.frame (r.place + 1) r.frame) in
         let kept = contains_filter (is_of_place d cycle r.place) (given bridge) p r.inside passes in
         let it : Dropped = record { cycle = record { 0 = cycle }; bridge = bridge; frame = u.x.frame; octets = u.x.offer.octets; reason = x.reason } in
-        let same : it ≡ x = λ i. record { cycle = record { 0 = sym u.cycle i }; bridge = sym u.bridge i; frame = sym u.frame i; octets = sym u.octets i; reason = x.reason } in
-        let here = contains_flat (λ (q : Policed). drop_by cycle bridge q.received q.verdict) (filter (is_of_place d cycle r.place) (given bridge)) p it kept (contains_here it []) in
+        let same : it ≡ x = λ i. record {
+          cycle = record { 0 = sym u.cycle i };
+          bridge = sym u.bridge i;
+          frame = sym u.frame i;
+          octets = sym u.octets i;
+          reason = x.reason;
+        } in
+        let here = contains_flat (λ (q : Policed). drop_by cycle bridge q.received q.verdict) (filter (is_of_place d cycle r.place) (given bridge)) p it kept
+        (contains_here it []) in
         let placed = contains_below (of_place cycle bridge) (length run.offers) r.place it r.is_place here in
         let bridged = contains_below (drops_in d (length run.offers) given cycle) (length d.bridges) bridge it r.is_bridge placed in
         let whole = contains_below (λ c. each_below (drops_in d (length run.offers) given c) (length d.bridges)) (length run.tables) cycle it in_run bridged in

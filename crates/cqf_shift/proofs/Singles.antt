@@ -1,5 +1,6 @@
 -- No frame is at one port twice.
-use Rattle.std.proofs.Common.{◌≡◌, ℕ, zero, suc, ◌+◌, ◌/◌, ◌<◌, ◌≤◌, ◌⊎◌, List, Some, None, inl, inr, sym, ap, ap₂, ◌∙◌, subst, arith, refl, Contains, sum_by, length, get_or, eq-eqb, eqb-true, ◌==◌, if◌then◌else◌, le_trans, zero-add}
+use Rattle.std.proofs.Common.{◌≡◌, ℕ, zero, suc, ◌+◌, ◌/◌, ◌<◌, ◌≤◌, ◌⊎◌, List, Some, None, inl, inr, sym, ap, ap₂, ◌∙◌, subst, arith, refl, Contains, sum_by}
+use Rattle.std.proofs.Common.{length, get_or, eq-eqb, eqb-true, ◌==◌, if◌then◌else◌, le_trans, zero-add}
 use Rattle.std.proofs.lemmas.Bool.{cases_Bool, cases_order, cond-true, cond-false}
 use Rattle.std.proofs.lemmas.Option.{same_Some}
 use Rattle.cqf_model.specs.declared.frames.Offered.{Offered}
@@ -33,7 +34,8 @@ counts_offer frame (AtEdge name) number e is = cond-true {A = ℕ} (number == fr
 counts_offer frame (Relayed m stream) number e is = absurd (cc)
 
 -- and a frame of this number that came by the link does
-counts_relayed : (frame m octets : ℕ) (way : Way) (number : ℕ) → came_by way ≡ Some m → number ≡ frame → by_link m (λ stream. of_frame frame number stream octets) way ≡ 1
+counts_relayed : (frame m octets : ℕ) (way : Way) (number : ℕ) → came_by way ≡ Some m → number ≡ frame →
+    by_link m (λ stream. of_frame frame number stream octets) way ≡ 1
 counts_relayed frame m octets (AtEdge name) number e is = absurd (cc)
 counts_relayed frame m octets (Relayed link stream) number e is =
     let same : link ≡ m = same_Some link m e in
@@ -61,7 +63,8 @@ module _ (laws : CycleLaws) (run : Run) (carried : Carried) (alone : IsRunAlone 
     pub way : came_by p.received.way ≡ came_by q.received.way
 
   -- so are they
-  alike : (bridge other m : ℕ) (p q : Policed) (row late : Row) → Contains (given bridge) p → Contains (given other) q → p.verdict ≡ Queued row → q.verdict ≡ Queued late → GoesBy row (came_by p.received.way) m → GoesBy late (came_by q.received.way) m →
+  alike : (bridge other m : ℕ) (p q : Policed) (row late : Row) → Contains (given bridge) p → Contains (given other) q → p.verdict ≡ Queued row →
+      q.verdict ≡ Queued late → GoesBy row (came_by p.received.way) m → GoesBy late (came_by q.received.way) m →
       p.received.frame ≡ q.received.frame → AreAlike p q row late
   alike bridge other m p q row late pc qc pv qv pg qg frames =
       let pw = on_way laws run carried alone bridge p row m pc pv pg in
@@ -71,16 +74,21 @@ module _ (laws : CycleLaws) (run : Run) (carried : Carried) (alone : IsRunAlone 
       let in_p = queued_member laws run carried alone bridge p row pc pv in
       let in_q = queued_member laws run carried alone other q late qc qv in
       let tree = (same_stream laws run carried alone (cycle_of d p.received.at) (cycle_of d q.received.at) row late in_p in_q number).tree in
-      let depths : pw.depth ≡ qw.depth = one_depth d pw.first_row (covered_tree laws run carried alone pw.x pw.first_row pw.covered) pw.depth qw.depth m pw.at_depth (subst (λ (z : Row). IsHop z qw.depth m) (sym one.1) qw.at_depth) in
+      let depths : pw.depth ≡ qw.depth =
+      one_depth d pw.first_row (covered_tree laws run carried alone pw.x pw.first_row pw.covered) pw.depth qw.depth m pw.at_depth
+      (subst (λ (z : Row). IsHop z qw.depth m) (sym one.1) qw.at_depth) in
       record {
         tree = tree;
         cycle = omega (arith, pw.cycle, qw.cycle, depths, ap (offer_cycle d) one.0);
-        way = one_way d row (alone.planned.orderly.trees (cycle_of d p.received.at) row in_p) (came_by p.received.way) (came_by q.received.way) m pg (same_goes late row (came_by q.received.way) m (sym tree) qg);
+        way = one_way d row (alone.planned.orderly.trees (cycle_of d p.received.at) row in_p) (came_by p.received.way) (came_by q.received.way) m pg
+            (same_goes late row (came_by q.received.way) m (sym tree) qg);
       }
 
   -- what one frame counts at a port
   abbrev port_counts : (m cycle frame : ℕ) → Policed → ℕ
-  port_counts m cycle frame p = sum_by (λ (q : QueuedFrame). if cycle_of d q.arrival.at.0 == cycle then of_frame frame q.arrival.frame (number_of q) q.arrival.octets else 0) (queued_by d m p.received p.verdict)
+  port_counts m cycle frame p =
+      sum_by (λ (q : QueuedFrame). if cycle_of d q.arrival.at.0 == cycle then of_frame frame q.arrival.frame (number_of q) q.arrival.octets else 0)
+      (queued_by d m p.received p.verdict)
 
   -- a frame that counts is queued to the port, of this number and cycle
   record Counts (m cycle frame : ℕ) (x : Received) (v : Verdict) : Type 0 where
@@ -92,7 +100,8 @@ module _ (laws : CycleLaws) (run : Run) (carried : Carried) (alone : IsRunAlone 
     one : port_counts m cycle frame (record { received = x; verdict = v }) ≡ 1
 
   -- it counts 0, or 1 for such a frame
-  port_value : (m cycle frame : ℕ) (x : Received) (v : Verdict) → (port_counts m cycle frame (record { received = x; verdict = v }) ≡ 0) ⊎ Counts m cycle frame x v
+  port_value : (m cycle frame : ℕ) (x : Received) (v : Verdict) →
+      (port_counts m cycle frame (record { received = x; verdict = v }) ≡ 0) ⊎ Counts m cycle frame x v
   port_value m cycle frame x v =
       let f = λ (q : QueuedFrame). if cycle_of d q.arrival.at.0 == cycle then of_frame frame q.arrival.frame (number_of q) q.arrival.octets else 0 in
       elim (one_or_none d m x v) [
@@ -116,16 +125,19 @@ module _ (laws : CycleLaws) (run : Run) (carried : Carried) (alone : IsRunAlone 
       ]
 
   -- at a port, in a cycle, beside one frame of a number
-  module _ (m cycle frame : ℕ) (p0 : Policed) (c0 : Contains (policed run carried (end_of_run run) (bridge_of run.domain m)) p0) (n0 : Counts m cycle frame p0.received p0.verdict) where
+  module _ (m cycle frame : ℕ) (p0 : Policed) (c0 : Contains (policed run carried (end_of_run run) (bridge_of run.domain m)) p0)
+      (n0 : Counts m cycle frame p0.received p0.verdict) where
     -- the bridge of the port
     abbrev b : ℕ
     b = bridge_of run.domain m
 
     -- what each counts is what it counts among those that came
-    by_received : (h : Received → ℕ) → ((p : Policed) → Contains (given b) p → port_counts m cycle frame p ≤ h p.received) → sum_by (port_counts m cycle frame) (given b) ≤ sum_by h (came run carried (end_of_run run) b)
+    by_received : (h : Received → ℕ) → ((p : Policed) → Contains (given b) p → port_counts m cycle frame p ≤ h p.received) →
+        sum_by (port_counts m cycle frame) (given b) ≤ sum_by h (came run carried (end_of_run run) b)
     by_received h each =
         subst (λ z. sum_by (port_counts m cycle frame) (given b) ≤ sum_by h z) (facts laws run carried alone.planned b).in_turn
-        (subst (λ z. sum_by (port_counts m cycle frame) (given b) ≤ z) (sym (sum_map h (λ (p : Policed). p.received) (given b))) (sum_le_members (port_counts m cycle frame) (λ p. h p.received) (given b) each))
+        (subst (λ z. sum_by (port_counts m cycle frame) (given b) ≤ z) (sym (sum_map h (λ (p : Policed). p.received) (given b)))
+        (sum_le_members (port_counts m cycle frame) (λ p. h p.received) (given b) each))
 
     -- another came as it did
     came_alike : (p : Policed) → Contains (given b) p → (n : Counts m cycle frame p.received p.verdict) → came_by p.received.way ≡ came_by p0.received.way
@@ -143,7 +155,8 @@ module _ (laws : CycleLaws) (run : Run) (carried : Carried) (alone : IsRunAlone 
 
     -- and by a link once, where it was once at the port before
     from_link : IsRelayed run carried (end_of_run run) b p0.received →
-        ((before from : ℕ) (l : from < length d.links) → cycle ≡ before + 1 → sum_by (queued_counts laws run carried alone from l (of_frame frame) before) (queued run carried (end_of_run run) from) ≤ 1) →
+        ((before from : ℕ) (l : from < length d.links) → cycle ≡ before + 1 →
+        sum_by (queued_counts laws run carried alone from l (of_frame frame) before) (queued run carried (end_of_run run) from) ≤ 1) →
         sum_by (port_counts m cycle frame) (given b) ≤ 1
     from_link r ih =
         let s = sent_timed laws run carried alone r.m r.is_link r.sent r.inside in
@@ -152,42 +165,51 @@ module _ (laws : CycleLaws) (run : Run) (carried : Carried) (alone : IsRunAlone 
         let arrivals = by_received (arriving_counts laws run carried alone r.m r.is_link (of_frame frame) cycle) each in
         let sent = arrives_within laws run carried alone r.m r.is_link (of_frame frame) b cycle in
         let was = le_trans (sent_was_queued laws run carried alone r.m r.is_link (of_frame frame) before) (ih before r.m r.is_link later) in
-        le_trans arrivals (le_trans sent (subst (λ z. sum_by (sent_counts laws run carried alone r.m r.is_link (of_frame frame) z) (carried r.m) ≤ 1) (sym later) was))
+        le_trans arrivals (le_trans sent
+        (subst (λ z. sum_by (sent_counts laws run carried alone r.m r.is_link (of_frame frame) z) (carried r.m) ≤ 1) (sym later) was))
       where
-        each : (p : Policed) → Contains (given b) p → port_counts m cycle frame p ≤ arriving_counts laws run carried alone r.m r.is_link (of_frame frame) cycle p.received
+        each : (p : Policed) → Contains (given b) p →
+            port_counts m cycle frame p ≤ arriving_counts laws run carried alone r.m r.is_link (of_frame frame) cycle p.received
         each p c = elim (port_value m cycle frame p.received p.verdict) [
           | inl z ↦ omega (arith, z)
           | inr n ↦
               let link : came_by p.received.way ≡ Some r.m = came_alike p c n ∙ ap (λ (z : Received). came_by z.way) (sym r.is) in
               let value : arriving_counts laws run carried alone r.m r.is_link (of_frame frame) cycle p.received ≡ 1 =
-              cond-true (cycle_of d p.received.at == cycle) (by_link r.m (λ stream. of_frame frame p.received.frame stream p.received.octets) p.received.way) 0 (eq-eqb (cycle_of d p.received.at) cycle n.in_cycle)
+              cond-true (cycle_of d p.received.at == cycle) (by_link r.m (λ stream. of_frame frame p.received.frame stream p.received.octets) p.received.way) 0
+              (eq-eqb (cycle_of d p.received.at) cycle n.in_cycle)
               ∙ counts_relayed frame r.m p.received.octets p.received.way p.received.frame link n.is_frame in
               omega (arith, n.one, value)
         ]
 
   -- so it is at a port once in a cycle, where it was once at each port in the cycle before
   single_step : (cycle m : ℕ) (is_link : m < length d.links) (frame : ℕ) →
-      ((before from : ℕ) (l : from < length d.links) → cycle ≡ before + 1 → sum_by (queued_counts laws run carried alone from l (of_frame frame) before) (queued run carried (end_of_run run) from) ≤ 1) →
+      ((before from : ℕ) (l : from < length d.links) → cycle ≡ before + 1 →
+      sum_by (queued_counts laws run carried alone from l (of_frame frame) before) (queued run carried (end_of_run run) from) ≤ 1) →
       sum_by (queued_counts laws run carried alone m is_link (of_frame frame) cycle) (queued run carried (end_of_run run) m) ≤ 1
   single_step cycle m is_link frame ih =
-      subst (λ z. z ≤ 1) (sym (sum_flat (queued_counts laws run carried alone m is_link (of_frame frame) cycle) (λ (p : Policed). queued_by d m p.received p.verdict) (given (bridge_of d m))))
+      subst (λ z. z ≤ 1) (sym (sum_flat (queued_counts laws run carried alone m is_link (of_frame frame) cycle)
+      (λ (p : Policed). queued_by d m p.received p.verdict) (given (bridge_of d m))))
       (elim (sum_some (port_counts m cycle frame) (given (bridge_of d m))) [
         | inl z ↦ omega (arith, z)
         | inr w ↦ elim (port_value m cycle frame w.0.received w.0.verdict) [
           | inl z ↦ absurd (omega (arith, z, w.2))
-          | inr n ↦ elim (came_how run carried (end_of_run run) (bridge_of d m) w.0.received (has_come d run.tables (bridge_of d m) (came run carried (end_of_run run) (bridge_of d m)) (given (bridge_of d m)) (facts laws run carried alone.planned (bridge_of d m)) w.0 w.1)) [
-            | inl r ↦ from_link m cycle frame w.0 w.1 n r ih
-            | inr o ↦ from_edge m cycle frame w.0 w.1 n (ap (λ (z : Received). came_by z.way) (sym o.is))
-          ]
+          | inr n ↦ elim (came_how run carried (end_of_run run) (bridge_of d m) w.0.received
+              (has_come d run.tables (bridge_of d m) (came run carried (end_of_run run) (bridge_of d m)) (given (bridge_of d m))
+              (facts laws run carried alone.planned (bridge_of d m)) w.0 w.1)) [
+                | inl r ↦ from_link m cycle frame w.0 w.1 n r ih
+                | inr o ↦ from_edge m cycle frame w.0 w.1 n (ap (λ (z : Received). came_by z.way) (sym o.is))
+              ]
         ]
       ])
 
   -- so it is at each port once in a cycle
-  single : (cycle m : ℕ) (is_link : m < length d.links) (frame : ℕ) → sum_by (queued_counts laws run carried alone m is_link (of_frame frame) cycle) (queued run carried (end_of_run run) m) ≤ 1
+  single : (cycle m : ℕ) (is_link : m < length d.links) (frame : ℕ) →
+      sum_by (queued_counts laws run carried alone m is_link (of_frame frame) cycle) (queued run carried (end_of_run run) m) ≤ 1
   single zero m is_link frame = single_step zero m is_link frame (λ before from l e. absurd (omega (arith, e)))
   single (suc cycle) m is_link frame = single_step (suc cycle) m is_link frame (λ before from l e.
       let same : cycle ≡ before = omega (arith, e) in
-      subst (λ z. sum_by (queued_counts laws run carried alone from l (of_frame frame) z) (queued run carried (end_of_run run) from) ≤ 1) same (single cycle from l frame))
+      subst (λ z. sum_by (queued_counts laws run carried alone from l (of_frame frame) z) (queued run carried (end_of_run run) from) ≤ 1) same
+      (single cycle from l frame))
 
   -- what a link sends of one number it sends once
   pub sent_once : (m : ℕ) (is_link : m < length run.domain.links) (a b : Sent) → Contains (carried m) a → Contains (carried m) b → a.frame ≡ b.frame → a ≡ b
@@ -195,7 +217,8 @@ module _ (laws : CycleLaws) (run : Run) (carried : Carried) (alone : IsRunAlone 
       let bridge = bridge_of d m in
       let sa = sent_for laws run carried alone m is_link a ca in
       let sb = sent_for laws run carried alone m is_link b cb in
-      let same = alike bridge bridge m sa.0.p sb.0.p sa.0.row sb.0.row sa.0.inside sb.0.inside sa.0.verdict sb.0.verdict sa.0.goes sb.0.goes (sym sa.0.frame ∙ frames ∙ sb.0.frame) in
+      let same = alike bridge bridge m sa.0.p sb.0.p sa.0.row sb.0.row sa.0.inside sb.0.inside sa.0.verdict sb.0.verdict sa.0.goes sb.0.goes
+      (sym sa.0.frame ∙ frames ∙ sb.0.frame) in
       let cycle = cycle_of d sa.0.p.received.at in
       let f = queued_counts laws run carried alone m is_link (of_frame a.frame) cycle in
       let limit = single cycle m is_link a.frame in
@@ -205,14 +228,31 @@ module _ (laws : CycleLaws) (run : Run) (carried : Carried) (alone : IsRunAlone 
       let at_b : f (get_or (queued run carried (end_of_run run) m) sb.0.place no_frame) ≡ 1 = ap f (sym sb.0.at_place) ∙ one_b in
       elim (cases_order sa.0.place sb.0.place) [
         | inl places ↦
-            let start = (sends laws run carried alone m is_link).legal.once sb.0.place a.start.0 b.start.0 (subst (λ z. Contains (sends laws run carried alone m is_link).starts (z, a.start.0)) places sa.1) sb.1 in
+            let start = (sends laws run carried alone m is_link).legal.once sb.0.place a.start.0 b.start.0
+            (subst (λ z. Contains (sends laws run carried alone m is_link).starts (z, a.start.0)) places sa.1) sb.1 in
             sym sa.0.is ∙ ap₂ (λ p s. sent_at (queued run carried (end_of_run run) m) (p, s)) places start ∙ sb.0.is
         | inr o ↦ elim o [
-          | inl less ↦ absurd (omega (arith, limit, at_a, at_b, sum_two f (queued run carried (end_of_run run) m) sa.0.place sb.0.place no_frame less sb.0.in_queue))
-          | inr more ↦ absurd (omega (arith, limit, at_a, at_b, sum_two f (queued run carried (end_of_run run) m) sb.0.place sa.0.place no_frame more sa.0.in_queue))
+          | inl less ↦ absurd (omega (
+            arith,
+            limit,
+            at_a,
+            at_b,
+            sum_two f
+                (queued run carried (end_of_run run) m) sa.0.place sb.0.place no_frame less sb.0.in_queue,
+          ))
+          | inr more ↦ absurd (omega (
+            arith,
+            limit,
+            at_a,
+            at_b,
+            sum_two f
+                (queued run carried (end_of_run run) m) sb.0.place sa.0.place no_frame more sa.0.in_queue,
+          ))
         ]
       ]
     where
-      counts_one : (cycle frame : ℕ) (x : Received) (row : Row) → cycle_of d x.at ≡ cycle → x.frame ≡ frame → (if cycle_of d x.at == cycle then (if x.frame == frame then 1 else 0) else 0) ≡ suc zero
+      counts_one : (cycle frame : ℕ) (x : Received) (row : Row) → cycle_of d x.at ≡ cycle → x.frame ≡ frame →
+          (if cycle_of d x.at == cycle then (if x.frame == frame then 1 else 0) else 0) ≡ suc zero
       counts_one cycle frame x row in_cycle is =
-          cond-true (cycle_of d x.at == cycle) (if x.frame == frame then 1 else 0) 0 (eq-eqb (cycle_of d x.at) cycle in_cycle) ∙ cond-true (x.frame == frame) 1 0 (eq-eqb x.frame frame is)
+          cond-true (cycle_of d x.at == cycle) (if x.frame == frame then 1 else 0) 0 (eq-eqb (cycle_of d x.at) cycle in_cycle)
+          ∙ cond-true (x.frame == frame) 1 0 (eq-eqb x.frame frame is)

@@ -1,9 +1,11 @@
 -- Links along a tree: which follows which, and how deep each stands.
-use Rattle.std.proofs.Common.{◌≡◌, ℕ, zero, suc, ◌+◌, ◌<◌, ◌≤◌, ◌∷◌, [], List, true, false, Option, Some, None, option_map, inl, inr, sym, ap, ◌∙◌, subst, arith, refl, max, fold, filter, take, slice_get, length, eq-eqb, eqb-true, ◌==◌, Contains}
+use Rattle.std.proofs.Common.{◌≡◌, ℕ, zero, suc, ◌+◌, ◌<◌, ◌≤◌, ◌∷◌, [], List, true, false, Option, Some, None, option_map, inl, inr, sym, ap, ◌∙◌, subst}
+use Rattle.std.proofs.Common.{arith, refl, max, fold, filter, take, slice_get, length, eq-eqb, eqb-true, ◌==◌, Contains}
 use Rattle.std.specs.Option.{option_map_or}
 use Rattle.std.proofs.lemmas.Bool.{false≢true}
 use Rattle.std.proofs.lemmas.List.Elements.{All-contains}
 use Rattle.std.proofs.lemmas.Option.{slice_get_read}
+use Rattle.cqf_model.proofs.Links.{same_way_true}
 use Rattle.cqf_model.specs.declared.topology.Hop.{Hop}
 use Rattle.cqf_model.specs.declared.topology.Link.{Link}
 use Rattle.cqf_model.specs.declared.topology.Node.{Node}
@@ -11,7 +13,8 @@ use Rattle.cqf_model.specs.declared.topology.Node.TheVariants.{Bridge, Station}
 use Rattle.cqf_model.specs.declared.topology.Row.{Row}
 use Rattle.cqf_model.specs.Domain.{Domain, bridge_of, end_of, enters, joins, leaves, node_is}
 use Rattle.cqf_model.specs.Table.{Follows, IsHop, IsTree, crosses, goes_on, goes_to, residence, same_way}
-use Rattle.cqf_lists.proofs.Members.{any_member, member_any, contains_map, contains_from_map, contains_filter, contains_from_filter, contains_here, contains_later, contains_cases, contains_none}
+use Rattle.cqf_lists.proofs.Members.{any_member, member_any, contains_map, contains_from_map, contains_filter, contains_from_filter, contains_here}
+use Rattle.cqf_lists.proofs.Members.{contains_later, contains_cases, contains_none}
 use Rattle.cqf_lists.proofs.Pairs.{one_of_pairs}
 
 -- a link leaves one bridge
@@ -30,7 +33,8 @@ enters_one d m one two = go (slice_get d.links m)
     node (Bridge b) first second = sym (eqb-true b one first) ∙ eqb-true b two second
     node (Station s) first second = absurd (cc)
 
-    go : (o : Option Link) → option_map_or (λ (link : Link). node_is link.to one) o false ≡ true → option_map_or (λ (link : Link). node_is link.to two) o false ≡ true → one ≡ two
+    go : (o : Option Link) → option_map_or (λ (link : Link). node_is link.to one) o false ≡ true →
+        option_map_or (λ (link : Link). node_is link.to two) o false ≡ true → one ≡ two
     go None first second = absurd (cc)
     go (Some link) first second = node link.to first second
 
@@ -42,7 +46,8 @@ enters_end d m bridge = go (slice_get d.links m)
     node (Bridge b) e = ap Bridge (eqb-true b bridge e)
     node (Station s) e = absurd (cc)
 
-    go : (o : Option Link) → option_map_or (λ (link : Link). node_is link.to bridge) o false ≡ true → option_map (λ (link : Link). link.to) o ≡ Some (Bridge bridge)
+    go : (o : Option Link) → option_map_or (λ (link : Link). node_is link.to bridge) o false ≡ true →
+        option_map (λ (link : Link). link.to) o ≡ Some (Bridge bridge)
     go None e = absurd (cc)
     go (Some link) e = ap Some (node link.to e)
 
@@ -50,7 +55,8 @@ enters_end d m bridge = go (slice_get d.links m)
 pub joined_leaves : (d : Domain) (m l bridge : ℕ) → joins d m l ≡ true → enters d m bridge ≡ true → leaves d l bridge ≡ true
 joined_leaves d m l bridge joined here = go (slice_get d.links l) joined
   where
-    go : (o : Option Link) → option_map_or (λ (link : Link). enters d m link.from) o false ≡ true → option_map_or (λ (link : Link). link.from == bridge) o false ≡ true
+    go : (o : Option Link) → option_map_or (λ (link : Link). enters d m link.from) o false ≡ true →
+        option_map_or (λ (link : Link). link.from == bridge) o false ≡ true
     go None e = absurd (cc)
     go (Some link) e = eq-eqb link.from bridge (enters_one d m link.from bridge e here)
 
@@ -58,16 +64,10 @@ joined_leaves d m l bridge joined here = go (slice_get d.links l) joined
 pub joined_enters : (d : Domain) (m l : ℕ) → joins d m l ≡ true → enters d m (bridge_of d l) ≡ true
 joined_enters d m l joined = go (slice_get d.links l) joined
   where
-    go : (o : Option Link) → option_map_or (λ (link : Link). enters d m link.from) o false ≡ true → enters d m (option_map_or (λ (link : Link). link.from) o 0) ≡ true
+    go : (o : Option Link) → option_map_or (λ (link : Link). enters d m link.from) o false ≡ true →
+        enters d m (option_map_or (λ (link : Link). link.from) o 0) ≡ true
     go None e = absurd (cc)
     go (Some link) e = e
-
--- the test of the way in
-same_way_true : (a b : Option ℕ) → same_way a b ≡ true → a ≡ b
-same_way_true None None e = refl
-same_way_true None (Some m) e = absurd (cc)
-same_way_true (Some l) None e = absurd (cc)
-same_way_true (Some l) (Some m) e = ap Some (eqb-true l m e)
 
 -- and the other way round
 true_same_way : (a b : Option ℕ) → a ≡ b → same_way a b ≡ true
@@ -116,10 +116,12 @@ goes_by row way l c =
 pub by_goes : (row : Row) (way : Option ℕ) (l : ℕ) → GoesBy row way l → Contains (goes_to row way) l
 by_goes row way l by =
     let kept = contains_filter (λ (hop : Hop). same_way hop.from way) row.tree.items by.hop by.of_tree (true_same_way by.hop.from way by.from) in
-    subst (λ z. Contains (goes_to row way) z) by.is_link (contains_map (λ (hop : Hop). hop.link) (filter (λ (hop : Hop). same_way hop.from way) row.tree.items) by.hop kept)
+    subst (λ z. Contains (goes_to row way) z) by.is_link
+    (contains_map (λ (hop : Hop). hop.link) (filter (λ (hop : Hop). same_way hop.from way) row.tree.items) by.hop kept)
 
 -- it goes on from a bridge by a link that leaves it
-pub goes_on_by : (d : Domain) (row : Row) (way : Option ℕ) (bridge : ℕ) → goes_on d row way bridge ≡ true → (l : ℕ) × GoesBy row way l × (leaves d l bridge ≡ true)
+pub goes_on_by : (d : Domain) (row : Row) (way : Option ℕ) (bridge : ℕ) → goes_on d row way bridge ≡ true → (l : ℕ) × GoesBy row way l ×
+    (leaves d l bridge ≡ true)
 goes_on_by d row way bridge e =
     let r = any_member (λ l. leaves d l bridge) (goes_to row way) e in
     (r.0, goes_by row way r.0 r.1, r.2)
@@ -133,14 +135,16 @@ pub same_goes : (early late : Row) (way : Option ℕ) (l : ℕ) → early.tree.i
 same_goes early late way l tree by = record { hop = by.hop; of_tree = subst (λ z. Contains z by.hop) tree by.of_tree; from = by.from; is_link = by.is_link }
 
 -- the same of the question whether they go on
-pub same_goes_on : (d : Domain) (early late : Row) (way : Option ℕ) (bridge : ℕ) → early.tree.items ≡ late.tree.items → goes_on d early way bridge ≡ true → goes_on d late way bridge ≡ true
+pub same_goes_on : (d : Domain) (early late : Row) (way : Option ℕ) (bridge : ℕ) → early.tree.items ≡ late.tree.items → goes_on d early way bridge ≡ true →
+    goes_on d late way bridge ≡ true
 same_goes_on d early late way bridge tree e =
     let r = goes_on_by d early way bridge e in
     by_goes_on d late way r.0 bridge (same_goes early late way r.0 tree r.1) r.2
 
 -- and of the depths
 pub same_hop : (early late : Row) (depth l : ℕ) → early.tree.items ≡ late.tree.items → IsHop early depth l → IsHop late depth l
-same_hop early late depth l tree at = record { hop = at.hop; of_tree = subst (λ z. Contains z at.hop) tree at.of_tree; is_depth = at.is_depth; is_link = at.is_link }
+same_hop early late depth l tree at =
+    record { hop = at.hop; of_tree = subst (λ z. Contains z at.hop) tree at.of_tree; is_depth = at.is_depth; is_link = at.is_link }
 
 -- a link that is on the tree is crossed
 pub hop_crosses : (row : Row) (depth l : ℕ) → IsHop row depth l → crosses row l ≡ true
@@ -169,14 +173,17 @@ module _ (d : Domain) (row : Row) (good : IsTree d row.tree.items) where
 
   -- the links of a tree are the domain's
   pub goes_inside : (way : Option ℕ) (l : ℕ) → GoesBy row way l → l < length d.links
-  goes_inside way l by = subst (λ z. z < length d.links) by.is_link (All-contains (λ (hop : Hop). hop.link < length d.links) row.tree.items by.hop good.inside by.of_tree)
+  goes_inside way l by = subst (λ z. z < length d.links) by.is_link
+      (All-contains (λ (hop : Hop). hop.link < length d.links) row.tree.items by.hop good.inside by.of_tree)
 
   -- the same by the depth
   pub hop_inside : (depth l : ℕ) → IsHop row depth l → l < length d.links
-  hop_inside depth l at = subst (λ z. z < length d.links) at.is_link (All-contains (λ (hop : Hop). hop.link < length d.links) row.tree.items at.hop good.inside at.of_tree)
+  hop_inside depth l at = subst (λ z. z < length d.links) at.is_link
+      (All-contains (λ (hop : Hop). hop.link < length d.links) row.tree.items at.hop good.inside at.of_tree)
 
   -- what follows a link follows a hop of the tree
-  followed : (m : ℕ) (hop : Hop) → Contains row.tree.items hop → hop.from ≡ Some m → (before : Hop) × Contains row.tree.items before × (before.link ≡ m) × Follows d before hop
+  followed : (m : ℕ) (hop : Hop) → Contains row.tree.items hop → hop.from ≡ Some m → (before : Hop) × Contains row.tree.items before × (before.link ≡ m) ×
+      Follows d before hop
   followed m hop c from =
       let r = good.follows c.0 m hop (slice_get_read row.tree.items (length row.tree.items) c.0 hop refl c.1 (sym c.2)) from in
       let same : Some r.0.link ≡ Some m = sym r.2.from ∙ from in
@@ -208,8 +215,11 @@ module _ (d : Domain) (row : Row) (good : IsTree d row.tree.items) where
       go : (from : Option ℕ) → at.hop.from ≡ from → (m : ℕ) × IsHop row k m × GoesBy row (Some m) l
       go None e = absurd (omega (arith, (good.begins at.hop at.of_tree e).0, at.is_depth, some))
       go (Some m) e =
-          let r = followed m at.hop at.of_tree e in
-          (m, record { hop = r.0; of_tree = r.1; is_depth = omega (arith, r.3.deeper, at.is_depth); is_link = r.2 }, record { hop = at.hop; of_tree = at.of_tree; from = e; is_link = at.is_link })
+          let r = followed m at.hop at.of_tree e in (
+            m,
+            record { hop = r.0; of_tree = r.1; is_depth = omega (arith, r.3.deeper, at.is_depth); is_link = r.2 },
+            record { hop = at.hop; of_tree = at.of_tree; from = e; is_link = at.is_link },
+          )
 
   -- what stands at depth 1 is gone by from the edge
   pub first_is_begun : (l : ℕ) → IsHop row 1 l → GoesBy row None l
@@ -243,17 +253,24 @@ module _ (d : Domain) (row : Row) (good : IsTree d row.tree.items) where
       sym (its_bridge d r.0 good.first (subst (λ z. leaves d z good.first ≡ true) r.1.is_link leaving)) ∙ its_bridge d r.0 bridge r.2
 
   -- what it goes on by behind a link leaves the bridge in which that link ends, which is a link of the tree
-  goes_on_enters : (m bridge : ℕ) → goes_on d row (Some m) bridge ≡ true → (before : Hop) × Contains row.tree.items before × (before.link ≡ m) × (enters d before.link bridge ≡ true)
+  goes_on_enters : (m bridge : ℕ) → goes_on d row (Some m) bridge ≡ true → (before : Hop) × Contains row.tree.items before × (before.link ≡ m) ×
+      (enters d before.link bridge ≡ true)
   goes_on_enters m bridge e =
       let r = goes_on_by d row (Some m) bridge e in
-      let b = followed m r.1.hop r.1.of_tree r.1.from in
-      (b.0, b.1, b.2, subst (λ z. enters d b.0.link z ≡ true) (its_bridge d r.0 bridge r.2) (subst (λ z. enters d z (bridge_of d r.0) ≡ true) (sym b.2) (goes_into m r.0 r.1)))
+      let b = followed m r.1.hop r.1.of_tree r.1.from in (
+        b.0,
+        b.1,
+        b.2,
+        subst (λ z. enters d b.0.link z ≡ true) (its_bridge d r.0 bridge r.2)
+            (subst (λ z. enters d z (bridge_of d r.0) ≡ true) (sym b.2) (goes_into m r.0 r.1)),
+      )
 
   -- no link of the tree ends in the bridge in which it begins
   not_both : (m bridge : ℕ) → goes_on d row None bridge ≡ true → goes_on d row (Some m) bridge ≡ true → ⊥
   not_both m bridge a b =
       let e = goes_on_enters m bridge b in
-      false≢true (sym (All-contains (λ (hop : Hop). enters d hop.link good.first ≡ false) row.tree.items e.0 good.first_not_reached e.1) ∙ subst (λ z. enters d e.0.link z ≡ true) (sym (begins_first bridge a)) e.3)
+      false≢true (sym (All-contains (λ (hop : Hop). enters d hop.link good.first ≡ false) row.tree.items e.0 good.first_not_reached e.1)
+      ∙ subst (λ z. enters d e.0.link z ≡ true) (sym (begins_first bridge a)) e.3)
 
   -- frames come to a bridge one way
   pub one_way_at : (one two : Option ℕ) (bridge : ℕ) → goes_on d row one bridge ≡ true → goes_on d row two bridge ≡ true → one ≡ two
@@ -264,7 +281,8 @@ module _ (d : Domain) (row : Row) (good : IsTree d row.tree.items) where
       let x = goes_on_enters m bridge a in
       let y = goes_on_enters k bridge b in
       let ends : end_of d x.0.link ≡ end_of d y.0.link = enters_end d x.0.link bridge x.3 ∙ sym (enters_end d y.0.link bridge y.3) in
-      let same : x.0 ≡ y.0 = one_of_pairs (λ (x y : Hop). end_of d x.link ≡ end_of d y.link → ⊥) row.tree.items x.0 y.0 good.reached_once x.1 y.1 (λ apart. apart ends) (λ apart. apart (sym ends)) in
+      let same : x.0 ≡ y.0 = one_of_pairs (λ (x y : Hop). end_of d x.link ≡ end_of d y.link → ⊥) row.tree.items x.0 y.0 good.reached_once x.1 y.1
+      (λ apart. apart ends) (λ apart. apart (sym ends)) in
       ap Some (sym x.2 ∙ ap (λ (h : Hop). h.link) same ∙ y.2)
 
   -- and a tree begins at one bridge

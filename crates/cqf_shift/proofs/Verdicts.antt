@@ -1,12 +1,12 @@
 -- What a verdict says of the frame and its row.
 use Rattle.std.proofs.Common.{◌≡◌, ℕ, List, Bool, true, false, not, Option, Some, None, sym, ap, ◌∙◌, refl, Contains, if◌then◌else◌, ◌==◌, eqb-true}
-use Rattle.cqf_model.specs.declared.frames.Reason.{Reason}
 use Rattle.cqf_model.specs.declared.frames.Reason.TheVariants.{Withdrawn, OtherBridge, Octets}
 use Rattle.cqf_model.specs.declared.topology.Row.{Row}
 use Rattle.cqf_model.specs.Domain.{Domain, is_text}
 use Rattle.cqf_model.specs.Network.{IsLoss}
 use Rattle.cqf_model.specs.Table.{begins_at, goes_on, is_live, row_named, row_of}
-use Rattle.cqf_model.specs.Traffic.{Way, AtEdge, Relayed, Verdict, Queued, DroppedFor, LacksRow, ExceedsGate, came_by, edge_verdict, inside_verdict, is_queued_of, verdict_by}
+use Rattle.cqf_model.specs.Traffic.{Way, AtEdge, Relayed, Verdict, Queued, DroppedFor, LacksRow, ExceedsGate, came_by, edge_verdict, inside_verdict}
+use Rattle.cqf_model.specs.Traffic.{is_queued_of, verdict_by}
 use Rattle.cqf_lists.proofs.Members.{find_member}
 
 -- a frame that goes on from the edge: its stream's row is live, and its tree begins at this bridge
@@ -17,14 +17,16 @@ pub record QueuedAtEdge (d : Domain) (bridge cycle : ℕ) (found : Option Row) (
 
 -- the verdict at the edge by its three tests
 edge_choice : (r row : Row) (live here fits : Bool) →
-    (if not live then DroppedFor Withdrawn else (if not here then DroppedFor OtherBridge else (if not fits then DroppedFor Octets else Queued r))) ≡ Queued row → (live ≡ true) × (here ≡ true) × (fits ≡ true) × (r ≡ row)
+    (if not live then DroppedFor Withdrawn else (if not here then DroppedFor OtherBridge else (if not fits then DroppedFor Octets else Queued r)))
+    ≡ Queued row → (live ≡ true) × (here ≡ true) × (fits ≡ true) × (r ≡ row)
 edge_choice r row true true true e = (refl, refl, refl, cc)
 edge_choice r row true true false e = absurd (cc)
 edge_choice r row true false fits e = absurd (cc)
 edge_choice r row false here fits e = absurd (cc)
 
 -- so says the verdict at the edge
-pub edge_queued : (d : Domain) (bridge cycle : ℕ) (fits : Row → Bool) (found : Option Row) (row : Row) → edge_verdict d bridge cycle fits found ≡ Queued row → QueuedAtEdge d bridge cycle found row × (fits row ≡ true)
+pub edge_queued : (d : Domain) (bridge cycle : ℕ) (fits : Row → Bool) (found : Option Row) (row : Row) → edge_verdict d bridge cycle fits found ≡ Queued row →
+    QueuedAtEdge d bridge cycle found row × (fits row ≡ true)
 edge_queued d bridge cycle fits None row e = absurd (cc)
 edge_queued d bridge cycle fits (Some r) row e =
     let c = edge_choice r row (is_live r cycle) (begins_at d r bridge) (fits r) e in (
@@ -34,14 +36,16 @@ edge_queued d bridge cycle fits (Some r) row e =
 
 -- and where there is such a row, and the test lets the frame pass, it goes on
 edge_chosen : (row : Row) (live here fits : Bool) → live ≡ true → here ≡ true → fits ≡ true →
-    (if not live then DroppedFor Withdrawn else (if not here then DroppedFor OtherBridge else (if not fits then DroppedFor Octets else Queued row))) ≡ Queued row
+    (if not live then DroppedFor Withdrawn else (if not here then DroppedFor OtherBridge else (if not fits then DroppedFor Octets else Queued row)))
+    ≡ Queued row
 edge_chosen row true true true a b c = refl
 edge_chosen row true true false a b c = absurd (cc)
 edge_chosen row true false fits a b c = absurd (cc)
 edge_chosen row false here fits a b c = absurd (cc)
 
 -- the same of the verdict
-pub edge_passes : (d : Domain) (bridge cycle : ℕ) (fits : Row → Bool) (found : Option Row) (row : Row) → QueuedAtEdge d bridge cycle found row → fits row ≡ true → edge_verdict d bridge cycle fits found ≡ Queued row
+pub edge_passes : (d : Domain) (bridge cycle : ℕ) (fits : Row → Bool) (found : Option Row) (row : Row) → QueuedAtEdge d bridge cycle found row →
+    fits row ≡ true → edge_verdict d bridge cycle fits found ≡ Queued row
 edge_passes d bridge cycle fits found row q passes =
     ap (edge_verdict d bridge cycle fits) q.is ∙ edge_chosen row (is_live row cycle) (begins_at d row bridge) (fits row) q.live q.here passes
 
@@ -51,13 +55,15 @@ pub record QueuedInside (d : Domain) (bridge m : ℕ) (found : Option Row) (row 
   pub here : goes_on d row (Some m) bridge ≡ true
 
 -- the two losses, by the two tests
-inside_choice : (r row : Row) (here fits : Bool) → (if not here then LacksRow else (if not fits then ExceedsGate else Queued r)) ≡ Queued row → (here ≡ true) × (fits ≡ true) × (r ≡ row)
+inside_choice : (r row : Row) (here fits : Bool) → (if not here then LacksRow else (if not fits then ExceedsGate else Queued r)) ≡ Queued row → (here ≡ true) ×
+    (fits ≡ true) × (r ≡ row)
 inside_choice r row true true e = (refl, refl, cc)
 inside_choice r row true false e = absurd (cc)
 inside_choice r row false fits e = absurd (cc)
 
 -- so says the verdict inside
-pub inside_queued : (d : Domain) (bridge m : ℕ) (fits : Row → Bool) (found : Option Row) (row : Row) → inside_verdict d bridge m fits found ≡ Queued row → QueuedInside d bridge m found row × (fits row ≡ true)
+pub inside_queued : (d : Domain) (bridge m : ℕ) (fits : Row → Bool) (found : Option Row) (row : Row) → inside_verdict d bridge m fits found ≡ Queued row →
+    QueuedInside d bridge m found row × (fits row ≡ true)
 inside_queued d bridge m fits None row e = absurd (cc)
 inside_queued d bridge m fits (Some r) row e =
     let c = inside_choice r row (goes_on d r (Some m) bridge) (fits r) e in (
@@ -66,13 +72,15 @@ inside_queued d bridge m fits (Some r) row e =
     )
 
 -- the two tests passed
-inside_chosen : (row : Row) (here fits : Bool) → here ≡ true → fits ≡ true → (if not here then LacksRow else (if not fits then ExceedsGate else Queued row)) ≡ Queued row
+inside_chosen : (row : Row) (here fits : Bool) → here ≡ true → fits ≡ true →
+    (if not here then LacksRow else (if not fits then ExceedsGate else Queued row)) ≡ Queued row
 inside_chosen row true true a b = refl
 inside_chosen row true false a b = absurd (cc)
 inside_chosen row false fits a b = absurd (cc)
 
 -- and where there is such a row, and the test lets it pass, it goes on
-pub inside_passes : (d : Domain) (bridge m : ℕ) (fits : Row → Bool) (found : Option Row) (row : Row) → QueuedInside d bridge m found row → fits row ≡ true → inside_verdict d bridge m fits found ≡ Queued row
+pub inside_passes : (d : Domain) (bridge m : ℕ) (fits : Row → Bool) (found : Option Row) (row : Row) → QueuedInside d bridge m found row → fits row ≡ true →
+    inside_verdict d bridge m fits found ≡ Queued row
 inside_passes d bridge m fits found row q passes =
     ap (inside_verdict d bridge m fits) q.is ∙ inside_chosen row (goes_on d row (Some m) bridge) (fits row) q.here passes
 
@@ -82,7 +90,8 @@ IsQueuedBy d table bridge cycle (AtEdge name) row = QueuedAtEdge d bridge cycle 
 IsQueuedBy d table bridge cycle (Relayed m number) row = QueuedInside d bridge m (row_of table number) row
 
 -- so says each verdict
-pub queued_says : (d : Domain) (table : List Row) (bridge cycle : ℕ) (fits : Row → Bool) (way : Way) (row : Row) → verdict_by d table bridge cycle fits way ≡ Queued row → IsQueuedBy d table bridge cycle way row × (fits row ≡ true)
+pub queued_says : (d : Domain) (table : List Row) (bridge cycle : ℕ) (fits : Row → Bool) (way : Way) (row : Row) →
+    verdict_by d table bridge cycle fits way ≡ Queued row → IsQueuedBy d table bridge cycle way row × (fits row ≡ true)
 queued_says d table bridge cycle fits (AtEdge name) row e = edge_queued d bridge cycle fits (row_named table name) row e
 queued_says d table bridge cycle fits (Relayed m number) row e = inside_queued d bridge m fits (row_of table number) row e
 
@@ -92,11 +101,13 @@ queued_row d table bridge cycle (AtEdge name) row q = (find_member (λ (r : Row)
 queued_row d table bridge cycle (Relayed m number) row q = (find_member (λ (r : Row). r.no == number) table row q.is).0
 
 -- and it has that number
-pub queued_number : (d : Domain) (table : List Row) (bridge cycle m number : ℕ) (row : Row) → IsQueuedBy d table bridge cycle (Relayed m number) row → row.no ≡ number
+pub queued_number : (d : Domain) (table : List Row) (bridge cycle m number : ℕ) (row : Row) → IsQueuedBy d table bridge cycle (Relayed m number) row →
+    row.no ≡ number
 queued_number d table bridge cycle m number row q = eqb-true row.no number (find_member (λ (r : Row). r.no == number) table row q.is).1
 
 -- the stream goes on from this bridge, by the way that the frame came
-pub queued_goes_on : (d : Domain) (table : List Row) (bridge cycle : ℕ) (way : Way) (row : Row) → IsQueuedBy d table bridge cycle way row → goes_on d row (came_by way) bridge ≡ true
+pub queued_goes_on : (d : Domain) (table : List Row) (bridge cycle : ℕ) (way : Way) (row : Row) → IsQueuedBy d table bridge cycle way row →
+    goes_on d row (came_by way) bridge ≡ true
 queued_goes_on d table bridge cycle (AtEdge name) row q = q.here
 queued_goes_on d table bridge cycle (Relayed m number) row q = q.here
 
@@ -112,7 +123,9 @@ pub edge_no_loss : (d : Domain) (bridge cycle : ℕ) (fits : Row → Bool) (foun
 edge_no_loss d bridge cycle fits None lost = lost
 edge_no_loss d bridge cycle fits (Some row) lost = choice (is_live row cycle) (begins_at d row bridge) (fits row) lost
   where
-    choice : (live here fits : Bool) → IsLoss (if not live then DroppedFor Withdrawn else (if not here then DroppedFor OtherBridge else (if not fits then DroppedFor Octets else Queued row))) → ⊥
+    choice : (live here fits : Bool) →
+        IsLoss
+        (if not live then DroppedFor Withdrawn else (if not here then DroppedFor OtherBridge else (if not fits then DroppedFor Octets else Queued row))) → ⊥
     choice true true true lost = lost
     choice true true false lost = lost
     choice true false fits lost = lost
@@ -124,13 +137,3 @@ queued_no_loss (Queued r) row e lost = lost
 queued_no_loss (DroppedFor reason) row e lost = lost
 queued_no_loss LacksRow row e lost = cc
 queued_no_loss ExceedsGate row e lost = cc
-
--- and a verdict inside gives no reason
-pub inside_drops_none : (d : Domain) (bridge m : ℕ) (fits : Row → Bool) (found : Option Row) (reason : Reason) → inside_verdict d bridge m fits found ≡ DroppedFor reason → ⊥
-inside_drops_none d bridge m fits None reason e = cc
-inside_drops_none d bridge m fits (Some r) reason e = choice (goes_on d r (Some m) bridge) (fits r) e
-  where
-    choice : (here fits : Bool) → (if not here then LacksRow else (if not fits then ExceedsGate else Queued r)) ≡ DroppedFor reason → ⊥
-    choice true true e = cc
-    choice true false e = cc
-    choice false fits e = cc

@@ -5,7 +5,8 @@ use Rattle.cqf_model.specs.declared.topology.Row.{Row}
 use Rattle.cqf_model.specs.Domain.{Domain, cycle_of}
 use Rattle.cqf_model.specs.Run.{Run}
 use Rattle.cqf_model.specs.Table.{AreOrderly, is_live, table_of}
-use Rattle.cqf_model.specs.Traffic.{Carried, Received, Policed, Verdict, Queued, DroppedFor, LacksRow, ExceedsGate, is_queued_of, numbered, offer_received, policed_before, within_gate}
+use Rattle.cqf_model.specs.Traffic.{Carried, Received, Policed, Verdict, Queued, DroppedFor, LacksRow, ExceedsGate, is_queued_of, numbered, offer_received}
+use Rattle.cqf_model.specs.Traffic.{policed_before, within_gate}
 use Rattle.cqf_model.specs.Shift.{IsCovered, IsUncovered, offer_cycle, offers_before, taken_by}
 
 -- the octets of a row's frames in a cycle that went on, among the frames before

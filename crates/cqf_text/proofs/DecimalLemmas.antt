@@ -23,4 +23,5 @@ none_past_range false least most number large = refl
 
 -- where the first digits write too large a number, all of them do
 pub none_by_size : (least most count : ℕ) (bytes : List ℕ) → most < digits_value 10 (take count bytes) → None ≡ decimal_in least most bytes
-none_by_size least most count bytes large = none_past_range (is_decimal bytes) least most (digits_value 10 bytes) (omega (arith, digits_value-take-le 10 bytes count (omega arith)))
+none_by_size least most count bytes large =
+    none_past_range (is_decimal bytes) least most (digits_value 10 bytes) (omega (arith, digits_value-take-le 10 bytes count (omega arith)))

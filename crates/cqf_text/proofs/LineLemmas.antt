@@ -13,7 +13,8 @@ slice_split-alone p [] h = refl
 slice_split-alone p (x ∷ xs) h = grind (arith, common_steps, slice_split-alone p xs)
 
 -- a piece that others follow is a line
-pub without_empty_last-cons : (piece : List ℕ) (pieces : List (List ℕ)) → 0 < length pieces → without_empty_last (piece ∷ pieces) ≡ piece ∷ without_empty_last pieces
+pub without_empty_last-cons : (piece : List ℕ) (pieces : List (List ℕ)) → 0 < length pieces →
+    without_empty_last (piece ∷ pieces) ≡ piece ∷ without_empty_last pieces
 without_empty_last-cons piece [] h = absurd (omega arith)
 without_empty_last-cons piece (next ∷ more) h = refl
 
@@ -26,11 +27,14 @@ pub without_empty_last-one : (piece : List ℕ) → 0 < length piece → without
 without_empty_last-one piece h = grind (arith, common_steps)
 
 -- the first line ends at a line feed
-lines_of-at_feed : (text : List ℕ) → position_or_len is_line_feed text < length text → lines_of text ≡ before_first is_line_feed text ∷ lines_of (after_first is_line_feed text)
-lines_of-at_feed text h = ap without_empty_last (slice_split_first is_line_feed text 0 h) ∙ without_empty_last-cons _ _ (slice_split-some (after_first is_line_feed text))
+lines_of-at_feed : (text : List ℕ) → position_or_len is_line_feed text < length text →
+    lines_of text ≡ before_first is_line_feed text ∷ lines_of (after_first is_line_feed text)
+lines_of-at_feed text h = ap without_empty_last (slice_split_first is_line_feed text 0 h)
+    ∙ without_empty_last-cons _ _ (slice_split-some (after_first is_line_feed text))
 
 -- the first line ends with the text
-lines_of-at_end : (text : List ℕ) → 0 < length text → length text ≤ position_or_len is_line_feed text → lines_of text ≡ before_first is_line_feed text ∷ lines_of (after_first is_line_feed text)
+lines_of-at_end : (text : List ℕ) → 0 < length text → length text ≤ position_or_len is_line_feed text →
+    lines_of text ≡ before_first is_line_feed text ∷ lines_of (after_first is_line_feed text)
 lines_of-at_end text some h =
     let front : before_first is_line_feed text ≡ text = grind (arith, common_steps) in
     let back : after_first is_line_feed text ≡ [] = grind (arith, common_steps) in

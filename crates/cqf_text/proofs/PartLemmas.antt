@@ -1,5 +1,6 @@
 -- The first part of an input, line by line.
-use Rattle.std.proofs.Common.{◌≡◌, ℕ, ◌<◌, ◌≤◌, ◌+◌, ◌-◌, suc, ◌∙◌, List, [], ◌∷◌, ◌++◌, length, get_or, take, drop, arith, map, true, false, Option, Some, None, refl, sym, ap, inl, inr, length-append, subst}
+use Rattle.std.proofs.Common.{◌≡◌, ℕ, ◌<◌, ◌≤◌, ◌+◌, ◌-◌, suc, ◌∙◌, List, [], ◌∷◌, ◌++◌, length, get_or, take, drop, arith, map, true, false, Option, Some}
+use Rattle.std.proofs.Common.{None, refl, sym, ap, inl, inr, length-append, subst}
 use Rattle.std.specs.List.{slice_split, onto_first, concat, position_or_len, before_first, after_first}
 use Rattle.std.proofs.lemmas.List.{append_assoc, append-nil, length-map, take_at, take_more, take-append-drop}
 use Rattle.std.proofs.lemmas.List.Splits.{slice_split_first, slice_split-cons_yes, slice_split-cons_no, length-slice_split}
@@ -15,6 +16,7 @@ use Rattle.cqf_text.proofs.LineLemmas.{slice_split-alone, slice_split-some}
 abbrev pub first_line : List ℕ → List ℕ
 first_line text = take (position_or_len is_line_feed text + 1) text
 
+-- what stands behind the first line
 abbrev pub behind_first_line : List ℕ → List ℕ
 behind_first_line text = drop (position_or_len is_line_feed text + 1) text
 
@@ -23,16 +25,19 @@ abbrev pub prepend : List ℕ → List (List ℕ) → List (List ℕ)
 prepend front [] = (front ++ []) ∷ []
 prepend front (part ∷ parts) = (front ++ part) ∷ parts
 
+-- to put two texts before the first part, one after the other
 prepend-append : (a b : List ℕ) (parts : List (List ℕ)) → prepend a (prepend b parts) ≡ prepend (a ++ b) parts
 prepend-append a b [] = ap (λ x. x ∷ []) (sym (append_assoc a b []))
 prepend-append a b (part ∷ parts) = ap (λ x. x ∷ parts) (sym (append_assoc a b part))
 
+-- a line onto the first group is a text before the first part
 prepend-onto_first : (line : List ℕ) (groups : List (List (List ℕ))) → map concat (onto_first line groups) ≡ prepend line (map concat groups)
 prepend-onto_first line [] = refl
 prepend-onto_first line (group ∷ groups) = refl
 
 -- a piece that others follow has a line feed
-with_line_feeds-cons : (piece : List ℕ) (pieces : List (List ℕ)) → 0 < length pieces → with_line_feeds (piece ∷ pieces) ≡ (piece ++ 10 ∷ []) ∷ with_line_feeds pieces
+with_line_feeds-cons : (piece : List ℕ) (pieces : List (List ℕ)) → 0 < length pieces →
+    with_line_feeds (piece ∷ pieces) ≡ (piece ++ 10 ∷ []) ∷ with_line_feeds pieces
 with_line_feeds-cons piece [] h = absurd (omega arith)
 with_line_feeds-cons piece (next ∷ more) h = refl
 
@@ -44,25 +49,31 @@ first_line-feed text h =
     take_more text (position_or_len is_line_feed text) 0 h ∙ ap (λ b. before_first is_line_feed text ++ b ∷ []) byte
 
 -- the first whole line, where it has a line feed
-whole_lines-first : (text : List ℕ) → position_or_len is_line_feed text < length text → whole_lines text ≡ first_line text ∷ whole_lines (behind_first_line text)
+whole_lines-first : (text : List ℕ) → position_or_len is_line_feed text < length text →
+    whole_lines text ≡ first_line text ∷ whole_lines (behind_first_line text)
 whole_lines-first text h = ap with_line_feeds (slice_split_first is_line_feed text 0 h)
     ∙ with_line_feeds-cons _ _ (slice_split-some (after_first is_line_feed text))
     ∙ ap (λ line. line ∷ whole_lines (behind_first_line text)) (sym (first_line-feed text h))
 
 -- what lines make of a divider, and of another line
-groups-divider : (line : List ℕ) (lines : List (List ℕ)) → is_divider line ≡ true → map concat (slice_split is_divider (line ∷ lines)) ≡ [] ∷ map concat (slice_split is_divider lines)
+groups-divider : (line : List ℕ) (lines : List (List ℕ)) → is_divider line ≡ true →
+    map concat (slice_split is_divider (line ∷ lines)) ≡ [] ∷ map concat (slice_split is_divider lines)
 groups-divider line lines h = ap (map concat) (slice_split-cons_yes is_divider line lines h)
 
-groups-other : (line : List ℕ) (lines : List (List ℕ)) → is_divider line ≡ false → map concat (slice_split is_divider (line ∷ lines)) ≡ prepend line (map concat (slice_split is_divider lines))
+-- a line that divides nothing belongs to the first part
+groups-other : (line : List ℕ) (lines : List (List ℕ)) → is_divider line ≡ false →
+    map concat (slice_split is_divider (line ∷ lines)) ≡ prepend line (map concat (slice_split is_divider lines))
 groups-other line lines h = ap (map concat) (slice_split-cons_no is_divider line lines h) ∙ prepend-onto_first line _
 
 -- a text with no line feed is one line, and nothing stands behind it
 first_line-alone : (text : List ℕ) → length text ≤ position_or_len is_line_feed text → first_line text ≡ text
 first_line-alone text h = grind (arith, common_steps)
 
+-- behind the only line nothing stands
 behind-alone : (text : List ℕ) → length text ≤ position_or_len is_line_feed text → behind_first_line text ≡ []
 behind-alone text h = grind (arith, common_steps)
 
+-- a single line is cut as one line
 parts_of-alone : (text : List ℕ) → length text ≤ position_or_len is_line_feed text → parts_of text ≡ map concat (slice_split is_divider (text ∷ []))
 parts_of-alone text h = ap (λ pieces. map concat (slice_split is_divider (with_line_feeds pieces))) (slice_split-alone is_line_feed text h)
 
@@ -103,21 +114,26 @@ prepend-nil : (parts : List (List ℕ)) → 0 < length parts → prepend [] part
 prepend-nil [] h = absurd (omega arith)
 prepend-nil (part ∷ parts) h = refl
 
+-- a text has a part
 some_part : (input : List ℕ) → 0 < length (parts_of input)
 some_part input = omega (arith, length-map (slice_split is_divider (whole_lines input)) concat, length-slice_split is_divider (whole_lines input))
 
+-- what was passed is the front
 front_is : (input front rest : List ℕ) → Passed input front rest → front_of input rest ≡ front
 front_is input front rest p =
     let long : length input ≡ length front + length rest = ap length p.cut ∙ length-append front rest in
     let count : length front ≡ length input - length rest = omega arith in
     ap (take (length input - length rest)) p.cut ∙ take_at front rest (length input - length rest) count
 
+-- before the first line nothing was passed
 pub Passed-start : (input : List ℕ) → Passed input (front_of input input) input
 Passed-start input =
     let whole : Passed input [] input = record { cut = refl; parts = sym (prepend-nil (parts_of input) (some_part input)) } in
     subst (λ (front : List ℕ). Passed input front input) (sym (front_is input [] input whole)) whole
 
-line-passed : (input rest : List ℕ) → Passed input (front_of input rest) rest → is_divider (first_line rest) ≡ false → Passed input (front_of input (behind_first_line rest)) (behind_first_line rest)
+-- a line that divides nothing is passed
+line-passed : (input rest : List ℕ) → Passed input (front_of input rest) rest → is_divider (first_line rest) ≡ false →
+    Passed input (front_of input (behind_first_line rest)) (behind_first_line rest)
 line-passed input rest p h =
     let line = first_line rest in
     let behind = behind_first_line rest in
@@ -129,19 +145,23 @@ line-passed input rest p h =
     } in
     subst (λ (x : List ℕ). Passed input x behind) (sym (front_is input (front ++ line) behind further)) further
 
-divider-passed : (input rest : List ℕ) → Passed input (front_of input rest) rest → is_divider (first_line rest) ≡ true → parts_of input ≡ front_of input rest ∷ parts_of (behind_first_line rest)
+-- at a line that divides, the front is a part
+divider-passed : (input rest : List ℕ) → Passed input (front_of input rest) rest → is_divider (first_line rest) ≡ true →
+    parts_of input ≡ front_of input rest ∷ parts_of (behind_first_line rest)
 divider-passed input rest p h =
     p.parts ∙ ap (prepend (front_of input rest)) (parts_of-divider rest h)
     ∙ ap (λ x. x ∷ parts_of (behind_first_line rest)) (append-nil (front_of input rest))
 
 -- another line is passed
-pub Passed-line : (input rest line behind : List ℕ) → Passed input (front_of input rest) rest → line ≡ first_line rest → behind ≡ behind_first_line rest → false ≡ is_divider line → Passed input (front_of input behind) behind
+pub Passed-line : (input rest line behind : List ℕ) → Passed input (front_of input rest) rest → line ≡ first_line rest → behind ≡ behind_first_line rest →
+    false ≡ is_divider line → Passed input (front_of input behind) behind
 Passed-line input rest line behind p line_is behind_is h =
     let other : is_divider (first_line rest) ≡ false = ap is_divider (sym line_is) ∙ sym h in
     subst (λ (x : List ℕ). Passed input (front_of input x) x) (sym behind_is) (line-passed input rest p other)
 
 -- a divider ends the first part
-pub Passed-divider : (input rest line behind : List ℕ) → Passed input (front_of input rest) rest → line ≡ first_line rest → behind ≡ behind_first_line rest → true ≡ is_divider line → parts_of input ≡ front_of input rest ∷ parts_of behind
+pub Passed-divider : (input rest line behind : List ℕ) → Passed input (front_of input rest) rest → line ≡ first_line rest → behind ≡ behind_first_line rest →
+    true ≡ is_divider line → parts_of input ≡ front_of input rest ∷ parts_of behind
 Passed-divider input rest line behind p line_is behind_is h =
     let divider : is_divider (first_line rest) ≡ true = ap is_divider (sym line_is) ∙ sym h in
     divider-passed input rest p divider ∙ ap (λ x. front_of input rest ∷ parts_of x) (sym behind_is)

@@ -1,5 +1,6 @@
 -- A domain that passed its checks is accepted.
-use Rattle.std.proofs.Common.{◌≡◌, ◌≢◌, ℕ, ◌≤◌, ◌<◌, ◌+◌, ◌*◌, List, [], ◌∷◌, ◌++◌, Bool, true, false, nat_le, nat_lt, cond, Option, Some, None, Result, Ok, Err, length, slice_get, get_or, position, All, IsTrue, ok_or, refl, ap, sym, subst, ◌∙◌, append_assoc, arith, zero, suc}
+use Rattle.std.proofs.Common.{◌≡◌, ◌≢◌, ℕ, ◌≤◌, ◌<◌, ◌+◌, ◌*◌, List, [], ◌∷◌, ◌++◌, Bool, true, false, nat_le, nat_lt, cond, Option, Some, None, Result, Ok}
+use Rattle.std.proofs.Common.{Err, length, slice_get, get_or, position, All, IsTrue, ok_or, refl, ap, sym, subst, ◌∙◌, append_assoc, arith, zero, suc}
 use Rattle.std.specs.List.{position_from}
 use Rattle.std.specs.Option.{option_or}
 use Rattle.std.proofs.lemmas.Bool.Decides.{nat_tests}
@@ -19,7 +20,9 @@ use Rattle.cqf_topology.specs.declared.faults.DomainFault.{DomainFault}
 use Rattle.cqf_topology.specs.declared.faults.DomainFault.TheVariants as fault
 use Rattle.cqf_lists.specs.Results.{and_then, refuse}
 use Rattle.cqf_fields.specs.Fields.{and_first, read_at, whole_document, tables_at, number_from, names_at}
-use Rattle.cqf_topology.specs.DomainText.{DomainText, IsReadable, IsNumbered, IsDomain, NoLinkTwice, is_among, first_taken, place_of, apart, joined_link, joined, first_long_delay, first_long_gap, if_some, link_from, link_keys, domain_keys, domain_from, read_text, checked, with_links}
+use Rattle.cqf_topology.specs.DomainText.{DomainText, IsReadable, IsNumbered, IsDomain, NoLinkTwice, is_among, first_taken, place_of, apart, joined_link}
+use Rattle.cqf_topology.specs.DomainText.{joined, first_long_delay, first_long_gap, if_some, link_from, link_keys, domain_keys, domain_from, read_text, checked}
+use Rattle.cqf_topology.specs.DomainText.{with_links}
 use Rattle.cqf_topology.specs.JoinedLink.{HasSmallEnds, IsSmallNode}
 use Rattle.cqf_topology.proofs.Distinct.{first_taken-None}
 use Rattle.cqf_topology.proofs.Refusals.{and_then-Ok, refuse-Ok, ok_or-Ok, number-range, names-named, if_some-Ok}
@@ -47,6 +50,7 @@ domain_from-readable table d h =
       stations_named = names-named Stations table stations at_stations;
     })
 
+-- what is read of a text is readable
 pub read_text-readable : (text : List ℕ) (d : DomainText) → read_text text ≡ Ok d → IsReadable d
 read_text-readable text d h =
     let (table, whole, from) = and_then-Ok (whole_document domain_keys Links link_keys text) domain_from d h in
@@ -72,7 +76,8 @@ taken-at earlier earlier' names names' p q r h = (λ i. refuse (first_taken (sym
 
 module _ (d : DomainText) where
   -- the names are what was numbered, and none of them is taken
-  pub distinct-names : (bridges stations : List (List ℕ)) → first_taken [] d.bridges ≡ None → first_taken d.bridges d.stations ≡ None → first_taken [] (d.bridges ++ d.stations) ≡ None
+  pub distinct-names : (bridges stations : List (List ℕ)) → first_taken [] d.bridges ≡ None → first_taken d.bridges d.stations ≡ None →
+      first_taken [] (d.bridges ++ d.stations) ≡ None
   distinct-names bridges stations one two = first_taken-append [] d.bridges d.stations ∙ ap (λ o. option_or o (first_taken d.bridges d.stations)) one ∙ two
 
   -- a text whose names and links are numbered
@@ -101,7 +106,8 @@ module _ (d : DomainText) where
       by : (o : Option (List ℕ)) → first_taken [] d.bridges ≡ o → refuse o fault.NameTaken (Ok d.bridges) ≡ Err e → checked d ≡ Err e
       by None at h = absurd (cc)
       by (Some name) at h =
-          let taken : first_taken [] (d.bridges ++ d.stations) ≡ Some name = first_taken-append [] d.bridges d.stations ∙ ap (λ o. option_or o (first_taken d.bridges d.stations)) at in
+          let taken : first_taken [] (d.bridges ++ d.stations) ≡ Some name = first_taken-append [] d.bridges d.stations
+          ∙ ap (λ o. option_or o (first_taken d.bridges d.stations)) at in
           let same : fault.NameTaken name ≡ e = cc in
           rw taken (ap Err same)
 
@@ -113,7 +119,8 @@ module _ (d : DomainText) where
       let same : bridges ≡ d.bridges = cc in
       by (first_taken d.bridges d.stations) refl free ((λ i. refuse (first_taken (sym same i) d.stations) fault.NameTaken (Ok d.stations)) ∙ h2)
     where
-      by : (o : Option (List ℕ)) → first_taken d.bridges d.stations ≡ o → first_taken [] d.bridges ≡ None → refuse o fault.NameTaken (Ok d.stations) ≡ Err e → checked d ≡ Err e
+      by : (o : Option (List ℕ)) → first_taken d.bridges d.stations ≡ o → first_taken [] d.bridges ≡ None → refuse o fault.NameTaken (Ok d.stations) ≡ Err e →
+          checked d ≡ Err e
       by None at free h = absurd (cc)
       by (Some name) at free h =
           let taken : first_taken [] (d.bridges ++ d.stations) ≡ Some name =
@@ -149,6 +156,7 @@ none-passes {A} p i (y ∷ ys) h k x at = by (p y) refl (λ none j there. none-p
     by false e rest h zero at = let same : y ≡ x = cc in subst (λ z. p z ≡ false) same e
     by false e rest h (suc k) at = rest h k at
 
+-- where no place passes, none does
 pub position-None : {A : Type 0} (p : A → Bool) (xs : List A) → position p xs ≡ None → (k : ℕ) (x : A) → slice_get xs k ≡ Some x → p x ≡ false
 position-None p xs h = none-passes p 0 xs (sym (position_from-zero p xs) ∙ h)
 
@@ -158,9 +166,11 @@ pub record HasEnds (d : Domain) (link : Link) : Type 0 where
   pub to_node : IsNode d link.to
   pub not_to_itself : link.to ≢ Bridge link.from
 
+-- the place of a name is one of the names'
 place-within : (name : List ℕ) (names : List (List ℕ)) (i : ℕ) → place_of name names ≡ Some i → i < length names
 place-within name names i h = (position-Some _ names i [] h).0
 
+-- the node of a name is one of the domain's
 node-within : (d : Domain) (name : List ℕ) (n : Node) → node_or (place_of name d.bridges) (place_of name d.stations) ≡ Some n → IsNode d n
 node-within d name n h = by (place_of name d.bridges) (place_of name d.stations) refl refl h
   where
@@ -169,14 +179,17 @@ node-within d name n h = by (place_of name d.bridges) (place_of name d.stations)
     by None (Some s) at_b at_s h = let e : Station s ≡ n = cc in subst (IsNode d) e (place-within name d.stations s at_s)
     by None None at_b at_s h = absurd (cc)
 
-apart-ends : (d : Domain) (name : List ℕ) (l : DraftLink) (from : ℕ) (to : Node) (link : Link) → from < length d.bridges → IsNode d to → apart name l from to ≡ Ok link → HasEnds d link
+-- a link between nodes that are apart has its ends
+apart-ends : (d : Domain) (name : List ℕ) (l : DraftLink) (from : ℕ) (to : Node) (link : Link) → from < length d.bridges → IsNode d to →
+    apart name l from to ≡ Ok link → HasEnds d link
 apart-ends d name l from to link from_there to_there h = by (same_node to (Bridge from)) refl h
   where
     joint : Link
     joint = record { from = from; to = to; rate = l.rate; delay = l.delay }
 
     differs : same_node to (Bridge from) ≡ false → to ≢ Bridge from
-    differs e same = let at_itself : same_node (Bridge from) (Bridge from) ≡ false = subst (λ n. same_node n (Bridge from) ≡ false) same e in grind (arith, nat_tests)
+    differs e same = let at_itself : same_node (Bridge from) (Bridge from) ≡ false = subst (λ n. same_node n (Bridge from) ≡ false) same e in
+        grind (arith, nat_tests)
 
     by : (b : Bool) → same_node to (Bridge from) ≡ b → cond b (Err (fault.UnknownName name)) (Ok joint) ≡ Ok link → HasEnds d link
     by true e h = absurd (cc)
@@ -184,6 +197,7 @@ apart-ends d name l from to link from_there to_there h = by (same_node to (Bridg
         let same : joint ≡ link = cc in
         subst (HasEnds d) same (record { from_bridge = from_there; to_node = to_there; not_to_itself = differs e })
 
+-- a link that is joined has its ends
 joined_link-ends : (d : Domain) (l : DraftLink) (link : Link) → joined_link d.bridges d.stations l ≡ Ok link → HasEnds d link
 joined_link-ends d l link h =
     let (from, at_from, h1) = and_then-Ok (ok_or (place_of l.from d.bridges) (fault.UnknownName l.from)) _ link h in
@@ -192,7 +206,9 @@ joined_link-ends d l link h =
     (place-within l.from d.bridges from (ok_or-Ok _ (fault.UnknownName l.from) from at_from))
     (node-within d l.to to (ok_or-Ok _ (fault.UnknownName l.to) to at_to)) h2
 
-pub joined-ends : (d : Domain) (ls : List DraftLink) (links : List Link) → joined d.bridges d.stations ls ≡ Ok links → (k : ℕ) (link : Link) → slice_get links k ≡ Some link → HasEnds d link
+-- and so has each
+pub joined-ends : (d : Domain) (ls : List DraftLink) (links : List Link) → joined d.bridges d.stations ls ≡ Ok links → (k : ℕ) (link : Link) →
+    slice_get links k ≡ Some link → HasEnds d link
 joined-ends d [] links h k link at = let none : links ≡ [] = cc in absurd (by (subst (λ xs. slice_get xs k ≡ Some link) none at))
   where
     by : slice_get [] k ≡ Some link → ⊥
@@ -210,8 +226,10 @@ joined-ends d (l ∷ ls) links h k link at =
         → and_first r rest ≡ Ok links → (k : ℕ) → slice_get links k ≡ Some link → HasEnds d link
     by (Err e) rest here more all h k at = absurd (cc)
     by (Ok x) (Err e) here more all h k at = absurd (cc)
-    by (Ok x) (Ok xs) here more all h k at = let same : links ≡ x ∷ xs = cc in there x xs here (all xs more) k (subst (λ ys. slice_get ys k ≡ Some link) same at)
+    by (Ok x) (Ok xs) here more all h k at = let same : links ≡ x ∷ xs = cc in
+        there x xs here (all xs more) k (subst (λ ys. slice_get ys k ≡ Some link) same at)
 
+-- the number of a node fits a byte
 small-node : (d : Domain) (n : Node) → length d.bridges ≤ 32 → length d.stations ≤ 64 → IsNode d n → IsSmallNode n
 small-node d (Bridge b) few few_too h = omega arith
 small-node d (Station s) few few_too h = omega arith

@@ -4,9 +4,9 @@ use Rattle.std.proofs.lemmas.Bool.{true≢false}
 use Rattle.std.proofs.lemmas.List.Elements.{All-cons, All-nil}
 use Rattle.std.proofs.lemmas.List.Folds.{list_any-append}
 use Rattle.std.proofs.lemmas.List.Kept.{AllPairs-cons}
+use Rattle.cqf_model.proofs.Texts.{is_text_itself}
 use Rattle.cqf_model.specs.Domain.{is_text}
 use Rattle.cqf_topology.specs.DomainText.{is_among, first_taken}
-use Rattle.cqf_topology.proofs.SameText.{is_text-itself}
 
 -- neither of two tests
 neither : (b c : Bool) → (b || c) ≡ false → (b ≡ false) × (c ≡ false)
@@ -18,7 +18,7 @@ neither false false h = (refl, refl)
 not_among : (name : List ℕ) (names : List (List ℕ)) (last : List ℕ) → is_among name (names ++ last ∷ []) ≡ false → (is_among name names ≡ false) × (last ≢ name)
 not_among name names last h =
     let both = neither (is_among name names) (is_text last name || false) (sym (list_any-append (λ other. is_text other name) names (last ∷ [])) ∙ h) in
-    (both.0, λ same. true≢false (sym (is_text-itself name) ∙ ap (λ text. is_text text name) (sym same) ∙ (neither (is_text last name) false both.1).0))
+    (both.0, λ same. true≢false (sym (is_text_itself name) ∙ ap (λ text. is_text text name) (sym same) ∙ (neither (is_text last name) false both.1).0))
 
 -- where none of the names is taken, none of them stood earlier, and each two of them differ
 pub first_taken-None : (earlier names : List (List ℕ)) → first_taken earlier names ≡ None

@@ -1,5 +1,6 @@
 -- Ends of links in a set, compared.
-use Rattle.std.proofs.Common.{◌≡◌, ℕ, List, [], ◌∷◌, ◌++◌, true, false, ◌==◌, ◌&&◌, ◌||◌, map, cond, refl, ap, sym, ◌∙◌, Option, Some, ◌+◌, ◌<◌, length, take, drop, get_or, arith}
+use Rattle.std.proofs.Common.{◌≡◌, ℕ, List, [], ◌∷◌, ◌++◌, true, false, ◌==◌, ◌&&◌, ◌||◌, map, cond, refl, ap, sym, ◌∙◌, Option, Some, ◌+◌, ◌<◌, length, take}
+use Rattle.std.proofs.Common.{drop, get_or, arith}
 use Rattle.std.proofs.lemmas.List.{take_more, drop_more, length-take-le}
 use Rattle.std.specs.List.{list_any}
 use Rattle.std.specs.contracts.prelude.UsizePartialEq.TheImpl.{ghosts as number}
@@ -46,6 +47,7 @@ module _ (links : List Link) (i : ℕ) (link : Link) (held : List (ℕ × Node))
   next_is : drop i links ≡ link ∷ drop (i + 1) links
   next_is = drop_more links i link inside ∙ ap (λ l. l ∷ drop (i + 1) links) (sym is)
 
+  -- what is left to look through is this link and those behind it
   opened : first_twice (take i links) (link ∷ drop (i + 1) links) ≡ all
   opened = ap (first_twice (take i links)) (sym next_is) ∙ before
 

@@ -3,9 +3,9 @@ use Rattle.std.proofs.Common.{◌≡◌, ℕ, List, [], true, false, Option, Som
 use Rattle.std.proofs.lemmas.Bool.{true≢false}
 use Rattle.std.proofs.lemmas.List.Quantifiers.{position-Some}
 use Rattle.cqf_units.specs.Name.{is_name}
+use Rattle.cqf_model.proofs.Texts.{is_text_same}
 use Rattle.cqf_model.specs.Domain.{Domain, is_text, node_or, node_named}
 use Rattle.cqf_topology.specs.DomainText.{IsDomain, place_of}
-use Rattle.cqf_topology.proofs.SameText.{is_text-same}
 
 -- what isn't a name is no name's place
 place_of-other : (text : List ℕ) (names : List (List ℕ)) → All (λ name. IsTrue (is_name name)) names → is_name text ≡ false → place_of text names ≡ None
@@ -15,7 +15,7 @@ place_of-other text names named other = by (place_of text names) refl
     by None at = refl
     by (Some i) at =
         let found = position-Some (λ name. is_text name text) names i [] at in
-        let same : get_or names i [] ≡ text = is_text-same _ text found.1 in
+        let same : get_or names i [] ≡ text = is_text_same _ text found.1 in
         let is : is_name text ≡ true = subst (λ t. IsTrue (is_name t)) same (named i [] found.0) in
         absurd (true≢false (sym is ∙ other))
 

@@ -1,5 +1,6 @@
 -- Steps of reading and of checking that went well, and that did not.
-use Rattle.std.proofs.Common.{◌≡◌, ◌≢◌, ℕ, ◌≤◌, ◌<◌, List, [], ◌∷◌, Bool, true, false, ◌&&◌, nat_le, cond, Option, Some, None, Result, Ok, Err, ℤ, pos, negsuc, length, All, IsTrue, ok_or, refl, ap, sym, subst, ◌∙◌, arith}
+use Rattle.std.proofs.Common.{◌≡◌, ◌≢◌, ℕ, ◌≤◌, ◌<◌, List, [], ◌∷◌, Bool, true, false, ◌&&◌, nat_le, cond, Option, Some, None, Result, Ok, Err, ℤ, pos, negsuc}
+use Rattle.std.proofs.Common.{length, All, IsTrue, ok_or, refl, ap, sym, subst, ◌∙◌, arith}
 use Rattle.std.specs.Option.{option_and_then}
 use Rattle.std.specs.Result.{IsErrAnd}
 use Rattle.std.proofs.lemmas.Bool.{and_parts}
@@ -23,10 +24,12 @@ pub refuse-Ok : {A B E : Type 0} (o : Option A) (fault : A → E) (rest : Result
 refuse-Ok None fault rest y h = (refl, h)
 refuse-Ok (Some x) fault rest y h = absurd (cc)
 
+-- what is right was there
 pub ok_or-Ok : {A E : Type 0} (o : Option A) (e : E) (x : A) → ok_or o e ≡ Ok x → o ≡ Some x
 ok_or-Ok None e x h = absurd (cc)
 ok_or-Ok (Some y) e x h = cc
 
+-- what comes of something came of it
 pub and_then-Some : {A B : Type 0} (f : A → Option B) (o : Option A) (y : B) → option_and_then f o ≡ Some y → (x : A) × (o ≡ Some x) × (f x ≡ Some y)
 and_then-Some f None y h = absurd (cc)
 and_then-Some f (Some x) y h = (x, refl, h)
@@ -45,6 +48,7 @@ within_range-Some least most (pos m) n h = by (nat_le least m && nat_le m most) 
     by false e h = absurd (cc)
 within_range-Some least most (negsuc m) n h = absurd (cc)
 
+-- a number that is read is in its range
 pub number-range : (key : Key) (least most : ℕ) (table : Members) (n : ℕ) → read_at key (number_from least most) table ≡ Ok n → (least ≤ n) × (n ≤ most)
 number-range key least most table n h =
     let (d, at, from) = and_then-Some (number_from least most) (value_at key table) n (ok_or-Ok _ (BadValue key) n h) in
@@ -73,6 +77,7 @@ if_name-Some text name h = by (is_name text) refl h
     by true e h = let same : text ≡ name = cc in subst (λ t. IsTrue (is_name t)) same e
     by false e h = absurd (cc)
 
+-- names that are read are names
 pub names-named : (key : Key) (table : Members) (names : List (List ℕ)) → names_at key table ≡ Ok names → All (λ name. IsTrue (is_name name)) names
 names-named key table names h =
     let (items, at, each) = and_then-Ok (read_at key as_array table) (each_from (λ d. ok_or (name_from d) (BadValue key))) names h in

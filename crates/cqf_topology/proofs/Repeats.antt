@@ -1,8 +1,10 @@
 -- The first element of a list that an earlier one equals, by a test of the two.
-use Rattle.std.proofs.Common.{◌≡◌, ◌≤◌, ◌<◌, ◌+◌, ℕ, zero, suc, List, [], ◌∷◌, ◌++◌, Bool, true, false, ◌||◌, cond, Option, Some, None, length, slice_get, refl, ap, sym, subst, ◌∙◌, append_assoc, length-append, inl, inr, arith}
+use Rattle.std.proofs.Common.{◌≡◌, ◌≤◌, ◌<◌, ◌+◌, ℕ, zero, suc, List, [], ◌∷◌, ◌++◌, Bool, true, false, ◌||◌, cond, Option, Some, None, length, slice_get, refl}
+use Rattle.std.proofs.Common.{ap, sym, subst, ◌∙◌, append_assoc, length-append, inl, inr, arith}
 use Rattle.std.specs.List.{list_any}
 use Rattle.std.proofs.lemmas.Bool.{cases_lt, true≢false}
 use Rattle.std.proofs.lemmas.Option.{slice_get_within}
+use Rattle.cqf_lists.proofs.Places.{slice_get_behind}
 
 -- what stands in the front stands in the whole
 at-left : {X : Type 0} (xs ys : List X) (j : ℕ) (a : X) → slice_get xs j ≡ Some a → slice_get (xs ++ ys) j ≡ Some a
@@ -15,13 +17,6 @@ at-front : {X : Type 0} (xs ys : List X) (j : ℕ) (a : X) → j < length xs →
 at-front [] ys j a inside h = absurd (omega arith)
 at-front (x ∷ xs) ys zero a inside h = h
 at-front (x ∷ xs) ys (suc j) a inside h = at-front xs ys j a (omega arith) h
-
--- what stands right behind the front
-pub at-end : {X : Type 0} (xs ys : List X) (x : X) (i : ℕ) → i ≡ length xs → slice_get (xs ++ x ∷ ys) i ≡ Some x
-at-end [] ys x zero e = refl
-at-end [] ys x (suc i) e = absurd (omega arith)
-at-end (y ∷ xs) ys x zero e = absurd (omega arith)
-at-end (y ∷ xs) ys x (suc i) e = at-end xs ys x i (omega arith)
 
 -- a test that finds something finds it at a place
 any-at : {X : Type 0} (p : X → Bool) (xs : List X) → list_any p xs ≡ true → (j : ℕ) × (a : X) × (j < length xs) × (slice_get xs j ≡ Some a) × (p a ≡ true)
@@ -69,7 +64,7 @@ module _ {X : Type 0} (same : X → X → Bool) where
   -- the element right behind the front repeats none of it
   fresh : (earlier xs : List X) (x : X) → list_any (same x) earlier ≡ false → ¬ Repeats (earlier ++ x ∷ xs) (length earlier)
   fresh earlier xs x none r =
-      let is : x ≡ r.b = some-inj (sym (at-end earlier xs x (length earlier) refl) ∙ r.at_place) in
+      let is : x ≡ r.b = some-inj (sym (slice_get_behind earlier x xs (length earlier) refl) ∙ r.at_place) in
       let there : slice_get earlier r.twin ≡ Some r.a = at-front earlier (x ∷ xs) r.twin r.a r.earlier r.at_twin in
       let differs : same x r.a ≡ false = none-at (same x) earlier none r.twin r.a there in
       true≢false (sym r.equal ∙ ap (λ y. same y r.a) (sym is) ∙ differs)
@@ -77,6 +72,7 @@ module _ {X : Type 0} (same : X → X → Bool) where
       some-inj : ◌≡◌ {A = Option X} (Some x) (Some r.b) → x ≡ r.b
       some-inj e = cc
 
+  -- one more behind is one more
   longer : (earlier : List X) (x : X) → length (earlier ++ x ∷ []) ≡ length earlier + 1
   longer earlier x = length-append earlier (x ∷ [])
 
@@ -85,14 +81,24 @@ module _ {X : Type 0} (same : X → X → Bool) where
   first_repeat-Some earlier [] k h = cc
   first_repeat-Some earlier (x ∷ xs) k h = by (list_any (same x) earlier) refl (first_repeat-Some (earlier ++ x ∷ []) xs k) h
     where
-      by : (b : Bool) → list_any (same x) earlier ≡ b → (first_repeat (earlier ++ x ∷ []) xs ≡ Some k → IsFirst ((earlier ++ x ∷ []) ++ xs) (length (earlier ++ x ∷ [])) k)
+      by : (b : Bool) → list_any (same x) earlier ≡ b →
+          (first_repeat (earlier ++ x ∷ []) xs ≡ Some k → IsFirst ((earlier ++ x ∷ []) ++ xs) (length (earlier ++ x ∷ [])) k)
           → cond b (Some (length earlier)) (first_repeat (earlier ++ x ∷ []) xs) ≡ Some k → IsFirst (earlier ++ x ∷ xs) (length earlier) k
       by true e rest h =
           let (j, a, inside, at, is) = any-at (same x) earlier e in
           let place : length earlier ≡ k = cc in
           subst (IsFirst (earlier ++ x ∷ xs) (length earlier)) place (record {
             behind = omega arith;
-            repeats = record { twin = j; earlier = inside; a = a; b = x; at_twin = at-left earlier (x ∷ xs) j a at; at_place = at-end earlier xs x (length earlier) refl; equal = is };
+            repeats = record {
+              twin = j;
+              earlier = inside;
+              a = a;
+              b = x;
+              at_twin = at-left earlier (x ∷ xs) j a at;
+              at_place =
+                  slice_get_behind earlier x xs (length earlier) refl;
+              equal = is;
+            };
             least = λ i from before. absurd (omega (arith, from, before));
           })
       by false e rest h =
@@ -103,7 +109,8 @@ module _ {X : Type 0} (same : X → X → Bool) where
             repeats = more.repeats;
             least = λ i from before. elim (cases_lt (length earlier) i) [
               | inl later ↦ more.least i (omega (arith, later, one)) before
-              | inr not_later ↦ let here : length earlier ≡ i = omega (arith, from, not_later) in subst (λ m. ¬ Repeats (earlier ++ x ∷ xs) m) here (fresh earlier xs x e)
+              | inr not_later ↦ let here : length earlier ≡ i = omega (arith, from, not_later) in
+                  subst (λ m. ¬ Repeats (earlier ++ x ∷ xs) m) here (fresh earlier xs x e)
             ];
           }
 
@@ -115,12 +122,14 @@ module _ {X : Type 0} (same : X → X → Bool) where
       past ys i y beyond e = let inside = slice_get_within ys i y e in omega (arith, inside, beyond)
   first_repeat-None earlier (x ∷ xs) h = by (list_any (same x) earlier) refl (first_repeat-None (earlier ++ x ∷ []) xs) h
     where
-      by : (b : Bool) → list_any (same x) earlier ≡ b → (first_repeat (earlier ++ x ∷ []) xs ≡ None → (i : ℕ) → length (earlier ++ x ∷ []) ≤ i → ¬ Repeats ((earlier ++ x ∷ []) ++ xs) i)
+      by : (b : Bool) → list_any (same x) earlier ≡ b →
+          (first_repeat (earlier ++ x ∷ []) xs ≡ None → (i : ℕ) → length (earlier ++ x ∷ []) ≤ i → ¬ Repeats ((earlier ++ x ∷ []) ++ xs) i)
           → cond b (Some (length earlier)) (first_repeat (earlier ++ x ∷ []) xs) ≡ None → (i : ℕ) → length earlier ≤ i → ¬ Repeats (earlier ++ x ∷ xs) i
       by true e rest h i from = absurd (cc)
       by false e rest h i from =
           let one = longer earlier x in
           elim (cases_lt (length earlier) i) [
             | inl later ↦ subst (λ ys. ¬ Repeats ys i) (append_assoc earlier (x ∷ []) xs) (rest h i (omega (arith, later, one)))
-            | inr not_later ↦ let here : length earlier ≡ i = omega (arith, from, not_later) in subst (λ m. ¬ Repeats (earlier ++ x ∷ xs) m) here (fresh earlier xs x e)
+            | inr not_later ↦ let here : length earlier ≡ i = omega (arith, from, not_later) in
+                subst (λ m. ¬ Repeats (earlier ++ x ∷ xs) m) here (fresh earlier xs x e)
           ]

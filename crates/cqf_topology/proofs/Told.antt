@@ -1,49 +1,41 @@
 -- The name that is told as taken is the first repeated one, and the link that is told as standing twice the first with an
 -- earlier twin.
-use Rattle.std.proofs.Common.{◌≡◌, ◌<◌, ℕ, List, [], ◌∷◌, ◌++◌, Bool, true, false, ◌==◌, ◌&&◌, cond, Option, Some, None, MatchOption, length, slice_get, get_or, refl, ap, sym, ◌∙◌, append_assoc, inl, inr, arith}
+use Rattle.std.proofs.Common.{◌≡◌, ◌<◌, ℕ, List, [], ◌∷◌, ◌++◌, Bool, true, false, ◌==◌, ◌&&◌, cond, Option, Some, None, MatchOption, length, slice_get, get_or}
+use Rattle.std.proofs.Common.{refl, ap, sym, ◌∙◌, append_assoc, inl, inr, arith}
 use Rattle.std.specs.List.{list_any}
 use Rattle.std.proofs.lemmas.Bool.{and_parts, cases_lt, true≢false}
 use Rattle.std.proofs.lemmas.Bool.Decides.{nat_tests}
 use Rattle.std.proofs.lemmas.List.Quantifiers.{position-Some}
 use Rattle.std.proofs.lemmas.Option.{get_or_from_slice_get, slice_get-get_or, slice_get_within}
+use Rattle.cqf_lists.proofs.Places.{slice_get_behind}
+use Rattle.cqf_model.proofs.Links.{same_node_itself, same_node_true}
+use Rattle.cqf_model.proofs.Texts.{is_text_itself, is_text_same}
 use Rattle.cqf_model.specs.declared.topology.Link.{Link}
 use Rattle.cqf_model.specs.declared.topology.Node.{Node}
-use Rattle.cqf_model.specs.declared.topology.Node.TheVariants.{Bridge, Station}
 use Rattle.cqf_model.specs.Domain.{Domain, is_text, link_between, same_node}
 use Rattle.cqf_topology.specs.DomainText.{IsOnlyLink, NoLinkTwice, is_among, first_taken, first_twice, same_ends}
 use Rattle.cqf_topology.specs.FirstFaults.{HasTwin, IsFirstRepeated, IsFirstTwin, StoodEarlier, TakenIsFirstRepeated, TwiceIsFirstTwin}
 use Rattle.cqf_topology.proofs.Accepted.{position-None}
-use Rattle.cqf_topology.proofs.Repeats.{Repeats, at-end, first_repeat, first_repeat-None, first_repeat-Some}
-use Rattle.cqf_topology.proofs.SameText.{is_text-itself, is_text-same}
-
--- two nodes that the test calls the same are
-same_node-same : (a b : Node) → same_node a b ≡ true → a ≡ b
-same_node-same (Bridge a) (Bridge b) h = let is : a ≡ b = grind (arith, nat_tests) in ap Bridge is
-same_node-same (Bridge a) (Station b) h = absurd (true≢false (sym h))
-same_node-same (Station a) (Bridge b) h = absurd (true≢false (sym h))
-same_node-same (Station a) (Station b) h = let is : a ≡ b = grind (arith, nat_tests) in ap Station is
-
-same_node-itself : (a : Node) → same_node a a ≡ true
-same_node-itself (Bridge a) = grind (arith, nat_tests)
-same_node-itself (Station a) = grind (arith, nat_tests)
+use Rattle.cqf_topology.proofs.Repeats.{Repeats, first_repeat, first_repeat-None, first_repeat-Some}
 
 -- the test on a link's ends passes where both are those
 leads-there : (from to_from : ℕ) (to to_to : Node) → from ≡ to_from → to ≡ to_to → ((from == to_from) && same_node to to_to) ≡ true
 leads-there from to_from to to_to h e =
     let same : (from == to_from) ≡ true = grind (arith, nat_tests) in
-    (λ i. same i && same_node to (sym e i)) ∙ same_node-itself to
+    (λ i. same i && same_node to (sym e i)) ∙ same_node_itself to
 
 -- and only there
 leads-only : (from to_from : ℕ) (to to_to : Node) → ((from == to_from) && same_node to to_to) ≡ true → (from ≡ to_from) × (to ≡ to_to)
 leads-only from to_from to to_to h =
     let parts = and_parts (from == to_from) (same_node to to_to) h in
     let first : (from == to_from) ≡ true = parts.0 in
-    (grind (arith, nat_tests), same_node-same to to_to parts.1)
+    (grind (arith, nat_tests), same_node_true to to_to parts.1)
 
 -- the definition of the reader, by that of the lemmas
 first_twice-repeat : (earlier links : List Link) → first_twice earlier links ≡ first_repeat same_ends earlier links
 first_twice-repeat earlier [] = refl
-first_twice-repeat earlier (l ∷ links) = ap (λ rest. cond (list_any (same_ends l) earlier) (Some (length earlier)) rest) (first_twice-repeat (earlier ++ l ∷ []) links)
+first_twice-repeat earlier (l ∷ links) =
+    ap (λ rest. cond (list_any (same_ends l) earlier) (Some (length earlier)) rest) (first_twice-repeat (earlier ++ l ∷ []) links)
 
 -- a repeated link has a twin, and one with a twin is repeated
 has-twin : (links : List Link) (k : ℕ) → Repeats same_ends links k → HasTwin links k
@@ -51,6 +43,7 @@ has-twin links k r =
     let ends = leads-only r.b.from r.a.from r.b.to r.a.to r.equal in
     record { link = r.b; twin = r.a; before = r.twin; earlier = r.earlier; stood = r.at_twin; stands = r.at_place; same_from = ends.0; same_to = ends.1 }
 
+-- a link with a twin is repeated
 of-twin : (links : List Link) (k : ℕ) → HasTwin links k → Repeats same_ends links k
 of-twin links k t = record {
   twin = t.before;
@@ -62,6 +55,7 @@ of-twin links k t = record {
   equal = leads-there t.link.from t.twin.from t.link.to t.twin.to t.same_from t.same_to;
 }
 
+-- where none is told, no link has a twin
 twice-None : (links : List Link) → first_twice [] links ≡ None → (k : ℕ) → ¬ HasTwin links k
 twice-None links none k t = first_repeat-None same_ends [] links (sym (first_twice-repeat [] links) ∙ none) k (omega arith) (of-twin links k t)
 
@@ -103,7 +97,8 @@ only-link d once from to l link at is_from is_to = by (link_between d from to) r
     apart k before there is =
         let ends = leads-only (get_or d.links k link).from from (get_or d.links k link).to to is in
         let last : get_or d.links l link ≡ link = get_or_from_slice_get d.links l link link there in
-        once k l link before (slice_get_within d.links l link there) (ends.0 ∙ sym is_from ∙ ap (λ (x : Link). x.from) (sym last), ends.1 ∙ sym is_to ∙ ap (λ (x : Link). x.to) (sym last))
+        once k l link before (slice_get_within d.links l link there)
+        (ends.0 ∙ sym is_from ∙ ap (λ (x : Link). x.from) (sym last), ends.1 ∙ sym is_to ∙ ap (λ (x : Link). x.to) (sym last))
 
     by : (o : Option ℕ) → link_between d from to ≡ o → o ≡ Some l
     by None none = absurd (true≢false (sym passes ∙ position-None leads d.links none l link at))
@@ -129,7 +124,8 @@ taken-None earlier [] h = refl
 taken-None earlier (x ∷ names) h = by (is_among x earlier) (taken-None (earlier ++ x ∷ []) names) h
   where
     by : (b : Bool) → (first_taken (earlier ++ x ∷ []) names ≡ None → first_repeat same_text (earlier ++ x ∷ []) names ≡ None)
-        → cond b (Some x) (first_taken (earlier ++ x ∷ []) names) ≡ None → cond b (Some (length earlier)) (first_repeat same_text (earlier ++ x ∷ []) names) ≡ None
+        → cond b (Some x) (first_taken (earlier ++ x ∷ []) names) ≡ None →
+        cond b (Some (length earlier)) (first_repeat same_text (earlier ++ x ∷ []) names) ≡ None
     by true rest h = absurd (cc)
     by false rest h = rest h
 
@@ -139,6 +135,7 @@ record IsToldAt (earlier names : List (List ℕ)) (name : List ℕ) : Type 0 whe
   first : first_repeat same_text earlier names ≡ Some place
   stands : slice_get (earlier ++ names) place ≡ Some name
 
+-- the name that is told stood earlier, and it is the first such
 taken-Some : (earlier names : List (List ℕ)) (name : List ℕ) → first_taken earlier names ≡ Some name → IsToldAt earlier names name
 taken-Some earlier [] name h = cc
 taken-Some earlier (x ∷ names) name h = by (is_among x earlier) refl (taken-Some (earlier ++ x ∷ []) names name) h
@@ -150,7 +147,7 @@ taken-Some earlier (x ∷ names) name h = by (is_among x earlier) refl (taken-So
         record {
           place = length earlier;
           first = ap (λ b. cond b (Some (length earlier)) (first_repeat same_text (earlier ++ x ∷ []) names)) e;
-          stands = at-end earlier names x (length earlier) refl ∙ ap Some same;
+          stands = slice_get_behind earlier x names (length earlier) refl ∙ ap Some same;
         }
     by false e rest h =
         let told = rest h in
@@ -162,10 +159,27 @@ taken-Some earlier (x ∷ names) name h = by (is_among x earlier) refl (taken-So
 
 -- a name that stood earlier repeats, and one that repeats stood earlier
 of-earlier : (names : List (List ℕ)) (k : ℕ) → StoodEarlier names k → Repeats same_text names k
-of-earlier names k s = record { twin = s.before; earlier = s.earlier; a = s.name; b = s.name; at_twin = s.stood; at_place = s.stands; equal = is_text-itself s.name }
+of-earlier names k s = record {
+  twin = s.before;
+  earlier = s.earlier;
+  a = s.name;
+  b = s.name;
+  at_twin = s.stood;
+  at_place = s.stands;
+  equal =
+      is_text_itself s.name;
+}
 
+-- a repeated name stood earlier
 stood-earlier : (names : List (List ℕ)) (k : ℕ) → Repeats same_text names k → StoodEarlier names k
-stood-earlier names k r = record { name = r.b; before = r.twin; earlier = r.earlier; stood = r.at_twin ∙ ap Some (is_text-same r.a r.b r.equal); stands = r.at_place }
+stood-earlier names k r = record {
+  name = r.b;
+  before = r.twin;
+  earlier = r.earlier;
+  stood = r.at_twin ∙ ap Some (is_text_same r.a r.b r.equal);
+  stands =
+      r.at_place;
+}
 
 -- the name that is told
 pub taken-told : TakenIsFirstRepeated
@@ -176,4 +190,10 @@ taken-told names = by (first_taken [] names) refl
     by (Some name) e =
         let told = taken-Some [] names name e in
         let f = first_repeat-Some same_text [] names told.place told.first in
-        record { place = told.place; stands = told.stands; repeats = stood-earlier names told.place f.repeats; least = λ i before s. f.least i (omega arith) before (of-earlier names i s) }
+        record {
+          place = told.place;
+          stands = told.stands;
+          repeats = stood-earlier names told.place f.repeats;
+          least =
+              λ i before s. f.least i (omega arith) before (of-earlier names i s);
+        }

@@ -1,5 +1,6 @@
 -- The domain that a text means, or the first fault of the text (profile).
-use Rattle.std.specs.Prelude.{ℕ, ◌≡◌, ◌*◌, ◌<◌, ◌≤◌, ◌≢◌, ℤ, pos, negsuc, List, [], ◌∷◌, ◌++◌, ◌==◌, ◌&&◌, ◌||◌, Bool, true, false, if◌then◌else◌, length, nat_le, nat_lt, position, slice_get, AllPairs, Option, Some, None, option_and_then, ok_or, Result, Ok, Err, All, IsTrue}
+use Rattle.std.specs.Prelude.{ℕ, ◌≡◌, ◌*◌, ◌<◌, ◌≤◌, ◌≢◌, ℤ, pos, negsuc, List, [], ◌∷◌, ◌++◌, ◌==◌, ◌&&◌, ◌||◌, Bool, true, false, if◌then◌else◌, length}
+use Rattle.std.specs.Prelude.{nat_le, nat_lt, position, slice_get, AllPairs, Option, Some, None, option_and_then, ok_or, Result, Ok, Err, All, IsTrue}
 use Rattle.std.specs.List.{list_any}
 use Rattle.toml.specs.Data.{Data, as_integer, Members}
 use Rattle.cqf_units.specs.Name.{is_name}

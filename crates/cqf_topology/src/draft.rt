@@ -144,6 +144,18 @@ fn link_in(value: &Value) -> Result<DraftLink, TomlFault>
     }
 }
 
+/// The elements of the array of links.
+fn links_in(alloc: Global, values: &[Value]) -> Result<Vec<DraftLink>, TomlFault>
+    ensures { Gives TomlFault.Memory (λ links. links.items) result (each_from (λ d. and_then (ok_or (as_table d) (TomlFault.BadValue Key.Links)) link_from) (items_view values.now)) }
+{
+    let mut links = Vec::new(alloc);
+    for value in values {
+        let link = link_in(value)?;
+        links.push(link).map_err(|_| TomlFault::Memory)?;
+    }
+    Ok(links)
+}
+
 /// The links of a domain's table.
 fn read_links(alloc: Global, table: &Table) -> Result<Vec<DraftLink>, TomlFault>
     ensures { Gives TomlFault.Memory (λ links. links.items) result (tables_at Key.Links link_from (table_view table.now)) }
@@ -152,12 +164,7 @@ fn read_links(alloc: Global, table: &Table) -> Result<Vec<DraftLink>, TomlFault>
     if !are_all_tables(values) {
         return Err(TomlFault::BadValue(Key::Links));
     }
-    let mut links = Vec::new(alloc);
-    for value in values {
-        let link = link_in(value)?;
-        links.push(link).map_err(|_| TomlFault::Memory)?;
-    }
-    Ok(links)
+    links_in(alloc, values)
 }
 
 /// The bridges of a domain's table, of which there is at least one.

@@ -1,9 +1,9 @@
 //! Requests for streams.
 ghost use Rattle.std.specs.Prelude.{◌≡◌, ◌∷◌, [], map, ok_or, string_bytes, IfOk, Ok};
 ghost use Rattle.toml.specs.Data.{as_str, as_table};
-ghost use Rattle.toml.specs.View.{view, table_view};
+ghost use Rattle.toml.specs.View.{items_view, view, table_view};
 ghost use Rattle.cqf_lists.specs.Results.{and_then};
-ghost use Rattle.cqf_fields.specs.Fields.{Gives, read_at, tables_at};
+ghost use Rattle.cqf_fields.specs.Fields.{Gives, each_from, read_at, tables_at};
 ghost use Rattle.cqf_topology.specs.StreamsText.{branches_from, request_from, request_text, streams_of_text};
 
 use crate::{Key, StreamsFault};
@@ -107,6 +107,18 @@ fn request_in(alloc: Global, value: &Value) -> Result<Request, StreamsFault>
     }
 }
 
+/// The elements of the array of streams.
+fn requests_in(alloc: Global, values: &[Value]) -> Result<Vec<Request>, StreamsFault>
+    ensures { Gives StreamsFault.Memory (λ requests. map request_text requests.items) result (each_from (λ d. and_then (ok_or (as_table d) (StreamsFault.BadValue Key.Streams)) request_from) (items_view values.now)) }
+{
+    let mut requests = Vec::new(alloc);
+    for value in values {
+        let request = request_in(alloc, value)?;
+        requests.push(request).map_err(|_| StreamsFault::Memory)?;
+    }
+    Ok(requests)
+}
+
 /// The streams of a document.
 fn read_requests(alloc: Global, table: &Table) -> Result<Vec<Request>, StreamsFault>
     ensures { Gives StreamsFault.Memory (λ requests. map request_text requests.items) result (tables_at Key.Streams request_from (table_view table.now)) }
@@ -115,12 +127,7 @@ fn read_requests(alloc: Global, table: &Table) -> Result<Vec<Request>, StreamsFa
     if !are_all_tables(values) {
         return Err(StreamsFault::BadValue(Key::Streams));
     }
-    let mut requests = Vec::new(alloc);
-    for value in values {
-        let request = request_in(alloc, value)?;
-        requests.push(request).map_err(|_| StreamsFault::Memory)?;
-    }
-    Ok(requests)
+    requests_in(alloc, values)
 }
 
 /// The requests of a streams text, in its order. Keys that mean nothing here are passed over.

@@ -1,6 +1,7 @@
 -- Values of a command, and the jobs that they rule out.
 use Rattle.std.proofs.Common.{◌≡◌, ◌≢◌, ◌∙◌, ℕ, true, refl, List, [], Option, Some, sym, ap, subst, slice_index, codes, arith, inl, inr, ◌⊎◌}
-use Rattle.clap.specs.Words.{App, Row, Text, first_of, fault_of, is_simple, is_simple_and_free, HasKind, HasMatchesOf, IsAmong, Kinds, kind_of, subcommand_of, subcommand_rows_of}
+use Rattle.clap.specs.Words.{App, Row, Text, first_of, fault_of, is_simple, is_simple_and_free, HasKind, HasMatchesOf, IsAmong, Kinds, kind_of, subcommand_of}
+use Rattle.clap.specs.Words.{subcommand_rows_of}
 use Rattle.clap.specs.declared.error.Error.{Error}
 use Rattle.clap.specs.declared.parser.matches.ArgMatches.{ArgMatches}
 use Rattle.clap.specs.declared.error.kind.ErrorKind.{ErrorKind}
@@ -15,14 +16,17 @@ use Rattle.cqf_words.specs.Words.{cqf_app, rate_text, IsJob, IsJobOf, IsNumberIn
 other_commands : codes "line" ≡ codes "port" → ⊥
 other_commands e = let first : 108 ≡ 112 = ap (λ (name : Text). slice_index name 0) e in omega (arith, first)
 
+-- the word `port` isn't `compile`
 port_is_other : codes "port" ≡ codes "compile" → ⊥
 port_is_other e = let first : 112 ≡ 99 = ap (λ (name : Text). slice_index name 0) e in omega (arith, first)
 
+-- and neither is `line`
 line_is_other : codes "line" ≡ codes "compile" → ⊥
 line_is_other e = let first : 108 ≡ 99 = ap (λ (name : Text). slice_index name 0) e in omega (arith, first)
 
 -- with no number there is no job of `port`
-pub no_port-until : (rows : List Row) (text : Option Text) → text ≡ first_of (codes "until") rows → ((n : ℕ) → ¬ IsNumberIn 1 100000000 n text) → (job : Job) → ¬ IsJobOf job (codes "port") rows
+pub no_port-until : (rows : List Row) (text : Option Text) → text ≡ first_of (codes "until") rows → ((n : ℕ) → ¬ IsNumberIn 1 100000000 n text) → (job : Job) →
+    ¬ IsJobOf job (codes "port") rows
 no_port-until rows text same none (Port until rate) job =
     let P : Option Text → Type 0 = λ t. IsNumberIn 1 100000000 until t in
     none until (subst P (sym same) job.1)
@@ -30,13 +34,15 @@ no_port-until rows text same none (Line cycles) job = other_commands (sym job.0)
 no_port-until rows text same none Compile job = port_is_other job
 
 -- nor with no rate
-pub no_port-rate : (rows : List Row) (text : Option Text) → text ≡ first_of (codes "rate") rows → ((rate : Rate) → ¬ (text ≡ Some (rate_text rate))) → (job : Job) → ¬ IsJobOf job (codes "port") rows
+pub no_port-rate : (rows : List Row) (text : Option Text) → text ≡ first_of (codes "rate") rows → ((rate : Rate) → ¬ (text ≡ Some (rate_text rate))) →
+    (job : Job) → ¬ IsJobOf job (codes "port") rows
 no_port-rate rows text same none (Port until rate) job = none rate (same ∙ job.2)
 no_port-rate rows text same none (Line cycles) job = other_commands (sym job.0)
 no_port-rate rows text same none Compile job = port_is_other job
 
 -- with no number there is no job of `line`
-pub no_line : (rows : List Row) (text : Option Text) → text ≡ first_of (codes "cycles") rows → ((n : ℕ) → ¬ IsNumberIn 1 100000 n text) → (job : Job) → ¬ IsJobOf job (codes "line") rows
+pub no_line : (rows : List Row) (text : Option Text) → text ≡ first_of (codes "cycles") rows → ((n : ℕ) → ¬ IsNumberIn 1 100000 n text) → (job : Job) →
+    ¬ IsJobOf job (codes "line") rows
 no_line rows text same none (Port until rate) job = other_commands job.0
 no_line rows text same none Compile job = line_is_other job
 no_line rows text same none (Line cycles) job =
@@ -49,26 +55,32 @@ number_of-text least most number text value same h =
     let P : Option Text → Type 0 = λ t. IsNumberIn least most number t in subst P same h
 
 -- where clap's error is one of the words' faults, and isn't for memory, they mean no job
-pub no_job-by_fault : (words : List Text) (kind : ErrorKind) → (kind ≡ OutOfMemory) ⊎ IsAmong kind (fault_of cqf_app words) → kind ≢ OutOfMemory → (job : Job) → ¬ Mean words job
+pub no_job-by_fault : (words : List Text) (kind : ErrorKind) → (kind ≡ OutOfMemory) ⊎ IsAmong kind (fault_of cqf_app words) → kind ≢ OutOfMemory → (job : Job) →
+    ¬ Mean words job
 no_job-by_fault words kind (inl none) known job m = known none
 no_job-by_fault words kind (inr among) known job m = let P : Kinds → Type 0 = λ kinds. IsAmong kind kinds in subst P m.taken among
 
 -- an error that shows help comes of words that ask for it
-asked : (words : List Text) (kind : ErrorKind) → (kind ≡ OutOfMemory) ⊎ IsAmong kind (fault_of cqf_app words) → kind ≢ OutOfMemory → (kind ≡ DisplayHelp) ⊎ (kind ≡ DisplayVersion) → AskForHelp words
+asked : (words : List Text) (kind : ErrorKind) → (kind ≡ OutOfMemory) ⊎ IsAmong kind (fault_of cqf_app words) → kind ≢ OutOfMemory →
+    (kind ≡ DisplayHelp) ⊎ (kind ≡ DisplayVersion) → AskForHelp words
 asked words kind (inl none) known shown = absurd (known none)
 asked words kind (inr among) known shown =
     let P : ErrorKind → Type 0 = λ k. IsAmong k (fault_of cqf_app words) in
     elim shown [ inl h ↦ inl (subst P h among) | inr v ↦ inr (subst P v among) ]
 
 -- an error that isn't for memory is one of the words' faults
-among_faults : (words : List Text) (kind : ErrorKind) → (kind ≡ OutOfMemory) ⊎ IsAmong kind (fault_of cqf_app words) → kind ≢ OutOfMemory → IsAmong kind (fault_of cqf_app words)
+among_faults : (words : List Text) (kind : ErrorKind) → (kind ≡ OutOfMemory) ⊎ IsAmong kind (fault_of cqf_app words) → kind ≢ OutOfMemory →
+    IsAmong kind (fault_of cqf_app words)
 among_faults words kind (inl none) known = absurd (known none)
 among_faults words kind (inr among) known = among
 
+-- an end with status 0 has no status 3
 not_three : (stop : Stop) → stop.status ≡ 0 → stop.status ≢ 3
 not_three stop zero three = omega arith
 
-pub EndsWords-by_fault : (words : List Text) (kind : ErrorKind) (stop : Stop) → (kind ≡ OutOfMemory) ⊎ IsAmong kind (fault_of cqf_app words) → EndsBy kind stop → EndsWords words stop
+-- a fault of the words ends the run by its kind
+pub EndsWords-by_fault : (words : List Text) (kind : ErrorKind) (stop : Stop) → (kind ≡ OutOfMemory) ⊎ IsAmong kind (fault_of cqf_app words) →
+    EndsBy kind stop → EndsWords words stop
 EndsWords-by_fault words kind stop h e = record {
   statuses = e.statuses;
   no_job = λ known job. no_job-by_fault words kind h (e.known known) job;
@@ -82,13 +94,15 @@ simple : is_simple_and_free cqf_app ≡ true
 simple = refl
 
 -- the same of what clap says of an error, for a command that is the program's
-pub EndsWords-by_error : (app : App) (words : List Text) (error : Error) (stop : Stop) → app ≡ cqf_app → (is_simple_and_free app ≡ true → HasKind (fault_of app words) error) → EndsBy (kind_of error) stop → EndsWords words stop
+pub EndsWords-by_error : (app : App) (words : List Text) (error : Error) (stop : Stop) → app ≡ cqf_app →
+    (is_simple_and_free app ≡ true → HasKind (fault_of app words) error) → EndsBy (kind_of error) stop → EndsWords words stop
 EndsWords-by_error app words error stop same fails e =
     let P : App → Type 0 = λ a. HasKind (fault_of a words) error in
     EndsWords-by_fault words (kind_of error) stop (subst P same (fails (ap is_simple_and_free same ∙ simple))) e
 
 -- where clap takes the words, and no job is read of them, they mean none
-pub EndsWords-by_rate : (words : List Text) (stop : Stop) → EndsBy InvalidValue stop → fault_of cqf_app words ≡ [] → ((job : Job) → ¬ IsJob job (subcommand_of cqf_app words)) → EndsWords words stop
+pub EndsWords-by_rate : (words : List Text) (stop : Stop) → EndsBy InvalidValue stop → fault_of cqf_app words ≡ [] →
+    ((job : Job) → ¬ IsJob job (subcommand_of cqf_app words)) → EndsWords words stop
 EndsWords-by_rate words stop e taken none = record {
   statuses = e.statuses;
   no_job = λ known job m. none job m.read;
@@ -98,14 +112,17 @@ EndsWords-by_rate words stop e taken none = record {
 }
 
 -- the rows of the command's matches, for a command that is the program's
-pub EndsWords-by_matches : (app : App) (words : List Text) (matches : ArgMatches) (stop : Stop) → app ≡ cqf_app → (is_simple_and_free app ≡ true → fault_of app words ≡ []) → HasMatchesOf app words matches → EndsBy InvalidValue stop → ((job : Job) → ¬ IsJob job (subcommand_rows_of matches)) → EndsWords words stop
+pub EndsWords-by_matches : (app : App) (words : List Text) (matches : ArgMatches) (stop : Stop) → app ≡ cqf_app →
+    (is_simple_and_free app ≡ true → fault_of app words ≡ []) → HasMatchesOf app words matches → EndsBy InvalidValue stop →
+    ((job : Job) → ¬ IsJob job (subcommand_rows_of matches)) → EndsWords words stop
 EndsWords-by_matches app words matches stop same taken has e none =
     let rows : subcommand_rows_of matches ≡ subcommand_of cqf_app words = (has (ap is_simple same ∙ refl)).1 ∙ ap (λ (a : App). subcommand_of a words) same in
     let P : Option (Text × List Row) → Type 0 = λ r. (job : Job) → ¬ IsJob job r in
     EndsWords-by_rate words stop e (ap (λ (a : App). fault_of a words) (sym same) ∙ taken (ap is_simple_and_free same ∙ simple)) (subst P rows none)
 
 -- and the job that is read of them is what the words mean
-pub Mean-by_matches : (app : App) (words : List Text) (matches : ArgMatches) (job : Job) → app ≡ cqf_app → (is_simple_and_free app ≡ true → fault_of app words ≡ []) → HasMatchesOf app words matches → IsJob job (subcommand_rows_of matches) → Mean words job
+pub Mean-by_matches : (app : App) (words : List Text) (matches : ArgMatches) (job : Job) → app ≡ cqf_app →
+    (is_simple_and_free app ≡ true → fault_of app words ≡ []) → HasMatchesOf app words matches → IsJob job (subcommand_rows_of matches) → Mean words job
 Mean-by_matches app words matches job same taken has is_job =
     let rows : subcommand_rows_of matches ≡ subcommand_of cqf_app words = (has (ap is_simple same ∙ refl)).1 ∙ ap (λ (a : App). subcommand_of a words) same in
     let P : Option (Text × List Row) → Type 0 = λ r. IsJob job r in

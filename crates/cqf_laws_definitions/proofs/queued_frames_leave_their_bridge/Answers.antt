@@ -7,4 +7,5 @@ use Rattle.cqf_laws_definitions.proofs.queued_frames_leave_their_bridge.Goals as
 pub returns : goal.returns
 returns c run carried bridge end p row came queued =
     let w = judged run.domain run.tables bridge (received_before run carried bridge end) [] p came in
-    queued_leaves run.domain run.tables bridge c.verdicts_have_their_reason.ensures.edge c.verdicts_have_their_reason.ensures.inside w.0 p.received p.received.way row (sym w.1 ∙ queued)
+    queued_leaves run.domain run.tables bridge c.verdicts_have_their_reason.ensures.edge c.verdicts_have_their_reason.ensures.inside w.0 p.received
+    p.received.way row (sym w.1 ∙ queued)

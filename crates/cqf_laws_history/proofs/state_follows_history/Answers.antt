@@ -1,4 +1,6 @@
-use Rattle.cqf_laws_history.proofs.Growth.{granted_is_held, held_are_sound, history_goes_on, refused_changes_nothing, seal_closes_table, seal_lets_go, seals_are_counted, withdrawn_is_held_on}
+use Rattle.cqf_laws_history.proofs.Growth.{granted_is_held, held_are_sound, history_goes_on, refused_changes_nothing, seal_closes_table, seal_lets_go}
+use Rattle.cqf_laws_history.proofs.Growth.{seals_are_counted, withdrawn_is_held_on}
+use Rattle.cqf_laws_history.proofs.Granted.{granted_finds_room}
 use Rattle.cqf_laws_history.proofs.state_follows_history.Goals as goal
 
 pub returns-clause-goes_on : goal.returns-clause-goes_on
@@ -9,6 +11,9 @@ returns-clause-counted c = seals_are_counted
 
 pub returns-clause-granted : goal.returns-clause-granted
 returns-clause-granted c = granted_is_held
+
+pub returns-clause-room : goal.returns-clause-room
+returns-clause-room c = granted_finds_room
 
 pub returns-clause-refused : goal.returns-clause-refused
 returns-clause-refused c = refused_changes_nothing

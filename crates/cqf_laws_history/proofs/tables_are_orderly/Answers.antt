@@ -1,5 +1,5 @@
 use Rattle.cqf_laws_history.proofs.Orderly.{rows_ascend, tables_orderly}
-use Rattle.cqf_lists.proofs.Below.{length-singles}
+use Rattle.cqf_lists.proofs.EachBelow.{length-singles}
 use Rattle.cqf_model.specs.History.{table_at}
 use Rattle.cqf_laws_history.proofs.tables_are_orderly.Goals as goal
 

@@ -14,4 +14,5 @@ loop-place-preserved c = below_more _ _ c.loop-place.invariant (sym c.is_branch_
 
 pub returns : goal.returns
 returns c =
-    least_none_from (is_broken_at c.args.domain.now (map string_bytes c.args.branch.now)) (length c.args.branch.now + 1) (λ k h. c.loop-place.invariant k (omega (arith, h)))
+    least_none_from (is_broken_at c.args.domain.now (map string_bytes c.args.branch.now)) (length c.args.branch.now + 1)
+    (λ k h. c.loop-place.invariant k (omega (arith, h)))

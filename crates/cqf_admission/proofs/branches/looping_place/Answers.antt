@@ -11,4 +11,5 @@ returns-then-is_branch_looping_at c =
 
 pub returns : goal.returns
 returns c =
-    least_none_from (is_loop_at c.args.domain.now (map string_bytes c.args.branch.now)) (length c.args.branch.now + 1) (λ k h. c.loop-place.invariant k (omega (arith, h)))
+    least_none_from (is_loop_at c.args.domain.now (map string_bytes c.args.branch.now)) (length c.args.branch.now + 1)
+    (λ k h. c.loop-place.invariant k (omega (arith, h)))

@@ -31,7 +31,8 @@ returns-then-is_some c effect =
     (ap (λ (n : List ℕ). position (λ (r : Row). is_text r.name n) rows) (sym named) ∙ sym c.place_of.ensures ∙ c.in-Some-place_of.is) in
     let shown : c.rows-rows.result.now ≡ rows = c.rows-rows.ensures in
     let at : slice_get c.rows-rows.result.now c.in-Some-place_of.place ≡ Some row =
-    slice_get_read c.rows-rows.result.now (length c.rows-rows.result.now) c.in-Some-place_of.place row refl (omega (arith, found.0, ap (λ (rs : List Row). length rs) shown)) c.index-rows-place.is in
+    slice_get_read c.rows-rows.result.now (length c.rows-rows.result.now) c.in-Some-place_of.place row refl
+    (omega (arith, found.0, ap (λ (rs : List Row). length rs) shown)) c.index-rows-place.is in
     ap (withdraw_reply effect) (found.1 ∙ ap (λ (rs : List Row). slice_get rs c.in-Some-place_of.place) (sym shown) ∙ at)
     ∙ ended_reply effect row.no row.withdrawn (sym c.is_some.ensures ∙ c.if-is_some.true)
 
@@ -45,5 +46,13 @@ returns c =
     let shown : c.rows-rows.result.now ≡ rows = c.rows-rows.ensures in
     let at : slice_get rows c.in-Some-place_of.place ≡ Some row =
     ap (λ (rs : List Row). slice_get rs c.in-Some-place_of.place) (sym shown)
-    ∙ slice_get_read c.rows-rows.result.now (length c.rows-rows.result.now) c.in-Some-place_of.place row refl (omega (arith, found.0, ap (λ (rs : List Row). length rs) shown)) c.index-rows-place.is in
-    record { row = row; inside = found.0; is = at; named = found.1 ∙ at; open_end = none_from row.withdrawn (sym c.is_some.ensures ∙ c.if-is_some.false); numbered = refl }
+    ∙ slice_get_read c.rows-rows.result.now (length c.rows-rows.result.now) c.in-Some-place_of.place row refl
+    (omega (arith, found.0, ap (λ (rs : List Row). length rs) shown)) c.index-rows-place.is in
+    record {
+      row = row;
+      inside = found.0;
+      is = at;
+      named = found.1 ∙ at;
+      open_end = none_from row.withdrawn (sym c.is_some.ensures ∙ c.if-is_some.false);
+      numbered = refl;
+    }

@@ -26,7 +26,8 @@ returns-in_err-tree c =
     let form : is_name asked.name ≡ true = ap is_name (sym c.as_bytes.ensures.value) ∙ c.in-Some.ensures.form.0 refl in
     let p = err_from_is_err_and c.from_residual.result c.from_residual.ensures.1 in
     let first = refusal_by_tree d rows asked form c.if-request-lt-LEAST_OCTETS.false c.if-request-gt-MOST_OCTETS.false in
-    rw (p.1, p.2) (first ∙ ap (λ (o : Option Refused). or_else o (later_refusal d rows asked)) (ap (λ xs. tree_refusal d (branches_of xs)) (sym c.as_slice.ensures.value) ∙ c.in_err-tree.ensures))
+    rw (p.1, p.2) (first ∙ ap (λ (o : Option Refused). or_else o (later_refusal d rows asked))
+    (ap (λ xs. tree_refusal d (branches_of xs)) (sym c.as_slice.ensures.value) ∙ c.in_err-tree.ensures))
 
 pub returns-then-is_some : goal.returns-then-is_some
 returns-then-is_some c =
@@ -38,7 +39,9 @@ returns-then-is_some c =
     let whole : tree_refusal d asked.paths ≡ None = ap (λ xs. tree_refusal d (branches_of xs)) (sym c.as_slice.ensures.value) ∙ c.in_ok-tree.ensures.0 in
     let later = refusal_later d rows asked form c.if-request-lt-LEAST_OCTETS.false c.if-request-gt-MOST_OCTETS.false whole in
     let found : list_any (λ (row : Row). is_text row.name asked.name) rows ≡ true =
-    ap (λ (n : List ℕ). list_any (λ (row : Row). is_text row.name n) rows) (sym named) ∙ sym (position_any (λ (row : Row). is_text row.name c.in-Some.name) rows) ∙ ap is_some (sym c.place_of.ensures) ∙ sym c.is_some.ensures ∙ c.if-is_some.true in
+    ap (λ (n : List ℕ). list_any (λ (row : Row). is_text row.name n) rows) (sym named)
+    ∙ sym (position_any (λ (row : Row). is_text row.name c.in-Some.name) rows) ∙ ap is_some (sym c.place_of.ensures) ∙ sym c.is_some.ensures
+    ∙ c.if-is_some.true in
     later ∙ refusal_held d rows asked found
 
 pub returns-then-rows-ge-MOST_STREAMS : goal.returns-then-rows-ge-MOST_STREAMS
@@ -51,7 +54,9 @@ returns-then-rows-ge-MOST_STREAMS c =
     let whole : tree_refusal d asked.paths ≡ None = ap (λ xs. tree_refusal d (branches_of xs)) (sym c.as_slice.ensures.value) ∙ c.in_ok-tree.ensures.0 in
     let later = refusal_later d rows asked form c.if-request-lt-LEAST_OCTETS.false c.if-request-gt-MOST_OCTETS.false whole in
     let found : list_any (λ (row : Row). is_text row.name asked.name) rows ≡ false =
-    ap (λ (n : List ℕ). list_any (λ (row : Row). is_text row.name n) rows) (sym named) ∙ sym (position_any (λ (row : Row). is_text row.name c.in-Some.name) rows) ∙ ap is_some (sym c.place_of.ensures) ∙ sym c.is_some.ensures ∙ c.if-is_some.false in
+    ap (λ (n : List ℕ). list_any (λ (row : Row). is_text row.name n) rows) (sym named)
+    ∙ sym (position_any (λ (row : Row). is_text row.name c.in-Some.name) rows) ∙ ap is_some (sym c.place_of.ensures) ∙ sym c.is_some.ensures
+    ∙ c.if-is_some.false in
     let many : 1024 ≤ length rows = omega (arith, c.if-rows-ge-MOST_STREAMS.true, ap (λ (xs : List Row). length xs) c.rows.ensures) in
     later ∙ refusal_many d rows asked found many
 
@@ -72,7 +77,9 @@ returns-in-Some-short_of c =
     let whole : tree_refusal d asked.paths ≡ None = ap (λ xs. tree_refusal d (branches_of xs)) (sym c.as_slice.ensures.value) ∙ c.in_ok-tree.ensures.0 in
     let later = refusal_later d rows asked form c.if-request-lt-LEAST_OCTETS.false c.if-request-gt-MOST_OCTETS.false whole in
     let found : list_any (λ (row : Row). is_text row.name asked.name) rows ≡ false =
-    ap (λ (n : List ℕ). list_any (λ (row : Row). is_text row.name n) rows) (sym named) ∙ sym (position_any (λ (row : Row). is_text row.name c.in-Some.name) rows) ∙ ap is_some (sym c.place_of.ensures) ∙ sym c.is_some.ensures ∙ c.if-is_some.false in
+    ap (λ (n : List ℕ). list_any (λ (row : Row). is_text row.name n) rows) (sym named)
+    ∙ sym (position_any (λ (row : Row). is_text row.name c.in-Some.name) rows) ∙ ap is_some (sym c.place_of.ensures) ∙ sym c.is_some.ensures
+    ∙ c.if-is_some.false in
     let linked : c.in_ok-tree.tree.items ≡ tree_of d asked.paths = c.in_ok-tree.ensures.1 ∙ ap (λ xs. tree_of d (branches_of xs)) c.as_slice.ensures.value in
     let few : length rows < 1024 = omega (arith, c.if-rows-ge-MOST_STREAMS.false, ap (λ (xs : List Row). length xs) c.rows.ensures) in
     let asked_same : short_refusal d rows (cost_of asked.octets) (tree_of d asked.paths) ≡ c.short_of.result =
@@ -91,7 +98,9 @@ returns c =
     let whole : tree_refusal d asked.paths ≡ None = ap (λ xs. tree_refusal d (branches_of xs)) (sym c.as_slice.ensures.value) ∙ c.in_ok-tree.ensures.0 in
     let later = refusal_later d rows asked form c.if-request-lt-LEAST_OCTETS.false c.if-request-gt-MOST_OCTETS.false whole in
     let found : list_any (λ (row : Row). is_text row.name asked.name) rows ≡ false =
-    ap (λ (n : List ℕ). list_any (λ (row : Row). is_text row.name n) rows) (sym named) ∙ sym (position_any (λ (row : Row). is_text row.name c.in-Some.name) rows) ∙ ap is_some (sym c.place_of.ensures) ∙ sym c.is_some.ensures ∙ c.if-is_some.false in
+    ap (λ (n : List ℕ). list_any (λ (row : Row). is_text row.name n) rows) (sym named)
+    ∙ sym (position_any (λ (row : Row). is_text row.name c.in-Some.name) rows) ∙ ap is_some (sym c.place_of.ensures) ∙ sym c.is_some.ensures
+    ∙ c.if-is_some.false in
     let linked : c.in_ok-tree.tree.items ≡ tree_of d asked.paths = c.in_ok-tree.ensures.1 ∙ ap (λ xs. tree_of d (branches_of xs)) c.as_slice.ensures.value in
     let few : length rows < 1024 = omega (arith, c.if-rows-ge-MOST_STREAMS.false, ap (λ (xs : List Row). length xs) c.rows.ensures) in
     let asked_same : short_refusal d rows (cost_of asked.octets) (tree_of d asked.paths) ≡ c.short_of.result =

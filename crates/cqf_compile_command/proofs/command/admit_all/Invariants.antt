@@ -8,4 +8,5 @@ abbrev pub invariant-loop-place : goal.invariant-loop-place
 invariant-loop-place l =
     (l.admission.domain ≡ l.fn.admission.domain)
     × AreAllHeld l.admission.domain l.admission.entries
-    × (admitted_from l.fn.admission.domain [] 1 (map asked_of l.fn.requests) ≡ admitted_from l.fn.admission.domain l.admission.entries (l.place + 1) (map asked_of (drop l.place l.requests)))
+    × (admitted_from l.fn.admission.domain [] 1 (map asked_of l.fn.requests) ≡ admitted_from l.fn.admission.domain l.admission.entries (l.place + 1)
+    (map asked_of (drop l.place l.requests)))

@@ -15,7 +15,8 @@ returns-else-is_memory c not_memory =
     let text = c.args.text.now in
     elim (cases_Bool (is_utf8 text)) [
       | inl is_text ↦
-          let refused = c.in-Err.ensures.refused (λ kind. false≢true (sym c.if-is_memory.false ∙ c.is_memory.ensures.1 kind)) (IsUtf8-from_is_utf8 text is_text) in
+          let refused = c.in-Err.ensures.refused (λ kind. false≢true (sym c.if-is_memory.false ∙ c.is_memory.ensures.1 kind))
+          (IsUtf8-from_is_utf8 text is_text) in
           rw (is_text, refused)
       | inr other ↦ rw other
     ]

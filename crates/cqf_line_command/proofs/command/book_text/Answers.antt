@@ -1,6 +1,6 @@
 use Rattle.std.proofs.Common.{◌∙◌, ap}
 use Rattle.cqf_model.specs.Domain.{Domain}
-use Rattle.cqf_line.specs.Run.{contents_of}
+use Rattle.cqf_model.specs.Book.{contents_of}
 use Rattle.cqf_report.specs.Books.{text_of_book}
 use Rattle.cqf_line_command.proofs.command.book_text.Goals as goal
 

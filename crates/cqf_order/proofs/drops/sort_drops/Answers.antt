@@ -5,7 +5,8 @@ use Rattle.cqf_order.proofs.drops.sort_drops.Goals as goal
 
 pub returns-in_err-sort_by_key-3-clause-moved : goal.returns-in_err-sort_by_key-3-clause-moved
 returns-in_err-sort_by_key-3-clause-moved c =
-    IsPermutation-trans _ _ _ c.sort_by_key.ensures.permutation (IsPermutation-trans _ _ _ c.sort_by_key-2.ensures.permutation c.sort_by_key-3.ensures.permutation)
+    IsPermutation-trans _ _ _ c.sort_by_key.ensures.permutation
+    (IsPermutation-trans _ _ _ c.sort_by_key-2.ensures.permutation c.sort_by_key-3.ensures.permutation)
 
 pub returns-clause-ok : goal.returns-clause-ok
 returns-clause-ok c =
@@ -28,4 +29,5 @@ returns-clause-ok c =
 
 pub returns-clause-moved : goal.returns-clause-moved
 returns-clause-moved c =
-    IsPermutation-trans _ _ _ c.sort_by_key.ensures.permutation (IsPermutation-trans _ _ _ c.sort_by_key-2.ensures.permutation c.sort_by_key-3.ensures.permutation)
+    IsPermutation-trans _ _ _ c.sort_by_key.ensures.permutation
+    (IsPermutation-trans _ _ _ c.sort_by_key-2.ensures.permutation c.sort_by_key-3.ensures.permutation)

@@ -1,6 +1,7 @@
 use Rattle.std.proofs.Common.{[], ◌++◌, ℕ, List, Vec, Global, Some, codes}
+use Rattle.cqf_model.specs.Book.{contents_of}
 use Rattle.cqf_report.specs.Written.{HasWritten, line_of}
-use Rattle.cqf_report.specs.Books.{book_header, contents_of, lines_of_starts, text_of_book}
+use Rattle.cqf_report.specs.Books.{book_header, lines_of_starts, text_of_book}
 use Rattle.cqf_report.proofs.WrittenLemmas.{handed-out}
 use Rattle.cqf_report.proofs.books.write_book.Goals as goal
 

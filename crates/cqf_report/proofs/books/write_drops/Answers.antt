@@ -15,10 +15,12 @@ loop-dropped-preserved g c text has =
     let line = λ (dropped : Dropped). line_of (dropped_fields c.args.domain.now dropped) in
     let Written : List ℕ → Type 0 = λ t. HasWritten g.W.Write.contents c.write_dropped.new.writer t in
     subst Written (more-lines line text c.args.drops.now c.loop-dropped.dropped-index _ c.loop-dropped-test.true)
-    (c.in_ok-write_dropped.ensures (text ++ lines_of_drops c.args.domain.now (take c.loop-dropped.dropped-index c.args.drops.now)) (c.loop-dropped.invariant text has))
+    (c.in_ok-write_dropped.ensures (text ++ lines_of_drops c.args.domain.now (take c.loop-dropped.dropped-index c.args.drops.now))
+    (c.loop-dropped.invariant text has))
 
 pub returns : goal.returns
 returns g c text has =
     let line = λ (dropped : Dropped). line_of (dropped_fields c.args.domain.now dropped) in
     let Written : List ℕ → Type 0 = λ t. HasWritten g.W.Write.contents c.loop-dropped.writer t in
-    subst Written (all-lines line text c.args.drops.now c.args.drops.now c.loop-dropped.dropped-index refl c.loop-dropped-test.false) (c.loop-dropped.invariant text has)
+    subst Written (all-lines line text c.args.drops.now c.args.drops.now c.loop-dropped.dropped-index refl c.loop-dropped-test.false)
+    (c.loop-dropped.invariant text has)

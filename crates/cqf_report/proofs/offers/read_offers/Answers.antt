@@ -5,7 +5,9 @@ use Rattle.cqf_report.proofs.TableLemmas.{ok-of}
 use Rattle.cqf_report.proofs.offers.read_offers.Goals as goal
 
 pub returns-clause-good : goal.returns-clause-good
-returns-clause-good c = ok-of c.read_table.result _ (λ v. AreOffers c.args.domain.now v.items) c.read_table.ensures.ok (λ v is. offers-good c.args.domain.now c.args.text.now v.items is)
+returns-clause-good c = ok-of c.read_table.result _ (λ v. AreOffers c.args.domain.now v.items) c.read_table.ensures.ok
+    (λ v is. offers-good c.args.domain.now c.args.text.now v.items is)
 
 pub returns-clause-few : goal.returns-clause-few
-returns-clause-few c = ok-of c.read_table.result _ (λ v. length v.items ≤ 1000000) c.read_table.ensures.ok (λ v is. offers-few c.args.domain.now c.args.text.now v.items is)
+returns-clause-few c = ok-of c.read_table.result _ (λ v. length v.items ≤ 1000000) c.read_table.ensures.ok
+    (λ v is. offers-few c.args.domain.now c.args.text.now v.items is)

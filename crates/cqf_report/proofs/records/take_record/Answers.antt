@@ -6,11 +6,13 @@ use Rattle.cqf_report.proofs.records.take_record.Goals as goal
 pub returns-in-Ok-true-clause-taken : goal.returns-in-Ok-true-clause-taken
 returns-in-Ok-true-clause-taken g c expected rows gives =
     let read = c.in-Ok-true.ensures in
-    takes-row g.R.Read.remaining expected c.args.reader.now c.read_byte_record.new.self (fields_of c.read_byte_record.new.row) rows gives (rw c.in-Ok-true.field-0-test at (read.reads gives.untrimmed gives.ready)) (read.ready gives.untrimmed) read.flexible
+    takes-row g.R.Read.remaining expected c.args.reader.now c.read_byte_record.new.self (fields_of c.read_byte_record.new.row) rows gives
+    (rw c.in-Ok-true.field-0-test at (read.reads gives.untrimmed gives.ready)) (read.ready gives.untrimmed) read.flexible
 
 pub returns-in-Ok-false-clause-taken : goal.returns-in-Ok-false-clause-taken
 returns-in-Ok-false-clause-taken g c expected rows gives =
-    takes-none g.R.Read.remaining expected c.args.reader.now c.read_byte_record.new.self (fields_of c.read_byte_record.new.row) rows gives (rw c.in-Ok-false.field-0-test at (c.in-Ok-false.ensures.reads gives.untrimmed gives.ready))
+    takes-none g.R.Read.remaining expected c.args.reader.now c.read_byte_record.new.self (fields_of c.read_byte_record.new.row) rows gives
+    (rw c.in-Ok-false.field-0-test at (c.in-Ok-false.ensures.reads gives.untrimmed gives.ready))
 
 pub returns-in-UnequalLengths-clause-taken : goal.returns-in-UnequalLengths-clause-taken
 returns-in-UnequalLengths-clause-taken g c expected rows gives =

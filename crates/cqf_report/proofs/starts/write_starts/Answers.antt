@@ -21,6 +21,7 @@ loop-start-preserved c =
 pub returns : goal.returns
 returns c =
     let Written : List ℕ → Type 0 = λ text. HasWritten (λ (w : Vec ℕ Global). Some w.items) c.loop-start.writer text in
-    let all : take c.loop-start.start-index c.args.starts.now ≡ c.args.starts.now = take_all c.loop-start.start-index c.args.starts.now c.loop-start-test.false in
+    let all : take c.loop-start.start-index c.args.starts.now ≡ c.args.starts.now =
+    take_all c.loop-start.start-index c.args.starts.now c.loop-start-test.false in
     handed-out c.written_text.result (λ w. w.items) Written (text_of_starts (nanos_of_octet c.args.rate) c.args.starts.now)
     c.written_text.ensures (rw all at c.loop-start.invariant)

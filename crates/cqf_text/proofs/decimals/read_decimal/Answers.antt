@@ -25,4 +25,5 @@ returns-in-None c =
     let bytes = c.args.bytes.now in
     let place = c.loop-byte.byte-index in
     let worth = digit_value_digit (get_or bytes place 0) (search rules) in
-    none_by_size c.args.least c.args.most (place + 1) bytes (omega (arith, digits_value_more 10 bytes place c.loop-byte-test.true, worth, c.loop-byte.invariant.value, c.in-None.ensures))
+    none_by_size c.args.least c.args.most (place + 1) bytes
+    (omega (arith, digits_value_more 10 bytes place c.loop-byte-test.true, worth, c.loop-byte.invariant.value, c.in-None.ensures))

@@ -8,9 +8,8 @@ use Rattle.cqf_laws_history.specs.StateLaws.{with_entry}
 use Rattle.cqf_admission.specs.Admission.{Administration, Closes, IsRunning, LetsGo, recorded_of}
 use Rattle.cqf_admission.specs.Tables.{AreInOrder, AreTrees, CycleTable}
 use Rattle.cqf_admission.specs.declared.entries.Call.TheVariants.{Seal}
-use Rattle.cqf_admission.specs.declared.entries.Entry.{Entry}
 use Rattle.cqf_admission.specs.declared.entries.SealFault.{SealFault}
-use Rattle.cqf_admission.proofs.RunLemmas.{held_behind, pushed_entries, run_sealed}
+use Rattle.cqf_admission.proofs.RunLemmas.{entered_behind, held_behind, run_sealed}
 use Rattle.cqf_admission.proofs.TableLemmas.{trees_go_along_links}
 use Rattle.cqf_admission.proofs.admission.Admission.seal.Goals as goal
 
@@ -20,11 +19,14 @@ invariant_of-self-2 c =
     let entries = map recorded_of c.self.inside.history.items in
     let rows = c.self.inside.held.rows in
     let items : map recorded_of c.enter.new.history.items ≡ with_entry entries c.args.seat Seals Sealed =
-    pushed_entries c.reserve.new.self.items c.enter.new.history.items (record { seat = c.args.seat; call = Seal; reply = Sealed }) c.enter.ensures
-    ∙ ap (λ (es : List Entry). with_entry (map recorded_of es) c.args.seat Seals Sealed) c.reserve.ensures.items in
-    let after = run_sealed c.state_follows_history.ensures.goes_on c.state_follows_history.ensures.counted c.state_follows_history.ensures.lets_go d entries rows c.self.inside.next c.self.inside.sealed c.args.seat c.self.invariant (omega arith) in
+    entered_behind c.self.inside.history.items c.reserve.new.self.items c.enter.new.history.items
+    (record { seat = c.args.seat; call = Seal; reply = Sealed }) Seals
+    c.reserve.ensures.items c.enter.ensures refl in
+    let after = run_sealed c.state_follows_history.ensures.goes_on c.state_follows_history.ensures.counted
+    c.state_follows_history.ensures.lets_go d entries rows c.self.inside.next c.self.inside.sealed c.args.seat c.self.invariant (omega arith) in
     subst (λ (rs : List Row). IsRunning d (map recorded_of c.enter.new.history.items) rs c.self.inside.next (c.self.inside.sealed + 1)) (sym c.let_go.ensures)
-    (subst (λ (es : List Recorded). IsRunning d es (filter (λ (row : Row). is_held row (c.self.inside.sealed + 1)) rows) c.self.inside.next (c.self.inside.sealed + 1)) (sym items) after)
+    (subst (λ (es : List Recorded). IsRunning d es (filter (λ (row : Row). is_held row (c.self.inside.sealed + 1)) rows) c.self.inside.next
+    (c.self.inside.sealed + 1)) (sym items) after)
 
 pub returns-clause-closes : goal.returns-clause-closes
 returns-clause-closes c =
@@ -32,8 +34,9 @@ returns-clause-closes c =
     let entries = map recorded_of c.self.inside.history.items in
     let rows = c.self.inside.held.rows in
     let items : map recorded_of c.enter.new.history.items ≡ with_entry entries c.args.seat Seals Sealed =
-    pushed_entries c.reserve.new.self.items c.enter.new.history.items (record { seat = c.args.seat; call = Seal; reply = Sealed }) c.enter.ensures
-    ∙ ap (λ (es : List Entry). with_entry (map recorded_of es) c.args.seat Seals Sealed) c.reserve.ensures.items in
+    entered_behind c.self.inside.history.items c.reserve.new.self.items c.enter.new.history.items
+    (record { seat = c.args.seat; call = Seal; reply = Sealed }) Seals
+    c.reserve.ensures.items c.enter.ensures refl in
     let old : Administration = record { domain = d; entries = entries } in
     let new : Administration = record { domain = d; entries = map recorded_of c.enter.new.history.items } in
     let result : Result CycleTable SealFault = Ok c.new.result in
@@ -45,7 +48,8 @@ returns-clause-closes c =
 
 pub new-requires : goal.new-requires
 new-requires c =
-    let held = c.state_follows_history.ensures.held c.self.inside.domain (map recorded_of c.self.inside.history.items) c.self.inside.held.rows c.self.inside.next c.self.invariant.legal c.self.invariant.state in
+    let held = c.state_follows_history.ensures.held c.self.inside.domain
+    (map recorded_of c.self.inside.history.items) c.self.inside.held.rows c.self.inside.next c.self.invariant.legal c.self.invariant.state in
     subst AreInOrder (sym (c.in-Ok.ensures ∙ c.rows.ensures)) (record { numbers = held.numbers; names = held.names })
 
 pub returns-clause-lets_go : goal.returns-clause-lets_go
@@ -54,8 +58,9 @@ returns-clause-lets_go c =
     let entries = map recorded_of c.self.inside.history.items in
     let rows = c.self.inside.held.rows in
     let items : map recorded_of c.enter.new.history.items ≡ with_entry entries c.args.seat Seals Sealed =
-    pushed_entries c.reserve.new.self.items c.enter.new.history.items (record { seat = c.args.seat; call = Seal; reply = Sealed }) c.enter.ensures
-    ∙ ap (λ (es : List Entry). with_entry (map recorded_of es) c.args.seat Seals Sealed) c.reserve.ensures.items in
+    entered_behind c.self.inside.history.items c.reserve.new.self.items c.enter.new.history.items
+    (record { seat = c.args.seat; call = Seal; reply = Sealed }) Seals
+    c.reserve.ensures.items c.enter.ensures refl in
     let new : Administration = record { domain = d; entries = map recorded_of c.enter.new.history.items } in
     let held = c.state_follows_history.ensures.held d entries rows c.self.inside.next c.self.invariant.legal c.self.invariant.state in
     let state = c.state_follows_history.ensures.lets_go d entries rows c.self.inside.next c.args.seat c.self.invariant.legal c.self.invariant.state in
@@ -64,7 +69,8 @@ returns-clause-lets_go c =
     subst (λ (a : Administration). LetsGo a new c.new.result) c.self.view_is
     (record {
       rows = table ∙ sym c.self.invariant.state.held;
-      held = held_behind d (with_entry entries c.args.seat Seals Sealed) (map recorded_of c.enter.new.history.items) (filter (λ (row : Row). is_held row (seals entries + 1)) rows) c.self.inside.next state (sym items)
+      held = held_behind d (with_entry entries c.args.seat Seals Sealed) (map recorded_of c.enter.new.history.items)
+          (filter (λ (row : Row). is_held row (seals entries + 1)) rows) c.self.inside.next state (sym items)
           ∙ ap (λ (rs : List Row). filter (λ (row : Row). is_held row (seals entries + 1)) rs) (sym c.self.invariant.state.held);
       trees = trees;
       links = trees_go_along_links d c.new.result.rows trees;

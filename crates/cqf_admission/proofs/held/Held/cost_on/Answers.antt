@@ -11,5 +11,6 @@ returns c =
     ∙ ap (λ (l : ℕ). masked_total l c.as_slice.result.now c.as_slice-2.result.now) c.from.ensures
     ∙ ap (λ (xs : List ℕ). masked_total c.args.link xs c.as_slice-2.result.now) c.as_slice.ensures.value
     ∙ ap (masked_total c.args.link c.self.inside.costs.items) c.as_slice-2.ensures.value
-    ∙ cost_by_columns c.self.inside.names.keys c.self.inside.rows.items c.self.inside.costs.items c.self.inside.masks.items c.args.link c.self.invariant c.requires
+    ∙ cost_by_columns c.self.inside.names.keys c.self.inside.rows.items c.self.inside.costs.items c.self.inside.masks.items c.args.link c.self.invariant
+    c.requires
     ∙ ap (λ (h : HeldRows). link_cost h.rows c.args.link) c.self.view_is

@@ -6,11 +6,16 @@ use Rattle.cqf_admission.proofs.held.Held.let_go.Goals as goal
 
 pub loop-place-preserved-then-not-is_held : goal.loop-place-preserved-then-not-is_held
 loop-place-preserved-then-not-is_held c =
-    swept_gone (λ (row : Row). is_held row c.args.cycle.0) c.self.inside.rows.items c.loop-place.place c.loop-place.self-inside.names.keys c.loop-place.self-inside.rows.items c.loop-place.self-inside.costs.items c.loop-place.self-inside.masks.items c.loop-place.invariant
-    c.index.result.now c.shift_remove_index.new.self.keys c.remove.new.self.items c.remove-then-not-is_held.new.self.items c.remove-then-not-is_held-2.new.self.items
-    c.loop-place-test.true c.index.ensures (sym c.is_held.ensures ∙ c.if-not-is_held.true) c.remove.ensures.items c.shift_remove_index.ensures.keys c.remove-then-not-is_held.ensures.items c.remove-then-not-is_held-2.ensures.items
+    swept_gone (λ (row : Row). is_held row c.args.cycle.0) c.self.inside.rows.items c.loop-place.place c.loop-place.self-inside.names.keys
+    c.loop-place.self-inside.rows.items c.loop-place.self-inside.costs.items c.loop-place.self-inside.masks.items c.loop-place.invariant
+    c.index.result.now c.shift_remove_index.new.self.keys c.remove.new.self.items c.remove-then-not-is_held.new.self.items
+    c.remove-then-not-is_held-2.new.self.items
+    c.loop-place-test.true c.index.ensures
+    (sym c.is_held.ensures ∙ c.if-not-is_held.true) c.remove.ensures.items c.shift_remove_index.ensures.keys c.remove-then-not-is_held.ensures.items
+    c.remove-then-not-is_held-2.ensures.items
 
 pub loop-place-preserved : goal.loop-place-preserved
 loop-place-preserved c =
-    swept_held (λ (row : Row). is_held row c.args.cycle.0) c.self.inside.rows.items c.loop-place.place c.loop-place.self-inside.names.keys c.loop-place.self-inside.rows.items c.loop-place.self-inside.costs.items c.loop-place.self-inside.masks.items c.loop-place.invariant
+    swept_held (λ (row : Row). is_held row c.args.cycle.0) c.self.inside.rows.items c.loop-place.place c.loop-place.self-inside.names.keys
+    c.loop-place.self-inside.rows.items c.loop-place.self-inside.costs.items c.loop-place.self-inside.masks.items c.loop-place.invariant
     c.index.result.now c.loop-place-test.true c.index.ensures (sym c.is_held.ensures ∙ c.if-not-is_held.false)

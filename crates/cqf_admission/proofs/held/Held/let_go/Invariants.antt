@@ -6,7 +6,8 @@ use Rattle.cqf_admission.proofs.held.Held.let_go.Given as goal
 
 abbrev pub invariant-loop-place : goal.invariant-loop-place
 invariant-loop-place l =
-    AreSwept (λ (row : Row). is_held row l.cycle.0) l.initial.self-inside.rows.items l.place l.self-inside.names.keys l.self-inside.rows.items l.self-inside.costs.items l.self-inside.masks.items
+    AreSwept (λ (row : Row). is_held row l.cycle.0) l.initial.self-inside.rows.items l.place l.self-inside.names.keys l.self-inside.rows.items
+    l.self-inside.costs.items l.self-inside.masks.items
 
 abbrev pub decreases-loop-place : goal.decreases-loop-place
 decreases-loop-place l = l.place

@@ -9,6 +9,7 @@ use Rattle.cqf_admission.proofs.table.Table.row_named.Goals as goal
 pub returns-clause-the_row : goal.returns-clause-the_row
 returns-clause-the_row c =
     let rows = c.self.inside.rows.items in
-    let found : option_copied c.row_with_name.result ≡ row_named rows c.args.name.now = c.row_with_name.ensures ∙ ap (λ (rs : List Row). row_named rs c.args.name.now) c.as_slice.ensures.value in
+    let found : option_copied c.row_with_name.result ≡ row_named rows c.args.name.now = c.row_with_name.ensures
+    ∙ ap (λ (rs : List Row). row_named rs c.args.name.now) c.as_slice.ensures.value in
     subst (λ (t : CycleTable). IsRowNamed t.rows c.args.name.now (option_copied c.row_with_name.result)) c.self.view_is
     (subst (λ (o : Option Row). IsRowNamed rows c.args.name.now o) (sym found) (the_row_named rows c.args.name.now c.self.invariant))

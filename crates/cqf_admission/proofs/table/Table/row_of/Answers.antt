@@ -9,6 +9,7 @@ use Rattle.cqf_admission.proofs.table.Table.row_of.Goals as goal
 pub returns-clause-the_row : goal.returns-clause-the_row
 returns-clause-the_row c =
     let rows = c.self.inside.rows.items in
-    let found : option_copied c.row_with_number.result ≡ row_of rows c.args.no = c.row_with_number.ensures ∙ ap (λ (rs : List Row). row_of rs c.args.no) c.as_slice.ensures.value in
+    let found : option_copied c.row_with_number.result ≡ row_of rows c.args.no = c.row_with_number.ensures
+    ∙ ap (λ (rs : List Row). row_of rs c.args.no) c.as_slice.ensures.value in
     subst (λ (t : CycleTable). IsRowOf t.rows c.args.no (option_copied c.row_with_number.result)) c.self.view_is
     (subst (λ (o : Option Row). IsRowOf rows c.args.no o) (sym found) (the_row_of rows c.args.no c.self.invariant))

@@ -19,7 +19,14 @@ invariant_of-result c =
     let no_delay : c.find_long_delay.result ≡ None = search rules in
     let no_gap : c.find_long_gap.result ≡ None = search rules in
     let few_links : length c.in_ok-links.links.items ≤ 64 = omega (arith, ap length same) in
-    checked-accepted t (record { cycle_time = c.cycle_time-cycle_time.result; guard = guard; bridges = bridges; stations = stations; links = c.in_ok-links.links.items })
+    checked-accepted t (record {
+      cycle_time = c.cycle_time-cycle_time.result;
+      guard = guard;
+      bridges = bridges;
+      stations = stations;
+      links =
+          c.in_ok-links.links.items;
+    })
     (subst (IsNumbered t bridges stations) (sym same) c.requires)
     c.cycle_time-cycle_time.ensures c.guard-guard.ensures (subst NoLinkTwice (sym same) (no-link-twice c.args.joined.now no_twice)) c.if-cycle_time-guard.false
     (ap (first_long_delay guard) same ∙ sym c.find_long_delay.ensures ∙ no_delay)

@@ -7,9 +7,10 @@ use Rattle.cqf_lists.specs.Results.{and_then}
 use Rattle.cqf_fields.specs.Fields.{each_from}
 use Rattle.cqf_topology.specs.StreamsText.{request_from, request_text}
 use Rattle.cqf_fields.proofs.Arrays.{with_front}
-use Rattle.cqf_topology.proofs.streams.read_requests.Given as goal
+use Rattle.cqf_topology.proofs.streams.requests_in.Given as goal
 
 abbrev pub invariant-loop-value : goal.invariant-loop-value
 invariant-loop-value l =
-    with_front (map request_text l.requests.items) (each_from (λ d. and_then (ok_or (as_table d) (BadValue Streams)) request_from) (items_view (drop l.value-index l.values)))
+    with_front (map request_text l.requests.items)
+    (each_from (λ d. and_then (ok_or (as_table d) (BadValue Streams)) request_from) (items_view (drop l.value-index l.values)))
     ≡ each_from (λ d. and_then (ok_or (as_table d) (BadValue Streams)) request_from) (items_view l.values)

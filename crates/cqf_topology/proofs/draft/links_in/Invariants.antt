@@ -7,7 +7,7 @@ use Rattle.cqf_lists.specs.Results.{and_then}
 use Rattle.cqf_fields.specs.Fields.{each_from}
 use Rattle.cqf_topology.specs.DomainText.{link_from}
 use Rattle.cqf_fields.proofs.Arrays.{with_front}
-use Rattle.cqf_topology.proofs.draft.read_links.Given as goal
+use Rattle.cqf_topology.proofs.draft.links_in.Given as goal
 
 abbrev pub invariant-loop-value : goal.invariant-loop-value
 invariant-loop-value l =

@@ -1,0 +1,41 @@
+-- Elements of a list by their places.
+use Rattle.std.proofs.Common.{◌≡◌, ℕ, ◌+◌, ◌<◌, ◌⊎◌, List, Some, None, length, refl, inl, inr, arith}
+use Rattle.std.specs.Prelude.{[], ◌∷◌, ◌++◌, slice_get, take, zero, suc}
+
+-- no list but the empty one has no first element
+pub nil_from_none : {X : Type 0} (xs : List X) → slice_get xs 0 ≡ None → xs ≡ []
+nil_from_none [] e = refl
+nil_from_none (x ∷ xs) e = absurd cc
+
+-- the first element of a list stays the first with more behind
+pub first_stays : {X : Type 0} (xs ys : List X) (x : X) → slice_get xs 0 ≡ Some x → slice_get (xs ++ ys) 0 ≡ Some x
+first_stays [] ys x e = absurd cc
+first_stays (z ∷ xs) ys x e = e
+
+-- an element of a front is the same with more behind it
+pub slice_get_front : {X : Type 0} (xs ys : List X) (k : ℕ) → k < length xs → slice_get (xs ++ ys) k ≡ slice_get xs k
+slice_get_front [] ys k h = absurd (omega (arith, h))
+slice_get_front (x ∷ xs) ys zero h = refl
+slice_get_front (x ∷ xs) ys (suc k) h = slice_get_front xs ys k (omega (arith, h))
+
+-- and the element behind a front
+pub slice_get_behind : {X : Type 0} (xs : List X) (y : X) (ys : List X) (k : ℕ) → k ≡ length xs → slice_get (xs ++ y ∷ ys) k ≡ Some y
+slice_get_behind [] y ys zero e = refl
+slice_get_behind [] y ys (suc k) e = absurd (omega (arith, e))
+slice_get_behind (x ∷ xs) y ys zero e = absurd (omega (arith, e))
+slice_get_behind (x ∷ xs) y ys (suc k) e = slice_get_behind xs y ys k (omega (arith, e))
+
+-- an element of a front is one of the list
+pub slice_get-take : {X : Type 0} (xs : List X) (n k : ℕ) → k < n → slice_get (take n xs) k ≡ slice_get xs k
+slice_get-take xs zero k h = absurd (omega (arith, h))
+slice_get-take [] (suc n) k h = refl
+slice_get-take (x ∷ xs) (suc n) zero h = refl
+slice_get-take (x ∷ xs) (suc n) (suc k) h = slice_get-take xs n k (omega (arith, h))
+
+-- an element of two lists end to end is one of the first, or of the second
+pub slice_get_parts : {X : Type 0} (xs ys : List X) (i : ℕ) (x : X) → slice_get (xs ++ ys) i ≡ Some x →
+    (slice_get xs i ≡ Some x) ⊎ ((k : ℕ) × (i ≡ length xs + k) × (slice_get ys k ≡ Some x))
+slice_get_parts [] ys i x e = inr (i, omega arith, e)
+slice_get_parts (z ∷ xs) ys zero x e = inl e
+slice_get_parts (z ∷ xs) ys (suc i) x e =
+    elim (slice_get_parts xs ys i x e) [ inl a ↦ inl a | inr b ↦ inr (b.0, omega (arith, b.1), b.2) ]
