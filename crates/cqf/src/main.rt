@@ -29,7 +29,7 @@
 ghost use Rattle.std.specs.Prelude.{codes};
 ghost use Rattle.cqf_stop.specs.Stops.{EndsWith, line_of};
 
-use cqf_engine::{engine, tell};
+use cqf_engine::{Heard, Told, engine, tell};
 use cqf_stop::{Stop, USAGE};
 use std::alloc::{AllocError, Global};
 use std::env::Env;
@@ -64,7 +64,8 @@ fn no_arguments(alloc: Global, error: &io::Error) -> Stop
 
 fn main(rt: HostRuntime) -> ExitCode {
     let alloc = rt.alloc();
-    let (mut input, mut output, mut faults) = (rt.stdin(), rt.stdout(), rt.stderr());
+    let mut input = Heard::new(alloc, rt.stdin());
+    let (mut output, mut faults) = (Told::new(rt.stdout()), Told::new(rt.stderr()));
     let words = match arguments(&rt) {
         Ok(words) => words,
         Err(error) => {

@@ -1,2 +1,2 @@
-mod BytesLemmas
+mod EdgeLemmas
 mod RunLemmas

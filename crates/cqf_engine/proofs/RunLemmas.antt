@@ -1,76 +1,137 @@
 -- From what each step of a run says to what the run comes to.
-use Rattle.std.proofs.Common.{◌≡◌, ◌≢◌, ◌⊎◌, ◌≤◌, ◌++◌, ◌∙◌, ℕ, List, [], ◌∷◌, Option, Some, None, length, arith, codes, inl, inr, sym, ap, subst, refl}
-use Rattle.std.specs.Prelude.{IfSome}
+use Rattle.std.proofs.Common.{◌≡◌, ◌≢◌, ◌⊎◌, ◌≤◌, ◌∙◌, ℕ, zero, suc, List, [], ◌∷◌, Bool, true, false, length, arith, codes, inl, inr, sym, subst, refl}
 use Rattle.std.specs.Str.{IsUtf8}
-use Rattle.std.specs.Io.KnownBytes.{Consumes, IsAtEnd}
-use Rattle.std.proofs.lemmas.List.{append-nil}
-use Rattle.cqf_engine.specs.Bytes.{EndsInput}
+use Rattle.std.specs.Io.KnownBytes.{IsAtEnd}
 use Rattle.cqf_stop.specs.Stops.{EndsWith, line_of}
 use Rattle.cqf_words.specs.Words.{EndsWords, Mean}
-use Rattle.cqf_engine.specs.Run.{first_line, input_of, words_of, Ends, HandsOver, HasTold, IsDone, IsInputFault, IsOutputFault, Tells, IsOutput, IsRefusal, IsStopped}
+use Rattle.cqf_engine.specs.Edge.{HasTold, IsHeard, Marks, Reading, Writing}
+use Rattle.cqf_engine.specs.Run.{first_line, input_of, words_of, Ends, EndsInput, EndsRead, HandsOver, HasCause, HasRun, IsBehindWords, IsDone, IsInputFault, IsOutput, IsOutputFault, IsRefusal, IsStopped, IsToldOutput, IsTooLong, Tells}
+use Rattle.cqf_engine.proofs.EdgeLemmas.{Appends-whole}
 use Rattle.cqf_stop.specs.declared.stops.Stop.{Stop}
+use Rattle.cqf_engine.specs.declared.heard.Broken.{Broken}
+use Rattle.cqf_engine.specs.declared.heard.Broken.TheVariants.{Memory, Fault}
 use Rattle.cqf_words.specs.declared.words.Job.{Job}
 use Rattle.cqf_words.specs.declared.words.Job.TheVariants.{Compile, Line, Port}
 
--- a reader at its end gave all that it had
-pub IfSome-read : (known after : Option (List ℕ)) (bytes : List ℕ) (P : List ℕ → Type 0) → Consumes known after bytes → IsAtEnd after → P bytes → IfSome known P
-IfSome-read None after bytes P taken ended h = tt
-IfSome-read (Some xs) None bytes P taken ended h = absurd taken
-IfSome-read (Some xs) (Some rest) bytes P taken ended h =
-    let whole : xs ≡ bytes = taken ∙ ap (λ x. bytes ++ x) ended ∙ append-nil bytes in
-    subst P (sym whole) h
-
-IfSome-any : (known : Option (List ℕ)) (P : List ℕ → Type 0) → ((bytes : List ℕ) → P bytes) → IfSome known P
-IfSome-any None P h = tt
-IfSome-any (Some bytes) P h = h bytes
-
--- words that mean no job stop the run
-IsStopped-given : (words : List (List ℕ)) (bytes : List ℕ) (stop : Stop) → words ≢ [] → EndsWords words stop → IsStopped words bytes stop
-IsStopped-given [] bytes stop some e = absurd (some refl)
-IsStopped-given (word ∷ words) bytes stop some e = record {
+-- words that mean no job, as they are given
+HasCause-given : (words : List (List ℕ)) (bytes : List ℕ) (stop : Stop) → words ≢ [] → EndsWords words stop → HasCause words bytes stop
+HasCause-given [] bytes stop some e = absurd (some refl)
+HasCause-given (word ∷ words) bytes stop some e = record {
   help = e.help;
   refused = λ one. absurd (elim e.statuses [ inl zero_is ↦ omega arith | inr other ↦ elim other [ inl two ↦ omega arith | inr three ↦ omega arith ] ]);
   misused = λ two. record { short = λ none. absurd (some none); cause = inr ((λ none. absurd (some none)), e.mistake two, e.no_job (λ three. omega arith)) };
   memory = e.memory;
-  fault = λ four. absurd (elim e.statuses [ inl zero_is ↦ omega arith | inr other ↦ elim other [ inl two ↦ omega arith | inr three ↦ omega arith ] ]);
 }
 
-pub IsStopped-by_words : (words : List (List ℕ)) (known : Option (List ℕ)) (stop : Stop) → words ≢ [] → EndsWords words stop → IfSome known (λ bytes. IsStopped words bytes stop)
-IsStopped-by_words words known stop some e = IfSome-any known _ (λ bytes. IsStopped-given words bytes stop some e)
+-- words that mean no job stop the run before anything is read
+pub IsStopped-by_words : (words : List (List ℕ)) (input : Reading) (stop : Stop) → words ≢ [] → input.failed ≡ false → EndsWords words stop → IsStopped words input stop
+IsStopped-by_words words input stop some sound e =
+    let few : stop.status ≤ 3 = elim e.statuses [ inl zero_is ↦ omega arith | inr other ↦ elim other [ inl two ↦ omega arith | inr three ↦ omega arith ] ] in
+    record {
+      statuses = omega arith;
+      cause = λ _. HasCause-given words input.bytes stop some e;
+      fault = λ four. absurd (omega arith);
+      fault_line = λ four. absurd (omega arith);
+      sound = λ _. sound;
+      whole = λ one. absurd (elim e.statuses [ inl zero_is ↦ omega arith | inr other ↦ elim other [ inl two ↦ omega arith | inr three ↦ omega arith ] ]);
+      at_end = λ none _. absurd (some none);
+    }
 
 -- words of the first line that mean no job stop it too
-pub IsStopped-by_line : (bytes : List ℕ) (stop : Stop) → length bytes ≤ 67108864 → IsUtf8 (first_line bytes) → EndsWords (words_of [] bytes) stop → IsStopped [] bytes stop
-IsStopped-by_line bytes stop short text e = record {
+pub HasCause-by_line : (bytes : List ℕ) (stop : Stop) → length bytes ≤ 67108864 → IsUtf8 (first_line bytes) → EndsWords (words_of [] bytes) stop → HasCause [] bytes stop
+HasCause-by_line bytes stop short text e = record {
   help = e.help;
   refused = λ one. absurd (elim e.statuses [ inl zero_is ↦ omega arith | inr other ↦ elim other [ inl two ↦ omega arith | inr three ↦ omega arith ] ]);
   misused = λ two. record { short = λ none. short; cause = inr ((λ none. text), e.mistake two, e.no_job (λ three. omega arith)) };
   memory = e.memory;
-  fault = λ four. absurd (elim e.statuses [ inl zero_is ↦ omega arith | inr other ↦ elim other [ inl two ↦ omega arith | inr three ↦ omega arith ] ]);
 }
 
 -- a first line that isn't text stops it
-pub IsStopped-by_bytes : (bytes : List ℕ) (stop : Stop) → length bytes ≤ 67108864 → ¬ IsUtf8 (first_line bytes) → EndsWith 2 (line_of (codes "cqf: words")) stop → IsStopped [] bytes stop
-IsStopped-by_bytes bytes stop short no_text e = record {
+pub HasCause-by_bytes : (bytes : List ℕ) (stop : Stop) → length bytes ≤ 67108864 → ¬ IsUtf8 (first_line bytes) → EndsWith 2 (line_of (codes "cqf: words")) stop → HasCause [] bytes stop
+HasCause-by_bytes bytes stop short no_text e = record {
   help = λ zero_is. absurd (elim e.statuses [ inl two ↦ omega arith | inr three ↦ omega arith ]);
   refused = λ one. absurd (elim e.statuses [ inl two ↦ omega arith | inr three ↦ omega arith ]);
   misused = λ two. record { short = λ none. short; cause = inl (refl, no_text, e.line_is two) };
   memory = e.memory;
-  fault = λ four. absurd (elim e.statuses [ inl two ↦ omega arith | inr three ↦ omega arith ]);
 }
 
--- a read that ends before the input does stops it
-IsStopped-read : (words : List (List ℕ)) (bytes : List ℕ) (after : Option (List ℕ)) (stop : Stop) → EndsInput (Some bytes) after stop → (words ≢ [] → (job : Job) × Mean words job) → IsStopped words bytes stop
-IsStopped-read words bytes after stop e means = record {
+-- a read that was broken off ends the input
+pub EndsInput-broken : (input : Reading) (before : Bool) (cause : Broken) (stop : Stop) → Marks before input.failed cause → EndsRead cause stop → EndsInput input stop
+EndsInput-broken input before Memory stop marks ended = record {
+  statuses = inr (inl ended.0);
+  long = λ one. absurd (omega (arith, ended.0));
+  long_line = λ one. absurd (omega (arith, ended.0));
+  sound = λ one. absurd (omega (arith, ended.0));
+  fault = λ four. absurd (omega (arith, ended.0));
+  fault_line = λ four. absurd (omega (arith, ended.0));
+  memory = λ _. ended.1;
+}
+EndsInput-broken input before Fault stop marks ended =
+    let not_one : stop.status ≡ 1 → ⊥ = λ one. elim ended.statuses [ inl four ↦ omega arith | inr three ↦ omega arith ] in
+    record {
+      statuses = elim ended.statuses [ inl four ↦ inr (inr four) | inr three ↦ inr (inl three) ];
+      long = λ one. absurd (not_one one);
+      long_line = λ one. absurd (not_one one);
+      sound = λ one. absurd (not_one one);
+      fault = λ _. marks;
+      fault_line = ended.line_is;
+      memory = ended.memory;
+    }
+
+-- more bytes than the program reads end it
+pub EndsInput-long : (input : Reading) (stop : Stop) → IsTooLong input.bytes → input.failed ≡ false → EndsWith 1 (line_of (codes "cqf: input too long")) stop → EndsInput input stop
+EndsInput-long input stop long sound ended =
+    let not_four : stop.status ≡ 4 → ⊥ = λ four. elim ended.statuses [ inl one ↦ omega arith | inr three ↦ omega arith ] in
+    record {
+      statuses = elim ended.statuses [ inl one ↦ inl one | inr three ↦ inr (inl three) ];
+      long = λ _. long;
+      long_line = ended.line_is;
+      sound = λ _. sound;
+      fault = λ four. absurd (not_four four);
+      fault_line = λ four. absurd (not_four four);
+      memory = ended.memory;
+    }
+
+-- why a read that ends before the input does stops it
+HasCause-read : (words : List (List ℕ)) (input : Reading) (stop : Stop) → EndsInput input stop → (words ≢ [] → (job : Job) × Mean words job) → HasCause words input.bytes stop
+HasCause-read words input stop e means = record {
   help = λ zero_is. absurd (elim e.statuses [ inl one ↦ omega arith | inr other ↦ elim other [ inl three ↦ omega arith | inr four ↦ omega arith ] ]);
   refused = λ one. record { length_first = inl (e.long one, e.long_line one, means) };
   misused = λ two. absurd (elim e.statuses [ inl one ↦ omega arith | inr other ↦ elim other [ inl three ↦ omega arith | inr four ↦ omega arith ] ]);
   memory = e.memory;
-  fault = e.fault_line;
 }
 
-pub IsStopped-by_input : (words : List (List ℕ)) (known after : Option (List ℕ)) (stop : Stop) → EndsInput known after stop → (words ≢ [] → (job : Job) × Mean words job) → IfSome known (λ bytes. IsStopped words bytes stop)
-IsStopped-by_input words None after stop e means = tt
-IsStopped-by_input words (Some bytes) after stop e means = IsStopped-read words bytes after stop e means
+-- a read that ends before the input does stops it
+pub IsStopped-by_input : (words : List (List ℕ)) (input : Reading) (stop : Stop) → EndsInput input stop → (words ≢ [] → (job : Job) × Mean words job) → IsStopped words input stop
+IsStopped-by_input words input stop e means =
+    let other : (stop.status ≡ 0) ⊎ (stop.status ≡ 2) → ⊥ = λ either. elim e.statuses [
+      | inl one ↦ elim either [ inl zero_is ↦ omega arith | inr two ↦ omega arith ]
+      | inr rest ↦ elim rest [
+        | inl three ↦ elim either [ inl zero_is ↦ omega arith | inr two ↦ omega arith ]
+        | inr four ↦ elim either [ inl zero_is ↦ omega arith | inr two ↦ omega arith ]
+      ]
+    ] in
+    record {
+      statuses = elim e.statuses [ inl one ↦ omega arith | inr rest ↦ elim rest [ inl three ↦ omega arith | inr four ↦ omega arith ] ];
+      cause = λ _. HasCause-read words input stop e means;
+      fault = e.fault;
+      fault_line = e.fault_line;
+      sound = λ few. elim e.statuses [ inl one ↦ e.sound one | inr rest ↦ absurd (elim rest [ inl three ↦ omega arith | inr four ↦ omega arith ]) ];
+      whole = λ one. inl (e.long one);
+      at_end = λ _ either. absurd (other either);
+    }
+
+-- a cause stops it, once all is read
+pub IsStopped-by_cause : (words : List (List ℕ)) (input : Reading) (stop : Stop) → input.failed ≡ false → IsAtEnd input.after → stop.status ≤ 3 → HasCause words input.bytes stop → IsStopped words input stop
+IsStopped-by_cause words input stop sound at_end few cause = record {
+  statuses = omega arith;
+  cause = λ _. cause;
+  fault = λ four. absurd (omega arith);
+  fault_line = λ four. absurd (omega arith);
+  sound = λ _. sound;
+  whole = λ _. inr at_end;
+  at_end = λ _ _. at_end;
+}
 
 -- a refused input has status 1 or 3
 refusal_statuses : (job : Job) (input : List ℕ) (stop : Stop) → IsRefusal job input stop → (stop.status ≡ 1) ⊎ (stop.status ≡ 3)
@@ -78,21 +139,23 @@ refusal_statuses (Port until rate) input stop h = h.statuses
 refusal_statuses (Line cycles) input stop h = h.statuses
 refusal_statuses Compile input stop h = h.statuses
 
+pub refusal_few : (job : Job) (input : List ℕ) (stop : Stop) → IsRefusal job input stop → stop.status ≤ 3
+refusal_few job input stop h = elim (refusal_statuses job input stop h) [ inl one ↦ omega arith | inr three ↦ omega arith ]
+
 refusal_memory : (job : Job) (input : List ℕ) (stop : Stop) → IsRefusal job input stop → stop.status ≡ 3 → stop.text.items ≡ []
 refusal_memory (Port until rate) input stop h = h.memory
 refusal_memory (Line cycles) input stop h = h.memory
 refusal_memory Compile input stop h = h.memory
 
 -- an input that is refused stops it
-pub IsStopped-by_refusal : (words : List (List ℕ)) (bytes : List ℕ) (job : Job) (stop : Stop) → length bytes ≤ 67108864 → (words ≡ [] → IsUtf8 (first_line bytes)) → Mean (words_of words bytes) job → IsRefusal job (input_of words bytes) stop → IsStopped words bytes stop
-IsStopped-by_refusal words bytes job stop short text means h =
+pub HasCause-by_refusal : (words : List (List ℕ)) (bytes : List ℕ) (job : Job) (stop : Stop) → length bytes ≤ 67108864 → (words ≡ [] → IsUtf8 (first_line bytes)) → Mean (words_of words bytes) job → IsRefusal job (input_of words bytes) stop → HasCause words bytes stop
+HasCause-by_refusal words bytes job stop short text means h =
     let statuses = refusal_statuses job (input_of words bytes) stop h in
     record {
       help = λ zero_is. absurd (elim statuses [ inl one ↦ omega arith | inr three ↦ omega arith ]);
       refused = λ one. record { length_first = inr (short, text, (job, means, h)) };
       misused = λ two. absurd (elim statuses [ inl one ↦ omega arith | inr three ↦ omega arith ]);
       memory = refusal_memory job (input_of words bytes) stop h;
-      fault = λ four. absurd (elim statuses [ inl one ↦ omega arith | inr three ↦ omega arith ]);
     }
 
 -- words that are given are the run's
@@ -104,69 +167,122 @@ input_given : (words : List (List ℕ)) (bytes : List ℕ) → words ≢ [] → 
 input_given [] bytes some = absurd (some refl)
 input_given (word ∷ words) bytes some = refl
 
-pub IsStopped-by_given : (words : List (List ℕ)) (bytes : List ℕ) (job : Job) (stop : Stop) → words ≢ [] → length bytes ≤ 67108864 → Mean words job → IsRefusal job bytes stop → IsStopped words bytes stop
-IsStopped-by_given words bytes job stop some short means h =
-    IsStopped-by_refusal words bytes job stop short (λ none. absurd (some none)) (means_given words bytes job some means)
-    (subst (λ (input : List ℕ). IsRefusal job input stop) (input_given words bytes some) h)
+-- an input that is refused stops a run of words that are given
+pub IsStopped-by_given : (words : List (List ℕ)) (input : Reading) (job : Job) (stop : Stop) → words ≢ [] → input.failed ≡ false → IsAtEnd input.after → length input.bytes ≤ 67108864 → Mean words job → IsRefusal job input.bytes stop → IsStopped words input stop
+IsStopped-by_given words input job stop some sound at_end short means h =
+    IsStopped-by_cause words input stop sound at_end (refusal_few job input.bytes stop h)
+    (HasCause-by_refusal words input.bytes job stop short (λ none. absurd (some none)) (means_given words input.bytes job some means)
+    (subst (λ (bytes : List ℕ). IsRefusal job bytes stop) (input_given words input.bytes some) h))
 
-pub IsDone-given : (words : List (List ℕ)) (bytes output : List ℕ) (job : Job) → words ≢ [] → length bytes ≤ 67108864 → Mean words job → IsOutput job bytes output → IsDone words bytes output
-IsDone-given words bytes output job some short means h = record {
-  short = short;
-  text = λ none. absurd (some none);
-  job = job;
-  means = means_given words bytes job some means;
-  is_output = subst (λ (input : List ℕ). IsOutput job input output) (input_given words bytes some) h;
+-- a run of words that are given is done
+pub HasRun-given : (words : List (List ℕ)) (input : Reading) (output : List ℕ) (job : Job) → words ≢ [] → input.failed ≡ false → IsAtEnd input.after → length input.bytes ≤ 67108864 → Mean words job → IsOutput job input.bytes output → HasRun words input output
+HasRun-given words input output job some sound at_end short means h = record {
+  is_done = record {
+    short = short;
+    text = λ none. absurd (some none);
+    job = job;
+    means = means_given words input.bytes job some means;
+    is_output = subst (λ (bytes : List ℕ). IsOutput job bytes output) (input_given words input.bytes some) h;
+  };
+  at_end = at_end;
+  sound = sound;
 }
 
--- what is known of bytes, by what is
-IfSome-map : (known : Option (List ℕ)) (P Q : List ℕ → Type 0) → ((bytes : List ℕ) → P bytes → Q bytes) → IfSome known P → IfSome known Q
-IfSome-map None P Q f h = tt
-IfSome-map (Some bytes) P Q f h = f bytes h
-
 -- a run that is done ends with its output
-pub Ends-ran : (words : List (List ℕ)) (known before after faults_before faults_after : Option (List ℕ)) (output : List ℕ) (status : ℕ) → IfSome known (λ bytes. IsDone words bytes output) → HandsOver output before after faults_before faults_after status → Ends words known before after faults_before faults_after status
-Ends-ran words known before after faults_before faults_after output status ran h =
+pub Ends-ran : (words : List (List ℕ)) (input : Reading) (output faults : Writing) (text : List ℕ) (status : ℕ) → IsHeard input → IsBehindWords words input → HasRun words input text → HandsOver text output faults status → Ends words input output faults status
+Ends-ran words input output faults text status heard behind_words ran h =
     let not_one : status ≡ 1 → ⊥ = λ one. elim h.statuses [ inl zero_is ↦ omega arith | inr four ↦ omega arith ] in
     let not_two : status ≡ 2 → ⊥ = λ two. elim h.statuses [ inl zero_is ↦ omega arith | inr four ↦ omega arith ] in
+    let is_output : IsToldOutput words input text = inl (ran.is_done, ran.at_end) in
     record {
       statuses = elim h.statuses [ inl zero_is ↦ omega arith | inr four ↦ omega arith ];
-      done = λ zero_is. IfSome-map known _ _ (λ bytes is_done. (output, inl is_done, (h.done zero_is).0)) ran;
+      heard = heard;
+      behind_words = behind_words;
+      done = λ zero_is. (text, is_output, Appends-whole output text h.told (h.done zero_is).0);
       clean = λ zero_is. (h.done zero_is).1;
       quiet = λ some not_four. absurd (elim h.statuses [ inl zero_is ↦ some zero_is | inr four ↦ not_four four ]);
+      whole = λ one. absurd (not_one one);
       refused = λ one. absurd (not_one one);
+      at_end = λ two. absurd (not_two two);
       misused = λ two. absurd (not_two two);
       memory = λ three. absurd (elim h.statuses [ inl zero_is ↦ omega arith | inr four ↦ omega arith ]);
-      fault = λ four. IfSome-map known _ _ (λ bytes is_done. inr (output, inl is_done, h.front, h.fault four)) ran;
+      fault = λ four. inr (record {
+        refused = (h.fault four).0;
+        sound = ran.sound;
+        text = text;
+        is_output = is_output;
+        told = h.told;
+        line = (h.fault four).1;
+      });
+      sound = λ _. ran.sound;
+      accepted = λ not_four. elim h.statuses [ inl zero_is ↦ (h.done zero_is).0 | inr four ↦ absurd (not_four four) ];
     }
 
--- a stop that ends with status 4 is an input fault, or help that couldn't be written
-fault_of_stop : (words : List (List ℕ)) (bytes : List ℕ) (before after faults_before faults_after : Option (List ℕ)) (stop : Stop) (status : ℕ) → status ≡ 4 → IsStopped words bytes stop → Tells stop before after faults_before faults_after status → IsInputFault before after faults_before faults_after ⊎ IsOutputFault words bytes before after faults_before faults_after
-fault_of_stop words bytes before after faults_before faults_after stop status four s t = elim t.statuses [
-  | inl same ↦
-      let is : stop.status ≡ 4 = sym same ∙ four in
-      inl (t.quiet (λ none. omega arith), subst (λ text. HasTold faults_before faults_after text) (s.fault is) (t.line (λ none. omega arith) (λ three. omega arith)))
-  | inr fails ↦
-      let told = t.fault fails.0 four in
-      inr (stop.text.items, inr (s.help fails.0), told.0, told.1)
-]
+-- help that was asked for is told, or the output refuses some of it
+pub Ends-helped : (words : List (List ℕ)) (input : Reading) (output faults : Writing) (stop : Stop) (status : ℕ) → IsHeard input → IsBehindWords words input → IsStopped words input stop → stop.status ≡ 0 → HandsOver stop.text.items output faults status → Ends words input output faults status
+Ends-helped words input output faults stop status heard behind_words s help h =
+    let not_one : status ≡ 1 → ⊥ = λ one. elim h.statuses [ inl zero_is ↦ omega arith | inr four ↦ omega arith ] in
+    let not_two : status ≡ 2 → ⊥ = λ two. elim h.statuses [ inl zero_is ↦ omega arith | inr four ↦ omega arith ] in
+    let is_output : IsToldOutput words input stop.text.items = inr ((s.cause (λ four. omega arith)).help help, (λ none. s.at_end none (inl help))) in
+    let sound : input.failed ≡ false = s.sound (omega arith) in
+    record {
+      statuses = elim h.statuses [ inl zero_is ↦ omega arith | inr four ↦ omega arith ];
+      heard = heard;
+      behind_words = behind_words;
+      done = λ zero_is. (stop.text.items, is_output, Appends-whole output stop.text.items h.told (h.done zero_is).0);
+      clean = λ zero_is. (h.done zero_is).1;
+      quiet = λ some not_four. absurd (elim h.statuses [ inl zero_is ↦ some zero_is | inr four ↦ not_four four ]);
+      whole = λ one. absurd (not_one one);
+      refused = λ one. absurd (not_one one);
+      at_end = λ two. absurd (not_two two);
+      misused = λ two. absurd (not_two two);
+      memory = λ three. absurd (elim h.statuses [ inl zero_is ↦ omega arith | inr four ↦ omega arith ]);
+      fault = λ four. inr (record {
+        refused = (h.fault four).0;
+        sound = sound;
+        text = stop.text.items;
+        is_output = is_output;
+        told = h.told;
+        line = (h.fault four).1;
+      });
+      sound = λ _. sound;
+      accepted = λ not_four. elim h.statuses [ inl zero_is ↦ (h.done zero_is).0 | inr four ↦ absurd (not_four four) ];
+    }
+
+-- a run that is stopped, and not for help, ends as it was stopped
+pub Ends-barred : (words : List (List ℕ)) (input : Reading) (output faults : Writing) (stop : Stop) (status : ℕ) → IsHeard input → IsBehindWords words input → IsStopped words input stop → stop.status ≢ 0 → status ≡ stop.status → Tells stop output faults status → Ends words input output faults status
+Ends-barred words input output faults stop status heard behind_words s no_help same t = record {
+  statuses = omega (arith, s.statuses);
+  heard = heard;
+  behind_words = behind_words;
+  done = λ zero_is. absurd (no_help (sym same ∙ zero_is));
+  clean = λ zero_is. absurd (no_help (sym same ∙ zero_is));
+  quiet = λ _ _. (t.quiet no_help).0;
+  whole = λ one. s.whole (sym same ∙ one);
+  refused = λ one. (stop, (s.cause (λ four. omega arith)).refused (sym same ∙ one), t.line no_help (λ three. omega arith));
+  at_end = λ two none. s.at_end none (inr (sym same ∙ two));
+  misused = λ two. (stop, (s.cause (λ four. omega arith)).misused (sym same ∙ two), t.line no_help (λ three. omega arith));
+  memory = λ three. t.memory_line (sym same ∙ three);
+  fault = λ four. inl (record {
+    failed = s.fault (sym same ∙ four);
+    quiet = (t.quiet no_help).0;
+    accepted = (t.quiet no_help).1;
+    line = subst (λ text. HasTold faults text) (s.fault_line (sym same ∙ four)) (t.line no_help (λ three. omega arith));
+  });
+  sound = λ few. s.sound (omega arith);
+  accepted = λ _. (t.quiet no_help).1;
+}
+
+-- a number is zero or isn't
+zero_or_not : (number : ℕ) → (number ≡ 0) ⊎ (number ≢ 0)
+zero_or_not zero = inl refl
+zero_or_not (suc number) = inr (λ e. omega arith)
 
 -- a run that is stopped ends as it was stopped
-pub Ends-stopped : (words : List (List ℕ)) (known before after faults_before faults_after : Option (List ℕ)) (stop : Stop) (status : ℕ) → stop.status ≤ 4 → IfSome known (λ bytes. IsStopped words bytes stop) → Tells stop before after faults_before faults_after status → Ends words known before after faults_before faults_after status
-Ends-stopped words known before after faults_before faults_after stop status few stopped t =
-    let same : status ≢ 4 → status ≡ stop.status = λ not_four. elim t.statuses [ inl is ↦ is | inr fails ↦ absurd (not_four fails.1) ] in
-    record {
-      statuses = elim t.statuses [ inl is ↦ omega arith | inr fails ↦ omega arith ];
-      done = λ zero_is.
-          let none : stop.status ≡ 0 = sym (same (λ four. omega arith)) ∙ zero_is in
-          IfSome-map known _ _ (λ bytes s. (stop.text.items, inr (s.help none), (t.done zero_is).0)) stopped;
-      clean = λ zero_is. (t.done zero_is).1;
-      quiet = λ some not_four. t.quiet (λ none. some (same not_four ∙ none));
-      refused = λ one.
-          let is : stop.status ≡ 1 = sym (same (λ four. omega arith)) ∙ one in
-          IfSome-map known _ _ (λ bytes s. (stop, s.refused is, t.line (λ none. omega arith) (λ three. omega arith))) stopped;
-      misused = λ two.
-          let is : stop.status ≡ 2 = sym (same (λ four. omega arith)) ∙ two in
-          IfSome-map known _ _ (λ bytes s. (stop, s.misused is, t.line (λ none. omega arith) (λ three. omega arith))) stopped;
-      memory = λ three. t.memory_line (sym (same (λ four. omega arith)) ∙ three);
-      fault = λ four. IfSome-map known _ _ (λ bytes s. fault_of_stop words bytes before after faults_before faults_after stop status four s t) stopped;
-    }
+pub Ends-stopped : (words : List (List ℕ)) (input : Reading) (output faults : Writing) (stop : Stop) (status : ℕ) → IsHeard input → IsBehindWords words input → IsStopped words input stop → Tells stop output faults status → Ends words input output faults status
+Ends-stopped words input output faults stop status heard behind_words s t = elim (zero_or_not stop.status) [
+  | inl help ↦ Ends-helped words input output faults stop status heard behind_words s help (t.help help)
+  | inr no_help ↦
+      let same : status ≡ stop.status = elim t.statuses [ inl is ↦ is | inr fails ↦ absurd (no_help fails.0) ] in
+      Ends-barred words input output faults stop status heard behind_words s no_help same t
+]

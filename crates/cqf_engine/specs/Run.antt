@@ -1,12 +1,14 @@
 -- What a run of the program comes to, for the words that it is given and the bytes that its reader has (profile).
-use Rattle.std.specs.Prelude.{ℕ, ◌≡◌, ◌≢◌, ◌⊎◌, ◌≤◌, ◌<◌, ◌==◌, Bool, List, [], ◌∷◌, Option, Ok, ⊤, codes, length, IfSome}
-use Rattle.std.specs.Io.KnownBytes.{Appends, Keeps}
+use Rattle.std.specs.Prelude.{ℕ, ◌≡◌, ◌≢◌, ◌⊎◌, ◌≤◌, ◌<◌, ◌==◌, Bool, true, false, List, [], ◌∷◌, Ok, ⊤, codes, length}
+use Rattle.std.specs.Io.KnownBytes.{Appends, IsAtEnd, Keeps}
 use Rattle.std.specs.List.{slice_split, before_first, after_first}
 use Rattle.std.specs.Str.{IsUtf8}
 use Rattle.cqf_text.specs.Lines.{is_line_feed}
-use Rattle.cqf_engine.specs.Bytes.{HasWritten}
+use Rattle.cqf_engine.specs.declared.heard.Broken.{Broken}
+use Rattle.cqf_engine.specs.declared.heard.Broken.TheVariants.{Memory, Fault}
+use Rattle.cqf_engine.specs.Edge.{HasTold, IsHeard, Reading, Writing}
 use Rattle.cqf_compile_command.specs.CompileOutput.{compiled_input}
-use Rattle.cqf_stop.specs.Stops.{IsRefused, line_of}
+use Rattle.cqf_stop.specs.Stops.{EndsWith, IsRefused, line_of}
 use Rattle.cqf_line_command.specs.LineOutput.{IsLineOutput, line_input}
 use Rattle.cqf_port_command.specs.PortOutput.{IsPortOutput, port_input}
 use Rattle.cqf_words.specs.Words.{AreMistaken, AskForHelp, Mean}
@@ -77,57 +79,104 @@ pub record IsMisuse (words : List (List ℕ)) (bytes : List ℕ) (stop : Stop) :
   pub cause : ((words ≡ []) × ¬ IsUtf8 (first_line bytes) × (stop.text.items ≡ line_of (codes "cqf: words")))
       ⊎ ((words ≡ [] → IsUtf8 (first_line bytes)) × AreMistaken (words_of words bytes) × ((job : Job) → ¬ Mean (words_of words bytes) job))
 
--- how a run ends before it is done
-pub record IsStopped (words : List (List ℕ)) (bytes : List ℕ) (stop : Stop) : Type 0 where
+-- all that the program reads was read: too many bytes, or what there was
+abbrev pub IsAll : Reading → Type 0
+IsAll input = IsTooLong input.bytes ⊎ IsAtEnd input.after
+
+-- words that are given mean a job before anything is read
+abbrev pub IsBehindWords : List (List ℕ) → Reading → Type 0
+IsBehindWords words input = words ≢ [] → ((job : Job) × Mean words job) ⊎ ((input.bytes ≡ []) × (input.failed ≡ false))
+
+-- the end of a read that was broken off: status 4 and the line that tells so where the reader failed, 3 for want of memory
+abbrev pub EndsRead : Broken → Stop → Type 0
+EndsRead Memory stop = (stop.status ≡ 3) × (stop.text.items ≡ [])
+EndsRead Fault stop = EndsWith 4 (line_of (codes "cqf: input fault")) stop
+
+-- how a read of the whole input ends before its end: 1 for too many bytes, 4 where the reader failed, 3 for want of memory
+pub record EndsInput (input : Reading) (stop : Stop) : Type 0 where
+  pub statuses : (stop.status ≡ 1) ⊎ ((stop.status ≡ 3) ⊎ (stop.status ≡ 4))
+  pub long : stop.status ≡ 1 → IsTooLong input.bytes
+  pub long_line : stop.status ≡ 1 → stop.text.items ≡ line_of (codes "cqf: input too long")
+  pub sound : stop.status ≡ 1 → input.failed ≡ false
+  pub fault : stop.status ≡ 4 → input.failed ≡ true
+  pub fault_line : stop.status ≡ 4 → stop.text.items ≡ line_of (codes "cqf: input fault")
+  pub memory : stop.status ≡ 3 → stop.text.items ≡ []
+
+-- why a run ends before it is done, where no read failed
+pub record HasCause (words : List (List ℕ)) (bytes : List ℕ) (stop : Stop) : Type 0 where
   pub help : stop.status ≡ 0 → AskForHelp (words_of words bytes)
   pub refused : stop.status ≡ 1 → IsRefusedRun words bytes stop
   pub misused : stop.status ≡ 2 → IsMisuse words bytes stop
   pub memory : stop.status ≡ 3 → stop.text.items ≡ []
-  pub fault : stop.status ≡ 4 → stop.text.items ≡ line_of (codes "cqf: input fault")
 
--- a front of the text was written: all of it, unless a write failed, which a writer alone can know
-abbrev pub HasTold : Option (List ℕ) → Option (List ℕ) → List ℕ → Type 0
-HasTold before after text = (whole : Bool) × HasWritten before after text whole
+-- how a run ends before it is done, for what its reader gave
+pub record IsStopped (words : List (List ℕ)) (input : Reading) (stop : Stop) : Type 0 where
+  pub statuses : stop.status ≤ 4
+  pub cause : stop.status ≢ 4 → HasCause words input.bytes stop
+  pub fault : stop.status ≡ 4 → input.failed ≡ true
+  pub fault_line : stop.status ≡ 4 → stop.text.items ≡ line_of (codes "cqf: input fault")
+  pub sound : stop.status ≤ 2 → input.failed ≡ false
+  pub whole : stop.status ≡ 1 → IsAll input
+  pub at_end : words ≡ [] → (stop.status ≡ 0) ⊎ (stop.status ≡ 2) → IsAtEnd input.after
 
--- the text was handed over: all of it was written, and nothing on the writer of faults; or a front of it, and the writer
--- of faults got the line that tells so
-pub record HandsOver (text : List ℕ) (before after faults_before faults_after : Option (List ℕ)) (status : ℕ) : Type 0 where
+-- a run is done: all was read, and this is its output
+pub record HasRun (words : List (List ℕ)) (input : Reading) (output : List ℕ) : Type 0 where
+  pub is_done : IsDone words input.bytes output
+  pub at_end : IsAtEnd input.after
+  pub sound : input.failed ≡ false
+
+-- the text was handed over: all of it was written, and nothing on the writer of faults; or the output refused some of
+-- it, and the writer of faults got the line that tells so
+pub record HandsOver (text : List ℕ) (output faults : Writing) (status : ℕ) : Type 0 where
   pub statuses : (status ≡ 0) ⊎ (status ≡ 4)
-  pub done : status ≡ 0 → Appends before after text × Keeps faults_before faults_after
-  pub front : HasTold before after text
-  pub fault : status ≡ 4 → HasTold faults_before faults_after (line_of (codes "cqf: output fault"))
+  pub told : HasTold output text
+  pub done : status ≡ 0 → (output.refused ≡ false) × Keeps faults.before faults.after
+  pub fault : status ≡ 4 → (output.refused ≡ true) × HasTold faults (line_of (codes "cqf: output fault"))
 
 -- the stop was told: help on the output, and other texts on the writer of faults
-pub record Tells (stop : Stop) (before after faults_before faults_after : Option (List ℕ)) (status : ℕ) : Type 0 where
+pub record Tells (stop : Stop) (output faults : Writing) (status : ℕ) : Type 0 where
   pub statuses : (status ≡ stop.status) ⊎ ((stop.status ≡ 0) × (status ≡ 4))
-  pub done : status ≡ 0 → Appends before after stop.text.items × Keeps faults_before faults_after
-  pub quiet : stop.status ≢ 0 → Keeps before after
-  pub line : stop.status ≢ 0 → stop.status ≢ 3 → HasTold faults_before faults_after stop.text.items
-  pub memory_line : stop.status ≡ 3 → HasTold faults_before faults_after (line_of (codes "cqf: out of memory"))
-  pub fault : stop.status ≡ 0 → status ≡ 4 → HasTold before after stop.text.items × HasTold faults_before faults_after (line_of (codes "cqf: output fault"))
+  pub help : stop.status ≡ 0 → HandsOver stop.text.items output faults status
+  pub quiet : stop.status ≢ 0 → Keeps output.before output.after × (output.refused ≡ false)
+  pub line : stop.status ≢ 0 → stop.status ≢ 3 → HasTold faults stop.text.items
+  pub memory_line : stop.status ≡ 3 → HasTold faults (line_of (codes "cqf: out of memory"))
 
 -- what the run has for its output: the job's, or the help that was asked for
-abbrev pub IsToldOutput : List (List ℕ) → List ℕ → List ℕ → Type 0
-IsToldOutput words bytes output = IsDone words bytes output ⊎ AskForHelp (words_of words bytes)
+abbrev pub IsToldOutput : List (List ℕ) → Reading → List ℕ → Type 0
+IsToldOutput words input text = (IsDone words input.bytes text × IsAtEnd input.after)
+    ⊎ (AskForHelp (words_of words input.bytes) × (words ≡ [] → IsAtEnd input.after))
 
--- a read failed: nothing is on the output, and the line that tells so is on the writer of faults
-abbrev pub IsInputFault : Option (List ℕ) → Option (List ℕ) → Option (List ℕ) → Option (List ℕ) → Type 0
-IsInputFault before after faults_before faults_after = Keeps before after × HasTold faults_before faults_after (line_of (codes "cqf: input fault"))
+-- the reader failed: nothing is on the output, and the line that tells so is on the writer of faults
+pub record IsInputFault (input : Reading) (output faults : Writing) : Type 0 where
+  pub failed : input.failed ≡ true
+  pub quiet : Keeps output.before output.after
+  pub accepted : output.refused ≡ false
+  pub line : HasTold faults (line_of (codes "cqf: input fault"))
 
--- a write failed: a front of the output was written, and the line that tells so is on the writer of faults
-abbrev pub IsOutputFault : List (List ℕ) → List ℕ → Option (List ℕ) → Option (List ℕ) → Option (List ℕ) → Option (List ℕ) → Type 0
-IsOutputFault words bytes before after faults_before faults_after =
-    (output : List ℕ) × IsToldOutput words bytes output × HasTold before after output × HasTold faults_before faults_after (line_of (codes "cqf: output fault"))
+-- the output was refused: a front of it was written, and the line that tells so is on the writer of faults
+pub record IsOutputFault (words : List (List ℕ)) (input : Reading) (output faults : Writing) : Type 0 where
+  pub refused : output.refused ≡ true
+  pub sound : input.failed ≡ false
+  pub text : List ℕ
+  pub is_output : IsToldOutput words input text
+  pub told : HasTold output text
+  pub line : HasTold faults (line_of (codes "cqf: output fault"))
 
 -- what the engine leaves, by its status. With status 0 it wrote the run's output and nothing else, or the help that was
--- asked for. With status 1, 2 and 3 it wrote nothing on its output, and on the writer of faults a front of the text of the
--- first cause. With status 4 a read or a write failed
-pub record Ends (words : List (List ℕ)) (known before after faults_before faults_after : Option (List ℕ)) (status : ℕ) : Type 0 where
+-- asked for. With status 1, 2 and 3 it wrote nothing on its output, and on the writer of faults the text of the first
+-- cause: all of it, where that writer refused nothing. With status 4 the reader failed, or the output refused a write
+pub record Ends (words : List (List ℕ)) (input : Reading) (output faults : Writing) (status : ℕ) : Type 0 where
   pub statuses : status ≤ 4
-  pub done : status ≡ 0 → IfSome known (λ bytes. (output : List ℕ) × IsToldOutput words bytes output × Appends before after output)
-  pub clean : status ≡ 0 → Keeps faults_before faults_after
-  pub quiet : status ≢ 0 → status ≢ 4 → Keeps before after
-  pub refused : status ≡ 1 → IfSome known (λ bytes. (stop : Stop) × IsRefusedRun words bytes stop × HasTold faults_before faults_after stop.text.items)
-  pub misused : status ≡ 2 → IfSome known (λ bytes. (stop : Stop) × IsMisuse words bytes stop × HasTold faults_before faults_after stop.text.items)
-  pub memory : status ≡ 3 → HasTold faults_before faults_after (line_of (codes "cqf: out of memory"))
-  pub fault : status ≡ 4 → IfSome known (λ bytes. IsInputFault before after faults_before faults_after ⊎ IsOutputFault words bytes before after faults_before faults_after)
+  pub heard : IsHeard input
+  pub behind_words : IsBehindWords words input
+  pub done : status ≡ 0 → (text : List ℕ) × IsToldOutput words input text × Appends output.before output.after text
+  pub clean : status ≡ 0 → Keeps faults.before faults.after
+  pub quiet : status ≢ 0 → status ≢ 4 → Keeps output.before output.after
+  pub whole : status ≡ 1 → IsAll input
+  pub refused : status ≡ 1 → (stop : Stop) × IsRefusedRun words input.bytes stop × HasTold faults stop.text.items
+  pub at_end : status ≡ 2 → words ≡ [] → IsAtEnd input.after
+  pub misused : status ≡ 2 → (stop : Stop) × IsMisuse words input.bytes stop × HasTold faults stop.text.items
+  pub memory : status ≡ 3 → HasTold faults (line_of (codes "cqf: out of memory"))
+  pub fault : status ≡ 4 → IsInputFault input output faults ⊎ IsOutputFault words input output faults
+  pub sound : status ≤ 2 → input.failed ≡ false
+  pub accepted : status ≢ 4 → output.refused ≡ false

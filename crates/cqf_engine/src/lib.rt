@@ -12,11 +12,15 @@
 //! ```
 #![tactic(auto)]
 
+mod heard;
 mod inputs;
 mod outputs;
 mod runs;
 #[cfg(test)]
 mod tests;
+mod told;
 
+pub use heard::Heard;
 pub use inputs::{MOST_BYTES, read_input};
 pub use runs::{answer, engine, tell};
+pub use told::Told;

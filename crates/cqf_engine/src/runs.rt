@@ -1,11 +1,13 @@
 //! A run of the program, from its words and its input to its output or its end.
-ghost use Rattle.std.specs.Prelude.{◌≡◌, ◌≢◌, ◌≤◌, ◌⊎◌, [], ◌∷◌, ⊤, IfOk, IfErr, IfSome, map, length};
-ghost use Rattle.std.specs.List.{slice_split, before_first, after_first};
-ghost use Rattle.cqf_text.specs.Lines.{is_line_feed};
-ghost use Rattle.cqf_engine.specs.Run.{IsWithin, IsOutput, IsRefusal, Ends, HandsOver, IsDone, IsStopped, Tells, is_space, first_line, behind_first_line};
+ghost use Rattle.std.specs.Prelude.{◌≡◌, ◌≢◌, ◌≤◌, [], false, IfOk, IfErr, map, length};
+ghost use Rattle.std.specs.List.{slice_split};
+ghost use Rattle.cqf_engine.specs.Edge.{IsHeard, IsUnheard, reading, writing};
+ghost use Rattle.cqf_engine.specs.Run.{IsWithin, IsOutput, IsRefusal, IsBehindWords, Ends, HandsOver, HasCause, HasRun, IsDone, IsStopped, Tells, is_space, first_line, behind_first_line};
 
+use crate::heard::Heard;
 use crate::inputs::read_input;
 use crate::outputs::write_out;
+use crate::told::Told;
 use cqf_compile_command::compile_output;
 use cqf_line_command::line_output;
 use cqf_port_command::port_output;
@@ -37,21 +39,22 @@ fn split_words(alloc: Global, line: &str) -> Result<Vec<&str>, AllocError>
 }
 
 /// The run of words that are given.
-fn run_given<R: Read>(alloc: Global, words: &[&str], input: &mut R) -> Result<Vec<u8>, Stop>
-    requires { map (λ word. word.now) words.now ≢ [] }
-    ensures ok { IfOk result (λ output. IfSome (R.remaining input.old) (λ bytes. IsDone (map (λ word. word.now) words.now) bytes output.items)) }
-    ensures err { IfErr result (λ stop. IfSome (R.remaining input.old) (λ bytes. IsStopped (map (λ word. word.now) words.now) bytes stop)) }
-    ensures status { IfErr result (λ stop. stop.status ≤ 4) }
+fn run_given<R: Read>(alloc: Global, words: &[&str], input: &mut Heard<R>) -> Result<Vec<u8>, Stop>
+    requires given { map (λ word. word.now) words.now ≢ [] }
+    requires unheard { IsUnheard input.old }
+    ensures heard { IsHeard (reading R.remaining input.old input.new) }
+    ensures behind_words { IsBehindWords (map (λ word. word.now) words.now) (reading R.remaining input.old input.new) }
+    ensures ok { IfOk result (λ output. HasRun (map (λ word. word.now) words.now) (reading R.remaining input.old input.new) output.items) }
+    ensures err { IfErr result (IsStopped (map (λ word. word.now) words.now) (reading R.remaining input.old input.new)) }
 {
     let job = match read_words(alloc, words) {
         Ok(job) => job,
         Err(stop) => return Err(stop),
     };
-    let bytes = match read_input(alloc, input) {
-        Ok(bytes) => bytes,
-        Err(stop) => return Err(stop),
-    };
-    answer(alloc, &job, bytes.as_slice())
+    if let Err(stop) = read_input(alloc, input) {
+        return Err(stop);
+    }
+    answer(alloc, &job, input.bytes())
 }
 
 /// The first line of the bytes, and what stands behind it.
@@ -66,11 +69,11 @@ fn split_first_line(bytes: &[u8]) -> (&[u8], &[u8])
 }
 
 /// The run of the words in the first line.
-fn run_taken(alloc: Global, bytes: &[u8]) -> Result<Vec<u8>, Stop>
+fn run_line(alloc: Global, bytes: &[u8]) -> Result<Vec<u8>, Stop>
     requires { length bytes.now ≤ 67108864 }
     ensures ok { IfOk result (λ output. IsDone [] bytes.now output.items) }
-    ensures err { IfErr result (IsStopped [] bytes.now) }
-    ensures status { IfErr result (λ stop. stop.status ≤ 4) }
+    ensures err { IfErr result (HasCause [] bytes.now) }
+    ensures status { IfErr result (λ stop. stop.status ≤ 3) }
 {
     let (line, rest) = split_first_line(bytes);
     let Ok(line) = std::str::from_utf8(line) else {
@@ -86,46 +89,59 @@ fn run_taken(alloc: Global, bytes: &[u8]) -> Result<Vec<u8>, Stop>
     answer(alloc, &job, rest)
 }
 
-/// The run of words that are given, or where none are of those in the first line of the input.
-fn run<R: Read>(alloc: Global, words: &[&str], input: &mut R) -> Result<Vec<u8>, Stop>
-    ensures ok { IfOk result (λ output. IfSome (R.remaining input.old) (λ bytes. IsDone (map (λ word. word.now) words.now) bytes output.items)) }
-    ensures err { IfErr result (λ stop. IfSome (R.remaining input.old) (λ bytes. IsStopped (map (λ word. word.now) words.now) bytes stop)) }
-    ensures status { IfErr result (λ stop. stop.status ≤ 4) }
+/// The run of words that the input begins with.
+fn run_taken<R: Read>(alloc: Global, input: &mut Heard<R>) -> Result<Vec<u8>, Stop>
+    requires { IsUnheard input.old }
+    ensures heard { IsHeard (reading R.remaining input.old input.new) }
+    ensures ok { IfOk result (λ output. HasRun [] (reading R.remaining input.old input.new) output.items) }
+    ensures err { IfErr result (IsStopped [] (reading R.remaining input.old input.new)) }
 {
-    if !words.is_empty() {
-        return run_given(alloc, words, input);
+    if let Err(stop) = read_input(alloc, input) {
+        return Err(stop);
     }
-    let bytes = match read_input(alloc, input) {
-        Ok(bytes) => bytes,
-        Err(stop) => return Err(stop),
-    };
-    run_taken(alloc, bytes.as_slice())
+    run_line(alloc, input.bytes())
 }
 
-/// Writes all of the output, and the status of that: 4 where a write fails.
-fn hand_over<O: Write, F: Write>(text: &[u8], output: &mut O, faults: &mut F) -> u8
-    ensures { HandsOver text.now (O.contents output.old) (O.contents output.new) (F.contents faults.old) (F.contents faults.new) result }
+/// The run of words that are given, or where none are of those in the first line of the input.
+fn run<R: Read>(alloc: Global, words: &[&str], input: &mut Heard<R>) -> Result<Vec<u8>, Stop>
+    requires { IsUnheard input.old }
+    ensures heard { IsHeard (reading R.remaining input.old input.new) }
+    ensures behind_words { IsBehindWords (map (λ word. word.now) words.now) (reading R.remaining input.old input.new) }
+    ensures ok { IfOk result (λ output. HasRun (map (λ word. word.now) words.now) (reading R.remaining input.old input.new) output.items) }
+    ensures err { IfErr result (IsStopped (map (λ word. word.now) words.now) (reading R.remaining input.old input.new)) }
 {
-    if write_out(output, text) {
-        return DONE;
+    if words.is_empty() {
+        run_taken(alloc, input)
+    } else {
+        run_given(alloc, words, input)
     }
-    let _told = write_out(faults, b"cqf: output fault\n");
-    FAULT
+}
+
+/// Writes all of the output, and the status of that: 4 where the output refuses some of it.
+fn hand_over<O: Write, F: Write>(text: &[u8], output: &mut Told<O>, faults: &mut Told<F>) -> u8
+    ensures { HandsOver text.now (writing O.contents output.old output.new) (writing F.contents faults.old faults.new) result }
+{
+    write_out(output, text);
+    if output.is_refused() {
+        write_out(faults, b"cqf: output fault\n");
+        return FAULT;
+    }
+    DONE
 }
 
 /// Tells the end: help on the output, and anything else on the writer of faults. The status of that.
-pub fn tell<O: Write, F: Write>(stop: &Stop, output: &mut O, faults: &mut F) -> u8
-    requires { stop.now.status ≤ 4 }
-    ensures { Tells stop.now (O.contents output.old) (O.contents output.new) (F.contents faults.old) (F.contents faults.new) result }
+pub fn tell<O: Write, F: Write>(stop: &Stop, output: &mut Told<O>, faults: &mut Told<F>) -> u8
+    requires { output.old.refused ≡ false }
+    ensures { Tells stop.now (writing O.contents output.old output.new) (writing F.contents faults.old faults.new) result }
 {
     if stop.status == DONE {
         return hand_over(stop.text.as_slice(), output, faults);
     }
     if stop.status == NO_MEMORY {
-        let _told = write_out(faults, b"cqf: out of memory\n");
+        write_out(faults, b"cqf: out of memory\n");
         return NO_MEMORY;
     }
-    let _told = write_out(faults, stop.text.as_slice());
+    write_out(faults, stop.text.as_slice());
     stop.status
 }
 
@@ -135,11 +151,13 @@ pub fn tell<O: Write, F: Write>(stop: &Stop, output: &mut O, faults: &mut F) -> 
 pub fn engine<R: Read, O: Write, F: Write>(
     alloc: Global,
     words: &[&str],
-    input: &mut R,
-    output: &mut O,
-    faults: &mut F,
+    input: &mut Heard<R>,
+    output: &mut Told<O>,
+    faults: &mut Told<F>,
 ) -> u8
-    ensures { Ends (map (λ word. word.now) words.now) (R.remaining input.old) (O.contents output.old) (O.contents output.new) (F.contents faults.old) (F.contents faults.new) result }
+    requires unheard { IsUnheard input.old }
+    requires accepted { output.old.refused ≡ false }
+    ensures { Ends (map (λ word. word.now) words.now) (reading R.remaining input.old input.new) (writing O.contents output.old output.new) (writing F.contents faults.old faults.new) result }
 {
     match run(alloc, words, input) {
         Ok(text) => hand_over(text.as_slice(), output, faults),

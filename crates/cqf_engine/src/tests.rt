@@ -1,6 +1,6 @@
 //! Runs of the whole program over readers and writers in memory, and over some that fail.
 
-use crate::engine;
+use crate::{Heard, Told, engine};
 use std::alloc::Global;
 use std::io;
 use std::io::{ErrorKind, Read, Write};
@@ -12,19 +12,20 @@ const BOOK: &str = "what,cycle,where,frame,octets,detail\nstart,1,a>s,1,64,12500
 const LINE: [&str; 3] = ["line", "--cycles", "3"];
 
 /// Whether a run ends with this status and leaves these texts on its output and on its writer of faults.
-fn leaves<R: Read>(
+fn leaves<R: Read + Drop>(
     alloc: Global,
     words: &[&str],
-    input: &mut R,
+    input: R,
     status: u8,
     texts: (&str, &str),
 ) -> bool {
-    let mut output = Vec::new(alloc);
-    let mut faults = Vec::new(alloc);
-    let ended = engine(alloc, words, input, &mut output, &mut faults);
+    let mut input = Heard::new(alloc, input);
+    let mut output = Told::new(Vec::new(alloc));
+    let mut faults = Told::new(Vec::new(alloc));
+    let ended = engine(alloc, words, &mut input, &mut output, &mut faults);
     ended == status
-        && output.as_slice() == texts.0.as_bytes()
-        && faults.as_slice() == texts.1.as_bytes()
+        && output.writer().as_slice() == texts.0.as_bytes()
+        && faults.writer().as_slice() == texts.1.as_bytes()
 }
 
 /// A reader whose read of this number, from 0, fails. Each of the others gives a divider of parts.
@@ -91,33 +92,24 @@ const CASES: &[(&[&str], &str, u8, (&str, &str))] = &[
 #[test]
 fn each_command_is_run(rt: HostRuntime) {
     for (words, input, status, texts) in CASES {
-        assert!(rt; leaves(rt.alloc(), words, &mut input.as_bytes(), *status, *texts));
+        assert!(rt; leaves(rt.alloc(), words, input.as_bytes(), *status, *texts));
     }
 }
 
 #[test]
 fn first_words_that_are_no_text_are_misuse(rt: HostRuntime) {
     let input = b"port \xff\n";
-    assert!(rt;
-        leaves(
-            rt.alloc(),
-            &[],
-            &mut input.as_slice(),
-            2,
-            ("", "cqf: words\n")
-        )
-    );
+    assert!(rt; leaves(rt.alloc(), &[], input.as_slice(), 2, ("", "cqf: words\n")));
 }
 
 #[test]
 fn a_reader_that_fails_is_told(rt: HostRuntime) {
     for after in 0..3 {
-        let mut input = Breaks { after };
         assert!(rt;
             leaves(
                 rt.alloc(),
                 LINE.as_slice(),
-                &mut input,
+                Breaks { after },
                 4,
                 ("", "cqf: input fault\n")
             )
@@ -132,7 +124,7 @@ fn a_reader_that_never_ends_is_left(rt: HostRuntime) {
         leaves(
             rt.alloc(),
             words.as_slice(),
-            &mut Endless,
+            Endless,
             1,
             ("", "cqf: input too long\n")
         )
@@ -141,15 +133,13 @@ fn a_reader_that_never_ends_is_left(rt: HostRuntime) {
 
 /// Whether a run of `line` whose output takes nothing ends with status 4 and its line.
 fn fails_on_output(alloc: Global) -> bool {
-    let mut faults = Vec::new(alloc);
-    let status = engine(
-        alloc,
-        LINE.as_slice(),
-        &mut OFFERS.as_bytes(),
-        &mut Closed,
-        &mut faults,
-    );
-    status == 4 && faults.as_slice() == b"cqf: output fault\n".as_slice()
+    let mut input = Heard::new(alloc, OFFERS.as_bytes());
+    let mut output = Told::new(Closed);
+    let mut faults = Told::new(Vec::new(alloc));
+    let status = engine(alloc, &LINE, &mut input, &mut output, &mut faults);
+    status == 4
+        && output.is_refused()
+        && faults.writer().as_slice() == b"cqf: output fault\n".as_slice()
 }
 
 #[test]
@@ -159,10 +149,11 @@ fn a_writer_that_fails_is_told(rt: HostRuntime) {
 
 /// The status of a run of these words, whose reader and output fail, and how much is told of it.
 fn end_of_misuse(alloc: Global, words: &[&str]) -> (u8, usize) {
-    let mut faults = Vec::new(alloc);
-    let mut input = Breaks { after: 0 };
-    let status = engine(alloc, words, &mut input, &mut Closed, &mut faults);
-    (status, faults.len())
+    let mut input = Heard::new(alloc, Breaks { after: 0 });
+    let mut output = Told::new(Closed);
+    let mut faults = Told::new(Vec::new(alloc));
+    let status = engine(alloc, words, &mut input, &mut output, &mut faults);
+    (status, faults.writer().len())
 }
 
 #[test]
@@ -170,4 +161,18 @@ fn wrong_words_come_before_what_fails(rt: HostRuntime) {
     let (status, told) = end_of_misuse(rt.alloc(), &["port", "--until", "0"]);
     assert_eq!(rt; status, 2);
     assert!(rt; told > 0);
+}
+
+/// How many bytes a run of `compile` takes of a reader that never ends.
+fn taken_of_endless(alloc: Global) -> usize {
+    let mut input = Heard::new(alloc, Endless);
+    let mut output = Told::new(Vec::new(alloc));
+    let mut faults = Told::new(Vec::new(alloc));
+    let _status = engine(alloc, &["compile"], &mut input, &mut output, &mut faults);
+    input.bytes().len()
+}
+
+#[test]
+fn one_byte_too_many_is_taken_of_a_reader_that_never_ends(rt: HostRuntime) {
+    assert_eq!(rt; taken_of_endless(rt.alloc()), 67_108_865);
 }

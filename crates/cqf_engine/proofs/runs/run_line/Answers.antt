@@ -3,8 +3,8 @@ use Rattle.std.specs.List.{slice_split}
 use Rattle.std.specs.Str.{IsUtf8}
 use Rattle.cqf_engine.specs.Run.{is_space, words_of}
 use Rattle.cqf_words.specs.Words.{EndsWords}
-use Rattle.cqf_engine.proofs.RunLemmas.{IsStopped-by_line}
-use Rattle.cqf_engine.proofs.runs.run_taken.Goals as goal
+use Rattle.cqf_engine.proofs.RunLemmas.{HasCause-by_line}
+use Rattle.cqf_engine.proofs.runs.run_line.Goals as goal
 
 pub returns-in-Err-clause-err : goal.returns-in-Err-clause-err
 returns-in-Err-clause-err c =
@@ -12,4 +12,4 @@ returns-in-Err-clause-err c =
     let texts : List (Bor (List ℕ)) → List (List ℕ) = map (λ word. word.now) in
     let same : map (λ word. word.now) c.as_slice.result.now ≡ words_of [] c.args.bytes.now =
     ap texts c.as_slice.ensures.value ∙ c.in-Ok-split_words.ensures ∙ ap (slice_split is_space) line in
-    IsStopped-by_line c.args.bytes.now c.in-Err.stop c.requires (subst IsUtf8 c.split_first_line.ensures.line c.in-Ok.ensures.cases.1) (subst (λ (words : List (List ℕ)). EndsWords words c.in-Err.stop) same c.in-Err.ensures.err)
+    HasCause-by_line c.args.bytes.now c.in-Err.stop c.requires (subst IsUtf8 c.split_first_line.ensures.line c.in-Ok.ensures.cases.1) (subst (λ (words : List (List ℕ)). EndsWords words c.in-Err.stop) same c.in-Err.ensures.err)
