@@ -1,5 +1,5 @@
 -- The smallest network: one bridge, one station, the link from one to the other, and one stream (profile).
-use Rattle.std.specs.Prelude.{◌≡◌, length, ℕ, List, [], ◌∷◌, None, codes}
+use Rattle.std.specs.Prelude.{ℕ, List, [], ◌∷◌, None, codes}
 use Rattle.cqf_units.specs.declared.timing.Rate.TheVariants.{Mb1000}
 use Rattle.cqf_lists.specs.Lists.{each_below}
 use Rattle.cqf_model.specs.declared.frames.Offer.{Offer}

@@ -37,7 +37,7 @@ fn started(alloc: Global, starts: &[Start]) -> Result<Vec<Started>, Memory>
     requires { All (λ (s : AStart). s.start.0 < 1000000000000) starts.now }
     ensures { IfOk result (λ list. list.items ≡ map started_by starts.now) }
 {
-    let mut list = Vec::new(alloc);
+    let mut list = Vec::with_capacity(alloc, starts.len())?;
     for start in starts {
         list.push(as_started(start))?;
     }
@@ -84,25 +84,29 @@ fn run(alloc: Global, edge: &mut Edge, end: u64) -> Result<Vec<Start>, Memory>
 /// of 500 ns, a cycle time of 125,000 ns with a guard time of 5,000 ns, and 1,500 octets a cycle for `x`, which is live
 /// in every cycle; there are no background frames. The run has so many cycles, 0 to 100,000; offers of later cycles are in
 /// no book. `Memory` where a growth is refused (profile).
-pub fn line_book(alloc: Global, offers: &[Offer], cycles: u32) -> Result<Book, Memory>
-    requires offers { AreOffers line_domain offers.now }
-    requires few { length offers.now ≤ 1000000 }
+pub fn line_book(alloc: Global, offers: Vec<Offer>, cycles: u32) -> Result<Book, Memory>
+    requires offers { AreOffers line_domain offers.items }
+    requires few { length offers.items ≤ 1000000 }
     requires short { cycles ≤ 100000 }
-    ensures book { IfOk result (λ book. IsOneThreadBook (line_run cycles offers.now) (contents_of book)) }
-    ensures only { IfOk result (λ book. (other : Contents) → IsOneThreadBook (line_run cycles offers.now) other → other ≡ contents_of book) }
-    ensures shift { IfOk result (λ book. SaysTheShift (line_run cycles offers.now) (contents_of book)) }
+    ensures book { IfOk result (λ book. IsOneThreadBook (line_run cycles offers.items) (contents_of book)) }
+    ensures only { IfOk result (λ book. (other : Contents) → IsOneThreadBook (line_run cycles offers.items) other → other ≡ contents_of book) }
+    ensures shift { IfOk result (λ book. SaysTheShift (line_run cycles offers.items) (contents_of book)) }
 {
     book_is_unique();
     book_says_the_shift();
     let end = end_of_run(cycles);
-    let dues = in_time(alloc, offers, 0, end)?;
-    let mut edge = taken(alloc, offers, dues.as_slice(), cycles)?;
+    let dues = in_time(alloc, offers.as_slice(), 0, end)?;
+    let mut edge = taken(alloc, offers.as_slice(), dues.as_slice(), cycles)?;
+    // what isn't needed any more gives its memory back
+    drop(dues);
+    drop(offers);
     let starts = run(alloc, &mut edge, end)?;
+    let mut drops = edge.into_drops();
     let started = started(alloc, starts.as_slice())?;
-    sort_drops(&mut edge.drops)?;
+    sort_drops(&mut drops)?;
     Ok(Book {
         starts: started,
         background: Vec::new(alloc),
-        drops: edge.into_drops(),
+        drops,
     })
 }

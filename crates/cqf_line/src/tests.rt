@@ -44,13 +44,13 @@ fn offers_of(alloc: Global, cases: &[Case]) -> Result<Vec<Offer>, Fail>
 /// Whether the line's book over some offers has these starts and drops, and no background frame.
 fn has_book(
     alloc: Global,
-    offers: &[Offer],
+    offers: Vec<Offer>,
     cycles: u32,
     starts: &[Started],
     drops: &[Dropped],
 ) -> Result<bool, Memory>
-    requires offers { AreOffers line_domain offers.now }
-    requires few { length offers.now ≤ 1000000 }
+    requires offers { AreOffers line_domain offers.items }
+    requires few { length offers.items ≤ 1000000 }
     requires short { cycles ≤ 100000 }
 {
     let book = line_book(alloc, offers, cycles)?;
@@ -71,7 +71,7 @@ fn gives(
 {
     let offers = offers_of(alloc, cases)?;
     let few = offers.len() <= 1_000_000;
-    Ok(few && has_book(alloc, offers.as_slice(), cycles, starts, drops)?)
+    Ok(few && has_book(alloc, offers, cycles, starts, drops)?)
 }
 
 /// A start on the one link.

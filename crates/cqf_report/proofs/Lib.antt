@@ -7,3 +7,4 @@ pub mod OfferLemmas
 pub mod ArrivalLemmas
 pub mod BackgroundLemmas
 pub mod FirstRows
+pub mod NameLemmas

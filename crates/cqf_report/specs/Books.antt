@@ -1,6 +1,8 @@
 -- The book of a run as a text (profile).
-use Rattle.std.specs.Prelude.{ℕ, ◌++◌, List, [], ◌∷◌, codes, decimal, slice_get, slice_index_or}
+use Rattle.std.specs.Prelude.{ℕ, ◌≡◌, ◌++◌, All, List, String, map, [], ◌∷◌, codes, decimal, slice_get, slice_index_or}
 use Rattle.std.specs.List.{flat_map}
+use Rattle.std.specs.String.{string_bytes}
+use Rattle.std.specs.declared.alloc.Global.{Global}
 use Rattle.std.specs.Option.{option_map_or}
 use Rattle.cqf_model.specs.declared.frames.Dropped.{Dropped}
 use Rattle.cqf_model.specs.declared.frames.Reason.{Reason}
@@ -12,7 +14,7 @@ use Rattle.cqf_model.specs.declared.topology.Node.TheVariants.{Bridge, Station}
 use Rattle.cqf_model.specs.Book.{Contents}
 use Rattle.cqf_model.specs.Domain.{Domain}
 use Rattle.cqf_report.specs.Records.{Fields}
-use Rattle.cqf_report.specs.Written.{line_of}
+use Rattle.cqf_report.specs.Written.{IsPlain, line_of}
 
 abbrev pub book_header : Fields
 book_header = codes "what" ∷ codes "cycle" ∷ codes "where" ∷ codes "frame" ∷ codes "octets" ∷ codes "detail" ∷ []
@@ -31,6 +33,11 @@ ends_of d link = name_of_bridge d link.from ++ 62 ∷ name_of_node d link.to
 
 abbrev pub name_of_link : Domain → ℕ → List ℕ
 name_of_link d l = option_map_or (ends_of d) (slice_get d.links l) []
+
+-- the links of a domain by the names of their ends, by number, each as it is written
+pub record AreLinkNames (d : Domain) (names : List (String Global)) : Type 0 where
+  pub are : map string_bytes names ≡ map (ends_of d) d.links
+  pub plain : All (λ (name : String Global). IsPlain (string_bytes name)) names
 
 abbrev pub name_of_reason : Reason → List ℕ
 name_of_reason Unknown = codes "unknown"

@@ -1,76 +1,19 @@
 //! The book of a run, written as a text.
 
 ghost use Rattle.std.specs.Prelude.{ℕ, ◌≡◌, ◌++◌, ◌∷◌, List, [], IfOk, Some};
-ghost use Rattle.std.specs.String.{string_bytes};
 ghost use Rattle.cqf_model.specs.Book.{contents_of};
 ghost use Rattle.cqf_report.specs.Written.{ArePlain, HasWritten, IsPlain, line_of};
-ghost use Rattle.cqf_report.specs.Books.{book_header, dropped_fields, ends_of, lines_of_drops, lines_of_starts, name_of_bridge, name_of_link, name_of_node, name_of_reason, started_fields, text_of_book};
+ghost use Rattle.cqf_report.specs.Books.{book_header, dropped_fields, lines_of_drops, lines_of_starts, name_of_reason, started_fields, text_of_book};
 
 use crate::lines::{open_writer, write_line, written_text};
-use cqf_model::{Book, Dropped, Link, Node, Reason, Started};
+use crate::names::{LinkNames, bridge_name};
+use cqf_model::{Book, Dropped, Reason, Started};
 use cqf_topology::Domain;
 use cqf_units::Memory;
 use csv::Writer;
 use itoa::Buffer;
 use std::alloc::Global;
 use std::io::Write;
-
-/// The name of a bridge. A bridge that the domain lacks has none.
-fn bridge_name(domain: &Domain, bridge: u8) -> &str
-    ensures name { result.now ≡ name_of_bridge domain.now bridge }
-    ensures plain { IsPlain result.now }
-{
-    if bridge < domain.bridges() {
-        domain.bridge_name(bridge).as_str()
-    } else {
-        ""
-    }
-}
-
-/// The name of a station. A station that the domain lacks has none.
-fn station_name(domain: &Domain, station: u8) -> &str
-    ensures name { result.now ≡ name_of_node domain.now (Node.Station station) }
-    ensures plain { IsPlain result.now }
-{
-    if station < domain.stations() {
-        domain.station_name(station).as_str()
-    } else {
-        ""
-    }
-}
-
-/// The name of a node.
-fn node_name(domain: &Domain, node: Node) -> &str
-    ensures name { result.now ≡ name_of_node domain.now node }
-    ensures plain { IsPlain result.now }
-{
-    match node {
-        Node::Bridge(bridge) => bridge_name(domain, bridge),
-        Node::Station(station) => station_name(domain, station),
-    }
-}
-
-/// A link by the names of its ends.
-fn ends(alloc: Global, domain: &Domain, link: Link) -> Result<String, Memory>
-    ensures name { IfOk result (λ name. string_bytes name ≡ ends_of domain.now link) }
-    ensures plain { IfOk result (λ name. IsPlain (string_bytes name)) }
-{
-    let from = bridge_name(domain, link.from);
-    let to = node_name(domain, link.to);
-    format!(in alloc; "{from}>{to}")
-}
-
-/// A link by the names of its ends. A link that the domain lacks has none.
-fn link_name(alloc: Global, domain: &Domain, link: u8) -> Result<String, Memory>
-    ensures name { IfOk result (λ name. string_bytes name ≡ name_of_link domain.now link) }
-    ensures plain { IfOk result (λ name. IsPlain (string_bytes name)) }
-{
-    if link < domain.links() {
-        ends(alloc, domain, domain.link(link))
-    } else {
-        Ok(String::new(alloc))
-    }
-}
 
 /// The word for a reason.
 fn reason_name(reason: Reason) -> &'static str
@@ -103,16 +46,15 @@ fn write_event<'f, W: Write + Drop>(
 
 /// Writes a transmission's line, which begins with the word for what it is.
 fn write_started<W: Write + Drop>(
-    alloc: Global,
     writer: &mut Writer<W>,
     what: &[u8],
-    domain: &Domain,
+    links: &LinkNames<'_>,
     started: &Started,
 ) -> Result<(), Memory>
     requires { IsPlain what.now }
-    ensures { IfOk result (λ _. (text : List ℕ) → HasWritten W.contents writer.old text → HasWritten W.contents writer.new (text ++ line_of (started_fields what.now domain.now started.now))) }
+    ensures { IfOk result (λ _. (text : List ℕ) → HasWritten W.contents writer.old text → HasWritten W.contents writer.new (text ++ line_of (started_fields what.now links.now started.now))) }
 {
-    let link = link_name(alloc, domain, started.link)?;
+    let link = links.name_of(started.link);
     let mut cycle = Buffer::new();
     let mut frame = Buffer::new();
     let mut octets = Buffer::new();
@@ -130,17 +72,16 @@ fn write_started<W: Write + Drop>(
 
 /// Writes a line for each transmission.
 fn write_starts<W: Write + Drop>(
-    alloc: Global,
     writer: &mut Writer<W>,
     what: &[u8],
-    domain: &Domain,
+    links: &LinkNames<'_>,
     starts: &[Started],
 ) -> Result<(), Memory>
     requires { IsPlain what.now }
-    ensures { IfOk result (λ _. (text : List ℕ) → HasWritten W.contents writer.old text → HasWritten W.contents writer.new (text ++ lines_of_starts what.now domain.now starts.now)) }
+    ensures { IfOk result (λ _. (text : List ℕ) → HasWritten W.contents writer.old text → HasWritten W.contents writer.new (text ++ lines_of_starts what.now links.now starts.now)) }
 {
     for started in starts {
-        write_started(alloc, writer, what, domain, started)?;
+        write_started(writer, what, links, started)?;
     }
     Ok(())
 }
@@ -204,18 +145,13 @@ fn write_header<W: Write + Drop>(writer: &mut Writer<W>) -> Result<(), Memory>
 pub fn write_book(alloc: Global, domain: &Domain, book: &Book) -> Result<Vec<u8>, Memory>
     ensures { IfOk result (λ text. text.items ≡ text_of_book domain.now (contents_of book.now)) }
 {
+    let links = LinkNames::new(alloc, domain)?;
     let mut writer = open_writer(alloc);
     write_header(&mut writer)?;
     let start = b"start".as_slice();
-    write_starts(alloc, &mut writer, start, domain, book.starts.as_slice())?;
+    write_starts(&mut writer, start, &links, book.starts.as_slice())?;
     let background = b"background".as_slice();
-    write_starts(
-        alloc,
-        &mut writer,
-        background,
-        domain,
-        book.background.as_slice(),
-    )?;
+    write_starts(&mut writer, background, &links, book.background.as_slice())?;
     write_drops(&mut writer, domain, book.drops.as_slice())?;
     written_text(writer)
 }

@@ -22,6 +22,7 @@ mod background;
 mod books;
 mod laws;
 mod lines;
+mod names;
 mod offers;
 mod records;
 mod rows;

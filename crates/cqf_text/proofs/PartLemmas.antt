@@ -1,11 +1,16 @@
 -- The first part of an input, line by line.
-use Rattle.std.proofs.Common.{◌≡◌, ℕ, ◌<◌, ◌≤◌, ◌+◌, ◌-◌, suc, ◌∙◌, List, [], ◌∷◌, ◌++◌, length, get_or, take, drop, arith, map, true, false, Option, Some}
-use Rattle.std.proofs.Common.{None, refl, sym, ap, inl, inr, length-append, subst}
+use Rattle.std.proofs.Common.{◌≡◌, ◌≢◌, ℕ, ◌<◌, ◌≤◌, ◌+◌, ◌-◌, zero, suc, ◌∙◌, List, [], ◌∷◌, ◌++◌, length, get_or, take, drop, arith, map, not, Bool, true, false}
+use Rattle.std.proofs.Common.{Option, Some, None, refl, sym, ap, inl, inr, length-append, length-drop, subst}
 use Rattle.std.specs.List.{slice_split, onto_first, concat, position_or_len, before_first, after_first}
-use Rattle.std.proofs.lemmas.List.{append_assoc, append-nil, length-map, take_at, take_more, take-append-drop}
+use Rattle.std.proofs.lemmas.List.{append_assoc, append-nil, get_or_default, length-map, take_at, take_more, take-append-drop}
 use Rattle.std.proofs.lemmas.List.Splits.{slice_split_first, slice_split-cons_yes, slice_split-cons_no, length-slice_split}
 use Rattle.std.proofs.lemmas.List.Sums.{passes_at_first}
-use Rattle.std.proofs.lemmas.Bool.{cases_lt}
+use Rattle.std.specs.List.{All}
+use Rattle.std.specs.Bool.{IsTrue}
+use Rattle.std.specs.Option.{is_some}
+use Rattle.memchr.specs.Find.{IsFirstByte, is_byte}
+use Rattle.std.proofs.lemmas.Bool.{cases_lt, ne_eqb, eq-eqb}
+use Rattle.std.proofs.lemmas.List.Elements.{All-head, All-take, All-drop}
 use Rattle.std.proofs.lemmas.Grind.{common_steps}
 use denote.Bor.{Bor}
 use Rattle.cqf_text.specs.Lines.{is_line_feed}
@@ -99,6 +104,39 @@ parts_of-other text h = elim (cases_lt (position_or_len is_line_feed text) (leng
       ∙ ap (λ rest. prepend text (parts_of rest)) (sym (behind-alone text alone))
       ∙ ap (λ front. prepend front (parts_of (behind_first_line text))) (sym (first_line-alone text alone))
 ]
+
+-- no byte of the text is a percent sign
+abbrev pub HasNoSign : List ℕ → Type 0
+HasNoSign text = All (λ byte. byte ≢ 37) text
+
+-- a line with no percent sign is no divider
+other-line : (line : List ℕ) → HasNoSign line → is_divider line ≡ false
+other-line [] none = refl
+other-line (a ∷ []) none = refl
+other-line (a ∷ b ∷ []) none = rw (ne_eqb a 37 (All-head (λ byte. byte ≢ 37) a (b ∷ []) none)) refl
+other-line (a ∷ b ∷ c ∷ []) none = rw (ne_eqb a 37 (All-head (λ byte. byte ≢ 37) a (b ∷ c ∷ []) none)) refl
+other-line (a ∷ b ∷ c ∷ d ∷ more) none = refl
+
+-- a text of at most so many bytes with no percent sign is one part
+one_part-within : (most : ℕ) (text : List ℕ) → length text ≤ most → HasNoSign text → parts_of text ≡ text ∷ []
+one_part-within most [] short none = refl
+one_part-within zero (byte ∷ text) short none = absurd (omega arith)
+one_part-within (suc most) (byte ∷ text) short none =
+    let whole = byte ∷ text in
+    let cut = position_or_len is_line_feed whole + 1 in
+    let shorter : length (drop cut whole) ≤ most = omega (arith, length-drop cut whole) in
+    parts_of-other whole (other-line (take cut whole) (All-take (λ byte. byte ≢ 37) cut whole none))
+    ∙ ap (prepend (take cut whole)) (one_part-within most (drop cut whole) shorter (All-drop (λ byte. byte ≢ 37) cut whole none))
+    ∙ ap (λ part. part ∷ []) (take-append-drop cut whole)
+
+-- a text with no percent sign is one part
+pub one_part : (text : List ℕ) → HasNoSign text → parts_of text ≡ text ∷ []
+one_part text none = one_part-within (length text) text (omega arith) none
+
+-- so is a text in which no percent sign is found
+pub one_part-unfound : (text : List ℕ) (found : Option ℕ) (unfound : Bool) → IsFirstByte (is_byte 37) text found → is_some found ≡ not unfound → IsTrue unfound → parts_of text ≡ text ∷ []
+one_part-unfound text None unfound nowhere is none_there = one_part text (λ k d below same. nowhere k (omega arith) below (eq-eqb (get_or text k 0) 37 (get_or_default text k 0 d below ∙ same)))
+one_part-unfound text (Some k) unfound there is none_there = absurd (cc)
 
 -- so far, what stands in front of the rest has no divider
 pub record Passed (input front rest : List ℕ) : Type 0 where

@@ -1,11 +1,12 @@
 //! The parts of an input (profile).
-ghost use Rattle.std.specs.Prelude.{◌≡◌, ◌+◌, ◌<◌, [], ◌∷◌, length, map, take, drop, ⊤, IfOk, MatchOption};
+ghost use Rattle.std.specs.Prelude.{◌≡◌, ◌+◌, ◌<◌, [], ◌∷◌, length, map, take, drop, ⊤, IfOk, IsTrue, MatchOption};
 ghost use Rattle.std.specs.List.{position_or_len};
 ghost use Rattle.cqf_text.specs.Lines.{is_line_feed};
 ghost use Rattle.cqf_text.specs.Parts.{is_divider, parts_of};
 
 use crate::lines::line_end;
 use cqf_units::Memory;
+use memchr::memchr;
 use std::alloc::Global;
 
 /// Whether the line is a divider: `%%`, with its line feed or without.
@@ -13,6 +14,13 @@ fn divides(line: &[u8]) -> bool
     ensures { result ≡ is_divider line.now }
 {
     matches!(line, [b'%', b'%'] | [b'%', b'%', b'\n'])
+}
+
+/// Whether the text has no percent sign: it is then one part, and its lines needn't be looked at.
+fn has_no_sign(text: &[u8]) -> bool
+    ensures { IsTrue result → parts_of text.now ≡ text.now ∷ [] }
+{
+    memchr(b'%', text).is_none()
 }
 
 /// The first line with its line feed, and what stands behind it.
@@ -36,6 +44,9 @@ fn split_part(input: &[u8]) -> (&[u8], Option<&[u8]>)
     ensures parts { MatchOption result.1 (parts_of input.now ≡ result.0.now ∷ []) (λ rest. parts_of input.now ≡ result.0.now ∷ parts_of rest.now) }
     ensures shorter { MatchOption result.1 ⊤ (λ rest. length rest.now < length input.now) }
 {
+    if has_no_sign(input) {
+        return (input, None);
+    }
     let mut rest = input;
     while !rest.is_empty() {
         let (line, behind) = split_whole_line(rest);

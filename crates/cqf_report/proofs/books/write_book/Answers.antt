@@ -14,7 +14,7 @@ returns c =
     let background = starts ++ lines_of_starts (codes "background") d book.background in
     let Written : List ℕ → Type 0 = λ text. HasWritten (λ (w : Vec ℕ Global). Some w.items) c.write_drops.new.writer text in
     let headed = c.in_ok-write_header.ensures [] c.open_writer-writer.ensures in
-    let started = rw (c.as_slice-start.ensures, c.as_slice.ensures.value) at (c.in_ok-write_starts.ensures header headed) in
-    let backed = rw (c.as_slice-background.ensures, c.as_slice-2.ensures.value) at (c.in_ok-write_starts-2.ensures starts started) in
+    let started = rw (c.as_slice-start.ensures, c.as_slice.ensures.value, c.in_ok-links.ensures) at (c.in_ok-write_starts.ensures header headed) in
+    let backed = rw (c.as_slice-background.ensures, c.as_slice-2.ensures.value, c.in_ok-links.ensures) at (c.in_ok-write_starts-2.ensures starts started) in
     let dropped = rw c.as_slice-3.ensures.value at (c.in_ok-write_drops.ensures background backed) in
     handed-out c.written_text.result (λ w. w.items) Written (text_of_book d book) c.written_text.ensures dropped

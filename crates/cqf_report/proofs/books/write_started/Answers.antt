@@ -8,7 +8,7 @@ write_event-requires g c = (
   (
     rw (c.as_bytes.ensures.value ∙ c.format.ensures.text) (decimal-plain c.args.started.now.cycle.0 (search rules)),
     (
-      rw c.as_bytes-2.ensures.value c.in_ok-link.ensures.plain,
+      rw c.as_bytes-2.ensures.value c.name_of-link.ensures.plain,
       (
         rw (c.as_bytes-3.ensures.value ∙ c.format-2.ensures.text) (decimal-plain c.args.started.now.frame (search rules)),
         (
@@ -27,7 +27,7 @@ pub returns : goal.returns
 returns g c =
     rw (
       c.as_bytes.ensures.value ∙ c.format.ensures.text,
-      c.as_bytes-2.ensures.value ∙ c.in_ok-link.ensures.name,
+      c.as_bytes-2.ensures.value ∙ c.name_of-link.ensures.name,
       c.as_bytes-3.ensures.value ∙ c.format-2.ensures.text,
       c.as_bytes-4.ensures.value ∙ c.format-3.ensures.text,
       c.as_bytes-5.ensures.value ∙ c.format-4.ensures.text,

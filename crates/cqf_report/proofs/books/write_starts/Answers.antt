@@ -12,15 +12,15 @@ loop-started-init g c text has = subst (λ t. HasWritten g.W.Write.contents c.ar
 
 pub loop-started-preserved : goal.loop-started-preserved
 loop-started-preserved g c text has =
-    let line = λ (started : Started). line_of (started_fields c.args.what.now c.args.domain.now started) in
+    let line = λ (started : Started). line_of (started_fields c.args.what.now c.args.links.now started) in
     let Written : List ℕ → Type 0 = λ t. HasWritten g.W.Write.contents c.write_started.new.writer t in
     subst Written (more-lines line text c.args.starts.now c.loop-started.started-index _ c.loop-started-test.true)
-    (c.in_ok-write_started.ensures (text ++ lines_of_starts c.args.what.now c.args.domain.now (take c.loop-started.started-index c.args.starts.now))
+    (c.in_ok-write_started.ensures (text ++ lines_of_starts c.args.what.now c.args.links.now (take c.loop-started.started-index c.args.starts.now))
     (c.loop-started.invariant text has))
 
 pub returns : goal.returns
 returns g c text has =
-    let line = λ (started : Started). line_of (started_fields c.args.what.now c.args.domain.now started) in
+    let line = λ (started : Started). line_of (started_fields c.args.what.now c.args.links.now started) in
     let Written : List ℕ → Type 0 = λ t. HasWritten g.W.Write.contents c.loop-started.writer t in
     subst Written (all-lines line text c.args.starts.now c.args.starts.now c.loop-started.started-index refl c.loop-started-test.false)
     (c.loop-started.invariant text has)

@@ -7,4 +7,4 @@ use Rattle.cqf_report.proofs.books.write_starts.Given as goal
 abbrev pub invariant-loop-started : goal.invariant-loop-started
 invariant-loop-started g l =
     (text : List ℕ) → HasWritten g.W.Write.contents l.fn.writer text →
-    HasWritten g.W.Write.contents l.writer (text ++ lines_of_starts l.what l.domain (take l.started-index l.starts))
+    HasWritten g.W.Write.contents l.writer (text ++ lines_of_starts l.what l.links (take l.started-index l.starts))

@@ -4,7 +4,7 @@ use Rattle.cqf_report.specs.Books.{name_of_bridge, name_of_node}
 use Rattle.cqf_report.specs.Written.{IsPlain}
 use Rattle.cqf_report.proofs.TableLemmas.{ok-of}
 use Rattle.cqf_report.proofs.WrittenLemmas.{joined-plain}
-use Rattle.cqf_report.proofs.books.ends.Goals as goal
+use Rattle.cqf_report.proofs.names.ends.Goals as goal
 
 pub returns-clause-name : goal.returns-clause-name
 returns-clause-name c = search rules

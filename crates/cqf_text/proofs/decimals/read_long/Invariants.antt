@@ -2,7 +2,7 @@ use Rattle.std.proofs.Common.{◌≡◌, true, take}
 use Rattle.std.specs.Char.{is_ascii_digit}
 use Rattle.std.specs.List.{list_all}
 use Rattle.std.specs.Str.Parse.{digits_value}
-use Rattle.cqf_text.proofs.decimals.read_decimal.Given as goal
+use Rattle.cqf_text.proofs.decimals.read_long.Given as goal
 
 -- the bytes so far are digits, and write the number
 abbrev pub invariant-loop-byte : goal.invariant-loop-byte

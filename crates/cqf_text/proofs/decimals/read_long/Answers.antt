@@ -1,11 +1,10 @@
-use Rattle.std.proofs.Common.{◌≡◌, ◌+◌, ◌-◌, ◌*◌, ◌<◌, ◌&&◌, true, take, get_or, ap₂, ◌∙◌, arith, rules}
-use Rattle.std.specs.Char.{digit_value, is_ascii_digit}
-use Rattle.std.specs.Str.Parse.{digits_value}
+use Rattle.std.proofs.Common.{◌≡◌, ◌+◌, ◌&&◌, true, get_or, ap₂, ◌∙◌, arith, rules}
+use Rattle.std.specs.Char.{is_ascii_digit}
 use Rattle.std.proofs.lemmas.List.Folds.{list_all_more}
 use Rattle.std.proofs.lemmas.Int.Digits.{digits_value_more}
 use Rattle.std.proofs.lemmas.Str.{digit_value_digit}
 use Rattle.cqf_text.proofs.DecimalLemmas.{none_by_size}
-use Rattle.cqf_text.proofs.decimals.read_decimal.Goals as goal
+use Rattle.cqf_text.proofs.decimals.read_long.Goals as goal
 
 -- one more digit
 pub loop-byte-preserved : goal.loop-byte-preserved
