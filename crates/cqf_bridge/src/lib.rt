@@ -7,4 +7,7 @@
 //! The types stand with the definitions, in `cqf_model`, and this crate hands them on.
 #![tactic(auto)]
 
+mod batch;
+
+pub use batch::Batch;
 pub use cqf_model::{Book, Dropped, Offer, Offered, Reason, Sent, Started};
