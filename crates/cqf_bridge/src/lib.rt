@@ -8,6 +8,7 @@
 #![tactic(auto)]
 
 mod batch;
+mod outgoing;
 
 pub use batch::Batch;
 pub use cqf_model::{Book, Dropped, Offer, Offered, Reason, Sent, Started};
