@@ -1,1 +1,3 @@
 mod Columns
+mod Handing
+mod MadeBatch

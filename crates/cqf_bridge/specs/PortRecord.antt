@@ -1,5 +1,5 @@
 -- A port of a bridge, with all that the bridge recorded at it.
-use Rattle.std.specs.Prelude.{ℕ, ◌≡◌, ◌+◌, ◌*◌, ◌≤◌, ◌<◌, ◌++◌, List, [], Option, None, length, map, Contains}
+use Rattle.std.specs.Prelude.{ℕ, ◌≡◌, ◌+◌, ◌*◌, ◌≤◌, ◌<◌, ◌++◌, List, [], ◌∷◌, Option, Some, None, length, map, Contains, slice_index_or}
 use Rattle.std.specs.List.{flat_map, zip}
 use Rattle.cqf_model.specs.declared.frames.Sent.{Sent}
 use Rattle.cqf_model.specs.declared.frames.Started.{Started}
@@ -62,3 +62,31 @@ batch_by r cycle made = record { link = r.link; cycle = cycle; frames = flat_map
 
 abbrev pub background_by : PortRecord → ℕ → List Transmission → List Started
 background_by r cycle made = map (started_backed cycle r.link) (flat_map (backed_of (recorded r)) made)
+
+-- the port runs to the end of a cycle: it starts what is demanded of it, and hands on the batch and the background frames
+pub record RunsTo (before after : PortRecord) (cycle until : ℕ) (batch : LinkBatch) (background background_after : List Started) : Type 0 where
+  pub made : List Transmission
+  pub demanded : AreDemanded before until made
+  pub port : after ≡ with_starts before until made
+  pub batch_made : batch ≡ batch_by before cycle made
+  pub background_made : background_after ≡ background ++ background_by before cycle made
+
+-- what a start is as a frame of the batch, or as a background frame, by its stream
+abbrev pub sent_as : Option ℕ → Start → List Sent
+sent_as None start = []
+sent_as (Some stream) start = record { start = start.start; frame = start.frame; stream = stream; octets = start.octets } ∷ []
+
+abbrev pub backed_as : Option ℕ → Start → List Start
+backed_as None start = start ∷ []
+backed_as (Some stream) start = []
+
+-- what the starts of these transmissions are, by the streams of their arrivals
+abbrev pub sent_all : List (Option ℕ) → List Transmission → List Start → List Sent
+sent_all streams [] starts = []
+sent_all streams (x ∷ made) [] = []
+sent_all streams (x ∷ made) (start ∷ starts) = sent_as (slice_index_or streams x.0 None) start ++ sent_all streams made starts
+
+abbrev pub backed_all : List (Option ℕ) → List Transmission → List Start → List Start
+backed_all streams [] starts = []
+backed_all streams (x ∷ made) [] = []
+backed_all streams (x ∷ made) (start ∷ starts) = backed_as (slice_index_or streams x.0 None) start ++ backed_all streams made starts
