@@ -1,5 +1,5 @@
 -- Starts that are handed on one after the other.
-use Rattle.std.proofs.Common.{◌≡◌, ◌+◌, ◌≤◌, ◌<◌, ◌^◌, ℕ, List, [], ◌∷◌, ◌++◌, ◌∙◌, sym, ap, refl, arith, length, map, drop, Option, None, Some}
+use Rattle.std.proofs.Common.{◌≡◌, ◌+◌, ◌≤◌, ◌<◌, ℕ, List, [], ◌∷◌, ◌++◌, ◌∙◌, sym, ap, refl, arith, length, map, drop, Option, None, Some}
 use Rattle.std.specs.Prelude.{slice_index_or}
 use Rattle.std.proofs.Common.{get_or, append_assoc, append-nil, length-append}
 use Rattle.std.proofs.Math.ListN.{drop_of_length-le}
@@ -43,14 +43,14 @@ module _ (streams : List (Option ℕ)) (made : List Transmission) (handed : List
       let rest = drop (count + 1) made in
       let others = drop (count + 1) handed in
       let first : drop count made ≡ x ∷ rest =
-          drop_more made count e (omega (arith, inside, even)) ∙ ap (λ (y : Transmission). y ∷ rest) (sym is_x) in
+      drop_more made count e (omega (arith, inside, even)) ∙ ap (λ (y : Transmission). y ∷ rest) (sym is_x) in
       let begun : drop count handed ≡ start ∷ others =
-          drop_more handed count d inside ∙ ap (λ (y : Start). y ∷ others) (sym is_start) in
+      drop_more handed count d inside ∙ ap (λ (y : Start). y ∷ others) (sym is_start) in
       let book = started_backed before.cycle before.link in
       let all : sent_all streams (drop count made) (drop count handed) ≡ sent_as stream start ++ sent_all streams rest others =
-          (λ i. sent_all streams (first i) (begun i)) ∙ ap (λ (s : Option ℕ). sent_as s start ++ sent_all streams rest others) (sym is_stream) in
+      (λ i. sent_all streams (first i) (begun i)) ∙ ap (λ (s : Option ℕ). sent_as s start ++ sent_all streams rest others) (sym is_stream) in
       let backs : backed_all streams (drop count made) (drop count handed) ≡ backed_as stream start ++ backed_all streams rest others =
-          (λ i. backed_all streams (first i) (begun i)) ∙ ap (λ (s : Option ℕ). backed_as s start ++ backed_all streams rest others) (sym is_stream) in
+      (λ i. backed_all streams (first i) (begun i)) ∙ ap (λ (s : Option ℕ). backed_as s start ++ backed_all streams rest others) (sym is_stream) in
       record {
         link = ap (λ (b : LinkBatch). b.link) is_more ∙ h.link;
         cycle = ap (λ (b : LinkBatch). b.cycle) is_more ∙ h.cycle;
@@ -64,8 +64,14 @@ module _ (streams : List (Option ℕ)) (made : List Transmission) (handed : List
             ∙ append_assoc behind (map book (backed_as stream start)) (map book (backed_all streams rest others))
             ∙ ap (λ (z : List Started). behind ++ z) (sym (map-append book (backed_as stream start) (backed_all streams rest others)))
             ∙ ap (λ (z : List Start). behind ++ map book z) (sym backs) ∙ h.others;
-        few = omega (arith, h.few, ap (λ (xs : List Transmission). length xs) first, ap (λ (b : LinkBatch). length b.frames) is_more,
-            length-append after.frames (sent_as stream start), one_at_most stream start);
+        few = omega (
+          arith,
+          h.few,
+          ap (λ (xs : List Transmission). length xs) first,
+          ap (λ (b : LinkBatch). length b.frames) is_more,
+          length-append after.frames (sent_as stream start),
+          one_at_most stream start,
+        );
       }
 
   -- in the end all are
@@ -74,7 +80,11 @@ module _ (streams : List (Option ℕ)) (made : List Transmission) (handed : List
       (after ≡ record before { frames = before.frames ++ sent_all streams made handed })
       × (behind ≡ background ++ map (started_backed before.cycle before.link) (backed_all streams made handed))
   all_handed count after behind h past even =
-      let none : drop count made ≡ [] = drop_of_length-le made (omega (arith, past, even)) in
-      ((λ i. record { link = h.link i; cycle = h.cycle i;
-          frames = (sym (append-nil after.frames) ∙ ap (λ (z : List Transmission). after.frames ++ sent_all streams z (drop count handed)) (sym none) ∙ h.frames) i }),
-       sym (append-nil behind) ∙ ap (λ (z : List Transmission). behind ++ map (started_backed before.cycle before.link) (backed_all streams z (drop count handed))) (sym none) ∙ h.others)
+      let none : drop count made ≡ [] = drop_of_length-le made (omega (arith, past, even)) in (
+        (λ i. record {
+          link = h.link i;
+          cycle = h.cycle i;
+          frames = (sym (append-nil after.frames) ∙ ap (λ (z : List Transmission). after.frames ++ sent_all streams z (drop count handed)) (sym none) ∙ h.frames) i;
+        }),
+        sym (append-nil behind) ∙ ap (λ (z : List Transmission). behind ++ map (started_backed before.cycle before.link) (backed_all streams z (drop count handed))) (sym none) ∙ h.others,
+      )

@@ -1,8 +1,8 @@
 -- What a port's transmissions are as a batch.
-use Rattle.std.proofs.Common.{◌≡◌, ◌+◌, ◌≤◌, ◌<◌, ℕ, List, [], ◌∷◌, ◌++◌, ◌∙◌, sym, ap, refl, arith, length, map, flat_map, Option, None, Some, All, AllPairs, Contains}
+use Rattle.std.proofs.Common.{◌≡◌, ◌+◌, ◌≤◌, ◌<◌, ℕ, List, [], ◌∷◌, ◌++◌, ◌∙◌, sym, ap, refl, arith, length, map, flat_map, Option, None, Some, AllPairs, Contains}
 use Rattle.std.specs.Prelude.{slice_index_or}
 use Rattle.std.specs.List.{zip}
-use Rattle.std.proofs.lemmas.List.{get_or-map, map-append}
+use Rattle.std.proofs.lemmas.List.{get_or-map}
 use Rattle.std.proofs.lemmas.Slice.Zip.{get_or-zip, length-zip}
 use Rattle.std.proofs.Common.{◌-◌, take, drop, length-append, subst}
 use Rattle.std.proofs.Math.Seq.{drop-append_seam}
@@ -48,8 +48,8 @@ module _ (arrivals : List Arrival) (streams : List (Option ℕ)) (even : length 
   sent_of_all (x ∷ made) inside =
       let place = x.0 in
       let one : sent_as (slice_index_or streams place None) (start_of arrivals x) ≡ sent_of (map frame_with (zip arrivals streams)) x =
-          sent_by_stream x.1 (slice_index_or arrivals place no_arrival) (slice_index_or streams place None)
-          ∙ ap (λ (f : QueuedFrame). sent_by x.1 f.arrival f.stream) (sym (frame_at place (inside x (contains_here x made)))) in
+      sent_by_stream x.1 (slice_index_or arrivals place no_arrival) (slice_index_or streams place None)
+      ∙ ap (λ (f : QueuedFrame). sent_by x.1 f.arrival f.stream) (sym (frame_at place (inside x (contains_here x made)))) in
       (λ i. one i ++ sent_of_all made (λ y h. inside y (contains_later x made y h)) i)
 
   pub backed_of_all : (made : List Transmission) → ((x : Transmission) → Contains made x → x.0 < length arrivals) →
@@ -58,8 +58,8 @@ module _ (arrivals : List Arrival) (streams : List (Option ℕ)) (even : length 
   backed_of_all (x ∷ made) inside =
       let place = x.0 in
       let one : backed_as (slice_index_or streams place None) (start_of arrivals x) ≡ backed_of (map frame_with (zip arrivals streams)) x =
-          backed_by_stream x.1 (slice_index_or arrivals place no_arrival) (slice_index_or streams place None)
-          ∙ ap (λ (f : QueuedFrame). backed_by x.1 f.arrival f.stream) (sym (frame_at place (inside x (contains_here x made)))) in
+      backed_by_stream x.1 (slice_index_or arrivals place no_arrival) (slice_index_or streams place None)
+      ∙ ap (λ (f : QueuedFrame). backed_by x.1 f.arrival f.stream) (sym (frame_at place (inside x (contains_here x made)))) in
       (λ i. one i ++ backed_of_all made (λ y h. inside y (contains_later x made y h)) i)
 
 -- instants that ascend within a stretch are no more than it has
@@ -69,8 +69,8 @@ few_between first end [] within ascend from upto = omega (arith, within)
 few_between first end (x ∷ made) within ascend from upto =
     let here = contains_here x made in
     let rest : length made + (x.1 + 1) ≤ end =
-        few_between (x.1 + 1) end made (omega (arith, upto x here)) (pairs_tail (λ (a b : Transmission). a.1 < b.1) x made ascend)
-            (λ y h. omega (arith, pairs_head (λ (a b : Transmission). a.1 < b.1) x made y ascend h)) (λ y h. upto y (contains_later x made y h)) in
+    few_between (x.1 + 1) end made (omega (arith, upto x here)) (pairs_tail (λ (a b : Transmission). a.1 < b.1) x made ascend)
+    (λ y h. omega (arith, pairs_head (λ (a b : Transmission). a.1 < b.1) x made y ascend h)) (λ y h. upto y (contains_later x made y h)) in
     omega (arith, rest, from x here)
 
 -- a port has run to an instant, and made and handed on these
@@ -90,13 +90,13 @@ has_run_to r after until given handed starts kept behind forward none a port all
     let made = a.made in
     let whole : starts ≡ r.port.starts ++ made = all ∙ ap (λ (p : PortState). p.starts) a.value in
     let rest : drop (length kept) starts ≡ made =
-        (λ i. drop (length (had i)) (whole i)) ∙ drop-append_seam r.port.starts made in
+    (λ i. drop (length (had i)) (whole i)) ∙ drop-append_seam r.port.starts made in
     let same : behind ≡ made =
-        is ∙ ap (take (length starts - length kept)) rest
-        ∙ take_all (length starts - length kept) made
-            (omega (arith, ap (λ (xs : List Transmission). length xs) whole, length-append r.port.starts made, ap (λ (xs : List Transmission). length xs) had)) in
+    is ∙ ap (take (length starts - length kept)) rest
+    ∙ take_all (length starts - length kept) made
+    (omega (arith, ap (λ (xs : List Transmission). length xs) whole, length-append r.port.starts made, ap (λ (xs : List Transmission). length xs) had)) in
     let legal : AreLegal r.port.rules r.port.arrivals until (r.port.starts ++ made) =
-        subst (λ (p : PortState). AreLegal p.rules p.arrivals p.reached p.starts) a.value port.legal in
+    subst (λ (p : PortState). AreLegal p.rules p.arrivals p.reached p.starts) a.value port.legal in
     subst (λ (xs : List Transmission). HasRunTo r after until handed xs) (sym same)
     (record {
       demanded = record { legal = legal; later = a.from_reached };

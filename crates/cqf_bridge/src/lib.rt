@@ -8,7 +8,12 @@
 #![tactic(auto)]
 
 mod batch;
+mod bridge;
+mod faults;
 mod outgoing;
+mod sending;
 
 pub use batch::Batch;
+pub use bridge::Bridge;
 pub use cqf_model::{Book, Dropped, Offer, Offered, Reason, Sent, Started};
+pub use faults::BridgeFault;

@@ -1,7 +1,6 @@
-use Rattle.std.proofs.Common.{◌≡◌, arith, ap, length, refl, List}
+use Rattle.std.proofs.Common.{arith, refl}
 use Rattle.std.proofs.lemmas.List.{length-drop}
-use Rattle.cqf_model.specs.Port.{Transmission}
-use Rattle.cqf_bridge.proofs.Handing.{all_handed, none_handed, one_handed}
+use Rattle.cqf_bridge.proofs.Handing.{none_handed, one_handed}
 use Rattle.cqf_bridge.proofs.outgoing.hand_all.Goals as goal
 
 pub loop-place-init : goal.loop-place-init
@@ -14,4 +13,4 @@ hand_one-requires c =
 pub loop-place-preserved : goal.loop-place-preserved
 loop-place-preserved c =
     one_handed c.args.streams.now c.args.made.now c.args.handed.now c.args.batch.now c.args.background.now.items c.loop-place.place
-        _ _ _ _ _ _ _ _ _ c.loop-place.invariant c.loop-place-test.true c.requires.even refl refl refl c.in_ok-hand_one.ensures.batch c.in_ok-hand_one.ensures.background
+    _ _ _ _ _ _ _ _ _ c.loop-place.invariant c.loop-place-test.true c.requires.even refl refl refl c.in_ok-hand_one.ensures.batch c.in_ok-hand_one.ensures.background

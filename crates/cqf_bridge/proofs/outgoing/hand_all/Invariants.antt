@@ -1,4 +1,3 @@
-
 use Rattle.cqf_bridge.proofs.Handing.{HasHanded}
 use Rattle.cqf_bridge.proofs.outgoing.hand_all.Given as goal
 
