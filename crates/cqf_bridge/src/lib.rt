@@ -7,4 +7,13 @@
 //! The types stand with the definitions, in `cqf_model`, and this crate hands them on.
 #![tactic(auto)]
 
+mod batch;
+mod bridge;
+mod faults;
+mod outgoing;
+mod sending;
+
+pub use batch::Batch;
+pub use bridge::Bridge;
 pub use cqf_model::{Book, Dropped, Offer, Offered, Reason, Sent, Started};
+pub use faults::BridgeFault;

@@ -101,6 +101,14 @@ impl Port {
         )
     }
 
+    /// What has been handed out, in order: of each start the place of its arrival among those taken, from 0, and its instant
+    /// in nanoseconds.
+    pub fn starts(&self) -> &[(usize, u64)]
+        ensures { result.now ≡ self.now.starts }
+    {
+        self.starts.as_slice()
+    }
+
     /// How many arrivals of the class, 0 to 7, haven't started.
     pub fn waiting(&self, class: u8) -> usize
         requires { class < 8 }

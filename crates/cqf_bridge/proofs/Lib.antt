@@ -1,0 +1,6 @@
+mod Bridges
+mod Columns
+mod Handing
+mod MadeBatch
+mod Sends
+mod Taking

@@ -1,0 +1,7 @@
+use Rattle.std.proofs.Common.{◌∙◌}
+use Rattle.cqf_bridge.proofs.Bridges.{bridge_begins}
+use Rattle.cqf_bridge.proofs.bridge.Bridge.new.Goals as goal
+
+pub invariant_of-result : goal.invariant_of-result
+invariant_of-result c =
+    bridge_begins c.args.plan.now _ c.args.number _ _ c.domain.ensures.accepted c.requires (c.in_ok-try_copy.ensures ∙ c.domain.ensures.value) c.in_ok-ports_from.ensures

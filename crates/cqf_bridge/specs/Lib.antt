@@ -1,0 +1,5 @@
+pub mod Batch
+pub mod PortRecord
+pub mod BridgeState
+pub mod Faults
+pub mod Sending

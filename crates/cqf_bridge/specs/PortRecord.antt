@@ -1,0 +1,92 @@
+-- A port of a bridge, with all that the bridge recorded at it.
+use Rattle.std.specs.Prelude.{ℕ, ◌≡◌, ◌≤◌, ◌++◌, List, [], ◌∷◌, Option, Some, None, map, Contains, slice_index_or}
+use Rattle.std.specs.List.{flat_map, zip}
+use Rattle.cqf_model.specs.declared.frames.Sent.{Sent}
+use Rattle.cqf_model.specs.declared.frames.Started.{Started}
+use Rattle.cqf_model.specs.declared.ports.Arrival.{Arrival}
+use Rattle.cqf_model.specs.declared.ports.Start.{Start}
+use Rattle.cqf_model.specs.Book.{started_backed}
+use Rattle.cqf_model.specs.Domain.{Domain, octet_time_of}
+use Rattle.cqf_model.specs.Network.{QueuedFrame, arrivals_of, backed_of, compiled_lists, sent_of}
+use Rattle.cqf_model.specs.Port.{AreLegal, PortRules, Transmission}
+use Rattle.cqf_port.specs.PortState.{PortState}
+use Rattle.cqf_bridge.specs.Batch.{LinkBatch}
+
+-- a port, the link that it sends on, and for each arrival that it took the number of the stream that it is of, none for a
+-- background frame
+pub record PortRecord : Type 0 where
+  pub link : ℕ
+  pub port : PortState
+  pub streams : List (Option ℕ)
+
+-- a frame that was recorded
+abbrev pub frame_with : Arrival × Option ℕ → QueuedFrame
+frame_with x = record { arrival = x.0; stream = x.1 }
+
+-- all frames that were recorded, in order
+abbrev pub recorded : PortRecord → List QueuedFrame
+recorded r = map frame_with (zip r.port.arrivals r.streams)
+
+-- what a port of the domain goes by
+abbrev pub rules_on : Domain → ℕ → PortRules
+rules_on d link = record { entries = compiled_lists d link; octet_time = octet_time_of d link }
+
+-- a port that has recorded nothing
+abbrev pub new_record : Domain → ℕ → PortRecord
+new_record d link = record { link = link; port = record { rules = rules_on d link; reached = 0; arrivals = []; starts = [] }; streams = [] }
+
+-- frames more are recorded
+abbrev pub with_frames : PortRecord → List QueuedFrame → PortRecord
+with_frames r frames = record {
+  link = r.link;
+  port = record { rules = r.port.rules; reached = r.port.reached; arrivals = r.port.arrivals ++ arrivals_of frames; starts = r.port.starts };
+  streams = r.streams ++ map (λ (x : QueuedFrame). x.stream) frames;
+}
+
+-- the port runs to an instant, and starts these
+abbrev pub with_starts : PortRecord → ℕ → List Transmission → PortRecord
+with_starts r until made = record {
+  link = r.link;
+  port = record { rules = r.port.rules; reached = until; arrivals = r.port.arrivals; starts = r.port.starts ++ made };
+  streams = r.streams;
+}
+
+-- the starts are those that are demanded of the port from where it has run to the instant: there are no others that are legal
+pub record AreDemanded (r : PortRecord) (until : ℕ) (made : List Transmission) : Type 0 where
+  pub legal : AreLegal r.port.rules r.port.arrivals until (r.port.starts ++ made)
+  pub later : (place s : ℕ) → Contains made (place, s) → r.port.reached ≤ s
+
+-- what the starts send: the batch, and the background frames
+abbrev pub batch_by : PortRecord → ℕ → List Transmission → LinkBatch
+batch_by r cycle made = record { link = r.link; cycle = cycle; frames = flat_map (sent_of (recorded r)) made }
+
+abbrev pub background_by : PortRecord → ℕ → List Transmission → List Started
+background_by r cycle made = map (started_backed cycle r.link) (flat_map (backed_of (recorded r)) made)
+
+-- the port runs to the end of a cycle: it starts what is demanded of it, and hands on the batch and the background frames
+pub record RunsTo (before after : PortRecord) (cycle until : ℕ) (batch : LinkBatch) (background background_after : List Started) : Type 0 where
+  pub made : List Transmission
+  pub demanded : AreDemanded before until made
+  pub port : after ≡ with_starts before until made
+  pub batch_made : batch ≡ batch_by before cycle made
+  pub background_made : background_after ≡ background ++ background_by before cycle made
+
+-- what a start is as a frame of the batch, or as a background frame, by its stream
+abbrev pub sent_as : Option ℕ → Start → List Sent
+sent_as None start = []
+sent_as (Some stream) start = record { start = start.start; frame = start.frame; stream = stream; octets = start.octets } ∷ []
+
+abbrev pub backed_as : Option ℕ → Start → List Start
+backed_as None start = start ∷ []
+backed_as (Some stream) start = []
+
+-- what the starts of these transmissions are, by the streams of their arrivals
+abbrev pub sent_all : List (Option ℕ) → List Transmission → List Start → List Sent
+sent_all streams [] starts = []
+sent_all streams (x ∷ made) [] = []
+sent_all streams (x ∷ made) (start ∷ starts) = sent_as (slice_index_or streams x.0 None) start ++ sent_all streams made starts
+
+abbrev pub backed_all : List (Option ℕ) → List Transmission → List Start → List Start
+backed_all streams [] starts = []
+backed_all streams (x ∷ made) [] = []
+backed_all streams (x ∷ made) (start ∷ starts) = backed_as (slice_index_or streams x.0 None) start ++ backed_all streams made starts

@@ -1,0 +1,130 @@
+//! A bridge, which goes on cycle by cycle.
+ghost use Rattle.std.specs.Prelude.{◌≡◌, ◌+◌, ◌<◌, IfErr, IfOk, OnErr, OnOk, false, length};
+ghost use Rattle.cqf_bridge.specs.BridgeState.{AreBackedOf, IsNextToSend, SendsCycle, new_bridge};
+ghost use Rattle.cqf_bridge.specs.Faults.{IsSendFault};
+
+use crate::outgoing::Outgoing;
+use crate::sending::send_ports;
+use crate::{Batch, BridgeFault};
+use cqf_compile::Plan;
+use cqf_model::{Backed, Started};
+use cqf_topology::Domain;
+use cqf_units::{Cycle, Memory};
+use std::alloc::Global;
+use std::marker::Model;
+
+/// A bridge of a domain, with one port for each link that leaves it (IEEE 802.1Q, Annex T). In each cycle it first sends,
+/// and then receives.
+#[derive(Debug, Drop)]
+pub struct Bridge {
+    domain: Domain,
+    number: u8,
+    /// How many cycles it has sent, and received.
+    sent: u32,
+    received: u32,
+    spent: bool,
+    /// By number of link.
+    ports: Vec<Outgoing>,
+    /// The background frames that started in the cycle last sent.
+    background: Vec<Started>,
+}
+
+impl Model for Bridge {
+    ghost use Rattle.cqf_bridge.specs.BridgeState.{BridgeState, IsBridge};
+
+    ghost Value = { BridgeState };
+
+    ghost view = { λ b. record { domain = b.domain; number = b.number; sent = b.sent; received = b.received; spent = b.spent; ports = b.ports.items; background = b.background.items } };
+
+    ghost invariant = { λ b. IsBridge (record { domain = b.domain; number = b.number; sent = b.sent; received = b.received; spent = b.spent; ports = b.ports.items; background = b.background.items }) };
+}
+
+/// The ports of the links that leave a bridge, by number of link.
+fn ports_from(alloc: Global, plan: &Plan, number: u8) -> Result<Vec<Outgoing>, Memory>
+    ensures { IfOk result (λ ports. ports.items ≡ (new_bridge plan.now number).ports) }
+{
+    let mut ports = Vec::new(alloc);
+    for link in 0..plan.domain().links() {
+        if plan.domain().link(link).from == number {
+            ports.push(Outgoing::new(alloc, plan, link))?;
+        }
+    }
+    Ok(ports)
+}
+
+impl Bridge {
+    /// The bridge of this number of a plan's domain, before cycle 0. `Memory` where a growth is refused.
+    pub fn new(alloc: Global, plan: &Plan, number: u8) -> Result<Bridge, Memory>
+        requires { number < length plan.now.bridges }
+        ensures { IfOk result (λ bridge. bridge ≡ new_bridge plan.now number) }
+    {
+        Ok(Bridge {
+            domain: plan.domain().try_copy(alloc)?,
+            number,
+            sent: 0,
+            received: 0,
+            spent: false,
+            ports: ports_from(alloc, plan, number)?,
+            background: Vec::new(alloc),
+        })
+    }
+
+    /// Sends a cycle, the next after those that were received: the ports run to the end of the cycle, and one batch for each
+    /// link that leaves the bridge is appended, by number of link, empty ones too. Before they run they get the bridge's
+    /// background frames of the cycle, in order of instant, then place.
+    ///
+    /// `Spent` on a spent bridge, else `WrongCycle` for a cycle that isn't the next; then nothing is changed. Where a growth
+    /// is refused, `Memory`: the bridge is spent, and the batches are as they were.
+    pub fn send(
+        &mut self,
+        alloc: Global,
+        cycle: Cycle,
+        background: &[Backed],
+        batches: &mut Vec<Batch>,
+    ) -> Result<(), BridgeFault>
+        requires early { cycle.0 < 100000 }
+        requires frames { AreBackedOf self.old.domain self.old.number cycle.0 background.now }
+        ensures next { OnOk result ((self.old.spent ≡ false) × IsNextToSend self.old cycle.0) }
+        ensures sends { OnOk result (SendsCycle self.old self.new cycle.0 background.now batches.old.items batches.new.items) }
+        ensures fault { IfErr result (λ fault. IsSendFault self.old self.new cycle.0 fault) }
+        ensures given { OnErr result (batches.new.items ≡ batches.old.items) }
+    {
+        if self.spent {
+            return Err(BridgeFault::Spent);
+        }
+        if cycle.0 != self.received || self.sent != self.received {
+            return Err(BridgeFault::WrongCycle);
+        }
+        let kept = batches.len();
+        let mut started = Vec::new(alloc);
+        let sent = send_ports(
+            alloc,
+            &self.domain,
+            cycle,
+            background,
+            &mut self.ports,
+            batches,
+            &mut started,
+        );
+        match sent {
+            Ok(()) => {
+                self.sent += 1;
+                self.background = started;
+                Ok(())
+            }
+            Err(_) => {
+                batches.truncate(kept);
+                self.spent = true;
+                Err(BridgeFault::Memory)
+            }
+        }
+    }
+
+    /// The background frames that started in the cycle last sent, by link, then instant; none before the first. It takes no
+    /// memory.
+    pub fn background_starts(&self) -> &[Started]
+        ensures { result.now ≡ self.now.background }
+    {
+        self.background.as_slice()
+    }
+}

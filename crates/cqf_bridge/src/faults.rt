@@ -1,0 +1,38 @@
+//! Why a bridge refuses a call.
+ghost use Rattle.std.specs.Prelude.{Some};
+ghost use Rattle.cqf_bridge.specs.Faults.{text_of_fault};
+
+use std::fmt;
+use thiserror::Error;
+
+/// Why a bridge refuses a call: the first of these that fits, in the order in which they stand here (profile). It prints as
+/// its name, and the frame's number.
+#[derive(Clone, Copy, Debug, PartialEq, Eq, Drop, Error)]
+pub enum BridgeFault {
+    /// An earlier call ended with `OverOctets` or `Memory`. Nothing is changed.
+    Spent,
+    /// The cycle isn't the one that is to be sent, or to be received, or the table is of another cycle. Nothing is changed.
+    WrongCycle,
+    /// The batches aren't one for each incoming link of the cycle, by number, or hold a frame that the table and the link
+    /// exclude, or that isn't whole here within the cycle. Nothing is changed.
+    StrangeBatch,
+    /// The first frame, in the order in which frames are taken, that came by a link and exceeds what its stream's gate has
+    /// left. The bridge is spent.
+    OverOctets(u32),
+    /// A growth was refused. The bridge is spent.
+    Memory,
+}
+
+impl fmt::Display for BridgeFault {
+    ghost output = { λ fault. Some (text_of_fault fault) };
+
+    fn fmt<W: fmt::Write>(&self, f: &mut fmt::Formatter<W>) -> fmt::Result {
+        match self {
+            BridgeFault::Spent => f.write_str("Spent"),
+            BridgeFault::WrongCycle => f.write_str("WrongCycle"),
+            BridgeFault::StrangeBatch => f.write_str("StrangeBatch"),
+            BridgeFault::OverOctets(frame) => write!(f, "OverOctets {frame}"),
+            BridgeFault::Memory => f.write_str("Memory"),
+        }
+    }
+}

@@ -1,0 +1,161 @@
+//! A port of a bridge, with what the bridge recorded at it.
+ghost use Rattle.std.specs.Prelude.{◌≡◌, ◌+◌, ◌^◌, ◌<◌, ◌≤◌, [], ◌∷◌, ◌++◌, All, IfOk, OnOk, OnErr, length, map};
+ghost use Rattle.cqf_model.specs.Book.{started_backed};
+ghost use Rattle.cqf_model.specs.Port.{Transmission};
+ghost use Rattle.cqf_port.specs.PortState.{IsLate, IsOutOfOrder, IsPort};
+ghost use Rattle.cqf_bridge.specs.PortRecord.{RunsTo, backed_all, backed_as, new_record, sent_all, sent_as, with_frames};
+
+use crate::Batch;
+use cqf_compile::Plan;
+use cqf_model::{Arrival, Sent, Start, Started};
+use cqf_port::{Port, PortFault};
+use cqf_units::{Cycle, Memory, Nanos};
+use std::alloc::{AllocError, Global};
+use std::marker::Model;
+
+/// The port of an outgoing link. Beside the arrivals that it took stand their streams.
+#[derive(Debug, Drop)]
+pub(crate) struct Outgoing {
+    link: u8,
+    port: Port,
+    /// By arrival, the number of its stream; none for a background frame.
+    streams: Vec<Option<u32>>,
+}
+
+impl Model for Outgoing {
+    ghost use Rattle.std.specs.Prelude.{◌≡◌, length};
+    ghost use Rattle.cqf_bridge.specs.PortRecord.{PortRecord};
+
+    ghost Value = { PortRecord };
+
+    ghost view = { λ o. record { link = o.link; port = o.port; streams = o.streams.items } };
+
+    ghost invariant = { λ o. length o.streams.items ≡ length o.port.arrivals };
+}
+
+impl Outgoing {
+    /// The port of a link, which has recorded nothing.
+    pub(crate) fn new(alloc: Global, plan: &Plan, link: u8) -> Outgoing
+        requires { link < length plan.now.links }
+        ensures { result ≡ new_record plan.now link }
+    {
+        Outgoing {
+            link,
+            port: Port::new(
+                alloc,
+                plan.list(link).copied(),
+                plan.domain().link(link).rate,
+            ),
+            streams: Vec::new(alloc),
+        }
+    }
+
+    /// The number of the link.
+    pub(crate) fn link(&self) -> u8
+        ensures link { result ≡ self.now.link }
+        ensures beside { length self.now.streams ≡ length self.now.port.arrivals }
+        ensures facts { IsPort self.now.port }
+    {
+        let _now = self.port.now();
+        self.link
+    }
+
+    /// Records a frame: a stream's, or where `stream` is none a background frame.
+    pub(crate) fn record(&mut self, arrival: Arrival, stream: Option<u32>) -> Result<(), Memory>
+        requires gate { arrival.class < 8 }
+        requires early { arrival.at.0 < 2 ^ 62 }
+        requires in_time { ¬ IsLate self.old.port arrival }
+        requires in_order { ¬ IsOutOfOrder self.old.port arrival }
+        ensures ok { OnOk result (self.new ≡ with_frames self.old (record { arrival = arrival; stream = stream } ∷ [])) }
+        ensures err { OnErr result (self.new ≡ self.old) }
+    {
+        self.streams.reserve(1)?;
+        match self.port.offer(arrival) {
+            Ok(()) => {}
+            Err(PortFault::Memory) => return Err(AllocError),
+            Err(PortFault::Late) => unreachable!(),
+            Err(PortFault::OutOfOrder) => unreachable!(),
+        }
+        self.streams.push(stream).unwrap();
+        Ok(())
+    }
+
+    /// Runs to an instant, which ends a cycle: the streams' frames that start by then are the batch of the cycle, and the
+    /// background frames go behind those that are listed.
+    pub(crate) fn run_to(
+        &mut self,
+        alloc: Global,
+        cycle: Cycle,
+        end: Nanos,
+        background: &mut Vec<Started>,
+    ) -> Result<Batch, Memory>
+        requires later { self.old.port.reached < end.0 }
+        requires near { end.0 < self.old.port.reached + 2 ^ 31 }
+        requires early { end.0 < 2 ^ 62 }
+        ensures { IfOk result (λ batch. RunsTo self.old self.new cycle.0 end.0 batch background.old.items background.new.items) }
+    {
+        let kept = self.port.starts().len();
+        let mut handed = Vec::new(alloc);
+        self.port.advance(end, &mut handed)?;
+        let mut batch = Batch::new(alloc, self.link, cycle);
+        let made = &self.port.starts()[kept..];
+        hand_all(
+            self.streams.as_slice(),
+            made,
+            handed.as_slice(),
+            &mut batch,
+            background,
+        )?;
+        Ok(batch)
+    }
+}
+
+/// Puts a start into the batch, or where it is of no stream to the background frames.
+fn hand_one(
+    stream: Option<u32>,
+    start: &Start,
+    batch: &mut Batch,
+    background: &mut Vec<Started>,
+) -> Result<(), Memory>
+    requires { length batch.old.frames + 1 < 2 ^ 32 }
+    ensures batch { OnOk result (batch.new ≡ record batch.old { frames = batch.old.frames ++ sent_as stream start.now }) }
+    ensures background { OnOk result (background.new.items ≡ background.old.items ++ map (started_backed batch.old.cycle batch.old.link) (backed_as stream start.now)) }
+{
+    match stream {
+        Some(stream) => batch.push(Sent {
+            start: start.start,
+            frame: start.frame,
+            stream,
+            octets: start.octets,
+        })?,
+        None => background.push(Started {
+            cycle: batch.cycle(),
+            link: batch.link(),
+            frame: start.frame,
+            octets: start.octets,
+            start: start.start,
+        })?,
+    }
+    Ok(())
+}
+
+/// Puts the starts of these transmissions where each belongs.
+fn hand_all(
+    streams: &[Option<u32>],
+    made: &[(usize, u64)],
+    handed: &[Start],
+    batch: &mut Batch,
+    background: &mut Vec<Started>,
+) -> Result<(), Memory>
+    requires even { length handed.now ≡ length made.now }
+    requires inside { All (λ (x : Transmission). x.0 < length streams.now) made.now }
+    requires few { length batch.old.frames + length made.now < 2 ^ 32 }
+    ensures batch { OnOk result (batch.new ≡ record batch.old { frames = batch.old.frames ++ sent_all streams.now made.now handed.now }) }
+    ensures background { OnOk result (background.new.items ≡ background.old.items ++ map (started_backed batch.old.cycle batch.old.link) (backed_all streams.now made.now handed.now)) }
+{
+    for (place, start) in handed.iter().enumerate() {
+        let stream = streams[made[place].0];
+        hand_one(stream, start, batch, background)?;
+    }
+    Ok(())
+}

@@ -1,0 +1,101 @@
+//! The transmit phase of a cycle: each port gets its background frames, and runs to the cycle's end.
+ghost use Rattle.std.specs.Prelude.{◌≡◌, ◌+◌, ◌*◌, ◌<◌, ◌≤◌, Contains, OnErr, OnOk, ℕ, length, take};
+ghost use Rattle.cqf_bridge.specs.BridgeState.{AreBackedOf, IsInStep, end_of_cycle, port_with};
+ghost use Rattle.cqf_bridge.specs.PortRecord.{PortRecord};
+ghost use Rattle.cqf_bridge.specs.Sending.{CanTake, FirstSend, PortSends};
+
+use crate::Batch;
+use crate::outgoing::Outgoing;
+use cqf_model::{Arrival, Backed, Started};
+use cqf_topology::Domain;
+use cqf_units::{Cycle, Memory, Nanos};
+use std::alloc::Global;
+
+/// A background frame as an arrival at its port.
+fn arrival_of(frame: &Backed) -> Arrival
+    ensures { result ≡ record { at = frame.now.background.at; class = frame.now.background.class; octets = frame.now.background.octets; frame = frame.now.frame } }
+{
+    Arrival {
+        at: frame.background.at,
+        class: frame.background.class,
+        octets: frame.background.octets,
+        frame: frame.frame,
+    }
+}
+
+/// Gives a port those of the background frames of its bridge in a cycle that go by its link.
+fn take_background(port: &mut Outgoing, background: &[Backed]) -> Result<(), Memory>
+    requires { CanTake background.now port.old }
+    ensures { OnOk result (port.new ≡ port_with background.now port.old) }
+{
+    let link = port.link();
+    for frame in background {
+        if frame.background.link == link {
+            port.record(arrival_of(frame), None)?;
+        }
+    }
+    Ok(())
+}
+
+/// The end of a cycle.
+fn end_of(domain: &Domain, cycle: Cycle) -> Nanos
+    requires { cycle.0 < 100000 }
+    ensures value { result.0 ≡ end_of_cycle domain.now cycle.0 }
+    ensures early { result.0 < 1000001 * 10000000 }
+    ensures lasting { 0 < domain.now.cycle_time }
+    ensures short { domain.now.cycle_time ≤ 10000000 }
+{
+    Nanos((u64::from(cycle.0) + 1) * domain.cycle_time().0)
+}
+
+/// Sends a cycle at a port: it gets its background frames, and runs to the end of the cycle.
+fn send_port(
+    alloc: Global,
+    domain: &Domain,
+    cycle: Cycle,
+    background: &[Backed],
+    port: &mut Outgoing,
+    batches: &mut Vec<Batch>,
+    started: &mut Vec<Started>,
+) -> Result<(), Memory>
+    requires early { cycle.0 < 100000 }
+    requires frames { (bridge : ℕ) × AreBackedOf domain.now bridge cycle.0 background.now }
+    requires in_step { IsInStep domain.now cycle.0 cycle.0 port.old }
+    ensures given { OnErr result (batches.new.items ≡ batches.old.items) }
+    ensures sends { OnOk result (PortSends domain.now cycle.0 background.now port.old port.new batches.old.items batches.new.items started.old.items started.new.items) }
+{
+    take_background(port, background)?;
+    let batch = port.run_to(alloc, cycle, end_of(domain, cycle), started)?;
+    batches.push(batch)?;
+    Ok(())
+}
+
+/// Sends a cycle at each port of a bridge.
+pub(crate) fn send_ports(
+    alloc: Global,
+    domain: &Domain,
+    cycle: Cycle,
+    background: &[Backed],
+    ports: &mut Vec<Outgoing>,
+    batches: &mut Vec<Batch>,
+    started: &mut Vec<Started>,
+) -> Result<(), Memory>
+    requires early { cycle.0 < 100000 }
+    requires frames { (bridge : ℕ) × AreBackedOf domain.now bridge cycle.0 background.now }
+    requires in_step { (r : PortRecord) → Contains ports.old.items r → IsInStep domain.now cycle.0 cycle.0 r }
+    ensures given { OnErr result (take (length batches.old.items) batches.new.items ≡ batches.old.items) }
+    ensures sends { OnOk result (FirstSend domain.now cycle.0 background.now (length ports.old.items) ports.old.items ports.new.items batches.old.items batches.new.items started.old.items started.new.items) }
+{
+    for place in 0..ports.len() {
+        send_port(
+            alloc,
+            domain,
+            cycle,
+            background,
+            &mut ports[place],
+            batches,
+            started,
+        )?;
+    }
+    Ok(())
+}
