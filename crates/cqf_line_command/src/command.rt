@@ -44,17 +44,16 @@ fn book_text(
 }
 
 /// The output of `line`: the book of so many cycles. `Err` with status 1 and the line of the first fault of the input:
-/// of its parts, of the offers; and with status 3 for want of memory. The input gives its memory back before the run.
-pub fn line_output(alloc: Global, cycles: u32, input: Vec<u8>) -> Result<Vec<u8>, Stop>
+/// of its parts, of the offers; and with status 3 for want of memory.
+pub fn line_output(alloc: Global, cycles: u32, input: &[u8]) -> Result<Vec<u8>, Stop>
     requires { cycles ≤ 100000 }
-    ensures ok { IfOk result (λ output. IsLineOutput cycles input.items output.items) }
-    ensures err { IfErr result (IsRefused (line_input input.items)) }
+    ensures ok { IfOk result (λ output. IsLineOutput cycles input.now output.items) }
+    ensures err { IfErr result (IsRefused (line_input input.now)) }
 {
     let Ok(domain) = domain_of_line(alloc) else {
         return Err(Stop::memory(alloc));
     };
-    let offers = read_line(alloc, &domain, input.as_slice())?;
-    drop(input);
+    let offers = read_line(alloc, &domain, input)?;
     match book_text(alloc, &domain, offers, cycles) {
         Ok(text) => Ok(text),
         Err(_) => Err(Stop::memory(alloc)),
@@ -103,10 +102,7 @@ mod tests {
         if cycles > 100_000 {
             return false;
         }
-        let Ok(input) = Vec::from_slice(alloc, input.as_bytes()) else {
-            return false;
-        };
-        match line_output(alloc, cycles, input) {
+        match line_output(alloc, cycles, input.as_bytes()) {
             Ok(output) => output.as_slice() == text.as_bytes(),
             Err(stop) => stop.status == 1 && stop.text.as_slice() == text.as_bytes(),
         }

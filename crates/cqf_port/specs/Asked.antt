@@ -20,9 +20,12 @@ IsShort octet_time arrivals head = (place : ℕ) → head ≡ Some place → (oc
 
 -- of the classes below one that was seen, just those whose heads fit are set and need no longer than what is left; the
 -- others aren't set
-pub record AreAsked (octet_time : ℕ) (arrivals : List Arrival) (heads : List (Option ℕ)) (t : ℕ) (spans : List ℕ) (seen classes : ℕ) (need left : List ℕ) : Type 0 where
+pub record AreAsked (octet_time : ℕ) (arrivals : List Arrival) (heads : List (Option ℕ)) (t : ℕ) (spans : List ℕ) (seen classes : ℕ)
+    (need left : List ℕ) : Type 0 where
   pub eight_need : length need ≡ 8
   pub eight_left : length left ≡ 8
-  pub each : (class : ℕ) → class < 8 → class < seen → (IsBitSet classes class × (slice_index_or need class 0 ≤ slice_index_or left class 0)) ↔ HeadFits octet_time arrivals (slice_index_or heads class None) t (slice_index_or spans class 0)
+  pub each : (class : ℕ) → class < 8 → class < seen →
+      (IsBitSet classes class × (slice_index_or need class 0 ≤ slice_index_or left class 0))
+      ↔ HeadFits octet_time arrivals (slice_index_or heads class None) t (slice_index_or spans class 0)
   pub short : (class : ℕ) → class < 8 → class < seen → IsShort octet_time arrivals (slice_index_or heads class None)
   pub others : (class : ℕ) → class < 8 → seen ≤ class → ¬ IsBitSet classes class

@@ -24,7 +24,8 @@ pub record PortState : Type 0 where
 pub record AreTaken (arrivals : List Arrival) : Type 0 where
   pub classes : (place : ℕ) → place < length arrivals → class_of arrivals place < 8
   pub early : (place : ℕ) → place < length arrivals → instant_of arrivals place < 2 ^ 62
-  pub by_class : (place later : ℕ) → place < later → later < length arrivals → class_of arrivals place ≡ class_of arrivals later → instant_of arrivals place ≤ instant_of arrivals later
+  pub by_class : (place later : ℕ) → place < later → later < length arrivals → class_of arrivals place ≡ class_of arrivals later →
+      instant_of arrivals place ≤ instant_of arrivals later
 
 -- what each port keeps: its starts are legal up to the instant that it has reached
 pub record IsPort (p : PortState) : Type 0 where
@@ -61,7 +62,10 @@ pub record IsOutOfOrder (p : PortState) (arrival : Arrival) : Type 0 where
 
 -- a transmission as callers get it, with what its arrival said
 abbrev pub start_of : List Arrival → Transmission → Start
-start_of arrivals x = record { start = record { 0 = x.1 }; class = class_of arrivals x.0; octets = octets_of arrivals x.0; frame = (slice_index_or arrivals x.0 no_arrival).frame }
+start_of arrivals x = record {
+  start = record { 0 = x.1 }; class = class_of arrivals x.0; octets = octets_of arrivals x.0;
+  frame = (slice_index_or arrivals x.0 no_arrival).frame;
+}
 
 -- the port runs up to an instant: it makes starts from the instant that it had reached on, and hands each on behind
 -- what its caller had

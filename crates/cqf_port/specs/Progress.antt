@@ -109,7 +109,8 @@ pub record StepsTo (rules : PortRules) (arrivals : List Arrival) (t : ℕ) (star
   pub abreast : (e : ℕ) → t < e → e ≤ next → IsAbreast rules arrivals e starts progress
 
 -- what a port is by its fields
-pub record IsKept (rules : PortRules) (arrivals : List Arrival) (reached : ℕ) (starts : List Transmission) (progress : Progress) (newest : List Nanos) : Type 0 where
+pub record IsKept (rules : PortRules) (arrivals : List Arrival) (reached : ℕ) (starts : List Transmission) (progress : Progress)
+    (newest : List Nanos) : Type 0 where
   pub abreast : IsAbreast rules arrivals reached starts progress
   pub taken : AreTaken arrivals
   pub by_class : AreNewest arrivals newest
