@@ -1,5 +1,9 @@
-//! What a bridge takes in and gives out: frames as they are offered, as they are sent, and as a book has them.
+//! A bridge, cycle by cycle (IEEE 802.1Q, Annex T): what it sends, and the types of what it takes in and gives out.
 //!
+//! - A [`Bridge`] has one port for each link that leaves it. [`Bridge::send`] runs them to the end of a cycle, and gives one
+//!   [`Batch`] a link, of streams' frames, for the bridge or station at its end; the background frames that started are
+//!   [`Bridge::background_starts`]. In `specs/` it is its `BridgeState`: its domain and number, how far it is, and all that
+//!   was recorded at its ports. A [`BridgeFault`] says why it refuses a call.
 //! - [`Offer`] is a frame that is offered at the edge, and [`Offered`] is an offer with its number.
 //! - [`Sent`] is a frame that a link carries.
 //! - [`Started`] is a transmission and [`Dropped`] a dropped offer, with its [`Reason`]; a [`Book`] has all of a run.
@@ -12,6 +16,8 @@ mod bridge;
 mod faults;
 mod outgoing;
 mod sending;
+#[cfg(test)]
+mod tests;
 
 pub use batch::Batch;
 pub use bridge::Bridge;
