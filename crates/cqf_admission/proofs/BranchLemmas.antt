@@ -1,13 +1,17 @@
 -- Places of a branch.
-use Rattle.std.proofs.Common.{◌≡◌, ℕ, ◌+◌, ◌-◌, ◌<◌, ◌≤◌, Bool, true, false, List, Option, Some, None, [], ◌∷◌, ◌++◌, ◌||◌, ◌&&◌, ◌==◌, not, length, refl, ap}
+use Rattle.std.proofs.Common.{◌≡◌, ℕ, ◌+◌, ◌-◌, ◌<◌, ◌≤◌, Bool, true, false, List, Option, Some, None, [], ◌∷◌, ◌++◌, ◌||◌, ◌&&◌, ◌==◌, not, length, get_or, refl, ap}
 use Rattle.std.proofs.Common.{◌∙◌, sym, arith, inl, inr, take}
 use Rattle.std.specs.Prelude.{All, map, option_map, if◌then◌else◌, zero, suc, slice_get, nat_le, nat_lt, is_none}
 use Rattle.std.specs.List.{list_any}
-use Rattle.std.proofs.lemmas.Bool.{and_from, both_ways, cases_lt, lt-ltb, or_parts}
-use Rattle.std.proofs.lemmas.List.{take-map}
+use Rattle.std.specs.Option.{option_map_or}
+use Rattle.std.proofs.lemmas.Bool.{and_from, both_ways, cases_lt, eq-eqb, eqb-true, lt-ltb, or_parts}
+use Rattle.std.proofs.lemmas.List.{length-map, take-map}
+use Rattle.std.proofs.lemmas.Option.{slice_get-map, slice_get_past, slice_get_read}
 use Rattle.std.proofs.lemmas.List.Elements.{All-cons, All-nil}
 use Rattle.cqf_model.specs.declared.topology.Node.{Node}
-use Rattle.cqf_model.specs.Domain.{Domain, node_named}
+use Rattle.cqf_model.specs.declared.topology.Node.TheVariants.{Bridge, Station}
+use Rattle.cqf_model.specs.Domain.{Domain, is_text, node_named, same_node}
+use Rattle.cqf_model.proofs.Texts.{is_text_itself, is_text_same, named_once}
 use Rattle.cqf_lists.proofs.Places.{first_stays}
 use Rattle.cqf_lists.specs.Lists.{least, each_below}
 use Rattle.cqf_lists.proofs.Least.{least_none, or_else_none, unmapped_none}
@@ -42,7 +46,7 @@ pub least_found : (test : ℕ → Bool) (n k : ℕ) → k < n → test k ≡ tru
 least_found test n k h t below = sym (least_is test n k h t below)
 
 -- a node that stood earlier, by names that are looked through
-pub looping_is : {S : Type 0} (bytes : S → List ℕ) (d : Domain) (path earlier : List S) (place : ℕ) (node : Option Node) (stands : Bool) →
+looping_is : {S : Type 0} (bytes : S → List ℕ) (d : Domain) (path earlier : List S) (place : ℕ) (node : Option Node) (stands : Bool) →
     stands ≡ list_any (λ name. is_same (node_named d (bytes name)) node) earlier → earlier ≡ take place path → node ≡ node_at d (map bytes path) place →
     stands ≡ is_loop_at d (map bytes path) place
 looping_is {S} bytes d path earlier place node stands found front here =
@@ -51,6 +55,80 @@ looping_is {S} bytes d path earlier place node stands found front here =
     ∙ sym (list_any-map (λ name. is_same (node_named d name) node) bytes (take place path))
     ∙ ap (λ (names : List (List ℕ)). list_any (λ name. is_same (node_named d name) node) names) (sym (take-map bytes place path))
     ∙ ap (λ (n : Option Node). list_any (λ name. is_same (node_named d name) n) (take place (map bytes path))) here
+
+-- two nodes are the same where the test says so
+same_node_itself : (node : Node) → same_node node node ≡ true
+same_node_itself (Bridge number) = eq-eqb number number refl
+same_node_itself (Station number) = eq-eqb number number refl
+
+same_node_is : (a b : Node) → same_node a b ≡ true → a ≡ b
+same_node_is (Bridge a) (Bridge b) same = ap (λ (number : ℕ). Bridge number) (eqb-true a b same)
+same_node_is (Bridge a) (Station b) same = absurd cc
+same_node_is (Station a) (Bridge b) same = absurd cc
+same_node_is (Station a) (Station b) same = ap (λ (number : ℕ). Station number) (eqb-true a b same)
+
+-- a name is another exactly where their nodes are the same
+same_by_name : (d : Domain) (a b : List ℕ) (node : Node) → node_named d a ≡ Some node → is_text a b ≡ is_same (node_named d b) (Some node)
+same_by_name d a b node here = by (is_text a b) (node_named d b) refl refl
+  where
+    apart : (other : Node) (test : Bool) → is_text a b ≡ false → node_named d b ≡ Some other → same_node other node ≡ test → false ≡ test
+    apart other false differs there same = refl
+    apart other true differs there same =
+        let one : a ≡ b = named_once d a b node here (there ∙ ap (λ (n : Node). Some n) (same_node_is other node same)) in
+        sym differs ∙ ap (λ (text : List ℕ). is_text text b) one ∙ is_text_itself b
+
+    by : (test : Bool) (found : Option Node) → is_text a b ≡ test → node_named d b ≡ found → test ≡ is_same found (Some node)
+    by true found same there =
+        let known : found ≡ Some node = sym there ∙ ap (node_named d) (sym (is_text_same a b same)) ∙ here in
+        sym (ap (λ (o : Option Node). is_same o (Some node)) known ∙ same_node_itself node)
+    by false None differs there = refl
+    by false (Some other) differs there = apart other (same_node other node) differs there refl
+
+-- no node is the same as none
+same_as_none : (node : Option Node) → is_same node None ≡ false
+same_as_none None = refl
+same_as_none (Some node) = refl
+
+none_stand : (d : Domain) (names : List (List ℕ)) → list_any (λ name. is_same (node_named d name) None) names ≡ false
+none_stand d [] = refl
+none_stand d (name ∷ names) = rw (same_as_none (node_named d name), none_stand d names) refl
+
+-- where there is no node, none stood earlier
+not_looping : (d : Domain) (branch : Branch) (place : ℕ) → node_at d branch place ≡ None → false ≡ is_loop_at d branch place
+not_looping d branch place none =
+    sym (ap (λ (n : Option Node). list_any (λ name. is_same (node_named d name) n) (take place branch)) none ∙ none_stand d (take place branch))
+
+pub not_looping_past : {S : Type 0} (bytes : S → List ℕ) (d : Domain) (path : List S) (place : ℕ) → length path ≤ place → false ≡ is_loop_at d (map bytes path) place
+not_looping_past bytes d path place past =
+    not_looping d (map bytes path) place
+    (ap (λ (o : Option (List ℕ)). option_map_or (λ name. node_named d name) o None) (slice_get_past (map bytes path) place (omega (arith, length-map path bytes))))
+
+-- the node at a place is that of the name there
+node_of_name : {S : Type 0} (bytes : S → List ℕ) (d : Domain) (path : List S) (place : ℕ) (name : S) → place < length path → name ≡ get_or path place name → node_at d (map bytes path) place ≡ node_named d (bytes name)
+node_of_name bytes d path place name inside is =
+    ap (λ (o : Option (List ℕ)). option_map_or (λ text. node_named d text) o None)
+    (slice_get-map bytes path place ∙ ap (option_map bytes) (slice_get_read path (length path) place name refl inside is))
+
+pub not_looping_unknown : {S : Type 0} (bytes : S → List ℕ) (d : Domain) (path : List S) (place : ℕ) (name : S) → place < length path → name ≡ get_or path place name → is_none (node_named d (bytes name)) ≡ true → false ≡ is_loop_at d (map bytes path) place
+not_looping_unknown bytes d path place name inside is unknown =
+    not_looping d (map bytes path) place (node_of_name bytes d path place name inside is ∙ none_there (node_named d (bytes name)) unknown)
+  where
+    none_there : (node : Option Node) → is_none node ≡ true → node ≡ None
+    none_there None h = refl
+    none_there (Some node) h = absurd cc
+
+-- a known node stood earlier exactly where its name did
+pub looping_by_name : {S : Type 0} (bytes : S → List ℕ) (d : Domain) (path earlier : List S) (place : ℕ) (name : S) (stands : Bool) → place < length path → name ≡ get_or path place name → is_none (node_named d (bytes name)) ≡ false
+    → stands ≡ list_any (λ other. is_text (bytes name) (bytes other)) earlier → earlier ≡ take place path → stands ≡ is_loop_at d (map bytes path) place
+looping_by_name {S} bytes d path earlier place name stands inside is known found front = by (node_named d (bytes name)) refl known
+  where
+    by : (node : Option Node) → node_named d (bytes name) ≡ node → is_none node ≡ false → stands ≡ is_loop_at d (map bytes path) place
+    by None here none = absurd cc
+    by (Some node) here none =
+        let tests : (λ (other : S). is_text (bytes name) (bytes other)) ≡ (λ (other : S). is_same (node_named d (bytes other)) (Some node)) =
+        (λ i. λ (other : S). same_by_name d (bytes name) (bytes other) node here i) in
+        looping_is bytes d path earlier place (Some node) stands (found ∙ ap (λ (test : S → Bool). list_any test earlier) tests) front
+        (sym (node_of_name bytes d path place name inside is ∙ here))
 
 -- a branch that isn't broken has at most 17 nodes
 few_nodes : (d : Domain) (branch : Branch) → least (is_broken_at d branch) (length branch + 1) ≡ None → length branch ≤ 17

@@ -3,7 +3,7 @@ ghost use Rattle.std.specs.Prelude.{◌≡◌, ◌<◌, ◌≤◌, ◌+◌, ◌^
 ghost use Rattle.std.specs.List.{list_any};
 ghost use Rattle.cqf_model.specs.Domain.{is_text, node_named};
 ghost use Rattle.cqf_lists.specs.Lists.{least};
-ghost use Rattle.cqf_model.specs.History.{node_at, link_at, link_from, are_apart, is_bridge, is_broken_at, is_loop_at, is_same, is_stray, make_a_tree, part};
+ghost use Rattle.cqf_model.specs.History.{node_at, link_at, link_from, are_apart, is_bridge, is_broken_at, is_loop_at, is_stray, make_a_tree, part};
 ghost use Rattle.cqf_admission.specs.Branches.{branch_of, branches_of, fault_in, first_fault, places_of};
 
 use cqf_model::Node;
@@ -122,33 +122,19 @@ fn broken_place(domain: &Domain, branch: &[String]) -> Option<usize>
     None
 }
 
-/// Whether a name is that of a node.
-fn is_name_of(domain: &Domain, name: &String, node: Option<Node>) -> bool
-    ensures { result ≡ is_same (node_named domain.now (string_bytes name.now)) node }
-{
-    match domain.find(name.as_str()) {
-        Some(named) => match node {
-            Some(other) => named == other,
-            None => false,
-        },
-        None => false,
-    }
-}
-
-/// Whether one of some names is that of a node.
-fn stands_among(domain: &Domain, names: &[String], node: Option<Node>) -> bool
-    ensures { result ≡ list_any (λ name. is_same (node_named domain.now (string_bytes name)) node) names.now }
-{
-    names.iter().any(|name| is_name_of(domain, name, node))
-}
-
-/// Whether the node at a place of a branch stood earlier.
+/// Whether the node at a place of a branch stood earlier. A node has one name, so the names before it tell.
 fn is_branch_looping_at(domain: &Domain, branch: &[String], place: usize) -> bool
     requires { place ≤ length branch.now }
     ensures { result ≡ is_loop_at domain.now (branch_of branch.now) place }
 {
-    let earlier = &branch[..place];
-    stands_among(domain, earlier, node_of(domain, branch, place))
+    if place >= branch.len() {
+        return false;
+    }
+    let name = &branch[place];
+    if is_unknown(domain, name) {
+        return false;
+    }
+    has_name(&branch[..place], name)
 }
 
 /// The first place of a branch whose node stood earlier.
