@@ -1,57 +1,13 @@
 //! Domains compiled, and their configurations written.
-ghost use Rattle.std.specs.Prelude.{IfOk};
+ghost use Rattle.std.specs.Prelude.{◌≡◌};
 ghost use Rattle.cqf_admission.specs.Tables.{AreAlongLinks};
 
-use crate::{compile, write_config};
+use crate::{Plan, compile, write_config};
 use cqf_admission::{Admission, Table};
+use cqf_fixtures::{fork, one_link};
 use cqf_topology::{Domain, Request};
 use cqf_units::Memory;
 use std::alloc::Global;
-use std::test::Fail;
-
-const ONE_LINK: &str = r#"
-cycle = 125000
-guard = 5000
-bridges = ["a"]
-stations = ["s"]
-
-[[links]]
-from = "a"
-to = "s"
-rate = 1000
-delay = 500
-"#;
-
-const TWO_LISTENERS: &str = r#"
-cycle = 125000
-guard = 5000
-bridges = ["a", "b", "c"]
-stations = ["s", "t"]
-
-[[links]]
-from = "c"
-to = "s"
-rate = 1000
-delay = 500
-
-[[links]]
-from = "a"
-to = "b"
-rate = 1000
-delay = 500
-
-[[links]]
-from = "b"
-to = "c"
-rate = 1000
-delay = 500
-
-[[links]]
-from = "b"
-to = "t"
-rate = 1000
-delay = 500
-"#;
 
 /// The nodes of a branch.
 fn branch(alloc: Global, nodes: &[&str]) -> Result<Vec<String>, Memory> {
@@ -75,29 +31,13 @@ fn request_x(alloc: Global, branches: &[&[&str]]) -> Result<Request, Memory> {
     })
 }
 
-/// The table of cycle 0 with the stream that is requested.
-fn table_with(alloc: Global, domain: &Domain, request: &Request) -> Result<Table, Fail>
-    ensures { IfOk result (λ table. AreAlongLinks domain.now table.rows) }
-{
-    let mut admission = Admission::new(alloc, domain)?;
-    admission.admit(0, request)?;
-    let table = admission.seal(0)?;
-    Ok(table)
-}
+/// The branches of one stream over one link, and over the fork to both of its stations.
+const ONE_BRANCH: &[&[&str]] = &[&["a", "s"]];
 
-/// The configuration of a domain text with the stream `x` over these branches.
-fn configuration(alloc: Global, text: &str, branches: &[&[&str]]) -> Result<Vec<u8>, Fail> {
-    let domain = Domain::read(alloc, text.as_bytes())?;
-    let request = request_x(alloc, branches)?;
-    let table = table_with(alloc, &domain, &request)?;
-    let plan = compile(alloc, &domain)?;
-    Ok(write_config(alloc, &plan, &table)?)
-}
+const TWO_BRANCHES: &[&[&str]] = &[&["a", "b", "c", "s"], &["a", "b", "t"]];
 
-#[test]
-fn one_link_and_its_stream_are_written(rt: HostRuntime) -> Result<(), Fail> {
-    let text = configuration(rt.alloc(), ONE_LINK, &[&["a", "s"]])?;
-    let expected = "\
+/// The configuration of one link and its stream.
+const OF_ONE_LINK: &str = "\
 link a>s
 BF 120000
 00 5000
@@ -107,21 +47,112 @@ stream 0 x bridge a
 open 6 125000 1500
 open 7 125000 1500
 ";
-    assert!(rt; text.as_slice() == expected.as_bytes());
-    Ok(())
+
+/// The configuration of the fork and its stream: links by number, and each bridge once along the tree.
+const OF_FORK: &str = "\
+link c>s
+BF 120000
+00 5000
+7F 120000
+00 5000
+link a>b
+BF 120000
+00 5000
+7F 120000
+00 5000
+link b>c
+BF 120000
+00 5000
+7F 120000
+00 5000
+link b>t
+BF 120000
+00 5000
+7F 120000
+00 5000
+stream 0 x bridge a
+open 6 125000 1500
+open 7 125000 1500
+stream 0 x bridge b
+open 6 125000 1500
+open 7 125000 1500
+stream 0 x bridge c
+open 6 125000 1500
+open 7 125000 1500
+";
+
+/// Whether the plan and the table are written as this text.
+fn is_text_of(alloc: Global, plan: &Plan, table: &Table, wanted: &str) -> bool
+    requires { AreAlongLinks plan.now table.now.rows }
+{
+    match write_config(alloc, plan, table) {
+        Ok(text) => text.as_slice() == wanted.as_bytes(),
+        Err(_) => false,
+    }
+}
+
+/// Whether the domain is compiled, and written so with the table.
+fn is_compiled(alloc: Global, domain: &Domain, table: &Table, wanted: &str) -> bool
+    requires { AreAlongLinks domain.now table.now.rows }
+{
+    match compile(alloc, domain) {
+        Ok(plan) => is_text_of(alloc, &plan, table, wanted),
+        Err(_) => false,
+    }
+}
+
+/// Whether the next table is written so.
+fn is_sealed(alloc: Global, admission: &mut Admission, domain: &Domain, wanted: &str) -> bool
+    requires { admission.old.domain ≡ domain.now }
+{
+    match admission.seal(0) {
+        Ok(table) => is_compiled(alloc, domain, &table, wanted),
+        Err(_) => false,
+    }
+}
+
+/// Whether the stream is granted, and the table with it written so.
+fn is_granted(
+    alloc: Global,
+    admission: &mut Admission,
+    domain: &Domain,
+    request: &Request,
+    wanted: &str,
+) -> bool
+    requires { admission.old.domain ≡ domain.now }
+{
+    if admission.admit(0, request).is_err() {
+        return false;
+    }
+    is_sealed(alloc, admission, domain, wanted)
+}
+
+/// Whether the stream is granted where nothing is held, and the table with it written so.
+fn is_admitted(alloc: Global, domain: &Domain, request: &Request, wanted: &str) -> bool {
+    match Admission::new(alloc, domain) {
+        Ok(mut admission) => is_granted(alloc, &mut admission, domain, request, wanted),
+        Err(_) => false,
+    }
+}
+
+/// Whether the stream `x` over these branches is written so.
+fn is_configured(alloc: Global, domain: &Domain, branches: &[&[&str]], wanted: &str) -> bool {
+    match request_x(alloc, branches) {
+        Ok(request) => is_admitted(alloc, domain, &request, wanted),
+        Err(_) => false,
+    }
+}
+
+/// Whether the domain of a text is read, and the stream `x` over these branches written so.
+fn is_written(alloc: Global, text: &str, branches: &[&[&str]], wanted: &str) -> bool {
+    match Domain::read(alloc, text.as_bytes()) {
+        Ok(domain) => is_configured(alloc, &domain, branches, wanted),
+        Err(_) => false,
+    }
 }
 
 #[test]
-fn links_stand_by_number_and_each_bridge_once_along_the_tree(rt: HostRuntime) -> Result<(), Fail> {
-    let branches: [&[&str]; 2] = [&["a", "b", "c", "s"], &["a", "b", "t"]];
-    let text = configuration(rt.alloc(), TWO_LISTENERS, &branches)?;
-    let list = "BF 120000\n00 5000\n7F 120000\n00 5000\n";
-    let gate = "open 6 125000 1500\nopen 7 125000 1500\n";
-    let near = format!(in rt.alloc(); "link c>s\n{list}link a>b\n{list}")?;
-    let far = format!(in rt.alloc(); "link b>c\n{list}link b>t\n{list}")?;
-    let first = format!(in rt.alloc(); "stream 0 x bridge a\n{gate}")?;
-    let others = format!(in rt.alloc(); "stream 0 x bridge b\n{gate}stream 0 x bridge c\n{gate}")?;
-    let expected = format!(in rt.alloc(); "{near}{far}{first}{others}")?;
-    assert!(rt; text.as_slice() == expected.as_bytes());
-    Ok(())
+fn domains_and_their_streams_are_written(rt: HostRuntime) {
+    assert!(rt; is_written(rt.alloc(), one_link(), ONE_BRANCH, OF_ONE_LINK));
+    assert!(rt; is_written(rt.alloc(), fork(), TWO_BRANCHES, OF_FORK));
 }

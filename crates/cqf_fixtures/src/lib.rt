@@ -1,7 +1,7 @@
 //! Texts of domains that the tests of several crates read. Only tests use this crate.
 //!
 //! - [`line`] is a domain of three bridges in a line, [`one_link`] one of a single bridge, and [`ring`] one whose first
-//!   and last bridge have links to each other too.
+//!   and last bridge have links to each other too; [`fork`] is a line that branches.
 //! - [`line_and_link`] and [`one_link_with`] are changed forms of them; a test makes others with `replacen`.
 //!
 //! All have a cycle time of 125,000 ns, and links of 1,000 Mb/s with a delay of 500 ns. The guard time is 5,000 ns.
@@ -84,6 +84,37 @@ rate = 1000
 delay = 500
 "#;
 
+/// Bridges a, b and c, and stations s and t.
+const FORK: &str = r#"cycle = 125000
+guard = 5000
+bridges = ["a", "b", "c"]
+stations = ["s", "t"]
+
+[[links]]
+from = "c"
+to = "s"
+rate = 1000
+delay = 500
+
+[[links]]
+from = "a"
+to = "b"
+rate = 1000
+delay = 500
+
+[[links]]
+from = "b"
+to = "c"
+rate = 1000
+delay = 500
+
+[[links]]
+from = "b"
+to = "t"
+rate = 1000
+delay = 500
+"#;
+
 /// Bridges a, b and c in a line to station s: links 0 a>b, 1 b>c and 2 c>s.
 pub fn line() -> &'static str {
     LINE
@@ -97,6 +128,11 @@ pub fn one_link() -> &'static str {
 /// The line, and links between its ends: links 0 a>b, 1 b>c, 2 c>s, 3 a>c and 4 c>a.
 pub fn ring() -> &'static str {
     RING
+}
+
+/// Bridges a, b and c in a line to station s, and station t at bridge b: links 0 c>s, 1 a>b, 2 b>c and 3 b>t.
+pub fn fork() -> &'static str {
+    FORK
 }
 
 /// The line with a link more: link 3, from one node to another by their names.

@@ -3,7 +3,6 @@ use cqf_fixtures::{line, line_and_link, one_link_with, ring};
 use cqf_units::{Nanos, Rate};
 use std::alloc::{AllocError, Global};
 use std::process::Abort;
-use std::test::Fail;
 
 /// The text of 32 bridges, but for the end of their array.
 const MANY: &str = "cycle = 125000\nguard = 5000\nstations = []\nlinks = []\nbridges = [\
@@ -42,27 +41,30 @@ fn changed_line_answers(alloc: Global, old: &str, new: &str, wanted: &str) -> bo
     text_answers(alloc, line().replacen(alloc, old, new, 1), wanted)
 }
 
+/// A text of the line, another in its place, and the answer.
+const CHANGES: &[(&str, &str, &str)] = &[
+    ("", "", "read"),
+    ("delay = 500", "delay = 4999", "read"),
+    ("delay = 500", "delay = 5000", "DelayTooLong 0"),
+    ("guard = 5000", "guard = 125000", "GuardTooLong"),
+    ("guard = 5000\n", "", "Missing guard"),
+    (
+        "guard = 5000\nbridges = [\"a\"",
+        "bridges = [\"A\"",
+        "Missing guard",
+    ),
+    ("to = \"s\"", "", "Missing to"),
+    ("\"a\", \"b\"", "\"A\", \"b\"", "BadValue bridges"),
+    ("cycle = 125000", "cycle = 125000.0", "BadValue cycle"),
+    ("\"s\"", "\"a\"", "NameTaken a"),
+    ("cycle = 125000", "cycle =", "NotToml"),
+    ("[\"a\", \"b\", \"c\"]", "[]", "BadValue bridges"),
+    ("rate = 1000", "rate = 100", "read"),
+];
+
 #[test]
 fn a_changed_line_is_refused_by_its_first_fault(rt: HostRuntime) {
-    for (old, new, wanted) in [
-        ("", "", "read"),
-        ("delay = 500", "delay = 4999", "read"),
-        ("delay = 500", "delay = 5000", "DelayTooLong 0"),
-        ("guard = 5000", "guard = 125000", "GuardTooLong"),
-        ("guard = 5000\n", "", "Missing guard"),
-        (
-            "guard = 5000\nbridges = [\"a\"",
-            "bridges = [\"A\"",
-            "Missing guard",
-        ),
-        ("to = \"s\"", "", "Missing to"),
-        ("\"a\", \"b\"", "\"A\", \"b\"", "BadValue bridges"),
-        ("cycle = 125000", "cycle = 125000.0", "BadValue cycle"),
-        ("\"s\"", "\"a\"", "NameTaken a"),
-        ("cycle = 125000", "cycle =", "NotToml"),
-        ("[\"a\", \"b\", \"c\"]", "[]", "BadValue bridges"),
-        ("rate = 1000", "rate = 100", "read"),
-    ] {
+    for (old, new, wanted) in CHANGES {
         assert!(rt;
             changed_line_answers(rt.alloc(), old, new, wanted),
             "{new}: {wanted}"
@@ -70,16 +72,19 @@ fn a_changed_line_is_refused_by_its_first_fault(rt: HostRuntime) {
     }
 }
 
+/// The ends of one link more, and the answer.
+const LINKS_MORE: &[(&str, &str, &str)] = &[
+    ("b", "s", "read"),
+    ("a", "q", "UnknownName q"),
+    ("s", "a", "UnknownName s"),
+    ("b", "b", "UnknownName b"),
+    ("a", "b", "LinkTwice 3"),
+];
+
 #[test]
 fn one_link_more_is_refused_where_it_leads_wrong(rt: HostRuntime) {
     let alloc = rt.alloc();
-    for (from, to, wanted) in [
-        ("b", "s", "read"),
-        ("a", "q", "UnknownName q"),
-        ("s", "a", "UnknownName s"),
-        ("b", "b", "UnknownName b"),
-        ("a", "b", "LinkTwice 3"),
-    ] {
+    for (from, to, wanted) in LINKS_MORE {
         assert!(rt;
             text_answers(alloc, line_and_link(alloc, from, to), wanted),
             "{from}>{to}"
@@ -87,16 +92,19 @@ fn one_link_more_is_refused_where_it_leads_wrong(rt: HostRuntime) {
     }
 }
 
+/// A guard time, a rate, and the answer.
+const GAPS: &[(u32, u32, &str)] = &[
+    (9600, 10, "read"),
+    (9599, 10, "GapTooLong 0"),
+    (5000, 11, "BadValue rate"),
+];
+
 #[test]
 fn a_gap_is_within_the_guard_time(rt: HostRuntime) {
     let alloc = rt.alloc();
-    for (guard, rate, wanted) in [
-        (9600, 10, "read"),
-        (9599, 10, "GapTooLong 0"),
-        (5000, 11, "BadValue rate"),
-    ] {
+    for (guard, rate, wanted) in GAPS {
         assert!(rt;
-            text_answers(alloc, one_link_with(alloc, guard, rate), wanted),
+            text_answers(alloc, one_link_with(alloc, *guard, *rate), wanted),
             "{wanted}"
         );
     }
@@ -132,15 +140,18 @@ fn has_times_and_names_of_line(rt: &impl Abort, domain: &Domain) {
     assert_eq!(rt; domain.station_name(0).as_str(), "s");
 }
 
+/// Names, and the nodes of the line that have them.
+const NODES: &[(&str, Option<Node>)] = &[
+    ("b", Some(Node::Bridge(1))),
+    ("s", Some(Node::Station(0))),
+    ("q", None),
+    ("A", None),
+];
+
 /// Asserts the nodes of the line.
 fn has_nodes_of_line(rt: &impl Abort, domain: &Domain) {
-    for (name, wanted) in [
-        ("b", Some(Node::Bridge(1))),
-        ("s", Some(Node::Station(0))),
-        ("q", None),
-        ("A", None),
-    ] {
-        assert_eq!(rt; domain.find(name), wanted, "{name}");
+    for (name, wanted) in NODES {
+        assert_eq!(rt; domain.find(name), *wanted, "{name}");
     }
 }
 
@@ -163,29 +174,62 @@ fn is_line(rt: &impl Abort, domain: &Domain) {
     has_last_link_of_line(rt, domain);
 }
 
-#[test]
-fn a_line_of_bridges_is_read_and_copied(rt: HostRuntime) -> Result<(), Fail> {
-    let domain = Domain::read(rt.alloc(), line().as_bytes())?;
-    let copy = domain.try_copy(rt.alloc())?;
-    is_line(&rt, &copy);
-    is_line(&rt, &domain);
-    Ok(())
+/// Asserts all that is asked of the line, of a domain and of its copy, which is made.
+fn are_line(rt: &impl Abort, alloc: Global, domain: &Domain) -> bool {
+    match domain.try_copy(alloc) {
+        Ok(copy) => {
+            is_line(rt, &copy);
+            is_line(rt, domain);
+            true
+        }
+        Err(_) => false,
+    }
+}
+
+/// Asserts the same of the line's text, which is read.
+fn is_read_and_copied(rt: &impl Abort, alloc: Global) -> bool {
+    match Domain::read(alloc, line().as_bytes()) {
+        Ok(domain) => are_line(rt, alloc, &domain),
+        Err(_) => false,
+    }
 }
 
 #[test]
-fn links_are_numbered_in_their_order(rt: HostRuntime) -> Result<(), Fail> {
-    let domain = Domain::read(rt.alloc(), ring().as_bytes())?;
+fn a_line_of_bridges_is_read_and_copied(rt: HostRuntime) {
+    assert!(rt; is_read_and_copied(&rt, rt.alloc()));
+}
+
+/// A bridge, a node, and the number of the ring's link between them.
+const LINKS_OF_RING: &[(u8, Node, Option<u8>)] = &[
+    (0, Node::Bridge(1), Some(0)),
+    (2, Node::Station(0), Some(2)),
+    (0, Node::Bridge(2), Some(3)),
+    (2, Node::Bridge(0), Some(4)),
+    (1, Node::Bridge(0), None),
+];
+
+/// Asserts the numbers of the ring's links.
+fn has_links_of_ring(rt: &impl Abort, domain: &Domain) {
     assert_eq!(rt; domain.links(), 5);
-    for (from, to, wanted) in [
-        (0, Node::Bridge(1), Some(0)),
-        (2, Node::Station(0), Some(2)),
-        (0, Node::Bridge(2), Some(3)),
-        (2, Node::Bridge(0), Some(4)),
-        (1, Node::Bridge(0), None),
-    ] {
-        assert_eq!(rt; domain.find_link(from, to), wanted);
+    for (from, to, wanted) in LINKS_OF_RING {
+        assert_eq!(rt; domain.find_link(*from, *to), *wanted);
     }
-    Ok(())
+}
+
+/// Asserts the same of the ring's text, which is read.
+fn is_read_as_ring(rt: &impl Abort, alloc: Global) -> bool {
+    match Domain::read(alloc, ring().as_bytes()) {
+        Ok(domain) => {
+            has_links_of_ring(rt, &domain);
+            true
+        }
+        Err(_) => false,
+    }
+}
+
+#[test]
+fn links_are_numbered_in_their_order(rt: HostRuntime) {
+    assert!(rt; is_read_as_ring(&rt, rt.alloc()));
 }
 
 /// Whether the request is for 1,500 octets of the stream x, in so many branches, of which the last has this length and ends
@@ -261,33 +305,36 @@ fn streams_answer(alloc: Global, text: &str, wanted: &str) -> bool {
     }
 }
 
+/// Streams texts, and the answers.
+const STREAMS: &[(&str, &str)] = &[
+    ("streams = []", "read"),
+    ("", "Missing streams"),
+    ("streams =", "NotToml"),
+    ("[[streams]]\noctets = -1\npath = []", "Missing name"),
+    ("streams = [7]", "BadValue streams"),
+    (
+        "[[streams]]\nname = \"x\"\noctets = -1\npath = 7",
+        "BadValue octets",
+    ),
+    ("[[streams]]\nname = \"x\"\noctets = 64", "Missing path"),
+    ("[[streams]]\nname = \"x\"\noctets = 64\npaths = []", "read"),
+    (
+        "[[streams]]\nname = \"x\"\noctets = 64\npaths = [7]",
+        "BadValue paths",
+    ),
+    (
+        "[[streams]]\nname = \"x\"\noctets = 64\npath = []\npaths = []",
+        "BadValue paths",
+    ),
+    (
+        "[[streams]]\nname = \"x\"\noctets = 64\npath = 7\npaths = []",
+        "BadValue path",
+    ),
+];
+
 #[test]
 fn streams_texts_are_refused_by_their_first_fault(rt: HostRuntime) {
-    for (text, wanted) in [
-        ("streams = []", "read"),
-        ("", "Missing streams"),
-        ("streams =", "NotToml"),
-        ("[[streams]]\noctets = -1\npath = []", "Missing name"),
-        ("streams = [7]", "BadValue streams"),
-        (
-            "[[streams]]\nname = \"x\"\noctets = -1\npath = 7",
-            "BadValue octets",
-        ),
-        ("[[streams]]\nname = \"x\"\noctets = 64", "Missing path"),
-        ("[[streams]]\nname = \"x\"\noctets = 64\npaths = []", "read"),
-        (
-            "[[streams]]\nname = \"x\"\noctets = 64\npaths = [7]",
-            "BadValue paths",
-        ),
-        (
-            "[[streams]]\nname = \"x\"\noctets = 64\npath = []\npaths = []",
-            "BadValue paths",
-        ),
-        (
-            "[[streams]]\nname = \"x\"\noctets = 64\npath = 7\npaths = []",
-            "BadValue path",
-        ),
-    ] {
+    for (text, wanted) in STREAMS {
         assert!(rt; streams_answer(rt.alloc(), text, wanted), "{text}");
     }
 }

@@ -1,62 +1,8 @@
 //! What a planner sees of `compile`.
 
 use super::compile_output;
+use cqf_fixtures::{line, one_link, ring};
 use std::alloc::{AllocError, Global};
-
-/// The domain of a line of three bridges to a station, with a budget of 15,000 octets a cycle on each link.
-const LINE_OF_THREE: &str = r#"
-cycle = 125000
-guard = 5000
-bridges = ["a", "b", "c"]
-stations = ["s"]
-
-[[links]]
-from = "a"
-to = "b"
-rate = 1000
-delay = 500
-
-[[links]]
-from = "b"
-to = "c"
-rate = 1000
-delay = 500
-
-[[links]]
-from = "c"
-to = "s"
-rate = 1000
-delay = 500
-"#;
-
-/// The domain of one bridge and one station.
-const ONE_LINK: &str = r#"
-cycle = 125000
-guard = 5000
-bridges = ["a"]
-stations = ["s"]
-
-[[links]]
-from = "a"
-to = "s"
-rate = 1000
-delay = 500
-"#;
-
-/// The domain in which a path can come back to where it began.
-const TRIANGLE: &str = r#"
-cycle = 125000
-guard = 5000
-bridges = ["a", "b", "c"]
-stations = ["s"]
-links = [
-    { from = "a", to = "b", rate = 1000, delay = 500 },
-    { from = "b", to = "c", rate = 1000, delay = 500 },
-    { from = "c", to = "s", rate = 1000, delay = 500 },
-    { from = "c", to = "a", rate = 1000, delay = 500 },
-    { from = "a", to = "c", rate = 1000, delay = 500 },
-]
-"#;
 
 /// The domain of 33 bridges and nothing else.
 const THIRTY_THREE_BRIDGES: &str = r#"
@@ -98,15 +44,95 @@ fn gives(alloc: Global, domain: &str, streams: &str, text: &str) -> Result<bool,
     }
 }
 
-/// Domains, streams, and what `compile` gives for them.
-const CASES: &[(&str, &str, &str)] = &[
+/// Streams over one link, and what `compile` gives for them.
+const OVER_ONE_LINK: &[(&str, &str)] = &[
     // one link and its stream, and a domain with no stream
     (
-        ONE_LINK,
         "streams = [{ name = \"x\", octets = 1500, path = [\"a\", \"s\"] }]",
         CONFIGURATION,
     ),
-    (ONE_LINK, "streams = []\n%%\n", "cqf: parts\n"),
+    ("streams = []\n%%\n", "cqf: parts\n"),
+    // of the streams, which are read before one is admitted
+    ("streams =", "cqf: streams: NotToml\n"),
+    ("", "cqf: streams: Missing streams\n"),
+    (
+        "[[streams]]\nname = \"x\"\npath = []",
+        "cqf: streams: Missing octets\n",
+    ),
+    ("streams = 5", "cqf: streams: BadValue streams\n"),
+    (
+        "[[streams]]\nname = \"x\"\noctets = -1\npath = []",
+        "cqf: streams: BadValue octets\n",
+    ),
+    (
+        "[[streams]]\nname = \"x\"\noctets = 63\npath = [\"a\", \"s\"]\n[[streams]]\nname = \"y\"\noctets = 64\n",
+        "cqf: streams: Missing path\n",
+    ),
+    // of a stream's branches
+    (
+        "streams = [{ name = \"x\", octets = 64, paths = [] }]",
+        "cqf: stream 1: BrokenPath 0\n",
+    ),
+];
+
+/// Streams over the line, and what `compile` gives for them.
+const OVER_LINE: &[(&str, &str)] = &[
+    (EIGHT_STREAMS, "cqf: stream 8: BudgetShort 0 1280\n"),
+    // of a stream
+    (
+        "streams = [{ name = \"X!\", octets = 10, path = [\"a\", \"b\", \"c\", \"s\"] }]",
+        "cqf: stream 1: BadName\n",
+    ),
+    (
+        "streams = [{ name = \"x\", octets = 63, path = [\"a\", \"b\", \"c\", \"s\"] }]",
+        "cqf: stream 1: BadOctets\n",
+    ),
+    (
+        "streams = [{ name = \"x\", octets = 64, path = [\"a\", \"q\", \"s\"] }]",
+        "cqf: stream 1: UnknownNode 1\n",
+    ),
+    (
+        "streams = [{ name = \"x\", octets = 64, path = [] }]",
+        "cqf: stream 1: BrokenPath 0\n",
+    ),
+    (
+        "streams = [{ name = \"x\", octets = 60000, path = [\"a\", \"b\", \"c\", \"s\"] }]",
+        "cqf: stream 1: BudgetShort 0 15000\n",
+    ),
+    (
+        "streams = [{ name = \"x\", octets = 64, path = [\"c\", \"s\"] }, { name = \"x\", octets = 64, path = [\"b\", \"c\", \"s\"] }]",
+        "cqf: stream 2: NameHeld\n",
+    ),
+];
+
+/// Streams over the ring, in which a path can come back to where it began, and what `compile` gives for them.
+const OVER_RING: &[(&str, &str)] = &[
+    (
+        "streams = [{ name = \"x\", octets = 64, path = [\"a\", \"b\", \"c\", \"a\", \"c\", \"s\"] }]",
+        "cqf: stream 1: LoopingPath 3\n",
+    ),
+    // of its branches, whose places count as one list
+    (
+        "streams = [{ name = \"x\", octets = 64, paths = [[\"a\", \"c\", \"s\"], [\"a\", \"q\", \"s\"]] }]",
+        "cqf: stream 1: UnknownNode 4\n",
+    ),
+    (
+        "streams = [{ name = \"x\", octets = 64, paths = [[\"a\", \"b\", \"c\", \"s\"], [\"a\", \"c\", \"s\"]] }]",
+        "cqf: stream 1: NotATree 1\n",
+    ),
+    // branches that come back are told before those that make no tree, and these before a name that is held
+    (
+        "streams = [{ name = \"x\", octets = 64, paths = [[\"a\", \"c\", \"s\"], [\"a\", \"b\", \"c\", \"a\", \"c\", \"s\"]] }]",
+        "cqf: stream 1: LoopingPath 6\n",
+    ),
+    (
+        "streams = [{ name = \"x\", octets = 64, path = [\"c\", \"s\"] }, { name = \"x\", octets = 64, paths = [[\"a\", \"c\", \"s\"], [\"b\", \"c\", \"s\"]] }]",
+        "cqf: stream 2: NotATree 1\n",
+    ),
+];
+
+/// Domains, streams, and what `compile` gives for them.
+const CASES: &[(&str, &str, &str)] = &[
     // times that don't fit
     (
         "cycle = 125000\nguard = 125000\nbridges = [\"a\"]\nstations = []\nlinks = []",
@@ -126,11 +152,6 @@ const CASES: &[(&str, &str, &str)] = &[
         "cqf: domain: GapTooLong 0\n",
     ),
     (THIRTY_THREE_BRIDGES, "", "cqf: domain: TooMany\n"),
-    (
-        LINE_OF_THREE,
-        EIGHT_STREAMS,
-        "cqf: stream 8: BudgetShort 0 1280\n",
-    ),
     // of the domain, which is read before the streams
     ("cycle =", "streams =", "cqf: domain: NotToml\n"),
     (
@@ -160,94 +181,21 @@ const CASES: &[(&str, &str, &str)] = &[
         "",
         "cqf: domain: LinkTwice 1\n",
     ),
-    // of the streams, which are read before one is admitted
-    (ONE_LINK, "streams =", "cqf: streams: NotToml\n"),
-    (ONE_LINK, "", "cqf: streams: Missing streams\n"),
-    (
-        ONE_LINK,
-        "[[streams]]\nname = \"x\"\npath = []",
-        "cqf: streams: Missing octets\n",
-    ),
-    (ONE_LINK, "streams = 5", "cqf: streams: BadValue streams\n"),
-    (
-        ONE_LINK,
-        "[[streams]]\nname = \"x\"\noctets = -1\npath = []",
-        "cqf: streams: BadValue octets\n",
-    ),
-    (
-        ONE_LINK,
-        "[[streams]]\nname = \"x\"\noctets = 63\npath = [\"a\", \"s\"]\n[[streams]]\nname = \"y\"\noctets = 64\n",
-        "cqf: streams: Missing path\n",
-    ),
-    // of a stream
-    (
-        LINE_OF_THREE,
-        "streams = [{ name = \"X!\", octets = 10, path = [\"a\", \"b\", \"c\", \"s\"] }]",
-        "cqf: stream 1: BadName\n",
-    ),
-    (
-        LINE_OF_THREE,
-        "streams = [{ name = \"x\", octets = 63, path = [\"a\", \"b\", \"c\", \"s\"] }]",
-        "cqf: stream 1: BadOctets\n",
-    ),
-    (
-        LINE_OF_THREE,
-        "streams = [{ name = \"x\", octets = 64, path = [\"a\", \"q\", \"s\"] }]",
-        "cqf: stream 1: UnknownNode 1\n",
-    ),
-    (
-        LINE_OF_THREE,
-        "streams = [{ name = \"x\", octets = 64, path = [] }]",
-        "cqf: stream 1: BrokenPath 0\n",
-    ),
-    (
-        LINE_OF_THREE,
-        "streams = [{ name = \"x\", octets = 60000, path = [\"a\", \"b\", \"c\", \"s\"] }]",
-        "cqf: stream 1: BudgetShort 0 15000\n",
-    ),
-    (
-        LINE_OF_THREE,
-        "streams = [{ name = \"x\", octets = 64, path = [\"c\", \"s\"] }, { name = \"x\", octets = 64, path = [\"b\", \"c\", \"s\"] }]",
-        "cqf: stream 2: NameHeld\n",
-    ),
-    (
-        TRIANGLE,
-        "streams = [{ name = \"x\", octets = 64, path = [\"a\", \"b\", \"c\", \"a\", \"c\", \"s\"] }]",
-        "cqf: stream 1: LoopingPath 3\n",
-    ),
-    // of its branches, whose places count as one list
-    (
-        ONE_LINK,
-        "streams = [{ name = \"x\", octets = 64, paths = [] }]",
-        "cqf: stream 1: BrokenPath 0\n",
-    ),
-    (
-        TRIANGLE,
-        "streams = [{ name = \"x\", octets = 64, paths = [[\"a\", \"c\", \"s\"], [\"a\", \"q\", \"s\"]] }]",
-        "cqf: stream 1: UnknownNode 4\n",
-    ),
-    (
-        TRIANGLE,
-        "streams = [{ name = \"x\", octets = 64, paths = [[\"a\", \"b\", \"c\", \"s\"], [\"a\", \"c\", \"s\"]] }]",
-        "cqf: stream 1: NotATree 1\n",
-    ),
-    // branches that come back are told before those that make no tree, and these before a name that is held
-    (
-        TRIANGLE,
-        "streams = [{ name = \"x\", octets = 64, paths = [[\"a\", \"c\", \"s\"], [\"a\", \"b\", \"c\", \"a\", \"c\", \"s\"]] }]",
-        "cqf: stream 1: LoopingPath 6\n",
-    ),
-    (
-        TRIANGLE,
-        "streams = [{ name = \"x\", octets = 64, path = [\"c\", \"s\"] }, { name = \"x\", octets = 64, paths = [[\"a\", \"c\", \"s\"], [\"b\", \"c\", \"s\"]] }]",
-        "cqf: stream 2: NotATree 1\n",
-    ),
 ];
 
 #[test]
 fn domains_and_streams_are_compiled_or_their_first_fault_is_told(
     rt: HostRuntime,
 ) -> Result<(), AllocError> {
+    for (streams, text) in OVER_ONE_LINK {
+        assert!(rt; gives(rt.alloc(), one_link(), streams, text)?);
+    }
+    for (streams, text) in OVER_LINE {
+        assert!(rt; gives(rt.alloc(), line(), streams, text)?);
+    }
+    for (streams, text) in OVER_RING {
+        assert!(rt; gives(rt.alloc(), ring(), streams, text)?);
+    }
     for (domain, streams, text) in CASES {
         assert!(rt; gives(rt.alloc(), domain, streams, text)?);
     }
