@@ -6,8 +6,7 @@ use Rattle.std.proofs.lemmas.Bool.{eq-eqb, eqb-true}
 use Rattle.cqf_lists.specs.Lists.{each_below}
 use Rattle.cqf_units.specs.declared.timing.Nanos.{Nanos}
 use Rattle.cqf_lists.proofs.EachBelow.{contains_below, contains_from_below}
-use Rattle.cqf_lists.proofs.Made.{contains_one}
-use Rattle.cqf_lists.proofs.Members.{contains_filter, contains_flat, contains_from_filter, contains_from_flat, contains_from_map, contains_here, contains_map, contains_none}
+use Rattle.cqf_lists.proofs.Members.{contains_filter, contains_flat, contains_from_filter, contains_from_flat, contains_from_map, contains_here, contains_map, contains_none, contains_one}
 use Rattle.cqf_model.specs.declared.frames.Backed.{Backed}
 use Rattle.cqf_model.specs.declared.frames.Background.{Background}
 use Rattle.cqf_model.specs.declared.frames.Started.{Started}
