@@ -1,5 +1,5 @@
 -- Sums over lists: members, groups, and matched elements.
-use Rattle.std.proofs.Common.{◌≡◌, ℕ, zero, suc, ◌+◌, ◌<◌, ◌≤◌, ◌⊎◌, length, get_or, take, ◌∷◌, [], List, Bool, true, map, filter, flat_map, inl, inr, sym, ap}
+use Rattle.std.proofs.Common.{◌≡◌, ℕ, zero, suc, ◌+◌, ◌<◌, ◌≤◌, ◌⊎◌, length, get_or, take, ◌∷◌, [], List, Bool, true, false, map, filter, flat_map, inl, inr, sym, ap}
 use Rattle.std.proofs.Common.{ap₂, ◌∙◌, subst, arith, refl, AllPairs, Contains, sum_by, if◌then◌else◌, ◌==◌, nat_lt, le_trans, zero-add, lt-ltb, le-ltb, ne_eqb}
 use Rattle.std.proofs.Common.{eq-eqb}
 use Rattle.std.specs.List.{enumerate_from}
@@ -128,6 +128,15 @@ sum_filter f p (x ∷ xs) = elim (cases_Bool (p x)) [
       ∙ sym (sum_by-cons (λ x. if p x then f x else 0) x xs ∙ ap (λ z. z + sum_by (λ x. if p x then f x else 0) xs) (cond-false (p x) (f x) 0 u)
       ∙ zero-add (sum_by (λ x. if p x then f x else 0) xs))
 ]
+
+-- a sum over what a filter keeps is at most the sum
+pub sum_filter_le : {X : Type 0} (f : X → ℕ) (p : X → Bool) (xs : List X) → sum_by f (filter p xs) ≤ sum_by f xs
+sum_filter_le f p xs =
+    omega (arith, sum_filter f p xs, sum_le_members (λ x. if p x then f x else 0) f xs (λ x c. at_most (p x) (f x)))
+  where
+    at_most : (b : Bool) (n : ℕ) → (if b then n else 0) ≤ n
+    at_most true n = omega arith
+    at_most false n = omega arith
 
 -- the elements by their keys, each once
 pub sum_by_keys : {X : Type 0} (f : X → ℕ) (key : X → ℕ) (xs : List X) (n : ℕ) →
