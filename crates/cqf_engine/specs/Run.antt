@@ -71,7 +71,8 @@ pub record IsDone (words : List (List ℕ)) (bytes output : List ℕ) : Type 0 w
 -- line of the first fault of its input
 pub record IsRefusedRun (words : List (List ℕ)) (bytes : List ℕ) (stop : Stop) : Type 0 where
   pub length_first : (IsTooLong bytes × (stop.text.items ≡ line_of (codes "cqf: input too long")) × (words ≢ [] → (job : Job) × Mean words job))
-      ⊎ ((length bytes ≤ 67108864) × (words ≡ [] → IsUtf8 (first_line bytes)) × ((job : Job) × Mean (words_of words bytes) job × IsRefusal job (input_of words bytes) stop))
+      ⊎ ((length bytes ≤ 67108864) × (words ≡ [] → IsUtf8 (first_line bytes))
+      × ((job : Job) × Mean (words_of words bytes) job × IsRefusal job (input_of words bytes) stop))
 
 -- the words mean no job: those of the first line aren't text; or they are a mistake
 pub record IsMisuse (words : List (List ℕ)) (bytes : List ℕ) (stop : Stop) : Type 0 where
