@@ -17,7 +17,8 @@ HasRead-nothing known old new most same few = record {
 }
 
 -- one read filled a part behind a front, and what it didn't fill was cut off
-pub HasRead-behind : (before after : Option (List ℕ)) (old new kept : List ℕ) (at count : ℕ) → take at new ≡ take at old → length new ≡ length old → Consumes before after (take count (drop at new)) → kept ≡ take (at + count) new → HasRead before after (take at old) kept (length old)
+pub HasRead-behind : (before after : Option (List ℕ)) (old new kept : List ℕ) (at count : ℕ) → take at new ≡ take at old → length new ≡ length old
+    → Consumes before after (take count (drop at new)) → kept ≡ take (at + count) new → HasRead before after (take at old) kept (length old)
 HasRead-behind before after old new kept at count front long taken cut = record {
   given = take count (drop at new);
   taken = taken;
@@ -35,7 +36,8 @@ pub WrittenSoFar-start : (before : Option (List ℕ)) (text : List ℕ) → Writ
 WrittenSoFar-start before text = record { front = []; cut = refl; written = Appends-nil before }
 
 -- a write took so many bytes of the rest
-pub WrittenSoFar-more : (before now after : Option (List ℕ)) (text rest : List ℕ) (count : ℕ) → WrittenSoFar before now text rest → Appends now after (take count rest) → WrittenSoFar before after text (drop count rest)
+pub WrittenSoFar-more : (before now after : Option (List ℕ)) (text rest : List ℕ) (count : ℕ) → WrittenSoFar before now text rest
+    → Appends now after (take count rest) → WrittenSoFar before after text (drop count rest)
 WrittenSoFar-more before now after text rest count w more = record {
   front = w.front ++ take count rest;
   cut = w.cut ∙ ap (λ x. w.front ++ x) (sym (take-append-drop count rest)) ∙ sym (append_assoc w.front (take count rest) (drop count rest));
@@ -43,13 +45,15 @@ WrittenSoFar-more before now after text rest count w more = record {
 }
 
 -- the same, as a range to the end of the rest gives it
-pub WrittenSoFar-range : (before now after : Option (List ℕ)) (text rest : List ℕ) (count : ℕ) → WrittenSoFar before now text rest → Appends now after (take count rest) → WrittenSoFar before after text (take (length rest - count) (drop count rest))
+pub WrittenSoFar-range : (before now after : Option (List ℕ)) (text rest : List ℕ) (count : ℕ) → WrittenSoFar before now text rest
+    → Appends now after (take count rest) → WrittenSoFar before after text (take (length rest - count) (drop count rest))
 WrittenSoFar-range before now after text rest count w more =
     let all : take (length rest - count) (drop count rest) ≡ drop count rest = grind (arith, common_steps) in
     subst (λ (x : List ℕ). WrittenSoFar before after text x) (sym all) (WrittenSoFar-more before now after text rest count w more)
 
 -- the writing ends, with what was written
-pub HasTold-ended : (before now after : Option (List ℕ)) (refused : Bool) (text rest : List ℕ) → WrittenSoFar before now text rest → Keeps now after → (refused ≡ false → rest ≡ []) → HasTold (record { before = before; after = after; refused = refused }) text
+pub HasTold-ended : (before now after : Option (List ℕ)) (refused : Bool) (text rest : List ℕ) → WrittenSoFar before now text rest → Keeps now after
+    → (refused ≡ false → rest ≡ []) → HasTold (record { before = before; after = after; refused = refused }) text
 HasTold-ended before now after refused text rest w kept all = record {
   front = w.front;
   behind = rest;
@@ -65,7 +69,8 @@ Appends-whole output text told accepted =
     subst (λ (x : List ℕ). Appends output.before output.after x) same told.written
 
 -- what one more read gave stands behind what was taken so far
-pub Consumes-read : (before now after : Option (List ℕ)) (old new : List ℕ) (most : ℕ) → Consumes before now old → HasRead now after old new most → Consumes before after new
+pub Consumes-read : (before now after : Option (List ℕ)) (old new : List ℕ) (most : ℕ) → Consumes before now old → HasRead now after old new most
+    → Consumes before after new
 Consumes-read before now after old new most taken read =
     subst (λ (x : List ℕ). Consumes before after x) (sym read.kept) (Consumes-trans before now after old read.given taken read.taken)
 

@@ -24,7 +24,8 @@ HasCause-given (word ∷ words) bytes stop some e = record {
 }
 
 -- words that mean no job stop the run before anything is read
-pub IsStopped-by_words : (words : List (List ℕ)) (input : Reading) (stop : Stop) → words ≢ [] → input.failed ≡ false → EndsWords words stop → IsStopped words input stop
+pub IsStopped-by_words : (words : List (List ℕ)) (input : Reading) (stop : Stop) → words ≢ [] → input.failed ≡ false → EndsWords words stop
+    → IsStopped words input stop
 IsStopped-by_words words input stop some sound e =
     let few : stop.status ≤ 3 = elim e.statuses [ inl zero_is ↦ omega arith | inr other ↦ elim other [ inl two ↦ omega arith | inr three ↦ omega arith ] ] in
     record {
@@ -38,7 +39,8 @@ IsStopped-by_words words input stop some sound e =
     }
 
 -- words of the first line that mean no job stop it too
-pub HasCause-by_line : (bytes : List ℕ) (stop : Stop) → length bytes ≤ 67108864 → IsUtf8 (first_line bytes) → EndsWords (words_of [] bytes) stop → HasCause [] bytes stop
+pub HasCause-by_line : (bytes : List ℕ) (stop : Stop) → length bytes ≤ 67108864 → IsUtf8 (first_line bytes) → EndsWords (words_of [] bytes) stop
+    → HasCause [] bytes stop
 HasCause-by_line bytes stop short text e = record {
   help = e.help;
   refused = λ one. absurd (elim e.statuses [ inl zero_is ↦ omega arith | inr other ↦ elim other [ inl two ↦ omega arith | inr three ↦ omega arith ] ]);
@@ -47,7 +49,8 @@ HasCause-by_line bytes stop short text e = record {
 }
 
 -- a first line that isn't text stops it
-pub HasCause-by_bytes : (bytes : List ℕ) (stop : Stop) → length bytes ≤ 67108864 → ¬ IsUtf8 (first_line bytes) → EndsWith 2 (line_of (codes "cqf: words")) stop → HasCause [] bytes stop
+pub HasCause-by_bytes : (bytes : List ℕ) (stop : Stop) → length bytes ≤ 67108864 → ¬ IsUtf8 (first_line bytes)
+    → EndsWith 2 (line_of (codes "cqf: words")) stop → HasCause [] bytes stop
 HasCause-by_bytes bytes stop short no_text e = record {
   help = λ zero_is. absurd (elim e.statuses [ inl two ↦ omega arith | inr three ↦ omega arith ]);
   refused = λ one. absurd (elim e.statuses [ inl two ↦ omega arith | inr three ↦ omega arith ]);
@@ -56,7 +59,8 @@ HasCause-by_bytes bytes stop short no_text e = record {
 }
 
 -- a read that was broken off ends the input
-pub EndsInput-broken : (input : Reading) (before : Bool) (cause : Broken) (stop : Stop) → Marks before input.failed cause → EndsRead cause stop → EndsInput input stop
+pub EndsInput-broken : (input : Reading) (before : Bool) (cause : Broken) (stop : Stop) → Marks before input.failed cause → EndsRead cause stop
+    → EndsInput input stop
 EndsInput-broken input before Memory stop marks ended = record {
   statuses = inr (inl ended.0);
   long = λ one. absurd (omega (arith, ended.0));
@@ -79,7 +83,8 @@ EndsInput-broken input before Fault stop marks ended =
     }
 
 -- more bytes than the program reads end it
-pub EndsInput-long : (input : Reading) (stop : Stop) → IsTooLong input.bytes → input.failed ≡ false → EndsWith 1 (line_of (codes "cqf: input too long")) stop → EndsInput input stop
+pub EndsInput-long : (input : Reading) (stop : Stop) → IsTooLong input.bytes → input.failed ≡ false → EndsWith 1 (line_of (codes "cqf: input too long")) stop
+    → EndsInput input stop
 EndsInput-long input stop long sound ended =
     let not_four : stop.status ≡ 4 → ⊥ = λ four. elim ended.statuses [ inl one ↦ omega arith | inr three ↦ omega arith ] in
     record {
@@ -93,7 +98,8 @@ EndsInput-long input stop long sound ended =
     }
 
 -- why a read that ends before the input does stops it
-HasCause-read : (words : List (List ℕ)) (input : Reading) (stop : Stop) → EndsInput input stop → (words ≢ [] → (job : Job) × Mean words job) → HasCause words input.bytes stop
+HasCause-read : (words : List (List ℕ)) (input : Reading) (stop : Stop) → EndsInput input stop → (words ≢ [] → (job : Job) × Mean words job)
+    → HasCause words input.bytes stop
 HasCause-read words input stop e means = record {
   help = λ zero_is. absurd (elim e.statuses [ inl one ↦ omega arith | inr other ↦ elim other [ inl three ↦ omega arith | inr four ↦ omega arith ] ]);
   refused = λ one. record { length_first = inl (e.long one, e.long_line one, means) };
@@ -102,7 +108,8 @@ HasCause-read words input stop e means = record {
 }
 
 -- a read that ends before the input does stops it
-pub IsStopped-by_input : (words : List (List ℕ)) (input : Reading) (stop : Stop) → EndsInput input stop → (words ≢ [] → (job : Job) × Mean words job) → IsStopped words input stop
+pub IsStopped-by_input : (words : List (List ℕ)) (input : Reading) (stop : Stop) → EndsInput input stop → (words ≢ [] → (job : Job) × Mean words job)
+    → IsStopped words input stop
 IsStopped-by_input words input stop e means =
     let other : (stop.status ≡ 0) ⊎ (stop.status ≡ 2) → ⊥ = λ either. elim e.statuses [
       | inl one ↦ elim either [ inl zero_is ↦ omega arith | inr two ↦ omega arith ]
@@ -122,7 +129,8 @@ IsStopped-by_input words input stop e means =
     }
 
 -- a cause stops it, once all is read
-pub IsStopped-by_cause : (words : List (List ℕ)) (input : Reading) (stop : Stop) → input.failed ≡ false → IsAtEnd input.after → stop.status ≤ 3 → HasCause words input.bytes stop → IsStopped words input stop
+pub IsStopped-by_cause : (words : List (List ℕ)) (input : Reading) (stop : Stop) → input.failed ≡ false → IsAtEnd input.after → stop.status ≤ 3
+    → HasCause words input.bytes stop → IsStopped words input stop
 IsStopped-by_cause words input stop sound at_end few cause = record {
   statuses = omega arith;
   cause = λ _. cause;
@@ -148,7 +156,8 @@ refusal_memory (Line cycles) input stop h = h.memory
 refusal_memory Compile input stop h = h.memory
 
 -- an input that is refused stops it
-pub HasCause-by_refusal : (words : List (List ℕ)) (bytes : List ℕ) (job : Job) (stop : Stop) → length bytes ≤ 67108864 → (words ≡ [] → IsUtf8 (first_line bytes)) → Mean (words_of words bytes) job → IsRefusal job (input_of words bytes) stop → HasCause words bytes stop
+pub HasCause-by_refusal : (words : List (List ℕ)) (bytes : List ℕ) (job : Job) (stop : Stop) → length bytes ≤ 67108864
+    → (words ≡ [] → IsUtf8 (first_line bytes)) → Mean (words_of words bytes) job → IsRefusal job (input_of words bytes) stop → HasCause words bytes stop
 HasCause-by_refusal words bytes job stop short text means h =
     let statuses = refusal_statuses job (input_of words bytes) stop h in
     record {
@@ -168,14 +177,16 @@ input_given [] bytes some = absurd (some refl)
 input_given (word ∷ words) bytes some = refl
 
 -- an input that is refused stops a run of words that are given
-pub IsStopped-by_given : (words : List (List ℕ)) (input : Reading) (job : Job) (stop : Stop) → words ≢ [] → input.failed ≡ false → IsAtEnd input.after → length input.bytes ≤ 67108864 → Mean words job → IsRefusal job input.bytes stop → IsStopped words input stop
+pub IsStopped-by_given : (words : List (List ℕ)) (input : Reading) (job : Job) (stop : Stop) → words ≢ [] → input.failed ≡ false → IsAtEnd input.after
+    → length input.bytes ≤ 67108864 → Mean words job → IsRefusal job input.bytes stop → IsStopped words input stop
 IsStopped-by_given words input job stop some sound at_end short means h =
     IsStopped-by_cause words input stop sound at_end (refusal_few job input.bytes stop h)
     (HasCause-by_refusal words input.bytes job stop short (λ none. absurd (some none)) (means_given words input.bytes job some means)
     (subst (λ (bytes : List ℕ). IsRefusal job bytes stop) (input_given words input.bytes some) h))
 
 -- a run of words that are given is done
-pub HasRun-given : (words : List (List ℕ)) (input : Reading) (output : List ℕ) (job : Job) → words ≢ [] → input.failed ≡ false → IsAtEnd input.after → length input.bytes ≤ 67108864 → Mean words job → IsOutput job input.bytes output → HasRun words input output
+pub HasRun-given : (words : List (List ℕ)) (input : Reading) (output : List ℕ) (job : Job) → words ≢ [] → input.failed ≡ false → IsAtEnd input.after
+    → length input.bytes ≤ 67108864 → Mean words job → IsOutput job input.bytes output → HasRun words input output
 HasRun-given words input output job some sound at_end short means h = record {
   is_done = record {
     short = short;
@@ -189,7 +200,8 @@ HasRun-given words input output job some sound at_end short means h = record {
 }
 
 -- a run that is done ends with its output
-pub Ends-ran : (words : List (List ℕ)) (input : Reading) (output faults : Writing) (text : List ℕ) (status : ℕ) → IsHeard input → IsBehindWords words input → HasRun words input text → HandsOver text output faults status → Ends words input output faults status
+pub Ends-ran : (words : List (List ℕ)) (input : Reading) (output faults : Writing) (text : List ℕ) (status : ℕ) → IsHeard input → IsBehindWords words input
+    → HasRun words input text → HandsOver text output faults status → Ends words input output faults status
 Ends-ran words input output faults text status heard behind_words ran h =
     let not_one : status ≡ 1 → ⊥ = λ one. elim h.statuses [ inl zero_is ↦ omega arith | inr four ↦ omega arith ] in
     let not_two : status ≡ 2 → ⊥ = λ two. elim h.statuses [ inl zero_is ↦ omega arith | inr four ↦ omega arith ] in
@@ -219,7 +231,8 @@ Ends-ran words input output faults text status heard behind_words ran h =
     }
 
 -- help that was asked for is told, or the output refuses some of it
-pub Ends-helped : (words : List (List ℕ)) (input : Reading) (output faults : Writing) (stop : Stop) (status : ℕ) → IsHeard input → IsBehindWords words input → IsStopped words input stop → stop.status ≡ 0 → HandsOver stop.text.items output faults status → Ends words input output faults status
+pub Ends-helped : (words : List (List ℕ)) (input : Reading) (output faults : Writing) (stop : Stop) (status : ℕ) → IsHeard input → IsBehindWords words input
+    → IsStopped words input stop → stop.status ≡ 0 → HandsOver stop.text.items output faults status → Ends words input output faults status
 Ends-helped words input output faults stop status heard behind_words s help h =
     let not_one : status ≡ 1 → ⊥ = λ one. elim h.statuses [ inl zero_is ↦ omega arith | inr four ↦ omega arith ] in
     let not_two : status ≡ 2 → ⊥ = λ two. elim h.statuses [ inl zero_is ↦ omega arith | inr four ↦ omega arith ] in
@@ -250,7 +263,8 @@ Ends-helped words input output faults stop status heard behind_words s help h =
     }
 
 -- a run that is stopped, and not for help, ends as it was stopped
-pub Ends-barred : (words : List (List ℕ)) (input : Reading) (output faults : Writing) (stop : Stop) (status : ℕ) → IsHeard input → IsBehindWords words input → IsStopped words input stop → stop.status ≢ 0 → status ≡ stop.status → Tells stop output faults status → Ends words input output faults status
+pub Ends-barred : (words : List (List ℕ)) (input : Reading) (output faults : Writing) (stop : Stop) (status : ℕ) → IsHeard input → IsBehindWords words input
+    → IsStopped words input stop → stop.status ≢ 0 → status ≡ stop.status → Tells stop output faults status → Ends words input output faults status
 Ends-barred words input output faults stop status heard behind_words s no_help same t = record {
   statuses = omega (arith, s.statuses);
   heard = heard;
@@ -279,7 +293,8 @@ zero_or_not zero = inl refl
 zero_or_not (suc number) = inr (λ e. omega arith)
 
 -- a run that is stopped ends as it was stopped
-pub Ends-stopped : (words : List (List ℕ)) (input : Reading) (output faults : Writing) (stop : Stop) (status : ℕ) → IsHeard input → IsBehindWords words input → IsStopped words input stop → Tells stop output faults status → Ends words input output faults status
+pub Ends-stopped : (words : List (List ℕ)) (input : Reading) (output faults : Writing) (stop : Stop) (status : ℕ) → IsHeard input → IsBehindWords words input
+    → IsStopped words input stop → Tells stop output faults status → Ends words input output faults status
 Ends-stopped words input output faults stop status heard behind_words s t = elim (zero_or_not stop.status) [
   | inl help ↦ Ends-helped words input output faults stop status heard behind_words s help (t.help help)
   | inr no_help ↦

@@ -1,13 +1,16 @@
 //! A run of the program, from its words and its input to its output, over any reader and any writers.
 //!
 //! - [`engine`] runs it, and gives the exit status. [`tell`] ends a run before it has begun.
+//! - [`Heard`] is a reader that remembers what it gave and whether it failed, [`Told`] a writer that remembers whether it
+//!   refused anything. The engine runs over these, so that its caller knows why a run ended as it did.
 //! - [`read_input`] reads all that a reader gives, and [`answer`] is the output of a job for an input: the parts of a run.
 //!
-//! `specs/Run.antt` says what a run comes to (`IsDone`, `IsRefusedRun`, `IsMisuse`), and what the engine leaves, by its
-//! status (`Ends`).
+//! `specs/Edge.antt` says what a reader gave (`Reading`) and what became of a writer (`Writing`, `HasTold`). `specs/Run.antt`
+//! says what a run comes to (`IsDone`, `IsRefusedRun`, `IsMisuse`), and what the engine leaves, by its status (`Ends`).
 //!
 //! ```text
-//! engine(alloc, &["compile"], &mut b"links = []\n".as_slice(), &mut output, &mut faults)
+//! let mut input = Heard::new(alloc, b"links = []\n".as_slice());
+//! engine(alloc, &["compile"], &mut input, &mut output, &mut faults)
 //!     is 1, with nothing on output and "cqf: parts\n" on faults
 //! ```
 #![tactic(auto)]

@@ -68,6 +68,20 @@ impl Write for Closed {
     }
 }
 
+/// A writer that takes everything, and fails when it is flushed.
+#[derive(Drop)]
+struct Unflushed;
+
+impl Write for Unflushed {
+    fn write(&mut self, buf: &[u8]) -> io::Result<usize> {
+        Ok(buf.len())
+    }
+
+    fn flush(&mut self) -> io::Result<()> {
+        Err(io::Error::from(ErrorKind::Other))
+    }
+}
+
 /// Words, inputs, and the status and texts that a run ends with.
 const CASES: &[(&[&str], &str, u8, (&str, &str))] = &[
     (&LINE, OFFERS, 0, (BOOK, "")),
@@ -102,18 +116,22 @@ fn first_words_that_are_no_text_are_misuse(rt: HostRuntime) {
     assert!(rt; leaves(rt.alloc(), &[], input.as_slice(), 2, ("", "cqf: words\n")));
 }
 
+/// Whether a run of these words ends with status 4 and its line where the read of this number fails.
+fn is_input_fault(alloc: Global, words: &[&str], after: u8) -> bool {
+    leaves(
+        alloc,
+        words,
+        Breaks { after },
+        4,
+        ("", "cqf: input fault\n"),
+    )
+}
+
 #[test]
 fn a_reader_that_fails_is_told(rt: HostRuntime) {
     for after in 0..3 {
-        assert!(rt;
-            leaves(
-                rt.alloc(),
-                LINE.as_slice(),
-                Breaks { after },
-                4,
-                ("", "cqf: input fault\n")
-            )
-        );
+        assert!(rt; is_input_fault(rt.alloc(), LINE.as_slice(), after));
+        assert!(rt; is_input_fault(rt.alloc(), &[], after));
     }
 }
 
@@ -131,10 +149,10 @@ fn a_reader_that_never_ends_is_left(rt: HostRuntime) {
     );
 }
 
-/// Whether a run of `line` whose output takes nothing ends with status 4 and its line.
-fn fails_on_output(alloc: Global) -> bool {
+/// Whether a run of `line` with this output ends with status 4 and its line.
+fn fails_on<O: Write + Drop>(alloc: Global, output: O) -> bool {
     let mut input = Heard::new(alloc, OFFERS.as_bytes());
-    let mut output = Told::new(Closed);
+    let mut output = Told::new(output);
     let mut faults = Told::new(Vec::new(alloc));
     let status = engine(alloc, &LINE, &mut input, &mut output, &mut faults);
     status == 4
@@ -144,7 +162,21 @@ fn fails_on_output(alloc: Global) -> bool {
 
 #[test]
 fn a_writer_that_fails_is_told(rt: HostRuntime) {
-    assert!(rt; fails_on_output(rt.alloc()));
+    assert!(rt; fails_on(rt.alloc(), Closed));
+    assert!(rt; fails_on(rt.alloc(), Unflushed));
+}
+
+/// The status of a run of `line` that is refused, where nothing of that can be told.
+fn status_untold(alloc: Global) -> u8 {
+    let mut input = Heard::new(alloc, b"%%\n".as_slice());
+    let mut output = Told::new(Vec::new(alloc));
+    let mut faults = Told::new(Closed);
+    engine(alloc, &LINE, &mut input, &mut output, &mut faults)
+}
+
+#[test]
+fn a_writer_of_faults_that_fails_changes_no_status(rt: HostRuntime) {
+    assert_eq!(rt; status_untold(rt.alloc()), 1);
 }
 
 /// The status of a run of these words, whose reader and output fail, and how much is told of it.
@@ -161,18 +193,4 @@ fn wrong_words_come_before_what_fails(rt: HostRuntime) {
     let (status, told) = end_of_misuse(rt.alloc(), &["port", "--until", "0"]);
     assert_eq!(rt; status, 2);
     assert!(rt; told > 0);
-}
-
-/// How many bytes a run of `compile` takes of a reader that never ends.
-fn taken_of_endless(alloc: Global) -> usize {
-    let mut input = Heard::new(alloc, Endless);
-    let mut output = Told::new(Vec::new(alloc));
-    let mut faults = Told::new(Vec::new(alloc));
-    let _status = engine(alloc, &["compile"], &mut input, &mut output, &mut faults);
-    input.bytes().len()
-}
-
-#[test]
-fn one_byte_too_many_is_taken_of_a_reader_that_never_ends(rt: HostRuntime) {
-    assert_eq!(rt; taken_of_endless(rt.alloc()), 67_108_865);
 }

@@ -11,7 +11,8 @@ returns-in-Err-clause-err g c = IsStopped-by_words (map (λ word. word.now) c.ar
 
 pub returns-clause-ok : goal.returns-clause-ok
 returns-clause-ok g c = IfOk-weaker c.answer.result _ _
-    (λ output h. HasRun-given (map (λ word. word.now) c.args.words.now) (reading g.R.Read.remaining c.args.input.now c.read_input.new.input) output.items c.in-Ok.job
+    (λ output h. HasRun-given (map (λ word. word.now) c.args.words.now)
+    (reading g.R.Read.remaining c.args.input.now c.read_input.new.input) output.items c.in-Ok.job
     c.requires.given c.in_default.ensures.sound c.in_default.ensures.end c.in_default.ensures.short c.in-Ok.ensures.ok
     (subst (λ (input : List ℕ). IsOutput c.in-Ok.job input output.items) c.bytes.ensures h))
     c.answer.ensures.ok

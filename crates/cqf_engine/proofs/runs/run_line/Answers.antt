@@ -12,4 +12,6 @@ returns-in-Err-clause-err c =
     let texts : List (Bor (List ℕ)) → List (List ℕ) = map (λ word. word.now) in
     let same : map (λ word. word.now) c.as_slice.result.now ≡ words_of [] c.args.bytes.now =
     ap texts c.as_slice.ensures.value ∙ c.in-Ok-split_words.ensures ∙ ap (slice_split is_space) line in
-    HasCause-by_line c.args.bytes.now c.in-Err.stop c.requires (subst IsUtf8 c.split_first_line.ensures.line c.in-Ok.ensures.cases.1) (subst (λ (words : List (List ℕ)). EndsWords words c.in-Err.stop) same c.in-Err.ensures.err)
+    HasCause-by_line c.args.bytes.now c.in-Err.stop c.requires
+    (subst IsUtf8 c.split_first_line.ensures.line c.in-Ok.ensures.cases.1)
+    (subst (λ (words : List (List ℕ)). EndsWords words c.in-Err.stop) same c.in-Err.ensures.err)
