@@ -88,8 +88,8 @@ bridge_here d name field k same named inside here before =
     let test = λ (other : List ℕ). is_text other field in
     let there : get_or d.bridges k [] ≡ field = here ∙ same in
     let first : position_or_len test d.bridges ≡ k = position_or_len_is test d.bridges k [] (omega arith)
-        (λ j less. is_text_other (get_or d.bridges j []) field (λ e. before j less (e ∙ sym same)))
-        (λ within. ap test there ∙ is_text_itself field) in
+    (λ j less. is_text_other (get_or d.bridges j []) field (λ e. before j less (e ∙ sym same)))
+    (λ within. ap test there ∙ is_text_itself field) in
     rw (named, first, lt-ltb k (length d.bridges) inside) refl
 
 -- where no bridge has it, it is the name of none
@@ -102,8 +102,8 @@ pub bridge_nowhere : (d : Domain) (name field : List ℕ) (end : ℕ) → name �
 bridge_nowhere d name field end same named past before =
     let test = λ (other : List ℕ). is_text other field in
     let first : position_or_len test d.bridges ≡ length d.bridges = position_or_len_is test d.bridges (length d.bridges) [] (omega arith)
-        (λ j less. is_text_other (get_or d.bridges j []) field (λ e. before j (omega arith) (e ∙ sym same)))
-        (λ within. absurd (omega arith)) in
+    (λ j less. is_text_other (get_or d.bridges j []) field (λ e. before j (omega arith) (e ∙ sym same)))
+    (λ within. absurd (omega arith)) in
     let beyond : nat_lt (length d.bridges) (length d.bridges) ≡ false = le-ltb (length d.bridges) (length d.bridges) (omega arith) in
     let none : position test d.bridges ≡ None = rw (first, beyond) refl in
     no_bridge (position test d.bridges) (position (λ other. is_text other field) d.stations) none ∙ rw named refl
