@@ -98,18 +98,21 @@ not_looping : (d : Domain) (branch : Branch) (place : ℕ) → node_at d branch 
 not_looping d branch place none =
     sym (ap (λ (n : Option Node). list_any (λ name. is_same (node_named d name) n) (take place branch)) none ∙ none_stand d (take place branch))
 
-pub not_looping_past : {S : Type 0} (bytes : S → List ℕ) (d : Domain) (path : List S) (place : ℕ) → length path ≤ place → false ≡ is_loop_at d (map bytes path) place
+pub not_looping_past : {S : Type 0} (bytes : S → List ℕ) (d : Domain) (path : List S) (place : ℕ) → length path ≤ place
+    → false ≡ is_loop_at d (map bytes path) place
 not_looping_past bytes d path place past =
     not_looping d (map bytes path) place
     (ap (λ (o : Option (List ℕ)). option_map_or (λ name. node_named d name) o None) (slice_get_past (map bytes path) place (omega (arith, length-map path bytes))))
 
 -- the node at a place is that of the name there
-node_of_name : {S : Type 0} (bytes : S → List ℕ) (d : Domain) (path : List S) (place : ℕ) (name : S) → place < length path → name ≡ get_or path place name → node_at d (map bytes path) place ≡ node_named d (bytes name)
+node_of_name : {S : Type 0} (bytes : S → List ℕ) (d : Domain) (path : List S) (place : ℕ) (name : S) → place < length path
+    → name ≡ get_or path place name → node_at d (map bytes path) place ≡ node_named d (bytes name)
 node_of_name bytes d path place name inside is =
     ap (λ (o : Option (List ℕ)). option_map_or (λ text. node_named d text) o None)
     (slice_get-map bytes path place ∙ ap (option_map bytes) (slice_get_read path (length path) place name refl inside is))
 
-pub not_looping_unknown : {S : Type 0} (bytes : S → List ℕ) (d : Domain) (path : List S) (place : ℕ) (name : S) → place < length path → name ≡ get_or path place name → is_none (node_named d (bytes name)) ≡ true → false ≡ is_loop_at d (map bytes path) place
+pub not_looping_unknown : {S : Type 0} (bytes : S → List ℕ) (d : Domain) (path : List S) (place : ℕ) (name : S) → place < length path
+    → name ≡ get_or path place name → is_none (node_named d (bytes name)) ≡ true → false ≡ is_loop_at d (map bytes path) place
 not_looping_unknown bytes d path place name inside is unknown =
     not_looping d (map bytes path) place (node_of_name bytes d path place name inside is ∙ none_there (node_named d (bytes name)) unknown)
   where
@@ -118,7 +121,8 @@ not_looping_unknown bytes d path place name inside is unknown =
     none_there (Some node) h = absurd cc
 
 -- a known node stood earlier exactly where its name did
-pub looping_by_name : {S : Type 0} (bytes : S → List ℕ) (d : Domain) (path earlier : List S) (place : ℕ) (name : S) (stands : Bool) → place < length path → name ≡ get_or path place name → is_none (node_named d (bytes name)) ≡ false
+pub looping_by_name : {S : Type 0} (bytes : S → List ℕ) (d : Domain) (path earlier : List S) (place : ℕ) (name : S) (stands : Bool)
+    → place < length path → name ≡ get_or path place name → is_none (node_named d (bytes name)) ≡ false
     → stands ≡ list_any (λ other. is_text (bytes name) (bytes other)) earlier → earlier ≡ take place path → stands ≡ is_loop_at d (map bytes path) place
 looping_by_name {S} bytes d path earlier place name stands inside is known found front = by (node_named d (bytes name)) refl known
   where

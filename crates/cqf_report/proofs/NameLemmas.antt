@@ -19,7 +19,8 @@ pub record AreFirstNames (d : Domain) (k : ℕ) (names : List (String Global)) :
   pub plain : All (λ (name : String Global). IsPlain (string_bytes name)) names
 
 -- one more
-pub first_names-more : (d : Domain) (k : ℕ) (names : List (String Global)) (link : Link) (name : String Global) → k < length d.links → slice_get d.links k ≡ Some link
+pub first_names-more : (d : Domain) (k : ℕ) (names : List (String Global)) (link : Link) (name : String Global) → k < length d.links
+    → slice_get d.links k ≡ Some link
     → string_bytes name ≡ ends_of d link → IsPlain (string_bytes name) → AreFirstNames d k names → AreFirstNames d (k + 1) (names ++ name ∷ [])
 first_names-more d k names link name inside found is plain before = record {
   are = map-append string_bytes names (name ∷ [])
@@ -50,7 +51,8 @@ name_each : (d : Domain) (names : List (String Global)) → AreLinkNames d names
 name_each d names named = sym (length-map names string_bytes) ∙ ap length named.are ∙ length-map d.links (ends_of d)
 
 -- a link's name among those that were put together
-name_there : (d : Domain) (names : List (String Global)) (k : ℕ) (name : String Global) → AreLinkNames d names → k < length d.links → name ≡ get_or names k name → IsNameOf d k (string_bytes name)
+name_there : (d : Domain) (names : List (String Global)) (k : ℕ) (name : String Global) → AreLinkNames d names → k < length d.links
+    → name ≡ get_or names k name → IsNameOf d k (string_bytes name)
 name_there d names k name named inside is =
     let within : k < length names = omega (arith, name_each d names named) in
     let there : slice_get (map string_bytes names) k ≡ Some (string_bytes name) =
@@ -62,7 +64,8 @@ name_there d names k name named inside is =
     }
 
 -- the same, where the domain, the place and the text go by other names
-pub name_there-as : (d shown : Domain) (names : List (String Global)) (k slot : ℕ) (name : String Global) (text : List ℕ) → shown ≡ d → slot ≡ k → text ≡ string_bytes name
+pub name_there-as : (d shown : Domain) (names : List (String Global)) (k slot : ℕ) (name : String Global) (text : List ℕ) → shown ≡ d → slot ≡ k
+    → text ≡ string_bytes name
     → AreLinkNames d names → k < length d.links → name ≡ get_or names slot name → IsNameOf shown k text
 name_there-as d shown names k slot name text same here shows named inside is =
     subst (λ (x : Domain). IsNameOf x k text) (sym same)

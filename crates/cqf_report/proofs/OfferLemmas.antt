@@ -83,7 +83,8 @@ is_text_other xs ys differ = by (is_text xs ys) refl
     by false e = e
 
 -- the first bridge that has a name is the bridge of that name
-pub bridge_here : (d : Domain) (name field : List ℕ) (k : ℕ) → name ≡ field → is_name field ≡ true → k < length d.bridges → get_or d.bridges k [] ≡ name → ((j : ℕ) → j < k → get_or d.bridges j [] ≢ name) → Some k ≡ bridge_named d field
+pub bridge_here : (d : Domain) (name field : List ℕ) (k : ℕ) → name ≡ field → is_name field ≡ true → k < length d.bridges
+    → get_or d.bridges k [] ≡ name → ((j : ℕ) → j < k → get_or d.bridges j [] ≢ name) → Some k ≡ bridge_named d field
 bridge_here d name field k same named inside here before =
     let test = λ (other : List ℕ). is_text other field in
     let there : get_or d.bridges k [] ≡ field = here ∙ same in
@@ -98,7 +99,8 @@ no_bridge None None e = refl
 no_bridge None (Some s) e = refl
 no_bridge (Some b) s e = absurd cc
 
-pub bridge_nowhere : (d : Domain) (name field : List ℕ) (end : ℕ) → name ≡ field → is_name field ≡ true → length d.bridges ≤ end → ((j : ℕ) → j < end → get_or d.bridges j [] ≢ name) → None ≡ bridge_named d field
+pub bridge_nowhere : (d : Domain) (name field : List ℕ) (end : ℕ) → name ≡ field → is_name field ≡ true → length d.bridges ≤ end → ((j : ℕ) → j < end
+    → get_or d.bridges j [] ≢ name) → None ≡ bridge_named d field
 bridge_nowhere d name field end same named past before =
     let test = λ (other : List ℕ). is_text other field in
     let first : position_or_len test d.bridges ≡ length d.bridges = position_or_len_is test d.bridges (length d.bridges) [] (omega arith)

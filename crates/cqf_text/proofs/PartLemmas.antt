@@ -134,7 +134,8 @@ pub one_part : (text : List ℕ) → HasNoSign text → parts_of text ≡ text �
 one_part text none = one_part-within (length text) text (omega arith) none
 
 -- so is a text in which no percent sign is found
-pub one_part-unfound : (text : List ℕ) (found : Option ℕ) (unfound : Bool) → IsFirstByte (is_byte 37) text found → is_some found ≡ not unfound → IsTrue unfound → parts_of text ≡ text ∷ []
+pub one_part-unfound : (text : List ℕ) (found : Option ℕ) (unfound : Bool) → IsFirstByte (is_byte 37) text found → is_some found ≡ not unfound
+    → IsTrue unfound → parts_of text ≡ text ∷ []
 one_part-unfound text None unfound nowhere is none_there = one_part text (λ k d below same. nowhere k (omega arith) below (eq-eqb (get_or text k 0) 37 (get_or_default text k 0 d below ∙ same)))
 one_part-unfound text (Some k) unfound there is none_there = absurd (cc)
 
