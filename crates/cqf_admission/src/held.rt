@@ -30,7 +30,11 @@ impl Model for Held {
 
     ghost Value = { HeldRows };
 
-    ghost view = { λ h. record { rows = h.rows.items; room = min (min (vec_capacity h.rows - vec_len h.rows) (spare h.names)) (min (vec_capacity h.costs - vec_len h.costs) (vec_capacity h.masks - vec_len h.masks)) } };
+    ghost view = { λ h. record {
+      rows = h.rows.items;
+      room = min (min (vec_capacity h.rows - vec_len h.rows) (spare h.names))
+          (min (vec_capacity h.costs - vec_len h.costs) (vec_capacity h.masks - vec_len h.masks));
+    } };
 
     ghost invariant = { λ h. HaveColumns h.names.keys h.rows.items h.costs.items h.masks.items };
 }

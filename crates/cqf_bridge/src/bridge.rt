@@ -34,9 +34,25 @@ impl Model for Bridge {
 
     ghost Value = { BridgeState };
 
-    ghost view = { λ b. record { domain = b.domain; number = b.number; sent = b.sent; received = b.received; spent = b.spent; ports = b.ports.items; background = b.background.items } };
+    ghost view = { λ b. record {
+      domain = b.domain;
+      number = b.number;
+      sent = b.sent;
+      received = b.received;
+      spent = b.spent;
+      ports = b.ports.items;
+      background = b.background.items;
+    } };
 
-    ghost invariant = { λ b. IsBridge (record { domain = b.domain; number = b.number; sent = b.sent; received = b.received; spent = b.spent; ports = b.ports.items; background = b.background.items }) };
+    ghost invariant = { λ b. IsBridge (record {
+      domain = b.domain;
+      number = b.number;
+      sent = b.sent;
+      received = b.received;
+      spent = b.spent;
+      ports = b.ports.items;
+      background = b.background.items;
+    }) };
 }
 
 /// The ports of the links that leave a bridge, by number of link.

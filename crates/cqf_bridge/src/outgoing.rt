@@ -119,7 +119,8 @@ fn hand_one(
 ) -> Result<(), Memory>
     requires { length batch.old.frames + 1 < 2 ^ 32 }
     ensures batch { OnOk result (batch.new ≡ record batch.old { frames = batch.old.frames ++ sent_as stream start.now }) }
-    ensures background { OnOk result (background.new.items ≡ background.old.items ++ map (started_backed batch.old.cycle batch.old.link) (backed_as stream start.now)) }
+    ensures background { OnOk result (background.new.items ≡ background.old.items
+        ++ map (started_backed batch.old.cycle batch.old.link) (backed_as stream start.now)) }
 {
     match stream {
         Some(stream) => batch.push(Sent {
@@ -151,7 +152,8 @@ fn hand_all(
     requires inside { All (λ (x : Transmission). x.0 < length streams.now) made.now }
     requires few { length batch.old.frames + length made.now < 2 ^ 32 }
     ensures batch { OnOk result (batch.new ≡ record batch.old { frames = batch.old.frames ++ sent_all streams.now made.now handed.now }) }
-    ensures background { OnOk result (background.new.items ≡ background.old.items ++ map (started_backed batch.old.cycle batch.old.link) (backed_all streams.now made.now handed.now)) }
+    ensures background { OnOk result (background.new.items ≡ background.old.items
+        ++ map (started_backed batch.old.cycle batch.old.link) (backed_all streams.now made.now handed.now)) }
 {
     for (place, start) in handed.iter().enumerate() {
         let stream = streams[made[place].0];

@@ -13,7 +13,12 @@ use std::alloc::Global;
 
 /// A background frame as an arrival at its port.
 fn arrival_of(frame: &Backed) -> Arrival
-    ensures { result ≡ record { at = frame.now.background.at; class = frame.now.background.class; octets = frame.now.background.octets; frame = frame.now.frame } }
+    ensures { result ≡ record {
+      at = frame.now.background.at;
+      class = frame.now.background.class;
+      octets = frame.now.background.octets;
+      frame = frame.now.frame;
+    } }
 {
     Arrival {
         at: frame.background.at,
@@ -62,7 +67,8 @@ fn send_port(
     requires frames { (bridge : ℕ) × AreBackedOf domain.now bridge cycle.0 background.now }
     requires in_step { IsInStep domain.now cycle.0 cycle.0 port.old }
     ensures given { OnErr result (batches.new.items ≡ batches.old.items) }
-    ensures sends { OnOk result (PortSends domain.now cycle.0 background.now port.old port.new batches.old.items batches.new.items started.old.items started.new.items) }
+    ensures sends { OnOk result (PortSends domain.now cycle.0 background.now port.old port.new batches.old.items batches.new.items started.old.items
+        started.new.items) }
 {
     take_background(port, background)?;
     let batch = port.run_to(alloc, cycle, end_of(domain, cycle), started)?;
@@ -84,7 +90,8 @@ pub(crate) fn send_ports(
     requires frames { (bridge : ℕ) × AreBackedOf domain.now bridge cycle.0 background.now }
     requires in_step { (r : PortRecord) → Contains ports.old.items r → IsInStep domain.now cycle.0 cycle.0 r }
     ensures given { OnErr result (take (length batches.old.items) batches.new.items ≡ batches.old.items) }
-    ensures sends { OnOk result (FirstSend domain.now cycle.0 background.now (length ports.old.items) ports.old.items ports.new.items batches.old.items batches.new.items started.old.items started.new.items) }
+    ensures sends { OnOk result (FirstSend domain.now cycle.0 background.now (length ports.old.items) ports.old.items ports.new.items
+        batches.old.items batches.new.items started.old.items started.new.items) }
 {
     for place in 0..ports.len() {
         send_port(

@@ -59,8 +59,10 @@ fn admit_one(
     requires { AreAllHeld admission.old.domain admission.old.entries }
     ensures domain { admission.new.domain ≡ admission.old.domain }
     ensures held { IfOk result (λ _. AreAllHeld admission.new.domain admission.new.entries) }
-    ensures ok { IfOk result (λ _. (more : List Asked) → admitted_from admission.old.domain admission.old.entries place (asked_of request.now ∷ more) ≡ admitted_from admission.old.domain admission.new.entries (place + 1) more) }
-    ensures err { IfErr result (λ stop. (more : List Asked) → IsRefused (admitted_from admission.old.domain admission.old.entries place (asked_of request.now ∷ more)) stop) }
+    ensures ok { IfOk result (λ _. (more : List Asked) → admitted_from admission.old.domain admission.old.entries place (asked_of request.now ∷ more)
+        ≡ admitted_from admission.old.domain admission.new.entries (place + 1) more) }
+    ensures err { IfErr result (λ stop. (more : List Asked) → IsRefused
+        (admitted_from admission.old.domain admission.old.entries place (asked_of request.now ∷ more)) stop) }
 {
     state_follows_history();
     match admission.admit(SEAT, request) {

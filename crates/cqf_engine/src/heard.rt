@@ -92,7 +92,8 @@ impl<R: Read> Heard<R> {
     pub(crate) fn read(&mut self, most: usize) -> Result<usize, Broken>
         requires some { 0 < most }
         requires few { length self.old.bytes.items + most ≤ 67108865 }
-        ensures read { HasRead (R.remaining self.old.reader) (R.remaining self.new.reader) self.old.bytes.items self.new.bytes.items (length self.old.bytes.items + most) }
+        ensures read { HasRead (R.remaining self.old.reader) (R.remaining self.new.reader) self.old.bytes.items self.new.bytes.items
+            (length self.old.bytes.items + most) }
         ensures count { IfOk result (λ count. length self.new.bytes.items ≡ length self.old.bytes.items + count) }
         ensures end { IfOk result (λ count. count ≡ 0 → IsAtEnd (R.remaining self.new.reader)) }
         ensures ok { OnOk result (self.new.failed ≡ self.old.failed) }

@@ -157,7 +157,8 @@ pub fn engine<R: Read, O: Write, F: Write>(
 ) -> u8
     requires unheard { IsUnheard input.old }
     requires accepted { output.old.refused ≡ false }
-    ensures { Ends (map (λ word. word.now) words.now) (reading R.remaining input.old input.new) (writing O.contents output.old output.new) (writing F.contents faults.old faults.new) result }
+    ensures { Ends (map (λ word. word.now) words.now) (reading R.remaining input.old input.new) (writing O.contents output.old output.new)
+        (writing F.contents faults.old faults.new) result }
 {
     match run(alloc, words, input) {
         Ok(text) => hand_over(text.as_slice(), output, faults),

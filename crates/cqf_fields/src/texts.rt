@@ -44,7 +44,8 @@ pub fn texts_at(alloc: Global, table: &Table, key: Key) -> Result<Vec<String>, T
 
 /// An array of texts, as an element of the array at a key.
 fn text_list_in(alloc: Global, value: &Value, key: Key) -> Result<Vec<String>, TomlFault>
-    ensures { Gives TomlFault.Memory (λ texts. map string_bytes texts.items) result (and_then (ok_or (as_array (view value.now)) (TomlFault.BadValue key)) (texts_from key)) }
+    ensures { Gives TomlFault.Memory (λ texts. map string_bytes texts.items) result
+        (and_then (ok_or (as_array (view value.now)) (TomlFault.BadValue key)) (texts_from key)) }
 {
     match value.as_array() {
         Some(values) => texts_in(alloc, values.as_slice(), key),

@@ -39,7 +39,8 @@ fn write_event<'f, W: Write + Drop>(
     detail: &'f [u8],
 ) -> Result<(), Memory>
     requires { ArePlain (what.now ∷ cycle.now ∷ place.now ∷ frame.now ∷ octets.now ∷ detail.now ∷ []) }
-    ensures { IfOk result (λ _. (text : List ℕ) → HasWritten W.contents writer.old text → HasWritten W.contents writer.new (text ++ line_of (what.now ∷ cycle.now ∷ place.now ∷ frame.now ∷ octets.now ∷ detail.now ∷ []))) }
+    ensures { IfOk result (λ _. (text : List ℕ) → HasWritten W.contents writer.old text
+        → HasWritten W.contents writer.new (text ++ line_of (what.now ∷ cycle.now ∷ place.now ∷ frame.now ∷ octets.now ∷ detail.now ∷ []))) }
 {
     write_line(writer, &[what, cycle, place, frame, octets, detail])
 }
@@ -52,7 +53,8 @@ fn write_started<W: Write + Drop>(
     started: &Started,
 ) -> Result<(), Memory>
     requires { IsPlain what.now }
-    ensures { IfOk result (λ _. (text : List ℕ) → HasWritten W.contents writer.old text → HasWritten W.contents writer.new (text ++ line_of (started_fields what.now links.now started.now))) }
+    ensures { IfOk result (λ _. (text : List ℕ) → HasWritten W.contents writer.old text
+        → HasWritten W.contents writer.new (text ++ line_of (started_fields what.now links.now started.now))) }
 {
     let link = links.name_of(started.link);
     let mut cycle = Buffer::new();
@@ -78,7 +80,8 @@ fn write_starts<W: Write + Drop>(
     starts: &[Started],
 ) -> Result<(), Memory>
     requires { IsPlain what.now }
-    ensures { IfOk result (λ _. (text : List ℕ) → HasWritten W.contents writer.old text → HasWritten W.contents writer.new (text ++ lines_of_starts what.now links.now starts.now)) }
+    ensures { IfOk result (λ _. (text : List ℕ) → HasWritten W.contents writer.old text
+        → HasWritten W.contents writer.new (text ++ lines_of_starts what.now links.now starts.now)) }
 {
     for started in starts {
         write_started(writer, what, links, started)?;
@@ -92,7 +95,8 @@ fn write_dropped<W: Write + Drop>(
     domain: &Domain,
     dropped: &Dropped,
 ) -> Result<(), Memory>
-    ensures { IfOk result (λ _. (text : List ℕ) → HasWritten W.contents writer.old text → HasWritten W.contents writer.new (text ++ line_of (dropped_fields domain.now dropped.now))) }
+    ensures { IfOk result (λ _. (text : List ℕ) → HasWritten W.contents writer.old text
+        → HasWritten W.contents writer.new (text ++ line_of (dropped_fields domain.now dropped.now))) }
 {
     let mut cycle = Buffer::new();
     let mut frame = Buffer::new();
@@ -114,7 +118,8 @@ fn write_drops<W: Write + Drop>(
     domain: &Domain,
     drops: &[Dropped],
 ) -> Result<(), Memory>
-    ensures { IfOk result (λ _. (text : List ℕ) → HasWritten W.contents writer.old text → HasWritten W.contents writer.new (text ++ lines_of_drops domain.now drops.now)) }
+    ensures { IfOk result (λ _. (text : List ℕ) → HasWritten W.contents writer.old text
+        → HasWritten W.contents writer.new (text ++ lines_of_drops domain.now drops.now)) }
 {
     for dropped in drops {
         write_dropped(writer, domain, dropped)?;

@@ -15,7 +15,8 @@ pub(crate) fn write_line<W: Write + Drop>(
 ) -> Result<(), Memory>
     requires some { 2 ≤ length fields.now }
     requires plain { ArePlain (map (λ f. f.now) fields.now) }
-    ensures { IfOk result (λ _. (text : List ℕ) → HasWritten W.contents writer.old text → HasWritten W.contents writer.new (text ++ line_of (map (λ f. f.now) fields.now))) }
+    ensures { IfOk result (λ _. (text : List ℕ) → HasWritten W.contents writer.old text
+        → HasWritten W.contents writer.new (text ++ line_of (map (λ f. f.now) fields.now))) }
 {
     if writer.write_fields(fields).is_err() {
         return Err(AllocError);

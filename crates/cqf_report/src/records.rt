@@ -29,7 +29,8 @@ pub(crate) fn take_record<R: Read>(
 ) -> Result<Taken, Memory>
     requires { Ready reader.old }
     ensures ready { IfOk result (λ taken. StaysReady taken reader.new) }
-    ensures taken { IfOk result (λ taken. (expected : Option ℕ) (rows : List Fields) → StillGives R.remaining expected reader.old rows → Takes R.remaining expected taken reader.new (fields_of row.new) rows) }
+    ensures taken { IfOk result (λ taken. (expected : Option ℕ) (rows : List Fields) → StillGives R.remaining expected reader.old rows
+        → Takes R.remaining expected taken reader.new (fields_of row.new) rows) }
 {
     match reader.read_byte_record(row) {
         Ok(true) => Ok(Taken::Row),

@@ -49,7 +49,8 @@ fn take_header<F: RowFormat, R: Read>(
     requires { Ready reader.old }
     ensures ready { OnOk result (Ready reader.new) }
     ensures ok { IfOk result (λ _. (rows : List Fields) → StillGives R.remaining None reader.old rows → TakesHeader R.remaining F.header rows reader.new) }
-    ensures err { IfErr result (λ fault. (rows : List Fields) → StillGives R.remaining None reader.old rows → fault ≢ fault_kind.Memory → (fault ≡ fault_kind.BadHeader) × (has_header F.header rows ≡ false)) }
+    ensures err { IfErr result (λ fault. (rows : List Fields) → StillGives R.remaining None reader.old rows → fault ≢ fault_kind.Memory
+        → (fault ≡ fault_kind.BadHeader) × (has_header F.header rows ≡ false)) }
 {
     match take_record(reader, record) {
         Ok(Taken::Row) => {
@@ -76,7 +77,8 @@ fn next_row<F: RowFormat, R: Read>(
     requires few { number ≤ 1000000 }
     requires ready { Ready reader.old }
     ensures ready { IfOk result (λ row. IfSome row (λ _. Ready reader.new)) }
-    ensures taken { (rows : List Fields) → StillGives R.remaining (Some (length F.header)) reader.old rows → TakesNext (length F.header) (F.row_of format.now) F.instant_of R.remaining number before.0 rows reader.new result }
+    ensures taken { (rows : List Fields) → StillGives R.remaining (Some (length F.header)) reader.old rows
+        → TakesNext (length F.header) (F.row_of format.now) F.instant_of R.remaining number before.0 rows reader.new result }
 {
     match take_record(reader, record) {
         Ok(Taken::End) => Ok(None),
@@ -102,8 +104,10 @@ fn read_rows<F: RowFormat, R: Read>(
     record: &mut ByteRecord,
 ) -> Result<Vec<F::Row>, TableFault>
     requires { Ready reader.old }
-    ensures ok { IfOk result (λ taken. (rows : List Fields) → StillGives R.remaining (Some (length F.header)) reader.old rows → rows_from (F.row_of format.now) F.instant_of 1 0 rows ≡ Ok taken.items) }
-    ensures err { IfErr result (λ fault. (rows : List Fields) → StillGives R.remaining (Some (length F.header)) reader.old rows → IsFaultOf (rows_from (F.row_of format.now) F.instant_of 1 0 rows) fault) }
+    ensures ok { IfOk result (λ taken. (rows : List Fields) → StillGives R.remaining (Some (length F.header)) reader.old rows
+        → rows_from (F.row_of format.now) F.instant_of 1 0 rows ≡ Ok taken.items) }
+    ensures err { IfErr result (λ fault. (rows : List Fields) → StillGives R.remaining (Some (length F.header)) reader.old rows
+        → IsFaultOf (rows_from (F.row_of format.now) F.instant_of 1 0 rows) fault) }
 {
     let mut rows = Vec::new(alloc);
     let mut before = Nanos(0);

@@ -20,7 +20,8 @@ fn write_start<W: Write + Drop>(
     rate: Rate,
 ) -> Result<(), Memory>
     requires { start.now.start.0 < 2 ^ 63 }
-    ensures { IfOk result (λ _. (text : List ℕ) → HasWritten W.contents writer.old text → HasWritten W.contents writer.new (text ++ line_of (start_fields (nanos_of_octet rate) start.now))) }
+    ensures { IfOk result (λ _. (text : List ℕ) → HasWritten W.contents writer.old text
+        → HasWritten W.contents writer.new (text ++ line_of (start_fields (nanos_of_octet rate) start.now))) }
 {
     let end = end_of(start.start, Octets(start.octets), rate);
     let mut class = Buffer::new();

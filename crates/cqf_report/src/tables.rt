@@ -53,7 +53,8 @@ pub(crate) const MOST_ROWS: u32 = 1_000_000;
 
 /// A record's four fields, where it has exactly four.
 pub(crate) fn four_fields(row: &ByteRecord) -> Option<(&[u8], &[u8], &[u8], &[u8])>
-    ensures { MatchOption result (four_of (fields_of row.now) ≡ None) (λ fields. four_of (fields_of row.now) ≡ Some (fields.0.now, fields.1.now, fields.2.now, fields.3.now)) }
+    ensures { MatchOption result (four_of (fields_of row.now) ≡ None) (λ fields. four_of (fields_of row.now)
+        ≡ Some (fields.0.now, fields.1.now, fields.2.now, fields.3.now)) }
 {
     if row.len() != 4 {
         return None;
@@ -75,7 +76,8 @@ pub(crate) fn four_fields(row: &ByteRecord) -> Option<(&[u8], &[u8], &[u8], &[u8
 
 /// A record's five fields, where it has exactly five.
 pub(crate) fn five_fields(row: &ByteRecord) -> Option<(&[u8], &[u8], &[u8], &[u8], &[u8])>
-    ensures { MatchOption result (five_of (fields_of row.now) ≡ None) (λ fields. five_of (fields_of row.now) ≡ Some (fields.0.now, fields.1.now, fields.2.now, fields.3.now, fields.4.now)) }
+    ensures { MatchOption result (five_of (fields_of row.now) ≡ None) (λ fields. five_of (fields_of row.now)
+        ≡ Some (fields.0.now, fields.1.now, fields.2.now, fields.3.now, fields.4.now)) }
 {
     if row.len() != 5 {
         return None;

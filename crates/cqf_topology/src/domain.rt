@@ -35,7 +35,13 @@ impl Model for Domain {
 
     ghost view = { λ d. record { cycle_time = d.cycle_time; guard = d.guard; bridges = d.bridges.keys; stations = d.stations.keys; links = d.links.items } };
 
-    ghost invariant = { λ d. IsDomain (record { cycle_time = d.cycle_time; guard = d.guard; bridges = d.bridges.keys; stations = d.stations.keys; links = d.links.items }) };
+    ghost invariant = { λ d. IsDomain (record {
+      cycle_time = d.cycle_time;
+      guard = d.guard;
+      bridges = d.bridges.keys;
+      stations = d.stations.keys;
+      links = d.links.items;
+    }) };
 }
 
 impl Domain {

@@ -146,7 +146,8 @@ fn link_in(value: &Value) -> Result<DraftLink, TomlFault>
 
 /// The elements of the array of links.
 fn links_in(alloc: Global, values: &[Value]) -> Result<Vec<DraftLink>, TomlFault>
-    ensures { Gives TomlFault.Memory (λ links. links.items) result (each_from (λ d. and_then (ok_or (as_table d) (TomlFault.BadValue Key.Links)) link_from) (items_view values.now)) }
+    ensures { Gives TomlFault.Memory (λ links. links.items) result (each_from
+        (λ d. and_then (ok_or (as_table d) (TomlFault.BadValue Key.Links)) link_from) (items_view values.now)) }
 {
     let mut links = Vec::new(alloc);
     for value in values {

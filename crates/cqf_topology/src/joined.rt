@@ -55,7 +55,8 @@ pub(crate) fn numbered_names(
     names: &[Name],
     others: &IndexSet<Name>,
 ) -> Result<IndexSet<Name>, DomainFault>
-    ensures { Gives DomainFault.Memory (λ numbered. numbered.keys) result (refuse (first_taken others.now.keys names.now) DomainFault.NameTaken (Ok names.now)) }
+    ensures { Gives DomainFault.Memory (λ numbered. numbered.keys) result
+        (refuse (first_taken others.now.keys names.now) DomainFault.NameTaken (Ok names.now)) }
 {
     let mut numbered = IndexSet::new(alloc);
     for name in names {

@@ -109,7 +109,8 @@ fn request_in(alloc: Global, value: &Value) -> Result<Request, StreamsFault>
 
 /// The elements of the array of streams.
 fn requests_in(alloc: Global, values: &[Value]) -> Result<Vec<Request>, StreamsFault>
-    ensures { Gives StreamsFault.Memory (λ requests. map request_text requests.items) result (each_from (λ d. and_then (ok_or (as_table d) (StreamsFault.BadValue Key.Streams)) request_from) (items_view values.now)) }
+    ensures { Gives StreamsFault.Memory (λ requests. map request_text requests.items) result
+        (each_from (λ d. and_then (ok_or (as_table d) (StreamsFault.BadValue Key.Streams)) request_from) (items_view values.now)) }
 {
     let mut requests = Vec::new(alloc);
     for value in values {

@@ -161,7 +161,8 @@ fn stop_of(alloc: Global, error: &clap::Error) -> Stop
 
 /// The number that the text writes, if it writes one from `least` to `most`: a plus may stand first.
 fn number_in(text: Option<&str>, least: u64, most: u64) -> Option<u64>
-    ensures { MatchOption result ((number : ℕ) → ¬ IsNumberIn least most number (option_map (λ text. text.now) text.entry)) (λ number. IsNumberIn least most number (option_map (λ text. text.now) text.entry)) }
+    ensures { MatchOption result ((number : ℕ) → ¬ IsNumberIn least most number (option_map (λ text. text.now) text.entry))
+        (λ number. IsNumberIn least most number (option_map (λ text. text.now) text.entry)) }
 {
     match text?.parse::<u64>() {
         Ok(number) if least <= number && number <= most => Some(number),
@@ -171,7 +172,8 @@ fn number_in(text: Option<&str>, least: u64, most: u64) -> Option<u64>
 
 /// The rate of the text, if it is one of the three.
 fn rate_of(text: Option<&str>) -> Option<Rate>
-    ensures { MatchOption result ((rate : Rate) → ¬ (option_map (λ text. text.now) text.entry ≡ Some (rate_text rate))) (λ rate. option_map (λ text. text.now) text.entry ≡ Some (rate_text rate)) }
+    ensures { MatchOption result ((rate : Rate) → ¬ (option_map (λ text. text.now) text.entry ≡ Some (rate_text rate)))
+        (λ rate. option_map (λ text. text.now) text.entry ≡ Some (rate_text rate)) }
 {
     match text? {
         "10" => Some(Rate::Mb10),
