@@ -11,7 +11,7 @@ pub record AreAdded (starts : List Started) (frames octets frames_after octets_a
   pub frames_add : (link : ℕ) → link < 256 → slice_index frames_after link ≡ slice_index frames link + frames_on link starts
   pub octets_add : (link : ℕ) → link < 256 → slice_index octets_after link ≡ slice_index octets link + octets_on link starts
 
--- a page's starts are fewer than 2^64, of fewer than 2^32 octets each
+-- of a page's starts, each link has at most 2^64, and these have at most 2^96 octets
 pub record AreFew (starts : List Started) : Type 0 where
   pub few_frames : (link : ℕ) → frames_on link starts ≤ 2 ^ 64
   pub few_octets : (link : ℕ) → octets_on link starts ≤ 2 ^ 96
@@ -27,7 +27,7 @@ pub record HaveRoom (frames octets : List ℕ) : Type 0 where
 abbrev pub count_of_pages : List (List Page) → ℕ
 count_of_pages pages = sum_by (λ (row : List Page). length row) pages
 
--- by link, the totals are those of the pages, each of which adds no more than it can hold
+-- by link, the totals are those of the pages, and no more than so many pages can bring: 2^64 starts and 2^96 octets each
 pub record AreTotals (pages : List (List Page)) (frames octets : List ℕ) : Type 0 where
   pub all_frames : length frames ≡ 256
   pub all_octets : length octets ≡ 256
@@ -36,7 +36,7 @@ pub record AreTotals (pages : List (List Page)) (frames octets : List ℕ) : Typ
   pub few_frames : (link : ℕ) → link < 256 → slice_index frames link ≤ count_of_pages pages * 2 ^ 64
   pub few_octets : (link : ℕ) → link < 256 → slice_index octets link ≤ count_of_pages pages * 2 ^ 96
 
--- what pages keep beside their totals
+-- what is kept: pages that stand in order, and their totals
 pub record AreKept (posted : Posted) (frames octets : List ℕ) : Type 0 where
   pub posted_so : ArePosted posted
   pub totals : AreTotals posted.pages frames octets

@@ -56,7 +56,7 @@ pub record IsBackedOf (d : Domain) (bridge cycle : ℕ) (x : Backed) : Type 0 wh
   pub here : leaves d x.background.link bridge ≡ true
   pub of_cycle : cycle_of d x.background.at.0 ≡ cycle
 
--- those of a bridge in a cycle, in order of instant
+-- background frames of a bridge in a cycle, in order of instant. That they are all of them is for the caller to see to
 pub record AreBackedOf (d : Domain) (bridge cycle : ℕ) (backed : List Backed) : Type 0 where
   pub each : (x : Backed) → Contains backed x → IsBackedOf d bridge cycle x
   pub in_order : AllPairs (λ (a b : Backed). a.background.at.0 ≤ b.background.at.0) backed
@@ -105,8 +105,9 @@ pub record SendsCycle (before after : BridgeState) (cycle : ℕ) (backed : List 
 abbrev pub IsNextToSend : BridgeState → ℕ → Type 0
 IsNextToSend b cycle = (cycle ≡ b.received) × (b.sent ≡ b.received)
 
--- the bridge is spent, and of the domain and number that it was
+-- the bridge is spent, of the domain and number that it was, and tells the background frames that it told
 pub record IsSpentBy (before after : BridgeState) : Type 0 where
   pub spent : after.spent ≡ true
   pub domain : after.domain ≡ before.domain
   pub number : after.number ≡ before.number
+  pub background : after.background ≡ before.background

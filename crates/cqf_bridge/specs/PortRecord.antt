@@ -51,7 +51,8 @@ with_starts r until made = record {
   streams = r.streams;
 }
 
--- the starts are those that are demanded of the port from where it has run to the instant: there are no others that are legal
+-- the starts are demanded of the port from where it has run to the instant. That no others are is the law that legal starts are
+-- unique
 pub record AreDemanded (r : PortRecord) (until : ℕ) (made : List Transmission) : Type 0 where
   pub legal : AreLegal r.port.rules r.port.arrivals until (r.port.starts ++ made)
   pub later : (place s : ℕ) → Contains made (place, s) → r.port.reached ≤ s

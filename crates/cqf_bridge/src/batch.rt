@@ -8,7 +8,7 @@ use cqf_units::{Cycle, Memory, Nanos};
 use std::alloc::Global;
 use std::marker::Model;
 
-/// The streams' frames that a link sends in a cycle, in order of start, as the bridge at its end gets them. No background
+/// The streams' frames that a link sends in a cycle, in order of start, as the node at its end gets them. No background
 /// frame is in it, since these end with their link (profile).
 #[derive(Debug, Drop)]
 pub struct Batch {

@@ -87,10 +87,11 @@ impl Bridge {
 
     /// Sends a cycle, the next after those that were received: the ports run to the end of the cycle, and one batch for each
     /// link that leaves the bridge is appended, by number of link, empty ones too. Before they run they get the bridge's
-    /// background frames of the cycle, in order of instant, then place.
+    /// background frames of the cycle, in order of instant, then place; that these are they, and that the cycle is below
+    /// 100,000, is for the caller to see to.
     ///
-    /// `Spent` on a spent bridge, else `WrongCycle` for a cycle that isn't the next; then nothing is changed. Where a growth
-    /// is refused, `Memory`: the bridge is spent, and the batches are as they were.
+    /// `Spent` on a spent bridge, else `WrongCycle` for a cycle that isn't the next, or that was sent; then nothing is changed.
+    /// Where a growth is refused, `Memory`: the bridge is spent, and the batches are as they were.
     pub fn send(
         &mut self,
         alloc: Global,
@@ -136,8 +137,8 @@ impl Bridge {
         }
     }
 
-    /// The background frames that started in the cycle last sent, by link, then instant; none before the first. It takes no
-    /// memory.
+    /// The background frames that started in the cycle last sent, by link, then instant; none before the first. A refused
+    /// call leaves them. It takes no memory.
     pub fn background_starts(&self) -> &[Started]
         ensures { result.now ≡ self.now.background }
     {
