@@ -62,9 +62,11 @@ states_sending n g c t short inside early =
           ap (λ x. states_in (port_list n g) x) o ∙ before_second (n - g) g (n + (t - c * n)) (omega arith) (omega arith) ∙ rw e
     ]
   where
+    -- in an even cycle the place in the round is that in the cycle
     even : (n b r : ℕ) → b ≡ 0 → b * n + r ≡ r
     even n b r e = rw e (omega arith)
 
+    -- in an odd cycle it is one cycle further
     odd : (n b r : ℕ) → b ≡ 1 → b * n + r ≡ n + r
     odd n b r e = rw e (omega arith)
 
@@ -81,9 +83,11 @@ states_in_guard n g c t short inside late =
           ap (λ x. states_in (port_list n g) x) o ∙ in_second (n - g) g (n + (t - c * n)) (omega arith) (omega arith)
     ]
   where
+    -- in an even cycle the place in the round is that in the cycle
     even : (n b r : ℕ) → b ≡ 0 → b * n + r ≡ r
     even n b r e = rw e (omega arith)
 
+    -- in an odd cycle it is one cycle further
     odd : (n b r : ℕ) → b ≡ 1 → b * n + r ≡ n + r
     odd n b r e = rw e (omega arith)
 
@@ -103,9 +107,11 @@ bits_are_sent states stream_class class small few agree = (
   λ either. (bit_set_by_shift states class).0 (shr_and_one states class ∙ eqb-true (bit_at states class) 1 (same_test (low either) ∙ passes either)),
 )
   where
+    -- each of the eight bits is set exactly where its class is sent
     same_test : class < 8 → (bit_at states class == 1) ≡ is_sent stream_class class
     same_test below = agree_below_at (λ k. bit_at states k == 1) (is_sent stream_class) 8 class agree below
 
+    -- a class whose bit is set is that of streams or one of background frames
     is_one : bit_at states class ≡ 1 → (class ≡ stream_class) ⊎ (class < 6)
     is_one one = elim (cases_lt class 8) [
       | inl below ↦ elim (or_cases (class == stream_class) (ltb class 6) (sym (same_test below) ∙ eq-eqb (bit_at states class) 1 one)) [
@@ -115,9 +121,11 @@ bits_are_sent states stream_class class small few agree = (
       | inr above ↦ absurd (omega (arith, bit_at_above states 8 class small above, one))
     ]
 
+    -- each of those classes is one of the eight
     low : (class ≡ stream_class) ⊎ (class < 6) → class < 8
     low either = elim either [ inl same ↦ omega (arith, same, few) | inr less ↦ omega (arith, less) ]
 
+    -- each of those classes is sent
     passes : (class ≡ stream_class) ⊎ (class < 6) → is_sent stream_class class ≡ true
     passes either = elim either [
       | inl same ↦ or_left (class == stream_class) (ltb class 6) (eq-eqb class stream_class same)
@@ -151,6 +159,7 @@ port_list_opens n g c t class short inside = elim (cases_lt t (guard_from n g c)
 pub port_list_sends_until : PortListSends
 port_list_sends_until n g c t end class some short inside more = (there, back)
   where
+    -- a gate open to an end is of a class that the cycle sends, and the end is not after the guard time's first instant
     there : IsOpenThrough (port_list n g) class t end → IsSentIn c class × (end ≤ guard_from n g c)
     there through =
         let here = (port_list_opens n g c t class short inside).0 (through t (omega arith) more) in
@@ -163,6 +172,7 @@ port_list_sends_until n g c t end class some short inside more = (there, back)
           | inr fits ↦ (here.0, fits)
         ]
 
+    -- the gate of a class that the cycle sends is open to each end that is not after the guard time's first instant
     back : IsSentIn c class × (end ≤ guard_from n g c) → IsOpenThrough (port_list n g) class t end
     back both s from upto =
         let s_inside : IsIn n c s = (omega (arith, inside.0), omega (arith, both.1)) in
@@ -186,15 +196,19 @@ gate_place n r t some =
           ap (λ x. place_in (stream_list n r) x) o ∙ second n r (n + (t - t / n * n)) (omega arith) (omega arith) ∙ sym e
     ]
   where
+    -- in an even cycle the place in the round is that in the cycle
     even : (n b r : ℕ) → b ≡ 0 → b * n + r ≡ r
     even n b r e = rw e (omega arith)
 
+    -- in an odd cycle it is one cycle further
     odd : (n b r : ℕ) → b ≡ 1 → b * n + r ≡ n + r
     odd n b r e = rw e (omega arith)
 
+    -- in the first cycle of a round the first entry is in force
     first : (n r o : ℕ) → o < n → place_in (stream_list n r) o ≡ 0
     first n r o h = let e : ltb o n ≡ true = lt-ltb o n h in rw e
 
+    -- in the second cycle of a round the second entry is in force
     second : (n r o : ℕ) → n ≤ o → o < n + n → place_in (stream_list n r) o ≡ 1
     second n r o from upto =
         let e : ltb o n ≡ false = le-ltb o n from in
@@ -208,6 +222,7 @@ gate_gives n r t some = elim (parity (t / n)) [
   | inr e ↦ ap (λ x. at_place n r x) (gate_place n r t some ∙ e) ∙ rw e
 ]
   where
+    -- the internal priority value of the entry at a place
     at_place : (n r place : ℕ) → ℕ
     at_place n r place = option_map_or (λ (entry : StreamEntry). entry.ipv) (slice_get (stream_list n r) place) 0
 
@@ -218,9 +233,11 @@ gate_counts n r s t some =
     let rounds = ap₂ (λ x y. x == y) (gate_round_is n r s some) (gate_round_is n r t some) in
     ap₂ (λ x y. x && y) rounds places ∙ halves (s / n) (t / n)
   where
+    -- the gate's round at an instant is half the number of the cycle there, rounded down
     gate_round_is : (n r t : ℕ) → 0 < n → round_at (stream_list n r) t ≡ (t / n) / 2
     gate_round_is n r t some = ap (λ x. t / x) (whole n) ∙ round_is n (t / n) t (cycle_from n t) (cycle_upto n t some)
 
+    -- two cycles are one exactly where their halves are one and their parities are one
     halves : (c e : ℕ) → ((c / 2 == e / 2) && (c % 2 == e % 2)) ≡ (c == e)
     halves c e = elim (cases_eq c e) [
       | inl same ↦ and_from (c / 2 == e / 2) (c % 2 == e % 2) (eq-eqb (c / 2) (e / 2) (ap (λ x. x / 2) same)) (eq-eqb (c % 2) (e % 2) (ap (λ x. x % 2) same))

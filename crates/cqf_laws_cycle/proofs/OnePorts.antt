@@ -28,6 +28,7 @@ one_at starts p q s in_order first second = elim (cases_order first.0 second.0) 
   ]
 ]
   where
+    -- of two instants that are one, the first isn't before the second
     clash : {a b : ℕ} → a ≡ s → b ≡ s → a < b → ⊥
     clash ea eb l = omega (arith, ea, eb, l)
 

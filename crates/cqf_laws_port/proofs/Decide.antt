@@ -66,6 +66,7 @@ pub best_below : (P : ℕ → Type 0) (measure : ℕ → ℕ) → ((k : ℕ) →
 best_below P measure told zero = inr (λ k l p. omega (arith, l))
 best_below P measure told (suc n) = further P measure n (best_below P measure told n) (told n)
   where
+    -- with one more number that is told, the best of them, or none of them
     further : (P : ℕ → Type 0) (measure : ℕ → ℕ) (n : ℕ) → ((k : ℕ) × IsBest P measure n k) ⊎ ((k : ℕ) → k < n → P k → ⊥) → Told (P n) →
         ((k : ℕ) × IsBest P measure (suc n) k) ⊎ ((k : ℕ) → k < suc n → P k → ⊥)
     further P measure n (inl w) (inr never) =

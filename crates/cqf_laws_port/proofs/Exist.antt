@@ -31,6 +31,7 @@ told_waits xs starts p t =
     (told_three (told_lt p (length xs)) (told_le (instant_of xs p) t)
     (told_members (λ (x : Transmission). x.0 ≡ p → t ≤ x.1) (λ x. told_if (cases_eq x.0 p) (told_le t x.1)) (0, 0) starts))
   where
+    -- of three that are told, all of them are
     told_three : {P Q R : Type 0} → Told P → Told Q → Told R → Told (P × Q × R)
     told_three p q r = told_like (λ w. (w.0, w.1.0, w.1.1)) (λ w. (w.0, (w.1, w.2))) (told_both p (told_both q r))
 

@@ -42,6 +42,7 @@ numbered_member offers x c =
     let number : r.0.0 ≡ x.frame = ap (λ (z : Offered). z.frame) r.2 in
     (subst (λ (z : Offered). Contains offers z.offer) r.2 m.0, omega (arith, m.1, number), omega (arith, m.2, number))
   where
+    -- an offer with its number
     the_offered : ℕ × Offer → Offered
     the_offered x = record { frame = x.0; offer = x.1 }
 
@@ -49,9 +50,11 @@ numbered_member offers x c =
 pub numbers_ascend : (offers : List Offer) → AllPairs (λ (a b : Offered). a.frame < b.frame) (numbered offers)
 numbers_ascend offers i j e l inside = pairs_map (λ (a b : Offered). a.frame < b.frame) the_offered (enumerate_from 1 offers) places i j e l inside
   where
+    -- an offer with its number
     the_offered : ℕ × Offer → Offered
     the_offered x = record { frame = x.0; offer = x.1 }
 
+    -- the places ascend
     places : AllPairs (λ (a b : ℕ × Offer). a.0 < b.0) (enumerate_from 1 offers)
     places i j e l inside =
         let j_in : j < length offers = omega (arith, inside, length-enumerate_from 1 offers) in

@@ -40,6 +40,7 @@ no_relayed d carried bridge t n =
     filter_none keep (each_below (relayed_at d carried bridge t) n)
     (λ x c. let r = contains_from_below (relayed_at d carried bridge t) n x c in of_link r.0 x r.2)
   where
+    -- what a link brings at an instant was not offered
     of_link : (m : ℕ) (x : Received) → Contains (relayed_at d carried bridge t m) x → keep x ≡ false
     of_link m x c = elim (cases_Bool (enters d m bridge)) [
       | inl e ↦
@@ -161,36 +162,47 @@ comes_behind run carried end x inside early = record {
       ∙ sym (offers_before_here run.offers x first second split.2);
 }
   where
+    -- the offer's instant
     t : ℕ
     t = x.offer.at.0
 
+    -- the offer's bridge
     bridge : ℕ
     bridge = x.offer.bridge
 
+    -- what comes to that bridge at an instant
     f : ℕ → List Received
     f = received_at run carried bridge
 
+    -- what the links bring there at the offer's instant
     relayed : List Received
     relayed = each_below (relayed_at run.domain carried bridge t) (length run.domain.links)
 
+    -- whether an offer is made there at that instant
     together : Offered → Bool
     together y = is_offered_at bridge t y
 
+    -- the offers of the list before this one, and those behind it
     split : (before after : List Offered) × (numbered run.offers ≡ before ++ (x ∷ after))
     split = parted_at (numbered run.offers) x inside
 
+    -- those before it
     first : List Offered
     first = split.0
 
+    -- those behind it
     second : List Offered
     second = split.1
 
+    -- what comes before the end is what comes before the instant, then at it, then after it
     rest : (after : List Received) × (each_below f end ≡ each_below f t ++ (f t ++ after))
     rest = parted_below f t end early
 
+    -- the offer itself is made there at that instant
     passes : together x ≡ true
     passes = and_from (x.offer.bridge == bridge) (x.offer.at.0 == t) (eq-eqb bridge bridge refl) (eq-eqb t t refl)
 
+    -- what is offered there at that instant is the offer between those before it and those behind it in the list
     at_once : offered_at run.offers bridge t ≡ map offer_received (filter together first) ++ (offer_received x ∷ map offer_received (filter together second))
     at_once =
         ap (λ z. map offer_received (filter together z)) split.2
@@ -199,6 +211,7 @@ comes_behind run carried end x inside early = record {
         ∙ ap (λ z. map offer_received (filter together first) ++ map offer_received z)
         (cond-true (together x) (x ∷ filter together second) (filter together second) passes)
 
+    -- in lists that follow one another, an element has the same before it and the same behind it, however they are joined
     joined : (a b c : List Received) (y : Received) (e r : List Received) → a ++ ((b ++ (c ++ (y ∷ e))) ++ r) ≡ ((a ++ b) ++ c) ++ (y ∷ (e ++ r))
     joined a b c y e r = simp append_assoc
 
@@ -214,10 +227,12 @@ edge_same : (d : Domain) (bridge cycle : ℕ) (one two : Row → Bool) (found : 
 edge_same d at cycle one two None same = refl
 edge_same d at cycle one two (Some row) same = choice (is_live row cycle) (begins_at d row at) (one row) (two row) (same row refl)
   where
+    -- the verdict at the edge, by whether the row is live, begins here and has the octets left
     by : Bool → Bool → Bool → Verdict
     by live here fits =
         if not live then DroppedFor Withdrawn else (if not here then DroppedFor OtherBridge else (if not fits then DroppedFor Octets else Queued row))
 
+    -- two tests that agree where the row is live and begins here give one verdict
     choice : (live here a b : Bool) → (live ≡ true → here ≡ true → a ≡ b) → by live here a ≡ by live here b
     choice true true a b e = ap (by true true) (e refl refl)
     choice true false a b e = refl
@@ -250,15 +265,19 @@ pub judged_dropped : (run : Run) (x : Offered) (reason : Reason) → Contains (n
     IsUncovered run x reason
 judged_dropped run x reason inside e = record { offered = inside; is_reason = go (row_for run.domain run.tables x) refl e }
   where
+    -- the run's domain
     d : Domain
     d = run.domain
 
+    -- the offer's cycle
     cycle : ℕ
     cycle = offer_cycle d x
 
+    -- whether a row has the octets left that the offer asks for
     fits : Row → Bool
     fits row = nat_le (asked_with d run.offers x row) row.octets
 
+    -- where the row that the offer names leads to a drop, the drop's reason is the first that fits
     choice : (row : Row) (live here short : Bool) → row_for d run.tables x ≡ Some row → is_live row cycle ≡ live → begins_at d row x.offer.bridge ≡ here →
         fits row ≡ short →
         (if not live then DroppedFor Withdrawn else (if not here then DroppedFor OtherBridge else (if not short then DroppedFor Octets else Queued row)))
@@ -274,6 +293,7 @@ judged_dropped run x reason inside e = record { offered = inside; is_reason = go
         let is : Withdrawn ≡ reason = cc in
         subst (IsReason run x) is (row, record { named = named; not_live = a })
 
+    -- the reason of a drop is the first that fits, whether the offer names a row or none
     go : (found : Option Row) → row_for d run.tables x ≡ found → edge_verdict d x.offer.bridge cycle fits found ≡ DroppedFor reason → IsReason run x reason
     go None named e = let is : Unknown ≡ reason = cc in subst (IsReason run x) is named
     go (Some row) named e = choice row (is_live row cycle) (begins_at d row x.offer.bridge) (fits row) named refl refl refl e
@@ -282,22 +302,28 @@ judged_dropped run x reason inside e = record { offered = inside; is_reason = go
 pub uncovered_judged : (run : Run) (x : Offered) (reason : Reason) → IsUncovered run x reason → judged run x ≡ DroppedFor reason
 uncovered_judged run x reason uncovered = go reason uncovered.is_reason
   where
+    -- the run's domain
     d : Domain
     d = run.domain
 
+    -- the offer's cycle
     cycle : ℕ
     cycle = offer_cycle d x
 
+    -- whether a row has the octets left that the offer asks for
     fits : Row → Bool
     fits row = nat_le (asked_with d run.offers x row) row.octets
 
+    -- the verdict is the edge's by the row that the offer names
     at_row : (row : Row) → row_for d run.tables x ≡ Some row → judged run x ≡ edge_verdict d x.offer.bridge cycle fits (Some row)
     at_row row named = ap (edge_verdict d x.offer.bridge cycle fits) named
 
+    -- the verdict at the edge by a row, by whether it is live, begins here and has the octets left
     by : Row → Bool → Bool → Bool → Verdict
     by row live here short =
         if not live then DroppedFor Withdrawn else (if not here then DroppedFor OtherBridge else (if not short then DroppedFor Octets else Queued row))
 
+    -- the offer is dropped for the first reason that fits
     go : (reason : Reason) → IsReason run x reason → judged run x ≡ DroppedFor reason
     go Unknown named = ap (edge_verdict d x.offer.bridge cycle fits) named
     go Withdrawn (row, r) = at_row row r.named ∙ ap (λ z. by row z (begins_at d row x.offer.bridge) (fits row)) r.not_live
@@ -309,10 +335,12 @@ uncovered_judged run x reason uncovered = go reason uncovered.is_reason
 pub is_decided : (run : Run) (x : Offered) → Contains (numbered run.offers) x → IsDecided run x (judged run x)
 is_decided run x inside = go (judged run x) refl
   where
+    -- the verdict on an offer is no loss
     no_loss : IsLoss (judged run x) → ⊥
     no_loss = edge_no_loss run.domain x.offer.bridge (offer_cycle run.domain x) (λ row. nat_le (asked_with run.domain run.offers x row) row.octets)
         (row_for run.domain run.tables x)
 
+    -- each verdict that the offer may have is what the definitions say
     go : (v : Verdict) → judged run x ≡ v → IsDecided run x v
     go (Queued row) e = judged_queued run x row inside e
     go (DroppedFor reason) e = judged_dropped run x reason inside e

@@ -75,15 +75,19 @@ gate_is_reservation counts d earlier row x some =
     (in_two n row.octets (x.at % (0 + n + n)) (omega (arith, mod-lt x.at {m = 0 + n + n} (omega (arith, some)))))
     ∙ ap (λ z. nat_le (z + x.octets) row.octets) (octets_counted counts d row x.at some earlier)
   where
+    -- the time of a cycle
     n : ℕ
     n = d.cycle_time
 
+    -- the octets that the gate counted in the frame's interval, with the frame's own
     sum : ℕ
     sum = octets_in (stream_list n row.octets) (calls_of row.no earlier) x.at + x.octets
 
+    -- whether so many are within the octet maximum of the entry at a place
     by_place : ℕ → Bool
     by_place place = option_map_or (λ (entry : StreamEntry). within entry.octet_max sum) (slice_get (stream_list n row.octets) place) false
 
+    -- by either of the two entries, that is whether they are within the reservation's octets
     at_place : (place : ℕ) → (place ≡ 0) ⊎ (place ≡ 1) → by_place place ≡ nat_le sum row.octets
     at_place place e = elim e [
       | inl z ↦ ap by_place z

@@ -111,6 +111,7 @@ wire_in_within cycle_time cycle a = elim (cases_Bool (a.at.0 / cycle_time == cyc
   | inr u ↦ inr (cond-false (a.at.0 / cycle_time == cycle) (if is_streams a then wire_of a.octets else 0) 0 u)
 ]
   where
+    -- a number or 0 is no more than the number
     at_most : (b : Bool) (n : ℕ) → (if b then n else 0) ≤ n
     at_most true n = omega arith
     at_most false n = omega arith
@@ -119,6 +120,7 @@ wire_in_within cycle_time cycle a = elim (cases_Bool (a.at.0 / cycle_time == cyc
 pub gives_streams : (cycle : ℕ) → 6 ≤ given_class cycle
 gives_streams cycle = either (cycle % 2 == 0)
   where
+    -- 6 and 7 are at least 6
     either : (b : Bool) → 6 ≤ (if b then 6 else 7)
     either true = omega arith
     either false = omega arith
@@ -131,15 +133,18 @@ queue_in_order d l policed sorted =
     (λ p member. each_alone p.received p.verdict)
     (λ p q a b first second. across p q a b) sorted
   where
+    -- one queued frame arrives no later than another
     R : QueuedFrame → QueuedFrame → Type 0
     R a b = a.arrival.at.0 ≤ b.arrival.at.0
 
+    -- what one frame adds to the queue is in that order
     each_alone : (x : Received) (v : Verdict) → AllPairs R (queued_by d l x v)
     each_alone x v = elim (one_or_none d l x v) [
       | inl r ↦ subst (λ z. AllPairs R z) (sym r.3) (pairs_one R (queued_frame d x r.0))
       | inr none ↦ subst (λ z. AllPairs R z) (sym none) (pairs_none R)
     ]
 
+    -- what a frame adds arrives no later than what a later one adds
     across : (p r : Policed) (a b : QueuedFrame) → p.received.at ≤ r.received.at → Contains (queued_by d l p.received p.verdict) a →
         Contains (queued_by d l r.received r.verdict) b → R a b
     across p r a b order ca cb =

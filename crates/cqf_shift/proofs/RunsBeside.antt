@@ -35,6 +35,7 @@ sent_of_frame t x None sent c = absurd (contains_none sent c)
 sent_of_frame t x (Some number) sent c =
     (number, refl, elim (contains_cases (the_sent number) [] sent c) [ inl e ↦ e | inr h ↦ absurd (contains_none sent h) ])
   where
+    -- the frame as it is sent for the stream of a number
     the_sent : ℕ → Sent
     the_sent number = record { start = record { 0 = t }; frame = x.frame; stream = number; octets = x.octets }
 

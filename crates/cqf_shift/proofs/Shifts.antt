@@ -41,9 +41,11 @@ drop_of_verdict : (cycle bridge : ℕ) (x : Received) (v : Verdict) (y : Dropped
 drop_of_verdict cycle bridge x (Queued row) y c = absurd (contains_none y c)
 drop_of_verdict cycle bridge x (DroppedFor reason) y c = (reason, refl, only_one c)
   where
+    -- the drop for that reason
     it : Dropped
     it = record { cycle = record { 0 = cycle }; bridge = bridge; frame = x.frame; octets = x.octets; reason = reason }
 
+    -- what is in the list of that drop alone is that drop
     only_one : Contains (it ∷ []) y → it ≡ y
     only_one c = elim (contains_cases it [] y c) [ inl e ↦ e | inr h ↦ absurd (contains_none y h) ]
 drop_of_verdict cycle bridge x LacksRow y c = absurd (contains_none y c)
@@ -144,24 +146,31 @@ pub book_says_the_shift : CycleLaws → RunBesideIsRunAlone → BookSaysTheShift
 book_says_the_shift laws beside run book accepted orderly offered background is_book =
     record { only = only; each = each; only_drops = only_drops; each_drop = each_drop }
   where
+    -- the book's network
     net : Network
     net = is_book.net
 
+    -- what its links carry
     carried : Carried
     carried = net.carried
 
+    -- beside background frames the run is one of its streams alone
     alone : IsRunAlone run carried
     alone = beside run net (record { accepted = accepted; orderly = orderly; offered = offered; background = background; legal = is_book.legal })
 
+    -- the run's domain
     d : Domain
     d = run.domain
 
+    -- the starts of a cycle
     in_cycle : ℕ → List Started
     in_cycle cycle = each_below (starts_in d carried cycle) (length d.links)
 
+    -- what becomes of the frames that come to a bridge
     given : ℕ → List Policed
     given bridge = policed run carried (end_of_run run) bridge
 
+    -- each start in the book is in the shift
     only : (s : Started) → Contains book.starts s → InShift run (length run.tables) s.frame s.link s.cycle.0
     only s c =
         let by_cycle = contains_from_below in_cycle (length run.tables) s (subst (λ z. Contains z s) is_book.are_starts c) in
@@ -172,6 +181,7 @@ book_says_the_shift laws beside run book accepted orderly offered background is_
         subst (λ (z : Started). InShift run (length run.tables) z.frame z.link z.cycle.0) sent.2
         (subst (λ z. InShift run (length run.tables) sent.0.frame by_link.0 z) (eqb-true (cycle_of d sent.0.start.0) by_cycle.0 kept.1) shift)
 
+    -- each frame, link and cycle of the shift is a start in the book
     each : (frame link cycle : ℕ) → InShift run (length run.tables) frame link cycle → (s : Started) × Contains book.starts s × (s.frame ≡ frame) ×
         (s.link ≡ link) × (s.cycle.0 ≡ cycle)
     each frame link cycle shift =
@@ -184,9 +194,11 @@ book_says_the_shift laws beside run book accepted orderly offered background is_
         (contains_below (starts_in d carried cycle) (length d.links) link s r.is_link mapped) in
         (s, subst (λ z. Contains z s) (sym is_book.are_starts) here, r.is_frame, refl, refl)
 
+    -- the drops of a cycle at a bridge, of the offer at a place
     of_place : ℕ → ℕ → ℕ → List Dropped
     of_place cycle bridge place = flat_map (λ (p : Policed). drop_by cycle bridge p.received p.verdict) (filter (is_of_place d cycle place) (given bridge))
 
+    -- each drop in the book is of an offer that isn't covered
     only_drops : (x : Dropped) → Contains book.drops x → IsOfUncovered run x
     only_drops x c =
         let by_cycle = contains_from_below (λ cycle. each_below (drops_in d (length run.offers) given cycle) (length d.bridges)) (length run.tables) x
@@ -209,6 +221,7 @@ book_says_the_shift laws beside run book accepted orderly offered background is_
           octets = ap (λ (z : Received). z.octets) (sym u.0.is);
         })
 
+    -- each drop of an offer that isn't covered is in the book
     each_drop : (x : Dropped) → IsOfUncovered run x → Contains book.drops x
     each_drop x u =
         let cycle = offer_cycle d u.x in

@@ -42,6 +42,7 @@ offers_parted offers z n inside early =
           ∙ ap (λ w. (each_below (offers_at offers) t ++ w) ++ (z ∷ (filter here split.1 ++ rest.0))) (sym (smaller_before offers z split.0 split.1 split.2)),
     )
   where
+    -- in lists that follow one another, an element has the same before it and the same behind it, however they are joined
     joined : (a b : List Offered) (y : Offered) (c r : List Offered) → a ++ ((b ++ (y ∷ c)) ++ r) ≡ (a ++ b) ++ (y ∷ (c ++ r))
     joined a b y c r = simp append_assoc
 
@@ -49,6 +50,7 @@ offers_parted offers z n inside early =
 offers_apart : (offers : List Offer) (n : ℕ) → AllPairs Apart (each_below (offers_at offers) n)
 offers_apart offers n = pairs_below Apart (offers_at offers) n (λ t l. within t) across
   where
+    -- no number stands twice among the offers of an instant
     within : (t : ℕ) → AllPairs Apart (offers_at offers t)
     within t i j e l inside same =
         absurd (omega (
@@ -58,6 +60,7 @@ offers_apart offers n = pairs_below Apart (offers_at offers) n (λ t l. within t
               (numbers_ascend offers) i j e l inside,
         ))
 
+    -- nor among those of two instants
     across : (s t : ℕ) (a b : Offered) → s < t → t < n → Contains (offers_at offers s) a → Contains (offers_at offers t) b → Apart a b
     across s t a b less l ca cb same =
         let fa = contains_from_filter (λ (y : Offered). y.offer.at.0 == s) (numbered offers) a ca in
@@ -110,12 +113,15 @@ pub taken_is_covered : TakenIsCovered
 taken_is_covered run row cycle x counts orderly inside live here counted =
     fold_counts (take_octets d row cycle) counts [] (offers_before run.offers x) each refl
   where
+    -- the run's domain
     d : Domain
     d = run.domain
 
+    -- whether an offer asks for octets of the row in the cycle, and for no more than are left
     tests : Offered → ℕ → Bool
     tests z taken = claims d row cycle z && nat_le (taken + z.offer.octets) row.octets
 
+    -- an offer that passes, behind what those before it take, is covered by the row in the cycle
     covers : (z : Offered) → Contains (numbered run.offers) z → tests z (taken_by d row cycle (offers_before run.offers z)) ≡ true → IsCoveredIn run row cycle z
     covers z member t =
         let both = and_parts (claims d row cycle z) (nat_le (taken_by d row cycle (offers_before run.offers z) + z.offer.octets) row.octets) t in
@@ -134,6 +140,7 @@ taken_is_covered run row cycle x counts orderly inside live here counted =
           in_cycle = same;
         }
 
+    -- an offer that the row covers in the cycle passes, behind what those before it take
     tested : (z : Offered) → IsCoveredIn run row cycle z → tests z (taken_by d row cycle (offers_before run.offers z)) ≡ true
     tested z c =
         let named = (find_member (λ (r : Row). is_text r.name z.offer.stream) (table_of run.tables (offer_cycle d z)) row c.covered.named).1 in
@@ -143,11 +150,13 @@ taken_is_covered run row cycle x counts orderly inside live here counted =
         (le-leb (taken_by d row cycle (offers_before run.offers z) + z.offer.octets) row.octets
         (subst (λ c. taken_by d row c (offers_before run.offers z) + z.offer.octets ≤ row.octets) c.in_cycle c.covered.within))
 
+    -- where the count is the octets if the test passes, and else 0, what is taken grows by the count
     by_test : (b : Bool) (taken octets count : ℕ) → (b ≡ true → count ≡ octets) → (b ≡ false → count ≡ 0) →
         (if b then taken + octets else taken) ≡ taken + count
     by_test true taken octets count passed failed = omega (arith, passed refl)
     by_test false taken octets count passed failed = omega (arith, failed refl)
 
+    -- each offer before this one adds its count to what is taken
     each : (first : List Offered) (z : Offered) (last : List Offered) → offers_before run.offers x ≡ first ++ (z ∷ last) →
         take_octets d row cycle (taken_by d row cycle first) z ≡ taken_by d row cycle first + counts z
     each first z last parts =

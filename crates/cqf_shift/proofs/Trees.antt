@@ -21,6 +21,7 @@ use Rattle.cqf_lists.proofs.Pairs.{one_of_pairs}
 pub its_bridge : (d : Domain) (m bridge : ℕ) → leaves d m bridge ≡ true → bridge_of d m ≡ bridge
 its_bridge d m bridge here = go (slice_get d.links m) here
   where
+    -- the bridge that a link leaves is the one at which it begins
     go : (o : Option Link) → option_map_or (λ (k : Link). k.from == bridge) o false ≡ true → option_map_or (λ (k : Link). k.from) o 0 ≡ bridge
     go None e = absurd (cc)
     go (Some link) e = eqb-true link.from bridge e
@@ -29,10 +30,12 @@ its_bridge d m bridge here = go (slice_get d.links m) here
 pub enters_one : (d : Domain) (m one two : ℕ) → enters d m one ≡ true → enters d m two ≡ true → one ≡ two
 enters_one d m one two = go (slice_get d.links m)
   where
+    -- a node is one bridge at most
     node : (to : Node) → node_is to one ≡ true → node_is to two ≡ true → one ≡ two
     node (Bridge b) first second = sym (eqb-true b one first) ∙ eqb-true b two second
     node (Station s) first second = absurd (cc)
 
+    -- the node in which a link ends is one bridge at most
     go : (o : Option Link) → option_map_or (λ (link : Link). node_is link.to one) o false ≡ true →
         option_map_or (λ (link : Link). node_is link.to two) o false ≡ true → one ≡ two
     go None first second = absurd (cc)
@@ -42,10 +45,12 @@ enters_one d m one two = go (slice_get d.links m)
 enters_end : (d : Domain) (m bridge : ℕ) → enters d m bridge ≡ true → end_of d m ≡ Some (Bridge bridge)
 enters_end d m bridge = go (slice_get d.links m)
   where
+    -- a node with the number of a bridge is that bridge
     node : (to : Node) → node_is to bridge ≡ true → to ≡ Bridge bridge
     node (Bridge b) e = ap Bridge (eqb-true b bridge e)
     node (Station s) e = absurd (cc)
 
+    -- the node in which a link ends is the bridge that it enters
     go : (o : Option Link) → option_map_or (λ (link : Link). node_is link.to bridge) o false ≡ true →
         option_map (λ (link : Link). link.to) o ≡ Some (Bridge bridge)
     go None e = absurd (cc)
@@ -55,6 +60,7 @@ enters_end d m bridge = go (slice_get d.links m)
 pub joined_leaves : (d : Domain) (m l bridge : ℕ) → joins d m l ≡ true → enters d m bridge ≡ true → leaves d l bridge ≡ true
 joined_leaves d m l bridge joined here = go (slice_get d.links l) joined
   where
+    -- a link that begins at a bridge in which the other ends leaves this bridge
     go : (o : Option Link) → option_map_or (λ (link : Link). enters d m link.from) o false ≡ true →
         option_map_or (λ (link : Link). link.from == bridge) o false ≡ true
     go None e = absurd (cc)
@@ -64,6 +70,7 @@ joined_leaves d m l bridge joined here = go (slice_get d.links l) joined
 pub joined_enters : (d : Domain) (m l : ℕ) → joins d m l ≡ true → enters d m (bridge_of d l) ≡ true
 joined_enters d m l joined = go (slice_get d.links l) joined
   where
+    -- the other link ends in the bridge at which this one begins
     go : (o : Option Link) → option_map_or (λ (link : Link). enters d m link.from) o false ≡ true →
         enters d m (option_map_or (λ (link : Link). link.from) o 0) ≡ true
     go None e = absurd (cc)

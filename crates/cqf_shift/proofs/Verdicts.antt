@@ -123,6 +123,7 @@ pub edge_no_loss : (d : Domain) (bridge cycle : ℕ) (fits : Row → Bool) (foun
 edge_no_loss d bridge cycle fits None lost = lost
 edge_no_loss d bridge cycle fits (Some row) lost = choice (is_live row cycle) (begins_at d row bridge) (fits row) lost
   where
+    -- no verdict of the edge by a row is a loss
     choice : (live here fits : Bool) →
         IsLoss
         (if not live then DroppedFor Withdrawn else (if not here then DroppedFor OtherBridge else (if not fits then DroppedFor Octets else Queued row))) → ⊥
