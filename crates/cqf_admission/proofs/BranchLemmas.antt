@@ -71,12 +71,14 @@ same_node_is (Station a) (Station b) same = ap (λ (number : ℕ). Station numbe
 same_by_name : (d : Domain) (a b : List ℕ) (node : Node) → node_named d a ≡ Some node → is_text a b ≡ is_same (node_named d b) (Some node)
 same_by_name d a b node here = by (is_text a b) (node_named d b) refl refl
   where
+    -- where the names differ, the nodes that they have differ too
     apart : (other : Node) (test : Bool) → is_text a b ≡ false → node_named d b ≡ Some other → same_node other node ≡ test → false ≡ test
     apart other false differs there same = refl
     apart other true differs there same =
         let one : a ≡ b = named_once d a b node here (there ∙ ap (λ (n : Node). Some n) (same_node_is other node same)) in
         sym differs ∙ ap (λ (text : List ℕ). is_text text b) one ∙ is_text_itself b
 
+    -- a name is the one exactly where what it finds is the same node
     by : (test : Bool) (found : Option Node) → is_text a b ≡ test → node_named d b ≡ found → test ≡ is_same found (Some node)
     by true found same there =
         let known : found ≡ Some node = sym there ∙ ap (node_named d) (sym (is_text_same a b same)) ∙ here in
@@ -89,6 +91,7 @@ same_as_none : (node : Option Node) → is_same node None ≡ false
 same_as_none None = refl
 same_as_none (Some node) = refl
 
+-- no node of some names is the same as none
 none_stand : (d : Domain) (names : List (List ℕ)) → list_any (λ name. is_same (node_named d name) None) names ≡ false
 none_stand d [] = refl
 none_stand d (name ∷ names) = rw (same_as_none (node_named d name), none_stand d names) refl
@@ -98,6 +101,7 @@ not_looping : (d : Domain) (branch : Branch) (place : ℕ) → node_at d branch 
 not_looping d branch place none =
     sym (ap (λ (n : Option Node). list_any (λ name. is_same (node_named d name) n) (take place branch)) none ∙ none_stand d (take place branch))
 
+-- behind the last node of a path none stood earlier
 pub not_looping_past : {S : Type 0} (bytes : S → List ℕ) (d : Domain) (path : List S) (place : ℕ) → length path ≤ place
     → false ≡ is_loop_at d (map bytes path) place
 not_looping_past bytes d path place past =
@@ -111,11 +115,13 @@ node_of_name bytes d path place name inside is =
     ap (λ (o : Option (List ℕ)). option_map_or (λ text. node_named d text) o None)
     (slice_get-map bytes path place ∙ ap (option_map bytes) (slice_get_read path (length path) place name refl inside is))
 
+-- where a name has no node, none stood earlier
 pub not_looping_unknown : {S : Type 0} (bytes : S → List ℕ) (d : Domain) (path : List S) (place : ℕ) (name : S) → place < length path
     → name ≡ get_or path place name → is_none (node_named d (bytes name)) ≡ true → false ≡ is_loop_at d (map bytes path) place
 not_looping_unknown bytes d path place name inside is unknown =
     not_looping d (map bytes path) place (node_of_name bytes d path place name inside is ∙ none_there (node_named d (bytes name)) unknown)
   where
+    -- where the test finds no node, there is none
     none_there : (node : Option Node) → is_none node ≡ true → node ≡ None
     none_there None h = refl
     none_there (Some node) h = absurd cc
@@ -126,6 +132,7 @@ pub looping_by_name : {S : Type 0} (bytes : S → List ℕ) (d : Domain) (path e
     → stands ≡ list_any (λ other. is_text (bytes name) (bytes other)) earlier → earlier ≡ take place path → stands ≡ is_loop_at d (map bytes path) place
 looping_by_name {S} bytes d path earlier place name stands inside is known found front = by (node_named d (bytes name)) refl known
   where
+    -- the name stood earlier exactly where the node that it has did
     by : (node : Option Node) → node_named d (bytes name) ≡ node → is_none node ≡ false → stands ≡ is_loop_at d (map bytes path) place
     by None here none = absurd cc
     by (Some node) here none =

@@ -26,12 +26,14 @@ bit_with mask x l low = elim (cases_Bool (nat_lt x 64)) [
       ∙ ap (λ (b : Bool). max (bit_at mask l) (cond b 1 0)) (sym other))
 ]
   where
+    -- a power of two has the bit of its own number, and no other
     own : (k : ℕ) → bit_at (2 ^ k) l ≡ cond (k == l) 1 0
     own k = elim (cases_Bool (k == l)) [
       | inl t ↦ ap (λ (n : ℕ). bit_at (2 ^ n) l) (eqb-true k l t) ∙ bit_at-pow_same l ∙ ap (λ (b : Bool). cond b 1 0) (sym t)
       | inr f ↦ bit_at-pow_other k l (λ same. eqb-false k l f (sym same)) ∙ ap (λ (b : Bool). cond b 1 0) (sym f)
     ]
 
+    -- a number that isn't below 64 is 64 or above
     past : (k : ℕ) → nat_lt k 64 ≡ false → 64 ≤ k
     past k f = ltb-false k 64 f
 
@@ -43,6 +45,7 @@ bits_of (x ∷ links) mask l low =
     ∙ ap (λ (n : ℕ). max n (cond (list_any (λ k. k == l) links) 1 0)) (bit_with mask x l low)
     ∙ joined (bit_at mask l) (x == l) (list_any (λ k. k == l) links)
   where
+    -- two bits on top of a number are one, there where either is
     joined : (n : ℕ) (a b : Bool) → max (max n (cond a 1 0)) (cond b 1 0) ≡ max n (cond (a || b) 1 0)
     joined n true true = omega arith
     joined n true false = omega arith

@@ -27,6 +27,7 @@ least_within test n k e =
     let w = contains_from_below listed n k (contains_at (each_below listed n) 0 k e) in
     omega (arith, w.1, of_one (test w.0) w.0 w.2)
   where
+    -- a list that has one number at most contains no other
     of_one : (b : Bool) (j : ℕ) → Contains (if b then j ∷ [] else []) k → j ≡ k
     of_one true j c = elim (contains_cases j [] k c) [ inl e ↦ e | inr n ↦ absurd (contains_none k n) ]
     of_one false j c = absurd (contains_none k c)
@@ -113,6 +114,7 @@ all_passed d check paths index before past h =
     h.passed ∙ ap (λ (xs : List (Vec (String Global) Global)). option_map (λ place. before + place) (first_fault d check (branches_of xs)))
     (drop_all paths index past)
   where
+    -- behind all its elements a list has nothing
     drop_all : (xs : List (Vec (String Global) Global)) (k : ℕ) → length xs ≤ k → drop k xs ≡ []
     drop_all [] zero le = refl
     drop_all [] (suc k) le = refl
@@ -126,10 +128,12 @@ position-cons : {X : Type 0} (p : X → Bool) (x : X) (xs : List X) →
     position p (x ∷ xs) ≡ (if p x then Some 0 else option_map (λ place. 1 + place) (position p xs))
 position-cons {X} p x xs = by_test (p x)
   where
+    -- one more than a number, where it is there, is that number moved by one
     shifted : (b : Bool) (n : ℕ) → cond b (Some (1 + n)) None ≡ option_map (λ place. 1 + place) (cond b (Some n) None)
     shifted true n = refl
     shifted false n = refl
 
+    -- the first place is 0 where the first element passes, and otherwise one more than that of the rest
     by_test : (b : Bool) → (let n = cond (not b) (1 + prefix_len (λ z. not (p z)) xs) 0 in
         cond (nat_lt n (suc (length xs))) (Some n) None) ≡ (if b then Some 0 else option_map (λ place. 1 + place) (position p xs))
     by_test true = ap (λ (t : Bool). cond t (Some 0) None) (lt-ltb 0 (suc (length xs)) (omega arith))
@@ -146,10 +150,12 @@ position-append {X} p (x ∷ xs) ys =
     ∙ by_test (p x) (position p xs) (position p ys) (position-append p xs ys)
     ∙ ap (λ (o : Option ℕ). or_else o (option_map (λ place. suc (length xs) + place) (position p ys))) (sym (position-cons p x xs))
   where
+    -- a place that is moved by a number and then by one is moved by one more than the number
     behind : (n : ℕ) (o : Option ℕ) → option_map (λ place. 1 + place) (option_map (λ place. n + place) o) ≡ option_map (λ place. suc n + place) o
     behind n None = refl
     behind n (Some k) = let same : 1 + (n + k) ≡ suc n + k = omega arith in ap (λ (i : ℕ). Some i) same
 
+    -- one element in front, whether it passes or not, leaves the first place in the first list, or else in the second
     by_test : (b : Bool) (o q : Option ℕ) → position p (xs ++ ys) ≡ or_else o (option_map (λ place. length xs + place) q) →
         (if b then Some 0 else option_map (λ place. 1 + place) (position p (xs ++ ys))) ≡ or_else (if b then Some 0 else option_map (λ place. 1 + place) o)
         (option_map (λ place. suc (length xs) + place) q)

@@ -126,6 +126,7 @@ not_a_name (x ∷ rows) text names h =
       | inr f ↦ ap (λ (b : Bool). cond b (Some x) (row_named rows text)) f ∙ rest
     ]
   where
+    -- a row among the others stands one place later behind one row more
     there : (x : Row) (rows : List Row) (row : Row) (k : Contains rows row) → get_or (x ∷ rows) (k.0 + 1) row ≡ row
     there x rows row k = ap (λ (n : ℕ). get_or (x ∷ rows) n row) (add-one k.0) ∙ k.2
 

@@ -31,10 +31,12 @@ pub none_left : (names others : List (String Global)) (place : ℕ) → length o
 none_left names others place past = ap (λ (xs : List (String Global)). part (branch_of (drop place names)) (branch_of xs)) (drop_all others place past)
     ∙ with_none (branch_of (drop place names))
   where
+    -- no branch parts from one that has no names
     with_none : (xs : Branch) → part xs [] ≡ false
     with_none [] = refl
     with_none (x ∷ xs) = refl
 
+    -- behind all its elements a list has nothing
     drop_all : (xs : List (String Global)) (k : ℕ) → length xs ≤ k → drop k xs ≡ []
     drop_all [] zero le = refl
     drop_all [] (suc k) le = refl

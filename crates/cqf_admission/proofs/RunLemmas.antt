@@ -137,6 +137,7 @@ withdraw_entered : (effect : ℕ) (found : Option Row) (refused : Refused) → w
 withdraw_entered effect None refused e = let same : NotHeld ≡ refused = cc in subst (λ (r : Refused). is_entered (Err r) ≡ true) same refl
 withdraw_entered effect (Some row) refused e = by_end row.withdrawn e
   where
+    -- a refused withdrawal of a held stream is entered, whatever its end
     by_end : (end : Option Cycle) → withdraw_row effect row.no end ≡ RefusedFor refused → is_entered (Err refused) ≡ true
     by_end None f = absurd cc
     by_end (Some before) f = let same : AlreadyWithdrawn ≡ refused = cc in subst (λ (r : Refused). is_entered (Err r) ≡ true) same refl

@@ -135,6 +135,7 @@ few_here paths index branch few inside is =
     let there : All (λ (b : Vec (String Global) Global). length (branch_of b.items) ≤ 17) paths = unmapped paths few in
     omega (arith, there index branch inside, ap (λ (b : Vec (String Global) Global). length (branch_of b.items)) is, length-map branch.items string_bytes)
   where
+    -- where no branch has more than 17 nodes, no path that they are read from does
     unmapped : (ps : List (Vec (String Global) Global)) → All (λ (b : Branch). length b ≤ 17) (branches_of ps) →
         All (λ (b : Vec (String Global) Global). length (branch_of b.items) ≤ 17) ps
     unmapped [] h = All-nil (λ (b : Vec (String Global) Global). length (branch_of b.items) ≤ 17)

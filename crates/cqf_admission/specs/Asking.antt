@@ -5,6 +5,7 @@ use Rattle.cqf_topology.specs.StreamsText.{RequestText}
 use Rattle.cqf_model.specs.History.{Asked}
 use Rattle.cqf_admission.specs.Branches.{branches_of}
 
+-- what a request asks for
 abbrev pub asked_of : Request → Asked
 asked_of request = record { name = string_bytes request.name; octets = request.octets; paths = branches_of request.paths.items }
 

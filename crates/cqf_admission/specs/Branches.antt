@@ -17,6 +17,7 @@ use Rattle.cqf_admission.specs.declared.branches.Check.TheVariants.{Known, Whole
 abbrev pub branch_of : List (String Global) → Branch
 branch_of names = map string_bytes names
 
+-- and some branches
 abbrev pub branches_of : List (Vec (String Global) Global) → List Branch
 branches_of paths = map (λ (branch : Vec (String Global) Global). branch_of branch.items) paths
 

@@ -55,10 +55,12 @@ AreBridges-more d tree k bridge known bridges below from within word so_far = re
   inside = inside known;
 }
   where
+    -- there are no more bridges than hops
     few : (b : Bool) → length (if b then bridges else bridges ++ bridge ∷ []) ≤ k + 1
     few true = omega (arith, so_far.few)
     few false = omega (arith, so_far.few, length-append bridges (bridge ∷ []))
 
+    -- each of them is one of the domain's bridges
     inside : (b : Bool) → All (λ (x : ℕ). x < length d.bridges) (if b then bridges else bridges ++ bridge ∷ [])
     inside true = so_far.inside
     inside false = All-append (λ (x : ℕ). x < length d.bridges) bridges (bridge ∷ []) so_far.inside

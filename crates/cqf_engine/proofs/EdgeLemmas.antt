@@ -32,6 +32,7 @@ pub record WrittenSoFar (before now : Option (List ℕ)) (text rest : List ℕ) 
   pub cut : text ≡ front ++ rest
   pub written : Appends before now front
 
+-- where nothing was written yet, all of the text is left
 pub WrittenSoFar-start : (before : Option (List ℕ)) (text : List ℕ) → WrittenSoFar before before text text
 WrittenSoFar-start before text = record { front = []; cut = refl; written = Appends-nil before }
 

@@ -147,9 +147,11 @@ refusal_statuses (Port until rate) input stop h = h.statuses
 refusal_statuses (Line cycles) input stop h = h.statuses
 refusal_statuses Compile input stop h = h.statuses
 
+-- so its status is at most 3
 pub refusal_few : (job : Job) (input : List ℕ) (stop : Stop) → IsRefusal job input stop → stop.status ≤ 3
 refusal_few job input stop h = elim (refusal_statuses job input stop h) [ inl one ↦ omega arith | inr three ↦ omega arith ]
 
+-- a refused input with status 3 is told with no text
 refusal_memory : (job : Job) (input : List ℕ) (stop : Stop) → IsRefusal job input stop → stop.status ≡ 3 → stop.text.items ≡ []
 refusal_memory (Port until rate) input stop h = h.memory
 refusal_memory (Line cycles) input stop h = h.memory
@@ -172,6 +174,7 @@ means_given : (words : List (List ℕ)) (bytes : List ℕ) (job : Job) → words
 means_given [] bytes job some means = absurd (some refl)
 means_given (word ∷ words) bytes job some means = means
 
+-- and all bytes are the input
 input_given : (words : List (List ℕ)) (bytes : List ℕ) → words ≢ [] → bytes ≡ input_of words bytes
 input_given [] bytes some = absurd (some refl)
 input_given (word ∷ words) bytes some = refl

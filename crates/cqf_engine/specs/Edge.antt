@@ -25,6 +25,7 @@ pub record Reading : Type 0 where
   pub bytes : List ℕ
   pub failed : Bool
 
+-- that of a reader, before and after it was heard
 abbrev pub reading : {R : Type 0} → (R → Option (List ℕ)) → Heard R → Heard R → Reading
 reading remaining old new = record {
   before = remaining old.reader;
@@ -49,6 +50,7 @@ pub record Writing : Type 0 where
   pub after : Option (List ℕ)
   pub refused : Bool
 
+-- that of a writer, before and after it was told
 abbrev pub writing : {W : Type 0} → (W → Option (List ℕ)) → Told W → Told W → Writing
 writing contents old new = record {
   before = contents old.writer;

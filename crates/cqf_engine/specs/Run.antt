@@ -34,6 +34,7 @@ IsRefusal (Port until rate) input stop = IsRefused (port_input input) stop
 IsRefusal (Line cycles) input stop = IsRefused (line_input input) stop
 IsRefusal Compile input stop = IsRefused (compiled_input input) stop
 
+-- the byte is a space
 abbrev pub is_space : ℕ → Bool
 is_space byte = byte == 32
 

@@ -45,6 +45,7 @@ same_interval-equations entries s t same =
     let both = both_true _ _ same in
     (equal-from_test _ _ both.0, equal-from_test _ _ both.1)
 
+-- and where the equations hold, both lie in one interval
 pub same_interval-from_equations : (entries : List StreamEntry) (s t : ℕ) → round_at entries s ≡ round_at entries t → place_at entries s ≡ place_at entries t → same_interval entries s t ≡ true
 same_interval-from_equations entries s t round place =
     let rounds : eqb (round_at entries s) (round_at entries t) ≡ true = eq-eqb _ _ round in

@@ -12,6 +12,7 @@ text_of_entries-push [] entry = refl
 text_of_entries-push (first ∷ entries) entry =
     ap (λ rest. line_of_entry first ++ 10 ∷ rest) (text_of_entries-push entries entry) ∙ simp append_assoc
 
+-- the text of the first entries of a list and the next one
 pub text_of_entries-more : (entries : List Entry) (k : ℕ) (d : Entry) → k < length entries → text_of_entries (take (k + 1) entries) ≡ text_of_entries (take k entries) ++ line_of_entry (get_or entries k d) ++ 10 ∷ []
 text_of_entries-more entries k d inside = ap text_of_entries (take_more entries k d inside) ∙ text_of_entries-push (take k entries) (get_or entries k d)
 
@@ -21,5 +22,6 @@ text_of_stream_entries-push [] entry = refl
 text_of_stream_entries-push (first ∷ entries) entry =
     ap (λ rest. line_of_stream_entry first ++ 10 ∷ rest) (text_of_stream_entries-push entries entry) ∙ sym (append_assoc (line_of_stream_entry first) (10 ∷ text_of_stream_entries entries) (line_of_stream_entry entry ++ 10 ∷ []))
 
+-- the text of the first entries of a stream gate's list and the next one
 pub text_of_stream_entries-more : (entries : List StreamEntry) (k : ℕ) (d : StreamEntry) → k < length entries → text_of_stream_entries (take (k + 1) entries) ≡ text_of_stream_entries (take k entries) ++ (line_of_stream_entry (get_or entries k d) ++ 10 ∷ [])
 text_of_stream_entries-more entries k d inside = ap text_of_stream_entries (take_more entries k d inside) ∙ text_of_stream_entries-push (take k entries) (get_or entries k d)

@@ -31,6 +31,7 @@ numbered_from n (x ∷ xs) (suc place) frame e =
     let same : n + 1 + place ≡ n + suc place = omega arith in
     numbered_from (n + 1) xs place frame e ∙ ap (λ (k : ℕ). Some (as_backed (k, frame))) same
 
+-- a background frame's number is its place in its list, from 1
 pub numbered_by_place : BackgroundIsNumberedByPlace
 numbered_by_place background place frame e =
     let same : 1 + place ≡ place + 1 = omega arith in
@@ -60,6 +61,7 @@ started_background queued starts start c =
       as_it_came = k.1 ∙ ap (λ (t : ℕ). start_of_arrival t q.arrival) (sym when);
     }
 
+-- and each background start is among what they send
 background_started : (queued : List QueuedFrame) (starts : List Transmission) (start : Start) → IsBackgroundStart queued starts start → Contains (flat_map (backed_of queued) starts) start
 background_started queued starts start is =
     let q = slice_index_or queued is.place no_frame in
@@ -67,6 +69,7 @@ background_started queued starts start is =
     (backed_there start.start.0 q.arrival q.stream is.of_no_stream) in
     subst (λ (s : Start). Contains (flat_map (backed_of queued) starts) s) (sym is.as_it_came) there
 
+-- of what a port starts, just the frames of no stream are its background frames
 pub ports_say : PortsSayTheirBackground
 ports_say d entries end l queued sents backed sends start = (
   λ c. started_background queued sends.starts start (subst (λ (xs : List Start). Contains xs start) sends.are_backed c),
@@ -93,6 +96,7 @@ from_run d cycles backed s c =
     let f = contains_from_filter (λ (start : Start). cycle_of d start.start.0 == a.0) (backed b.0) m.0 m.1 in
     told d cycles a.0 b.0 backed m.0 s a.1 b.1 f.0 (eqb-true (cycle_of d m.0.start.0) a.0 f.1) m.2
 
+-- and each background start of the run is in it
 of_run : (d : Domain) (cycles : ℕ) (backed : ℕ → List Start) (s : Started) → IsBackgroundOfRun d cycles backed s → Contains (background_of d cycles backed) s
 of_run d cycles backed s is =
     let kept = contains_filter (λ (start : Start). cycle_of d start.start.0 == s.cycle.0) (backed s.link) is.start is.is_backed (eq-eqb (cycle_of d is.start.start.0) s.cycle.0 (sym is.cycle)) in
@@ -101,6 +105,7 @@ of_run d cycles backed s is =
     contains_below (λ cycle. each_below (background_in d backed cycle) (length d.links)) cycles s.cycle.0 s is.within_run
     (contains_below (background_in d backed s.cycle.0) (length d.links) s.link s is.on_link there)
 
+-- a book has each start of a background frame that the network sends in the run, and no other
 pub books_say : BooksSayTheBackground
 books_say run lists cycles book is s = (
   λ c. from_run run.domain cycles is.net.backed s (subst (λ (xs : List Started). Contains xs s) is.are_background c),

@@ -37,6 +37,7 @@ pub record IsGreatestDepth (row : Row) (most : ℕ) : Type 0 where
   pub none_deeper : (depth link : ℕ) → IsHop row depth link → depth ≤ most
   pub some_so_deep : 0 < length row.tree.items → (link : ℕ) × IsHop row most link
 
+-- a stream's residence is the depth of its deepest link
 abbrev pub ResidenceIsTheGreatestDepth : Type 0
 ResidenceIsTheGreatestDepth = (row : Row) → IsGreatestDepth row (residence row)
 

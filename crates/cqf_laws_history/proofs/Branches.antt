@@ -122,6 +122,7 @@ pub name_at : (d : Domain) (branch : Branch) (k : ℕ) (node : Node) → node_at
     (node_named d name ≡ Some node)
 name_at d branch k node e = by_name (slice_get branch k) refl e
   where
+    -- where a node is there, a name is, and the node is the name's
     by_name : (o : Option (List ℕ)) → slice_get branch k ≡ o → option_map_or (λ name. node_named d name) o None ≡ Some node → (name : List ℕ) ×
         (slice_get branch k ≡ Some name) × (node_named d name ≡ Some node)
     by_name None f g = absurd cc

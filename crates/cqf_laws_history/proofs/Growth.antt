@@ -227,6 +227,7 @@ filter_mapped p g (x ∷ xs) h =
     ∙ ap (λ (zs : List Row). cond (p x) (g x ∷ zs) zs) (filter_mapped p g xs (λ z k. h z (contains_later x xs z k)))
     ∙ map_kept (p x)
   where
+    -- a first element, kept or not, may be mapped before it is kept or behind
     map_kept : (b : Bool) → cond b (g x ∷ map g (filter p xs)) (map g (filter p xs)) ≡ map g (cond b (x ∷ filter p xs) (filter p xs))
     map_kept true = refl
     map_kept false = refl
@@ -289,6 +290,7 @@ seal_closes_table d entries rows next seat state =
     let last : place ≡ length entries = last_seal place at in
     ap (λ (k : ℕ). held_in d (take k all) (seals entries)) last ∙ ap (λ (xs : List Recorded). held_in d xs (seals entries)) (front_is entries e) ∙ state.held
   where
+    -- the Seal that was just entered stands behind all earlier entries
     last_seal : (place : ℕ) → SealAt (with_entry entries seat Seals Sealed) (seals entries) place → place ≡ length entries
     last_seal place at =
         let e : Recorded = record { seat = seat; act = Seals; reply = Sealed } in
@@ -313,6 +315,7 @@ held_with_end : (row : Row) (cycle number : ℕ) → 0 < residence row → (row.
     is_held (ended_row number cycle row) cycle ≡ is_held row cycle
 held_with_end row cycle number long open_end = by_number (row.no == number) refl
   where
+    -- the row is held in the cycle as before, whether it has the number or not
     by_number : (b : Bool) → (row.no == number) ≡ b → is_held (ended_row number cycle row) cycle ≡ is_held row cycle
     by_number false t = ap (λ (c : Bool). is_held
         (if c then (let made : Row = record {
@@ -355,6 +358,7 @@ ended_by : (v w : ℕ → Option Cycle) (number cycle : ℕ) → ((other : ℕ) 
     ((other : ℕ) → (number == other) ≡ false → v other ≡ w other) → (row : Row) → with_end v row ≡ ended_row number cycle (with_end w row)
 ended_by v w number cycle here elsewhere row = by_number (row.no == number) refl
   where
+    -- with one withdrawal more, the row ends so, whether it has the number or not
     by_number : (b : Bool) → (row.no == number) ≡ b → with_end v row ≡ ended_row number cycle (with_end w row)
     by_number true t =
         ap (row_ending row) (here row.no (eq-eqb number row.no (sym (eqb-true row.no number t))))

@@ -47,6 +47,7 @@ effect_by effect number (Withdraws name) (RefusedFor refused) x h = absurd (cont
 effect_by effect number (Withdraws name) Sealed x h = absurd (contains_none x h)
 effect_by effect number (Withdraws name) (Accepted receipt) x h = (refl, of_cycle (receipt.no == number) h)
   where
+    -- a list that has the effect at most contains no other cycle
     of_cycle : (b : Bool) → Contains (if b then record { 0 = effect } ∷ [] else []) x → x.0 ≡ effect
     of_cycle true k = elim (contains_cases (record { 0 = effect }) [] x k) [ inl e ↦ ap (λ (c : Cycle). c.0) (sym e) | inr n ↦ absurd (contains_none x n) ]
     of_cycle false k = absurd (contains_none x k)

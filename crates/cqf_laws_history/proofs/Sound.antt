@@ -83,6 +83,7 @@ room_on d rows cost [] l e t = absurd cc
 room_on d rows cost (x ∷ links) l e t =
     room_case (nat_lt (left_on d rows x) cost) refl e (x == l) refl t (room_on d rows cost links l)
   where
+    -- the link has enough left where the first link has and the others have, whichever it is
     room_case : (short : Bool) → nat_lt (left_on d rows x) cost ≡ short → (if short then Some x else find (λ l. nat_lt (left_on d rows l) cost) links) ≡ None →
         (here : Bool) → (x == l) ≡ here → (here || list_any (λ k. k == l) links) ≡ true →
         (find (λ l. nat_lt (left_on d rows l) cost) links ≡ None → list_any (λ k. k == l) links ≡ true → cost ≤ left_on d rows l) → cost ≤ left_on d rows l
@@ -103,6 +104,7 @@ held_less row v w c e le begun same h =
       | inr equal ↦ ap (λ (o : Option Cycle). option_map_or (λ (x : Cycle). nat_lt c (x.0 + residence row)) o true) equal ∙ sooner (v row.no) parts.1
     ])
   where
+    -- a stream whose end lets it stay in a cycle was there in each earlier one
     sooner : (o : Option Cycle) → option_map_or (λ (x : Cycle). nat_lt e (x.0 + residence row)) o true ≡ true →
         option_map_or (λ (x : Cycle). nat_lt c (x.0 + residence row)) o true ≡ true
     sooner None t = refl
@@ -113,6 +115,7 @@ end_stays : (entries : List Recorded) (n number : ℕ) →
     (withdrawn_before entries n number ≡ None) ⊎ (withdrawn_before entries n number ≡ withdrawn_before entries (suc n) number)
 end_stays entries n number = stays (withdrawn_before entries n number) refl
   where
+    -- where there is a withdrawal of the number, one entry more leaves it the first
     stays : (o : Option Cycle) → withdrawn_before entries n number ≡ o →
         (withdrawn_before entries n number ≡ None) ⊎ (withdrawn_before entries n number ≡ withdrawn_before entries (suc n) number)
     stays None e = inl e
@@ -304,6 +307,7 @@ pub named_is_held : (rows : List Row) (name : List ℕ) (row : Row) → row_name
 named_is_held [] name row e = absurd cc
 named_is_held (x ∷ rows) name row e = first_or_later (is_text x.name name) e (named_is_held rows name row)
   where
+    -- a row that is found by its name is the first, or one of the rest
     first_or_later : (b : Bool) → cond b (Some x) (row_named rows name) ≡ Some row → (row_named rows name ≡ Some row → Contains rows row) →
         Contains (x ∷ rows) row
     first_or_later true f r = subst (λ (y : Row). Contains (x ∷ rows) y) (same_Some x row f) (contains_here x rows)
@@ -337,6 +341,7 @@ withdrawal_of_one d entries n e name None within is act reply found s number x f
     ∙ ap (λ (r : Reply). withdrawal_by (sealed_before entries n) number (Withdraws name) r) reply)) ∙ f)
 withdrawal_of_one d entries n e name (Some row) within is act reply found s number x f = by_end row.withdrawn reply
   where
+    -- a number that is withdrawn, with this row or before, is below the count of the admitted streams
     of_this : (b : Bool) → (row.no == number) ≡ b →
         withdrawal_by (sealed_before entries n) number e.act e.reply ≡ (if row.no == number then record { 0 = sealed_before entries n } ∷ [] else []) →
         number < length (admitted_before d entries n)
@@ -348,6 +353,7 @@ withdrawal_of_one d entries n e name (Some row) within is act reply found s numb
     of_this false t w = s.ends number x
         (sym (no_end_more entries n number e is (w ∙ ap (λ (b : Bool). if b then record { 0 = sealed_before entries n } ∷ [] else []) t)) ∙ f)
 
+    -- a number that is withdrawn is below that count, whatever end the row had
     by_end : (o : Option Cycle) → e.reply ≡ withdraw_row (sealed_before entries n) row.no o → number < length (admitted_before d entries n)
     by_end None r = of_this (row.no == number) refl
         (ap (λ (a : Act). withdrawal_by (sealed_before entries n) number a e.reply) act

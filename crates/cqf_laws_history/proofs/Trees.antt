@@ -49,6 +49,7 @@ apart_agree xs ys e p q name f g =
     let not_in : list_any (λ y. is_text name y) ys ≡ false = none_member (λ x. list_any (λ y. is_text x y) ys) xs name none (contains_at xs p name f) in
     absurd (both_ways (is_text name name) (none_member (λ y. is_text name y) ys name not_in (contains_at ys q name g)) (is_text_itself name))
   where
+    -- where the opposite of a test holds, the test fails
     none_of : (b : Bool) → not b ≡ true → b ≡ false
     none_of true h = absurd cc
     none_of false h = refl
@@ -60,6 +61,7 @@ part_agree (x ∷ xs) [] e no_x no_y = absurd cc
 part_agree (x ∷ xs) (y ∷ ys) e no_x no_y =
     by_test (is_text x y) refl e (λ t. part_agree xs ys t (rest_no_repeat x xs no_x) (rest_no_repeat y ys no_y))
   where
+    -- branches that part agree, whether they begin with one name or not
     by_test : (b : Bool) → is_text x y ≡ b → (if b then part xs ys else are_apart (x ∷ xs) (y ∷ ys)) ≡ true → (part xs ys ≡ true → Agree xs ys) →
         Agree (x ∷ xs) (y ∷ ys)
     by_test true t f rest = agree_cons x y xs ys (is_text_same x y t) (rest f) no_x no_y
@@ -104,6 +106,7 @@ all_make_a_tree paths once none xs ys cx cy =
       ]
     ]
   where
+    -- of two branches that stand at different places, the earlier makes a tree with the later
     before : (i j : ℕ) (x y : Branch) → i < j → slice_get paths i ≡ Some x → slice_get paths j ≡ Some y → make_a_tree x y ≡ true
     before i j x y l e f =
         let here : list_any (λ b. not (make_a_tree b y)) (take j paths) ≡ false =
@@ -112,6 +115,7 @@ all_make_a_tree paths once none xs ys cx cy =
         not-false (make_a_tree x y) (none_member (λ b. not (make_a_tree b y)) (take j paths) x here
         (contains_at (take j paths) i x (slice_get-take paths j i l ∙ e)))
 
+    -- a branch makes a tree with itself
     itself : xs ≡ ys → MakeATree xs ys
     itself e = record {
       begin = ap (λ (b : Branch). slice_get b 0) e;
@@ -236,6 +240,7 @@ module _ (d : Domain) (paths : List Branch) (branches : (branch : Branch) → Co
     first_is : (branch : Branch) → Contains paths branch → node_at d branch 0 ≡ Some (Bridge first)
     first_is branch c = ap (λ (o : Option (List ℕ)). option_map_or (λ name. node_named d name) o None) (trees branch one c is_one).begin ∙ begins_here
 
+    -- a hop that follows no link stands at depth 1, and its link leaves the first bridge
     begin : (hop : Hop) → Contains (tree_of d paths) hop → hop.from ≡ None → (hop.depth ≡ 1) × (leaves d hop.link first ≡ true)
     begin hop c none = let w = of_tree hop c in at_first w.branch w.of_paths w.k w.inside w.is
       where

@@ -97,6 +97,7 @@ pub record AreHeld (d : Domain) (rows : List Row) (next effect : ℕ) : Type 0 w
   pub names : AllPairs (λ (a b : Row). a.name ≢ b.name) rows
   pub loads : (l : ℕ) → link_cost rows l ≤ budget d l
 
+-- the streams that are held behind a legal history are so
 abbrev pub HeldAreSound : Type 0
 HeldAreSound =
     (d : Domain) (entries : List Recorded) (rows : List Row) (next : ℕ) → IsLegalHistory d entries → IsState d entries rows next →

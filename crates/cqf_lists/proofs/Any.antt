@@ -18,6 +18,7 @@ pub list_any-filter : {X : Type 0} (p q : X → Bool) (xs : List X) → list_any
 list_any-filter p q [] = refl
 list_any-filter {X} p q (x ∷ xs) = kept (q x) ∙ ap (λ (b : Bool). (q x && p x) || b) (list_any-filter p q xs)
   where
+    -- a first element counts where it is kept and passes
     kept : (b : Bool) → list_any p (cond b (x ∷ filter q xs) (filter q xs)) ≡ ((b && p x) || list_any p (filter q xs))
     kept true = refl
     kept false = refl
@@ -38,6 +39,7 @@ place_found : {X : Type 0} (p : X → Bool) (xs : List X) → nat_lt (prefix_len
 place_found p [] = refl
 place_found {X} p (x ∷ xs) = by_test (p x) (place_found p xs)
   where
+    -- the elements before the first that passes are fewer than all where some element passes, the first or a later one
     by_test : (b : Bool) → nat_lt (prefix_len (λ z. not (p z)) xs) (length xs) ≡ list_any p xs →
         nat_lt (cond (not b) (1 + prefix_len (λ z. not (p z)) xs) 0) (suc (length xs)) ≡ (b || list_any p xs)
     by_test true e = lt-ltb 0 (suc (length xs)) (omega arith)

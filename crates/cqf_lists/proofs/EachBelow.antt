@@ -140,6 +140,7 @@ pub length-singles : {A : Type 0} (f : ℕ → A) (n : ℕ) → length (each_bel
 length-singles f zero = refl
 length-singles f (suc n) = length-append (each_below (λ k. f k ∷ []) n) (f n ∷ []) ∙ grown (length (each_below (λ k. f k ∷ []) n)) (length-singles f n)
   where
+    -- one more than a number is the next
     grown : (m : ℕ) → m ≡ n → m + 1 ≡ suc n
     grown m e = omega (arith, e)
 
@@ -152,5 +153,6 @@ get_or-singles f (suc n) k d h =
       | inr g ↦ get_or-append_right (each_below (λ k. f k ∷ []) n) (f n ∷ []) n k d (length-singles f n) g ∙ at_last k (omega (arith, g, h))
     ]
   where
+    -- the last element stands at the last place
     at_last : (m : ℕ) → m ≡ n → get_or (f n ∷ []) (m - n) d ≡ f m
     at_last m e = let z : m - n ≡ 0 = omega (arith, e) in ap (λ (i : ℕ). get_or (f n ∷ []) i d) z ∙ ap f (sym e)

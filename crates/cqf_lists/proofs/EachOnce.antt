@@ -60,6 +60,7 @@ module _ {X : Type 0} (same : X → X → Bool) where
 
   -- an element of the list is the same as one that is kept
   module _ (itself : (x : X) → same x x ≡ true) where
+    -- behind an element's turn, one that is the same is kept
     one_kept : (kept : List X) (x : X) → (y : X) × Contains (keep same kept x) y × (same y x ≡ true)
     one_kept kept x = by_test (list_any (λ y. same y x) kept) refl
       where

@@ -15,6 +15,7 @@ kept_or_not : {X : Type 0} (p : X → Bool) (x : X) (ys : List X) (b : Bool) →
 kept_or_not p x ys true h = refl
 kept_or_not p x ys false h = ap (λ (c : Bool). cond c (x ∷ filter p ys) (filter p ys)) (never (p x) h)
   where
+    -- a test that would make false true fails
     never : (c : Bool) → (c ≡ true → false ≡ true) → c ≡ false
     never true h = sym (h refl)
     never false h = refl

@@ -11,6 +11,7 @@ flat_kept {X} {Y} {Z} keeps renamed f g (x ∷ xs) kept left =
     ap (λ z. f x ++ z) (flat_kept keeps renamed f g xs (λ y c. kept y (contains_later x xs y c)) (λ y c. left y (contains_later x xs y c)))
     ∙ first (keeps x) (kept x (contains_here x xs)) (left x (contains_here x xs))
   where
+    -- the first element, where it is kept, makes the same under another name, and otherwise nothing
     first : (b : Bool) → (b ≡ true → f x ≡ g (renamed x)) → (b ≡ false → f x ≡ []) →
         f x ++ flat_map g (map renamed (filter keeps xs)) ≡ flat_map g (map renamed (cond b (x ∷ filter keeps xs) (filter keeps xs)))
     first true kept left = ap (λ z. z ++ flat_map g (map renamed (filter keeps xs))) (kept refl)

@@ -14,10 +14,12 @@ append_nil_parts (x ∷ xs) ys e = absurd cc
 pub least_none : (test : ℕ → Bool) (n : ℕ) → least test n ≡ None → (k : ℕ) → k < n → test k ≡ false
 least_none test n e = none_listed n (nil_from_none (each_below (λ k. if test k then k ∷ [] else []) n) e)
   where
+    -- a number that isn't listed fails the test
     not_listed : (b : Bool) (k : ℕ) → (if b then k ∷ [] else []) ≡ [] → b ≡ false
     not_listed true k h = absurd cc
     not_listed false k h = refl
 
+    -- where no number below a bound is listed, none passes
     none_listed : (m : ℕ) → each_below (λ k. if test k then k ∷ [] else []) m ≡ [] → (k : ℕ) → k < m → test k ≡ false
     none_listed zero h k l = absurd (omega (arith, l))
     none_listed (suc m) h k l =

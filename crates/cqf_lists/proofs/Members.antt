@@ -19,6 +19,7 @@ contains_later y xs x c = (suc c.0, omega (arith, c.1), c.2)
 pub contains_cases : {X : Type 0} (y : X) (xs : List X) (x : X) → Contains (y ∷ xs) x → (y ≡ x) ⊎ Contains xs x
 contains_cases {X} y xs x c = go c.0 c.1 c.2
   where
+    -- what stands at a place is the first element or a member of the rest
     go : (k : ℕ) → k < length (y ∷ xs) → get_or (y ∷ xs) k x ≡ x → (y ≡ x) ⊎ Contains xs x
     go zero l e = inl e
     go (suc k) l e = inr (k, omega (arith, l), e)

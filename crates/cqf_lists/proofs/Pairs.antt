@@ -29,6 +29,7 @@ pairs_append {X} R xs ys first second across i j d l inside = elim (cases_lt j (
   ]
 ]
   where
+    -- a place behind the first list is one of the second
     behind : (j : ℕ) → length xs ≤ j → j < length (xs ++ ys) → j - length xs < length ys
     behind j from upto = omega (arith, from, upto, length-append xs ys)
 

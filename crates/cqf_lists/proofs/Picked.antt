@@ -22,5 +22,6 @@ filter_one {X} p f (suc n) k l apart =
           split ∙ ap (λ (xs : List X). filter p (each_below f n) ++ xs) behind ∙ append-nil (filter p (each_below f n)) ∙ here
     ]
   where
+    -- where the number isn't the last, it is below the last
     less : (n ≡ k → ⊥) → k < n
     less differ = omega (arith, l, differ)

@@ -19,6 +19,7 @@ pub kept_at_rank : {X : Type 0} (keeps : X → Bool) (xs : List X) (place : ℕ)
 kept_at_rank keeps [] place d inside passes = absurd (omega (arith, inside))
 kept_at_rank {X} keeps (x ∷ xs) zero d inside passes = let r = first (keeps x) (filter keeps xs) passes in record { inside = r.0; same = r.1 }
   where
+    -- a kept element in front is the first of those that are kept
     first : (b : Bool) (ys : List X) → b ≡ true → (0 < length (cond b (x ∷ ys) ys)) × (get_or (cond b (x ∷ ys) ys) 0 d ≡ x)
     first true ys is_true = (omega arith, refl)
     first false ys is_true = absurd (false≢true is_true)
@@ -27,6 +28,7 @@ kept_at_rank {X} keeps (x ∷ xs) (suc place) d inside passes =
     let s = one_more (keeps x) (filter keeps (take place xs)) (filter keeps xs) r.inside r.same in
     record { inside = s.0; same = s.1 }
   where
+    -- behind one element more, kept or not, an element stands at its rank
     one_more : (b : Bool) (ys zs : List X) → length ys < length zs → get_or zs (length ys) d ≡ get_or xs place d →
         (length (cond b (x ∷ ys) ys) < length (cond b (x ∷ zs) zs)) × (get_or (cond b (x ∷ zs) zs) (length (cond b (x ∷ ys) ys)) d ≡ get_or xs place d)
     one_more true ys zs less same = (omega (arith, less), same)
@@ -39,12 +41,14 @@ rank_less keeps [] i j d less inside passes = absurd (omega (arith, inside))
 rank_less keeps (x ∷ xs) i zero d less inside passes = absurd (omega (arith, less))
 rank_less {X} keeps (x ∷ xs) zero (suc j) d less inside passes = some (keeps x) (filter keeps (take j xs)) passes
   where
+    -- a kept element in front makes a list that isn't empty
     some : (b : Bool) (ys : List X) → b ≡ true → 0 < length (cond b (x ∷ ys) ys)
     some true ys is_true = omega arith
     some false ys is_true = absurd (false≢true is_true)
 rank_less {X} keeps (x ∷ xs) (suc i) (suc j) d less inside passes =
     one_more (keeps x) (filter keeps (take i xs)) (filter keeps (take j xs)) (rank_less keeps xs i j d (omega (arith, less)) (omega (arith, inside)) passes)
   where
+    -- behind one element more, kept or not, the shorter list stays the shorter
     one_more : (b : Bool) (ys zs : List X) → length ys < length zs → length (cond b (x ∷ ys) ys) < length (cond b (x ∷ zs) zs)
     one_more true ys zs less = omega (arith, less)
     one_more false ys zs less = less
@@ -55,10 +59,12 @@ pub ranked : {X : Type 0} (keeps : X → Bool) (xs : List X) (k : ℕ) (d : X) �
 ranked keeps [] k d inside = absurd (omega (arith, inside))
 ranked {X} keeps (x ∷ xs) k d inside = by_test (λ n n_inside. ranked keeps xs n d n_inside) (keeps x) refl k inside
   where
+    -- the rank of a later place counts the first element where it is kept
     later : (b : Bool) (place : ℕ) → keeps x ≡ b →
         rank keeps (x ∷ xs) (suc place) ≡ length (cond b (x ∷ filter keeps (take place xs)) (filter keeps (take place xs)))
     later b place is = ap (λ z. length (cond z (x ∷ filter keeps (take place xs)) (filter keeps (take place xs)))) is
 
+    -- each place among the kept ones is a rank, with one element more in front, kept or not
     by_test : ((n : ℕ) → n < length (filter keeps xs) → (place : ℕ) × (place < length xs) × (keeps (get_or xs place d) ≡ true) × (rank keeps xs place ≡ n)) →
         (b : Bool) → keeps x ≡ b → (k : ℕ) → k < length (cond b (x ∷ filter keeps xs) (filter keeps xs)) → (place : ℕ) × (place < length (x ∷ xs)) ×
         (keeps (get_or (x ∷ xs) place d) ≡ true) × (rank keeps (x ∷ xs) place ≡ k)

@@ -114,6 +114,7 @@ sum_one_below f g m (suc n) others = elim (cases_eq n m) [
   | inr differ ↦ omega (arith, sum_below f g n, others n differ, sum_one_below f g m n others)
 ]
   where
+    -- what stands below the one number sums to nothing
     none_before : (k : ℕ) → k ≤ m → sum_by f (each_below g k) ≡ 0
     none_before zero l = refl
     none_before (suc k) l = omega (arith, sum_below f g k, none_before k (omega (arith, l)), others k (λ e. absurd (omega (arith, e, l))))
@@ -134,6 +135,7 @@ pub sum_filter_le : {X : Type 0} (f : X → ℕ) (p : X → Bool) (xs : List X) 
 sum_filter_le f p xs =
     omega (arith, sum_filter f p xs, sum_le_members (λ x. if p x then f x else 0) f xs (λ x c. at_most (p x) (f x)))
   where
+    -- a number that may count adds at most itself
     at_most : (b : Bool) (n : ℕ) → (if b then n else 0) ≤ n
     at_most true n = omega arith
     at_most false n = omega arith
@@ -149,6 +151,7 @@ sum_by_keys {X} f key xs (suc n) =
     ∙ sym (sum_plus (λ x. if nat_lt (key x) n then f x else 0) (λ x. if key x == n then f x else 0) xs)
     ∙ ap (λ (h : X → ℕ). sum_by h xs) (λ i. λ x. one (key x) (f x) i)
   where
+    -- what has a key below a number, or the number as its key, has one below the next
     one : (k v : ℕ) → (if nat_lt k n then v else 0) + (if k == n then v else 0) ≡ (if nat_lt k (suc n) then v else 0)
     one k v = elim (cases_order k n) [
       | inl e ↦ omega (

@@ -68,6 +68,7 @@ pub comes_without_background : (run : Run) (carried : Carried) (l cycles : ℕ) 
 comes_without_background run carried l cycles none =
     same cycles ∙ queues_end_to_end run carried l cycles
   where
+    -- what comes to a port in the first cycles is what is queued to it, cycle by cycle
     same : (n : ℕ) → comes_before run carried l n ≡ each_below (queued_in run carried l) n
     same zero = refl
     same (suc n) =

@@ -78,6 +78,7 @@ pub inside_drops_none : (d : Domain) (bridge m : ℕ) (fits : Row → Bool) (fou
 inside_drops_none d bridge m fits None reason e = cc
 inside_drops_none d bridge m fits (Some r) reason e = choice (goes_on d r (Some m) bridge) (fits r) e
   where
+    -- whether the row leads on or not, and the frame fits or not, there is no reason for a drop
     choice : (here fits : Bool) → (if not here then LacksRow else (if not fits then ExceedsGate else Queued r)) ≡ DroppedFor reason → ⊥
     choice true true e = cc
     choice true false e = cc

@@ -29,6 +29,7 @@ depth_within_residence row hop c = most_of row.tree.items 0 hop c
 pub depth_some : (d : Domain) (tree : List Hop) (hop : Hop) → IsTree d tree → Contains tree hop → 0 < hop.depth
 depth_some d tree hop good c = by_from hop.from refl
   where
+    -- a hop stands at depth 1 at least, whether it follows a link or not
     by_from : (from : Option ℕ) → hop.from ≡ from → 0 < hop.depth
     by_from None e = omega (arith, (good.begins hop c e).0)
     by_from (Some m) e = let place = place_of_member tree hop c in omega (arith, (good.follows place.0 m hop place.1 e).2.deeper)

@@ -56,6 +56,7 @@ number_of (Some (Station s)) = Some s
 has_name : (d : Domain) (name : List ℕ) (node : Node) → node_named d name ≡ Some node → HasName d node name
 has_name d name node e = by_places (position (λ other. is_text other name) d.bridges) (position (λ other. is_text other name) d.stations) node refl refl e
   where
+    -- the node has the name, whether it is found among the bridges or the stations
     by_places : (b s : Option ℕ) (node : Node) → position (λ other. is_text other name) d.bridges ≡ b → position (λ other. is_text other name) d.stations ≡ s →
         node_or b s ≡ Some node → HasName d node name
     by_places (Some b) s (Bridge k) f g h = name_found d.bridges name k (f ∙ ap number_of h)

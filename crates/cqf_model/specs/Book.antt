@@ -49,6 +49,7 @@ drop_by cycle bridge x (Queued row) = []
 drop_by cycle bridge x LacksRow = []
 drop_by cycle bridge x ExceedsGate = []
 
+-- the frame came in the cycle, and its offer has this place
 abbrev pub is_of_place : Domain → ℕ → ℕ → Policed → Bool
 is_of_place d cycle place p = (cycle_of d p.received.at == cycle) && (p.received.frame == place + 1)
 
@@ -58,6 +59,7 @@ drops_in d places policed cycle bridge = each_below
     (λ place. flat_map (λ (p : Policed). drop_by cycle bridge p.received p.verdict) (filter (is_of_place d cycle place) (policed bridge)))
     places
 
+-- the drops of the first cycles, by cycle, then bridge, then frame
 abbrev pub drops_of : Domain → ℕ → ℕ → (ℕ → List Policed) → List Dropped
 drops_of d cycles places policed = each_below (λ cycle. each_below (drops_in d places policed cycle) (length d.bridges)) cycles
 

@@ -68,10 +68,12 @@ end_of d l = option_map (λ (link : Link). link.to) (slice_get d.links l)
 abbrev pub leaves : Domain → ℕ → ℕ → Bool
 leaves d l bridge = option_map_or (λ (link : Link). link.from == bridge) (slice_get d.links l) false
 
+-- whether the node is the bridge
 abbrev pub node_is : Node → ℕ → Bool
 node_is (Bridge b) bridge = b == bridge
 node_is (Station s) bridge = false
 
+-- whether the link ends in the bridge
 abbrev pub enters : Domain → ℕ → ℕ → Bool
 enters d l bridge = option_map_or (λ (link : Link). node_is link.to bridge) (slice_get d.links l) false
 

@@ -220,6 +220,7 @@ refusal_of d rows asked =
 abbrev pub next_number : Domain → List Recorded → ℕ
 next_number d entries = length (streams_of d entries)
 
+-- the answer to a request: its stream's number and effect cycle, or why it is refused
 abbrev pub admit_reply : ℕ → ℕ → Option Refused → Reply
 admit_reply number effect None = Accepted (record { no = number; effect = record { 0 = effect } })
 admit_reply number effect (Some refused) = RefusedFor refused

@@ -83,9 +83,11 @@ comes_in run carried l cycle = backed_in run.domain run.background l cycle ++ qu
 abbrev pub comes_before : Run → Carried → ℕ → ℕ → List QueuedFrame
 comes_before run carried l cycles = each_below (comes_in run carried l) cycles
 
+-- the arrivals of queued frames
 abbrev pub arrivals_of : List QueuedFrame → List Arrival
 arrivals_of queued = map (λ (x : QueuedFrame). x.arrival) queued
 
+-- what stands past the end of a list of queued frames
 abbrev pub no_frame : QueuedFrame
 no_frame = record { arrival = no_arrival; stream = None }
 

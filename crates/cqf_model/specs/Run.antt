@@ -33,5 +33,6 @@ pub record IsBackground (d : Domain) (frame : Background) : Type 0 where
   pub most : frame.octets ≤ 1522
   pub early : frame.at.0 < 1000000000000
 
+-- each of some background frames may be handed to a run
 abbrev pub AreBackground : Domain → List Background → Type 0
 AreBackground d background = All (IsBackground d) background

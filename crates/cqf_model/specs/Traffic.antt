@@ -43,6 +43,7 @@ pub data Verdict : Type 0 where
   LacksRow : Verdict
   ExceedsGate : Verdict
 
+-- a frame that came to a bridge, and what becomes of it
 pub record Policed : Type 0 where
   pub received : Received
   pub verdict : Verdict
@@ -87,6 +88,7 @@ abbrev pub verdict_by : Domain → List Row → ℕ → ℕ → (Row → Bool) �
 verdict_by d table bridge cycle passes (AtEdge name) = edge_verdict d bridge cycle passes (row_named table name)
 verdict_by d table bridge cycle passes (Relayed m number) = inside_verdict d bridge m passes (row_of table number)
 
+-- a frame with the verdict on it, behind those that came earlier
 abbrev pub police : Domain → List (List Row) → ℕ → List Policed → Received → Policed
 police d tables bridge earlier x = let cycle = cycle_of d x.at in
     record { received = x; verdict = verdict_by d (table_of tables cycle) bridge cycle (λ row. within_gate d earlier row x) x.way }
@@ -120,6 +122,7 @@ Carried = ℕ → List Sent
 abbrev pub whole_at : Domain → ℕ → Sent → ℕ
 whole_at d m sent = ending_of sent.start.0 sent.octets (octet_time_of d m) + delay_of d m
 
+-- a frame that a link sent, as it comes to the next node
 abbrev pub sent_received : Domain → ℕ → Sent → Received
 sent_received d m sent = record { at = whole_at d m sent; octets = sent.octets; frame = sent.frame; way = Relayed m sent.stream }
 

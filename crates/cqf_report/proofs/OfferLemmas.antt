@@ -26,6 +26,7 @@ bridge-place (Some a) s b e = e
 bridge-inside : (d : Domain) (name : List ℕ) (b : ℕ) → bridge_named d name ≡ Some b → b < length d.bridges
 bridge-inside d name b e = by (is_name name) e
   where
+    -- what is found as a bridge is one of the domain's, whether the text is a name or not
     by : (test : Bool) → (if test then as_bridge (node_named d name) else None) ≡ Some b → b < length d.bridges
     by true e = (position-Some (λ (other : List ℕ). is_text other name) d.bridges b []
         (bridge-place (position (λ other. is_text other name) d.bridges) (position (λ other. is_text other name) d.stations) b e)).0
@@ -78,6 +79,7 @@ offers-few d text offers e = rows_under-few offer_header (in_four (offer_of d)) 
 is_text_other : (xs ys : List ℕ) → xs ≢ ys → is_text xs ys ≡ false
 is_text_other xs ys differ = by (is_text xs ys) refl
   where
+    -- so the test fails
     by : (test : Bool) → is_text xs ys ≡ test → is_text xs ys ≡ false
     by true e = absurd (differ (is_text_same xs ys e))
     by false e = e

@@ -60,6 +60,7 @@ module _ {A : Type 0} (P : A → Type 0) (read : Fields → Option A) (instant :
 within-range : (least most m n : ℕ) → within least most m ≡ Some n → (least ≤ n) × (n ≤ most)
 within-range least most m n e = by (nat_le least m && nat_le m most) refl e
   where
+    -- what is taken because it is in the range is in it
     by : (b : Bool) → (nat_le least m && nat_le m most) ≡ b → (if b then Some m else None) ≡ Some n → (least ≤ n) × (n ≤ most)
     by true holds e =
         let parts : (nat_le least m ≡ true) × (nat_le m most ≡ true) = and_parts (nat_le least m) (nat_le m most) holds in
@@ -72,6 +73,7 @@ within-range least most m n e = by (nat_le least m && nat_le m most) refl e
 pub decimal_in-range : (least most : ℕ) (digits : List ℕ) (n : ℕ) → decimal_in least most digits ≡ Some n → (least ≤ n) × (n ≤ most)
 decimal_in-range least most digits n e = by (decimal_value digits) e
   where
+    -- what the digits write, where it is taken, is in the range
     by : (o : Option ℕ) → option_and_then (within least most) o ≡ Some n → (least ≤ n) × (n ≤ most)
     by None e = cc
     by (Some m) e = within-range least most m n e

@@ -78,6 +78,7 @@ next-refused columns read instant number before rows few refuses other =
     let count : columns ≡ refuses.count = some-inj columns refuses.count refuses.expects in
     rw refuses.first (rows_from-bad read instant number before refuses.fields refuses.rest few (other refuses.fields (λ e. refuses.other (sym count ∙ e))))
   where
+    -- options that are equal hold equal numbers
     some-inj : (a b : ℕ) → ◌≡◌ {A = Option ℕ} (Some a) (Some b) → a ≡ b
     some-inj a b e = cc
 

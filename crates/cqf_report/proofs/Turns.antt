@@ -68,6 +68,7 @@ next-leaves : (s : State) (fields : Fields) (field xs : List ℕ) (p : Read) →
 unfolding next_record
 next-leaves s fields field [] p e = by (ends_at_end s) e
   where
+    -- a record that ends with the text leaves no byte
     by : (b : Bool) → (if b then Some (fields ++ (field ∷ []), st.StartRecord, []) else None) ≡ Some p → Leaves 0 p
     by true e = leaves-along 0 _ p e (record { between = refl; short = omega arith })
     by false e = cc e
@@ -76,6 +77,7 @@ next-leaves s fields field (c ∷ rest) p e =
     (λ k. next-leaves (step default_config s c).0 (fields_after (step default_config s c).1 fields field)
     (field_after (step default_config s c).1 c field) rest p k) e
   where
+    -- a record leaves no more than there was, whether it ends with this byte or goes on
     by : (b : Bool) → is_end (step default_config s c).1 ≡ b
         → (next_record default_config (step default_config s c).0 (fields_after (step default_config s c).1 fields field)
         (field_after (step default_config s c).1 c field) rest ≡ Some p → Leaves (length rest) p)
@@ -90,6 +92,7 @@ next-shorter : (s : State) (xs : List ℕ) (p : Read) → ends_at_end s ≡ fals
 unfolding next_record
 next-shorter s [] p between e = by (ends_at_end s) between e
   where
+    -- between two records the end of the text ends no record
     by : (b : Bool) → b ≡ false → (if b then Some ([] ++ ([] ∷ []), st.StartRecord, []) else None) ≡ Some p → length p.2 < 0
     by true no-end e = cc
     by false no-end e = cc
@@ -97,6 +100,7 @@ next-shorter s (c ∷ rest) p between e =
     by (is_end (step default_config s c).1)
     (λ k. next-leaves (step default_config s c).0 (fields_after (step default_config s c).1 [] []) (field_after (step default_config s c).1 c []) rest p k) e
   where
+    -- a record takes a byte at least, whether it ends with this one or goes on
     by : (b : Bool)
         → (next_record default_config (step default_config s c).0 (fields_after (step default_config s c).1 [] [])
         (field_after (step default_config s c).1 c []) rest ≡ Some p → Leaves (length rest) p)
@@ -180,6 +184,7 @@ read-next : (s after : State) (xs : List ℕ) (left : Option (List ℕ)) (fields
 read-next s after xs None fields h = absurd h
 read-next s after xs (Some ys) fields h = by (next_record default_config s [] [] xs) refl h
   where
+    -- there is a next record, and it is what was read
     by : (o : Option Read) → next_record default_config s [] [] xs ≡ o → NextIs o true fields after ys → (p : Read) ×
         (next_record default_config s [] [] xs ≡ Some p) × (fields ≡ p.0)
     by None e h = cc

@@ -6,6 +6,7 @@ use Rattle.cqf_report.specs.Records.{Fields}
 use Rattle.cqf_report.specs.Table.{in_four, table_of}
 use Rattle.cqf_report.specs.declared.tables.TableFault.{TableFault}
 
+-- the header of a table of arrivals
 abbrev pub arrival_header : Fields
 arrival_header = codes "at" ∷ codes "class" ∷ codes "octets" ∷ codes "frame" ∷ []
 
@@ -22,6 +23,7 @@ abbrev pub arrival_of : List ℕ → List ℕ → List ℕ → List ℕ → Opti
 arrival_of at class octets frame =
     arrival_with (decimal_in 0 100000000 at) (decimal_in 0 7 class) (decimal_in 64 1522 octets) (decimal_in 0 (2 ^ 32 - 1) frame)
 
+-- the instant of an arrival
 abbrev pub arrival_instant : Arrival → ℕ
 arrival_instant arrival = arrival.at.0
 

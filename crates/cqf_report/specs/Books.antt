@@ -16,6 +16,7 @@ use Rattle.cqf_model.specs.Domain.{Domain}
 use Rattle.cqf_report.specs.Records.{Fields}
 use Rattle.cqf_report.specs.Written.{IsPlain, line_of}
 
+-- the header of a book
 abbrev pub book_header : Fields
 book_header = codes "what" ∷ codes "cycle" ∷ codes "where" ∷ codes "frame" ∷ codes "octets" ∷ codes "detail" ∷ []
 
@@ -39,6 +40,7 @@ pub record AreLinkNames (d : Domain) (names : List (String Global)) : Type 0 whe
   pub are : map string_bytes names ≡ map (ends_of d) d.links
   pub plain : All (λ (name : String Global). IsPlain (string_bytes name)) names
 
+-- a reason as a book names it
 abbrev pub name_of_reason : Reason → List ℕ
 name_of_reason Unknown = codes "unknown"
 name_of_reason Withdrawn = codes "withdrawn"

@@ -10,6 +10,7 @@ use Rattle.cqf_report.specs.Records.{Fields}
 use Rattle.cqf_report.specs.Table.{in_four, table_of}
 use Rattle.cqf_report.specs.declared.tables.TableFault.{TableFault}
 
+-- the header of a table of offers
 abbrev pub offer_header : Fields
 offer_header = codes "at" ∷ codes "bridge" ∷ codes "stream" ∷ codes "octets" ∷ []
 
@@ -41,6 +42,7 @@ abbrev pub offer_of : Domain → List ℕ → List ℕ → List ℕ → List ℕ
 offer_of d at bridge stream octets =
     offer_with (decimal_in 0 999999999999 at) (bridge_named d bridge) (name_in stream) (decimal_in 64 1522 octets)
 
+-- the instant of an offer
 abbrev pub offer_instant : Offer → ℕ
 offer_instant offer = offer.at.0
 

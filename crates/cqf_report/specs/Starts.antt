@@ -6,6 +6,7 @@ use Rattle.cqf_model.specs.declared.ports.Start.{Start}
 use Rattle.cqf_report.specs.Records.{Fields}
 use Rattle.cqf_report.specs.Written.{line_of}
 
+-- the header of a table of starts
 abbrev pub start_header : Fields
 start_header = codes "class" ∷ codes "frame" ∷ codes "start" ∷ codes "end" ∷ []
 

@@ -13,6 +13,7 @@ line_of fields = join_with_byte 44 fields ++ 10 ∷ []
 abbrev pub IsPlain : List ℕ → Type 0
 IsPlain field = needs_quotes default_writer field ≡ false
 
+-- and so does each of some fields
 abbrev pub ArePlain : Fields → Type 0
 ArePlain [] = ⊤
 ArePlain (field ∷ fields) = IsPlain field × ArePlain fields

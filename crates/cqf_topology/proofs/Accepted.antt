@@ -64,6 +64,7 @@ first_taken-append e (x ∷ xs) ys =
     (first_taken-append (e ++ x ∷ []) xs ys
     ∙ ap (λ front. option_or (first_taken (e ++ x ∷ []) xs) (first_taken front ys)) (append_assoc e (x ∷ []) xs))
   where
+    -- one name in front, taken or not, leaves the first taken name in the first list, or else in the second
     by : (b : Bool) → first_taken (e ++ x ∷ []) (xs ++ ys) ≡ option_or (first_taken (e ++ x ∷ []) xs) (first_taken (e ++ (x ∷ xs)) ys)
         → cond b (Some x) (first_taken (e ++ x ∷ []) (xs ++ ys)) ≡ option_or (cond b (Some x) (first_taken (e ++ x ∷ []) xs)) (first_taken (e ++ (x ∷ xs)) ys)
     by true rest = refl
@@ -150,6 +151,7 @@ none-passes : {A : Type 0} (p : A → Bool) (i : ℕ) (xs : List A) → position
 none-passes p i [] h k x at = absurd (cc)
 none-passes {A} p i (y ∷ ys) h k x at = by (p y) refl (λ none j there. none-passes p (i + 1) ys none j x there) h k at
   where
+    -- with one element more in front, no element passes
     by : (b : Bool) → p y ≡ b → (position_from p (i + 1) ys ≡ None → (j : ℕ) → slice_get ys j ≡ Some x → p x ≡ false)
         → cond b (Some i) (position_from p (i + 1) ys) ≡ None → (k : ℕ) → slice_get (y ∷ ys) k ≡ Some x → p x ≡ false
     by true e rest h k at = absurd (cc)
@@ -174,6 +176,7 @@ place-within name names i h = (position-Some _ names i [] h).0
 node-within : (d : Domain) (name : List ℕ) (n : Node) → node_or (place_of name d.bridges) (place_of name d.stations) ≡ Some n → IsNode d n
 node-within d name n h = by (place_of name d.bridges) (place_of name d.stations) refl refl h
   where
+    -- the node is one of the domain's, whether it is a bridge or a station
     by : (b s : Option ℕ) → place_of name d.bridges ≡ b → place_of name d.stations ≡ s → node_or b s ≡ Some n → IsNode d n
     by (Some b) s at_b at_s h = let e : Bridge b ≡ n = cc in subst (IsNode d) e (place-within name d.bridges b at_b)
     by None (Some s) at_b at_s h = let e : Station s ≡ n = cc in subst (IsNode d) e (place-within name d.stations s at_s)
@@ -184,13 +187,16 @@ apart-ends : (d : Domain) (name : List ℕ) (l : DraftLink) (from : ℕ) (to : N
     apart name l from to ≡ Ok link → HasEnds d link
 apart-ends d name l from to link from_there to_there h = by (same_node to (Bridge from)) refl h
   where
+    -- the link between the two nodes
     joint : Link
     joint = record { from = from; to = to; rate = l.rate; delay = l.delay }
 
+    -- a node that the test tells from the bridge isn't the bridge
     differs : same_node to (Bridge from) ≡ false → to ≢ Bridge from
     differs e same = let at_itself : same_node (Bridge from) (Bridge from) ≡ false = subst (λ n. same_node n (Bridge from) ≡ false) same e in
         grind (arith, nat_tests)
 
+    -- the link that is made has its ends, for they are apart
     by : (b : Bool) → same_node to (Bridge from) ≡ b → cond b (Err (fault.UnknownName name)) (Ok joint) ≡ Ok link → HasEnds d link
     by true e h = absurd (cc)
     by false e h =
@@ -211,16 +217,19 @@ pub joined-ends : (d : Domain) (ls : List DraftLink) (links : List Link) → joi
     slice_get links k ≡ Some link → HasEnds d link
 joined-ends d [] links h k link at = let none : links ≡ [] = cc in absurd (by (subst (λ xs. slice_get xs k ≡ Some link) none at))
   where
+    -- an empty list has no link
     by : slice_get [] k ≡ Some link → ⊥
     by e = cc
 joined-ends d (l ∷ ls) links h k link at =
     by (joined_link d.bridges d.stations l) (joined d.bridges d.stations ls) refl refl (λ xs more j there. joined-ends d ls xs more j link there) h k at
   where
+    -- where each link of the rest has its ends, each does with this one in front
     there : (x : Link) (xs : List Link) → joined_link d.bridges d.stations l ≡ Ok x → ((j : ℕ) → slice_get xs j ≡ Some link → HasEnds d link)
         → (k : ℕ) → slice_get (x ∷ xs) k ≡ Some link → HasEnds d link
     there x xs here rest zero at = let same : x ≡ link = cc in subst (HasEnds d) same (joined_link-ends d l x here)
     there x xs here rest (suc k) at = rest k at
 
+    -- each link has its ends, where the first and the rest are joined
     by : (r : Result Link DomainFault) (rest : Result (List Link) DomainFault) → joined_link d.bridges d.stations l ≡ r → joined d.bridges d.stations ls ≡ rest
         → ((xs : List Link) → joined d.bridges d.stations ls ≡ Ok xs → (j : ℕ) → slice_get xs j ≡ Some link → HasEnds d link)
         → and_first r rest ≡ Ok links → (k : ℕ) → slice_get links k ≡ Some link → HasEnds d link
@@ -241,9 +250,11 @@ joined-small t bridges stations links n few few_too k link inside =
     let ends = joined-ends d t.links links there k (get_or links k link) (slice_get-get_or links k link inside) in
     record { from_small = omega (arith, ends.from_bridge); to_small = small-node d _ few few_too ends.to_node }
   where
+    -- a domain of these names and links
     d : Domain
     d = record { cycle_time = 0; guard = 0; bridges = bridges; stations = stations; links = links }
 
+    -- its links are those of the text, joined
     there : joined bridges stations t.links ≡ Ok links
     there = (λ i. joined (n.bridges_are i) (n.stations_are i) t.links) ∙ n.joined_are
 
@@ -278,14 +289,18 @@ checked-accepted t d n same_cycle same_guard once short no_delay no_gap few_brid
       no_link_twice = once;
     }
   where
+    -- the domain's links are those of the text, joined
     there : joined d.bridges d.stations t.links ≡ Ok d.links
     there = (λ i. joined (n.bridges_are i) (n.stations_are i) t.links) ∙ n.joined_are
 
+    -- the names of the text are those of the domain
     names : t.bridges ++ t.stations ≡ d.bridges ++ d.stations
     names = λ i. sym n.bridges_are i ++ sym n.stations_are i
 
+    -- a delay that isn't found too long is below the guard time
     short_delay : (link : Link) → nat_le d.guard link.delay ≡ false → link.delay < d.guard
     short_delay link e = grind (arith, nat_tests)
 
+    -- a gap that isn't found too long is at most the guard time
     short_gap : (link : Link) → nat_lt d.guard (12 * nanos_of_octet link.rate) ≡ false → 12 * nanos_of_octet link.rate ≤ d.guard
     short_gap link e = grind (arith, nat_tests)

@@ -26,6 +26,7 @@ pub first_taken-None : (earlier names : List (List ℕ)) → first_taken earlier
 first_taken-None earlier [] h = (All-nil (λ name. is_among name earlier ≡ false), λ i j d before inside. absurd (omega arith))
 first_taken-None earlier (x ∷ xs) h = by (is_among x earlier) refl (first_taken-None (earlier ++ x ∷ []) xs) h
   where
+    -- with one name more in front that isn't taken, none stood earlier and each two differ
     by : (b : Bool) → is_among x earlier ≡ b
         → (first_taken (earlier ++ x ∷ []) xs ≡ None → (All (λ name. is_among name (earlier ++ x ∷ []) ≡ false) xs) × AllPairs (λ a b. a ≢ b) xs)
         → cond b (Some x) (first_taken (earlier ++ x ∷ []) xs) ≡ None

@@ -11,6 +11,7 @@ use Rattle.cqf_topology.specs.DomainText.{IsDomain, place_of}
 place_of-other : (text : List ℕ) (names : List (List ℕ)) → All (λ name. IsTrue (is_name name)) names → is_name text ≡ false → place_of text names ≡ None
 place_of-other text names named other = by (place_of text names) refl
   where
+    -- whatever place there seems to be, there is none
     by : (o : Option ℕ) → place_of text names ≡ o → o ≡ None
     by None at = refl
     by (Some i) at =

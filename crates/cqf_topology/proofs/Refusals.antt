@@ -38,6 +38,7 @@ and_then-Some f (Some x) y h = (x, refl, h)
 within_range-Some : (least most : ℕ) (z : ℤ) (n : ℕ) → within_range least most z ≡ Some n → (least ≤ n) × (n ≤ most)
 within_range-Some least most (pos m) n h = by (nat_le least m && nat_le m most) refl h
   where
+    -- what is taken because it is in the range is in it
     by : (b : Bool) → (nat_le least m && nat_le m most) ≡ b → cond b (Some m) None ≡ Some n → (least ≤ n) × (n ≤ most)
     by true e h =
         let same : m ≡ n = cc in
@@ -61,6 +62,7 @@ pub each_from-All : {A E : Type 0} (P : A → Type 0) (reader : Data → Result 
 each_from-All P reader good no_items xs h = let e : [] ≡ xs = cc in subst (All P) e (All-nil P)
 each_from-All {A} {E} P reader good (item d ds) xs h = by (reader d) (each_from reader ds) refl (each_from-All P reader good ds) refl h
   where
+    -- each element is so, where the first and the rest were read
     by : (r : Result A E) (rest : Result (List A) E) → reader d ≡ r → ((ys : List A) → each_from reader ds ≡ Ok ys → All P ys)
         → each_from reader ds ≡ rest → and_first r rest ≡ Ok xs → All P xs
     by (Err e) rest here all more h = absurd (cc)
@@ -73,6 +75,7 @@ each_from-All {A} {E} P reader good (item d ds) xs h = by (reader d) (each_from 
 if_name-Some : (text name : List ℕ) → if_name text ≡ Some name → IsTrue (is_name name)
 if_name-Some text name h = by (is_name text) refl h
   where
+    -- what is taken because it has the form of a name has it
     by : (b : Bool) → is_name text ≡ b → cond b (Some text) None ≡ Some name → IsTrue (is_name name)
     by true e h = let same : text ≡ name = cc in subst (λ t. IsTrue (is_name t)) same e
     by false e h = absurd (cc)
@@ -83,6 +86,7 @@ names-named key table names h =
     let (items, at, each) = and_then-Ok (read_at key as_array table) (each_from (λ d. ok_or (name_from d) (BadValue key))) names h in
     each_from-All (λ name. IsTrue (is_name name)) (λ d. ok_or (name_from d) (BadValue key)) good items names each
   where
+    -- a name that was read has the form of a name
     good : (d : Data) (name : List ℕ) → ok_or (name_from d) (BadValue key) ≡ Ok name → IsTrue (is_name name)
     good d name h =
         let (text, is, from) = and_then-Some if_name (as_str d) name (ok_or-Ok (name_from d) (BadValue key) name h) in

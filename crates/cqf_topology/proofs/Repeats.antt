@@ -23,6 +23,7 @@ any-at : {X : Type 0} (p : X → Bool) (xs : List X) → list_any p xs ≡ true 
 any-at p [] h = absurd (true≢false (sym h))
 any-at {X} p (x ∷ xs) h = by (p x) refl (λ e. any-at p xs e) h
   where
+    -- what passes stands at a place, in front or behind
     by : (b : Bool) → p x ≡ b → (list_any p xs ≡ true → (j : ℕ) × (a : X) × (j < length xs) × (slice_get xs j ≡ Some a) × (p a ≡ true))
         → (b || list_any p xs) ≡ true → (j : ℕ) × (a : X) × (j < length (x ∷ xs)) × (slice_get (x ∷ xs) j ≡ Some a) × (p a ≡ true)
     by true e rest h = (0, x, omega arith, refl, e)
@@ -33,6 +34,7 @@ none-at : {X : Type 0} (p : X → Bool) (xs : List X) → list_any p xs ≡ fals
 none-at p [] h j a at = absurd (cc)
 none-at p (x ∷ xs) h j a at = by (p x) refl (λ e k there. none-at p xs e k a there) h j at
   where
+    -- nothing passes at any place, in front or behind
     by : (b : Bool) → p x ≡ b → (list_any p xs ≡ false → (k : ℕ) → slice_get xs k ≡ Some a → p a ≡ false)
         → (b || list_any p xs) ≡ false → (j : ℕ) → slice_get (x ∷ xs) j ≡ Some a → p a ≡ false
     by true e rest h j at = absurd (true≢false h)

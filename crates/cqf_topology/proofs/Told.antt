@@ -63,6 +63,7 @@ twice-None links none k t = first_repeat-None same_ends [] links (sym (first_twi
 pub twice-told : TwiceIsFirstTwin
 twice-told links = by (first_twice [] links) refl
   where
+    -- a link that is told is the first twin, and where none is told there is none
     by : (o : Option ℕ) → first_twice [] links ≡ o → MatchOption o ((number : ℕ) → ¬ HasTwin links number) (λ number. IsFirstTwin links number)
     by None e = twice-None links e
     by (Some k) e =
@@ -87,12 +88,15 @@ no-link-twice links none i j d before inside both =
 pub only-link : (d : Domain) → NoLinkTwice d.links → (from : ℕ) (to : Node) → IsOnlyLink d from to (link_between d from to)
 only-link d once from to l link at is_from is_to = by (link_between d from to) refl
   where
+    -- whether a link has these ends
     leads : Link → Bool
     leads = λ (x : Link). (x.from == from) && same_node x.to to
 
+    -- the link has these ends
     passes : leads link ≡ true
     passes = leads-there link.from from link.to to is_from is_to
 
+    -- no earlier link has these ends
     apart : (k : ℕ) → k < l → slice_get d.links l ≡ Some link → leads (get_or d.links k link) ≡ true → ⊥
     apart k before there is =
         let ends = leads-only (get_or d.links k link).from from (get_or d.links k link).to to is in
@@ -100,6 +104,7 @@ only-link d once from to l link at is_from is_to = by (link_between d from to) r
         once k l link before (slice_get_within d.links l link there)
         (ends.0 ∙ sym is_from ∙ ap (λ (x : Link). x.from) (sym last), ends.1 ∙ sym is_to ∙ ap (λ (x : Link). x.to) (sym last))
 
+    -- the link that is found is this one
     by : (o : Option ℕ) → link_between d from to ≡ o → o ≡ Some l
     by None none = absurd (true≢false (sym passes ∙ position-None leads d.links none l link at))
     by (Some k) found =
@@ -123,6 +128,7 @@ taken-None : (earlier names : List (List ℕ)) → first_taken earlier names ≡
 taken-None earlier [] h = refl
 taken-None earlier (x ∷ names) h = by (is_among x earlier) (taken-None (earlier ++ x ∷ []) names) h
   where
+    -- with one name more in front that isn't taken, none repeats
     by : (b : Bool) → (first_taken (earlier ++ x ∷ []) names ≡ None → first_repeat same_text (earlier ++ x ∷ []) names ≡ None)
         → cond b (Some x) (first_taken (earlier ++ x ∷ []) names) ≡ None →
         cond b (Some (length earlier)) (first_repeat same_text (earlier ++ x ∷ []) names) ≡ None
@@ -140,6 +146,7 @@ taken-Some : (earlier names : List (List ℕ)) (name : List ℕ) → first_taken
 taken-Some earlier [] name h = cc
 taken-Some earlier (x ∷ names) name h = by (is_among x earlier) refl (taken-Some (earlier ++ x ∷ []) names name) h
   where
+    -- the name that is told is the one in front, where it stood earlier, and otherwise one behind it
     by : (b : Bool) → is_among x earlier ≡ b → (first_taken (earlier ++ x ∷ []) names ≡ Some name → IsToldAt (earlier ++ x ∷ []) names name)
         → cond b (Some x) (first_taken (earlier ++ x ∷ []) names) ≡ Some name → IsToldAt earlier (x ∷ names) name
     by true e rest h =
@@ -185,6 +192,7 @@ stood-earlier names k r = record {
 pub taken-told : TakenIsFirstRepeated
 taken-told names = by (first_taken [] names) refl
   where
+    -- a name that is told is the first that is repeated, and where none is told none is repeated
     by : (o : Option (List ℕ)) → first_taken [] names ≡ o → MatchOption o ((place : ℕ) → ¬ StoodEarlier names place) (λ name. IsFirstRepeated names name)
     by None e = λ k s. first_repeat-None same_text [] names (taken-None [] names e) k (omega arith) (of-earlier names k s)
     by (Some name) e =

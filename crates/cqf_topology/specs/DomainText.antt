@@ -87,15 +87,18 @@ apart name link from to =
     then Err (fault.UnknownName name)
     else Ok (record { from = from; to = to; rate = link.rate; delay = link.delay })
 
+-- the place of a name among some names
 abbrev pub place_of : List ℕ → List (List ℕ) → Option ℕ
 place_of name names = position (λ other. is_text other name) names
 
+-- a link of the text with its ends found, or the name that is no such end
 abbrev pub joined_link : List (List ℕ) → List (List ℕ) → DraftLink → Result Link DomainFault
 joined_link bridges stations link =
     and_then (ok_or (place_of link.from bridges) (fault.UnknownName link.from)) (λ from.
     and_then (ok_or (node_or (place_of link.to bridges) (place_of link.to stations)) (fault.UnknownName link.to)) (λ to.
     apart link.to link from to))
 
+-- each link of the text with its ends found, or the first fault
 abbrev pub joined : List (List ℕ) → List (List ℕ) → List DraftLink → Result (List Link) DomainFault
 joined bridges stations [] = Ok []
 joined bridges stations (link ∷ links) = and_first (joined_link bridges stations link) (joined bridges stations links)
@@ -117,10 +120,12 @@ first_long_delay guard links = position (λ (link : Link). nat_le guard link.del
 abbrev pub first_long_gap : ℕ → List Link → Option ℕ
 first_long_gap guard links = position (λ (link : Link). nat_lt guard (12 * nanos_of_octet link.rate)) links
 
+-- a unit where the test holds
 abbrev pub if_so : Bool → Option (Unit {0})
 if_so true = Some tt
 if_so false = None
 
+-- there are more bridges, stations or links than a domain may have
 abbrev pub is_too_many : List (List ℕ) → List (List ℕ) → List Link → Bool
 is_too_many bridges stations links = nat_lt 32 (length bridges) || nat_lt 64 (length stations) || nat_lt 64 (length links)
 
@@ -134,6 +139,7 @@ with_links d links =
     refuse (if_so (is_too_many d.bridges d.stations links)) (λ _. fault.TooMany) (
     Ok (record { cycle_time = d.cycle_time; guard = d.guard; bridges = d.bridges; stations = d.stations; links = links }))))))
 
+-- the domain that the text says, or the first check that it fails, those of its names and ends before the others
 abbrev pub checked : DomainText → Result Domain DomainFault
 checked d =
     refuse (first_taken [] (d.bridges ++ d.stations)) fault.NameTaken (

@@ -23,6 +23,7 @@ pub record RequestText : Type 0 where
   pub octets : ℕ
   pub paths : List (List (List ℕ))
 
+-- a request as texts and numbers
 abbrev pub request_text : Request → RequestText
 request_text r = record {
   name = string_bytes r.name;

@@ -26,6 +26,7 @@ in_round n c t from upto =
     let below : (c % 2) * n ≤ n = two n (c % 2) bit in
     ap (λ x. x % (n + n)) parts ∙ mod-mul-add (c / 2) (n + n) ((c % 2) * n + (t - c * n)) (omega arith)
   where
+    -- a length taken once or not at all is at most the length
     two : (n b : ℕ) → b < 2 → b * n ≤ n
     two n b h = grind arith
 
@@ -38,6 +39,7 @@ round_is n c t from upto =
     let below : (c % 2) * n ≤ n = two n (c % 2) bit in
     ap (λ x. x / (n + n)) parts ∙ div-mul-add (c / 2) (n + n) ((c % 2) * n + (t - c * n)) (omega arith)
   where
+    -- a length taken once or not at all is at most the length
     two : (n b : ℕ) → b < 2 → b * n ≤ n
     two n b h = grind arith
 
@@ -45,6 +47,7 @@ round_is n c t from upto =
 pub parity : (c : ℕ) → (c % 2 ≡ 0) ⊎ (c % 2 ≡ 1)
 parity c = two (c % 2) (mod-lt c (omega arith))
   where
+    -- what is below 2 is 0 or 1
     two : (b : ℕ) → b < 2 → (b ≡ 0) ⊎ (b ≡ 1)
     two b h = grind arith
 
