@@ -63,7 +63,9 @@ pub record IsOutOfOrder (p : PortState) (arrival : Arrival) : Type 0 where
 -- a transmission as callers get it, with what its arrival said
 abbrev pub start_of : List Arrival → Transmission → Start
 start_of arrivals x = record {
-  start = record { 0 = x.1 }; class = class_of arrivals x.0; octets = octets_of arrivals x.0;
+  start = record { 0 = x.1 };
+  class = class_of arrivals x.0;
+  octets = octets_of arrivals x.0;
   frame = (slice_index_or arrivals x.0 no_arrival).frame;
 }
 
