@@ -1,0 +1,3 @@
+mod OrderLemmas
+mod ReadLines
+mod Words

@@ -1,0 +1,22 @@
+//! Scripts: what administrators call for, and when cycles close, line by line.
+//!
+//! - [`read_script`] reads the calls of a script, each with its seat.
+//! - [`ScriptFault`] says why a script is refused, and at which line.
+//!
+//! With a stream `x` among the requests, and two cycles:
+//!
+//! ```text
+//! 0 admit x       seat 0
+//! seal            seat 1: there is one administrator
+//! 0 withdraw x    seat 0
+//! ```
+//!
+//! `0 admit y` is `UnknownStream 1`, a third `seal` is `TooMany`, and `8 admit x` is `BadLine`.
+#![tactic(auto)]
+
+mod calls;
+mod faults;
+mod lines;
+
+pub use calls::read_script;
+pub use faults::ScriptFault;
