@@ -109,17 +109,15 @@ not_looping_past bytes d path place past =
     (ap (λ (o : Option (List ℕ)). option_map_or (λ name. node_named d name) o None) (slice_get_past (map bytes path) place (omega (arith, length-map path bytes))))
 
 -- the node at a place is that of the name there
-node_of_name : {S : Type 0} (bytes : S → List ℕ) (d : Domain) (path : List S) (place : ℕ) (name : S) → place < length path
+pub node_of_name : {S : Type 0} (bytes : S → List ℕ) (d : Domain) (path : List S) (place : ℕ) (name : S) → place < length path
     → name ≡ get_or path place name → node_at d (map bytes path) place ≡ node_named d (bytes name)
 node_of_name bytes d path place name inside is =
     ap (λ (o : Option (List ℕ)). option_map_or (λ text. node_named d text) o None)
     (slice_get-map bytes path place ∙ ap (option_map bytes) (slice_get_read path (length path) place name refl inside is))
 
--- where a name has no node, none stood earlier
-pub not_looping_unknown : {S : Type 0} (bytes : S → List ℕ) (d : Domain) (path : List S) (place : ℕ) (name : S) → place < length path
-    → name ≡ get_or path place name → is_none (node_named d (bytes name)) ≡ true → false ≡ is_loop_at d (map bytes path) place
-not_looping_unknown bytes d path place name inside is unknown =
-    not_looping d (map bytes path) place (node_of_name bytes d path place name inside is ∙ none_there (node_named d (bytes name)) unknown)
+-- where a place has no node, none stood earlier
+pub not_looping_unknown : (d : Domain) (branch : Branch) (place : ℕ) → is_none (node_at d branch place) ≡ true → false ≡ is_loop_at d branch place
+not_looping_unknown d branch place unknown = not_looping d branch place (none_there (node_at d branch place) unknown)
   where
     -- where the test finds no node, there is none
     none_there : (node : Option Node) → is_none node ≡ true → node ≡ None

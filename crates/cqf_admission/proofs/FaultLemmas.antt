@@ -124,7 +124,7 @@ all_passed d check paths index before past h =
 -- ---- a place in two lists end to end
 
 -- the first place behind a first element is that of the rest, or the first itself
-position-cons : {X : Type 0} (p : X → Bool) (x : X) (xs : List X) →
+pub position-cons : {X : Type 0} (p : X → Bool) (x : X) (xs : List X) →
     position p (x ∷ xs) ≡ (if p x then Some 0 else option_map (λ place. 1 + place) (position p xs))
 position-cons {X} p x xs = by_test (p x)
   where

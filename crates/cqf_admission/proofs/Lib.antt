@@ -1,6 +1,7 @@
 mod HeldLemmas
 mod BranchLemmas
 mod FaultLemmas
+mod NodeLemmas
 mod TreeLemmas
 mod ColumnLemmas
 mod TableLemmas

@@ -1,6 +1,6 @@
 -- What looking the branches of a request over gives.
 use Rattle.std.specs.Prelude.{ℕ, ◌≡◌, ◌+◌, List, [], ◌∷◌, ◌++◌, if◌then◌else◌, Option, Some, None, Result, Ok, Err, Vec, String, All, AllPairs, ◌<◌, ◌==◌}
-use Rattle.std.specs.Prelude.{false, is_none, length, map, option_map, position, string_bytes}
+use Rattle.std.specs.Prelude.{false, get_or, is_none, length, map, nat_lt, option_map, position, string_bytes}
 use Rattle.std.specs.List.{flat_map, list_any}
 use Rattle.std.specs.declared.alloc.Global.{Global}
 use Rattle.arrayvec.specs.ArrayVec.{ArrayVec}
@@ -8,8 +8,9 @@ use Rattle.cqf_lists.specs.Lists.{least, or_else}
 use Rattle.cqf_model.specs.declared.history.Refused.{Refused}
 use Rattle.cqf_model.specs.declared.history.Refused.TheVariants.{UnknownNode, BrokenPath, LoopingPath, NotATree}
 use Rattle.cqf_model.specs.declared.topology.Hop.{Hop}
+use Rattle.cqf_model.specs.declared.topology.Node.{Node}
 use Rattle.cqf_model.specs.Domain.{Domain, node_named}
-use Rattle.cqf_model.specs.History.{Branch, broken_place, first_place, is_broken_at, is_loop_at, is_stray, refused_at, tree_of}
+use Rattle.cqf_model.specs.History.{Branch, broken_place, first_place, is_broken_at, is_loop_at, is_stray, node_at, refused_at, tree_of}
 use Rattle.cqf_admission.specs.declared.branches.Check.{Check}
 use Rattle.cqf_admission.specs.declared.branches.Check.TheVariants.{Known, Whole, Simple}
 
@@ -20,6 +21,14 @@ branch_of names = map string_bytes names
 -- and some branches
 abbrev pub branches_of : List (Vec (String Global) Global) → List Branch
 branches_of paths = map (λ (branch : Vec (String Global) Global). branch_of branch.items) paths
+
+-- of a list of names the nodes of the first so many are these
+abbrev pub AreNodes : Domain → List (List ℕ) → List (Option Node) → Type 0
+AreNodes d names nodes = (k : ℕ) → k < length nodes → k < length names → get_or nodes k None ≡ node_at d names k
+
+-- the node of a name more, where there is room among 64
+abbrev pub with_node : Domain → List (Option Node) → List ℕ → List (Option Node)
+with_node d nodes name = if nat_lt (length nodes) 64 then nodes ++ node_named d name ∷ [] else nodes
 
 -- the first place at which a branch fails a check
 abbrev pub fault_in : Domain → Check → Branch → Option ℕ

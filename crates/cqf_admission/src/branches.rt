@@ -1,11 +1,12 @@
 //! The nodes of a request's branches, and whether they are a tree.
-ghost use Rattle.std.specs.Prelude.{◌≡◌, ◌<◌, ◌≤◌, ◌+◌, ◌^◌, ◌↔◌, length, map, position, take, is_none, string_bytes, not, IfSome, None};
-ghost use Rattle.std.specs.List.{list_any};
+ghost use Rattle.std.specs.Prelude.{◌≡◌, ◌<◌, ◌≤◌, ◌+◌, ◌^◌, ◌↔◌, drop, fold, length, map, min, position, take, is_none, string_bytes, not, IfSome, None};
+ghost use Rattle.std.specs.List.{flat_map, list_any};
 ghost use Rattle.cqf_model.specs.Domain.{is_text, node_named};
 ghost use Rattle.cqf_lists.specs.Lists.{least};
 ghost use Rattle.cqf_model.specs.History.{node_at, link_at, link_from, are_apart, is_bridge, is_broken_at, is_loop_at, is_stray, make_a_tree, part};
-ghost use Rattle.cqf_admission.specs.Branches.{branch_of, branches_of, fault_in, first_fault, places_of};
+ghost use Rattle.cqf_admission.specs.Branches.{AreNodes, branch_of, branches_of, fault_in, first_fault, places_of, with_node};
 
+use arrayvec::ArrayVec;
 use cqf_model::Node;
 use cqf_topology::Domain;
 
@@ -31,36 +32,67 @@ pub(crate) fn count_places(paths: &[Vec<String>]) -> Option<usize>
     Some(count)
 }
 
-/// Whether the domain lacks the node of a name.
-fn is_unknown(domain: &Domain, name: &String) -> bool
-    ensures { result ≡ is_none (node_named domain.now (string_bytes name.now)) }
+/// The nodes of the names of a branch behind those of others, as far as there is room.
+fn add_nodes(domain: &Domain, nodes: &mut ArrayVec<Option<Node>, 64>, branch: &[String])
+    ensures { nodes.new.items ≡ fold (with_node domain.now) nodes.old.items (branch_of branch.now) }
 {
-    domain.find(name.as_str()).is_none()
+    for name in branch {
+        add_node(domain, nodes, name);
+    }
 }
 
-/// The place of the first of some names whose node the domain lacks.
-fn unknown_among(domain: &Domain, names: &[String]) -> Option<usize>
-    ensures { result ≡ position (λ name. is_none (node_named domain.now (string_bytes name))) names.now }
+/// The node of a name behind those of others, where there is room.
+fn add_node(domain: &Domain, nodes: &mut ArrayVec<Option<Node>, 64>, name: &String)
+    ensures { nodes.new.items ≡ with_node domain.now nodes.old.items (string_bytes name.now) }
 {
-    names.iter().position(|name| is_unknown(domain, name))
+    if nodes.len() < 64 {
+        nodes.push(domain.find(name.as_str()));
+    }
+}
+
+/// The nodes of the first 64 names of some branches, each looked up once.
+pub(crate) fn nodes_of(domain: &Domain, paths: &[Vec<String>]) -> ArrayVec<Option<Node>, 64>
+    ensures { AreNodes domain.now (flat_map (λ branch. branch) (branches_of paths.now)) result.items }
+{
+    let mut nodes = ArrayVec::new();
+    for branch in paths {
+        add_nodes(domain, &mut nodes, branch.as_slice());
+    }
+    nodes
+}
+
+/// The nodes behind those of a branch of so many names.
+pub(crate) fn nodes_behind(nodes: &[Option<Node>], count: usize) -> &[Option<Node>]
+    ensures { result.now ≡ drop (min count (length nodes.now)) nodes.now }
+{
+    nodes.split_at(count.min(nodes.len())).1
+}
+
+/// The node at a place of a branch, where there is one. Those of its first names are known.
+fn node_of(domain: &Domain, nodes: &[Option<Node>], branch: &[String], place: usize) -> Option<Node>
+    requires { AreNodes domain.now (branch_of branch.now) nodes.now }
+    ensures { result ≡ node_at domain.now (branch_of branch.now) place }
+{
+    if place >= branch.len() {
+        return None;
+    }
+    if place < nodes.len() {
+        return nodes[place];
+    }
+    domain.find(branch[place].as_str())
 }
 
 /// The first place of a branch whose node the domain lacks.
-fn unknown_place(domain: &Domain, branch: &[String]) -> Option<usize>
+fn unknown_place(domain: &Domain, nodes: &[Option<Node>], branch: &[String]) -> Option<usize>
+    requires { AreNodes domain.now (branch_of branch.now) nodes.now }
     ensures { result ≡ position (λ name. is_none (node_named domain.now name)) (branch_of branch.now) }
 {
-    unknown_among(domain, branch)
-}
-
-/// The node at a place of a branch, where there is one.
-pub(crate) fn node_of(domain: &Domain, branch: &[String], place: usize) -> Option<Node>
-    ensures { result ≡ node_at domain.now (branch_of branch.now) place }
-{
-    if place < branch.len() {
-        domain.find(branch[place].as_str())
-    } else {
-        None
+    for place in 0..branch.len() {
+        if node_of(domain, nodes, branch, place).is_none() {
+            return Some(place);
+        }
     }
+    None
 }
 
 /// The link between two nodes, where both are there and it is.
@@ -78,14 +110,20 @@ fn link_of(domain: &Domain, from: Option<Node>, to: Option<Node>) -> Option<u8>
 }
 
 /// The link from the node at a place of a branch to the next one, where both are there and it is.
-pub(crate) fn link_behind(domain: &Domain, branch: &[String], place: usize) -> Option<u8>
-    requires { place < length branch.now }
+pub(crate) fn link_behind(
+    domain: &Domain,
+    nodes: &[Option<Node>],
+    branch: &[String],
+    place: usize,
+) -> Option<u8>
+    requires inside { place < length branch.now }
+    requires nodes { AreNodes domain.now (branch_of branch.now) nodes.now }
     ensures { result ≡ link_at domain.now (branch_of branch.now) place }
 {
     link_of(
         domain,
-        node_of(domain, branch, place),
-        node_of(domain, branch, place + 1),
+        node_of(domain, nodes, branch, place),
+        node_of(domain, nodes, branch, place + 1),
     )
 }
 
@@ -98,24 +136,34 @@ fn is_bridge_node(node: Option<Node>) -> bool
 
 /// Whether a branch is broken at a place: it is empty or begins with no bridge; no link goes from the node before to this
 /// one; its last node is a bridge; or a 17th bridge stands before this place (profile).
-fn is_branch_broken_at(domain: &Domain, branch: &[String], place: usize) -> bool
-    requires { place ≤ length branch.now }
+fn is_branch_broken_at(
+    domain: &Domain,
+    nodes: &[Option<Node>],
+    branch: &[String],
+    place: usize,
+) -> bool
+    requires inside { place ≤ length branch.now }
+    requires nodes { AreNodes domain.now (branch_of branch.now) nodes.now }
     ensures { result ≡ is_broken_at domain.now (branch_of branch.now) place }
 {
     let count = branch.len();
-    let begins_ill = place == 0 && !is_bridge_node(node_of(domain, branch, 0));
-    let unlinked = 1 <= place && place < count && link_behind(domain, branch, place - 1).is_none();
-    let ends_in_bridge = place + 1 == count && is_bridge_node(node_of(domain, branch, place));
+    let begins_ill = place == 0 && !is_bridge_node(node_of(domain, nodes, branch, 0));
+    let unlinked = 1 <= place
+        && place < count
+        && link_behind(domain, nodes, branch, place - 1).is_none();
+    let ends_in_bridge = place + 1 == count
+        && is_bridge_node(node_of(domain, nodes, branch, place));
     let too_long = place == 17 && place < count;
     begins_ill || unlinked || ends_in_bridge || too_long
 }
 
 /// The first place at which a branch is broken.
-fn broken_place(domain: &Domain, branch: &[String]) -> Option<usize>
+fn broken_place(domain: &Domain, nodes: &[Option<Node>], branch: &[String]) -> Option<usize>
+    requires { AreNodes domain.now (branch_of branch.now) nodes.now }
     ensures { result ≡ least (is_broken_at domain.now (branch_of branch.now)) (length branch.now + 1) }
 {
     for place in 0..branch.len() + 1 {
-        if is_branch_broken_at(domain, branch, place) {
+        if is_branch_broken_at(domain, nodes, branch, place) {
             return Some(place);
         }
     }
@@ -123,26 +171,33 @@ fn broken_place(domain: &Domain, branch: &[String]) -> Option<usize>
 }
 
 /// Whether the node at a place of a branch stood earlier. A node has one name, so the names before it tell.
-fn is_branch_looping_at(domain: &Domain, branch: &[String], place: usize) -> bool
-    requires { place ≤ length branch.now }
+fn is_branch_looping_at(
+    domain: &Domain,
+    nodes: &[Option<Node>],
+    branch: &[String],
+    place: usize,
+) -> bool
+    requires inside { place ≤ length branch.now }
+    requires nodes { AreNodes domain.now (branch_of branch.now) nodes.now }
     ensures { result ≡ is_loop_at domain.now (branch_of branch.now) place }
 {
     if place >= branch.len() {
         return false;
     }
-    let name = &branch[place];
-    if is_unknown(domain, name) {
+    if node_of(domain, nodes, branch, place).is_none() {
         return false;
     }
+    let name = &branch[place];
     has_name(&branch[..place], name)
 }
 
 /// The first place of a branch whose node stood earlier.
-fn looping_place(domain: &Domain, branch: &[String]) -> Option<usize>
+fn looping_place(domain: &Domain, nodes: &[Option<Node>], branch: &[String]) -> Option<usize>
+    requires { AreNodes domain.now (branch_of branch.now) nodes.now }
     ensures { result ≡ least (is_loop_at domain.now (branch_of branch.now)) (length branch.now + 1) }
 {
     for place in 0..branch.len() + 1 {
-        if is_branch_looping_at(domain, branch, place) {
+        if is_branch_looping_at(domain, nodes, branch, place) {
             return Some(place);
         }
     }
@@ -150,27 +205,41 @@ fn looping_place(domain: &Domain, branch: &[String]) -> Option<usize>
 }
 
 /// The first place at which a branch fails a check.
-fn fault_of(domain: &Domain, check: Check, branch: &[String]) -> Option<usize>
+fn fault_of(
+    domain: &Domain,
+    check: Check,
+    nodes: &[Option<Node>],
+    branch: &[String],
+) -> Option<usize>
+    requires { AreNodes domain.now (branch_of branch.now) nodes.now }
     ensures { result ≡ fault_in domain.now check (branch_of branch.now) }
 {
     match check {
-        Check::Known => unknown_place(domain, branch),
-        Check::Whole => broken_place(domain, branch),
-        Check::Simple => looping_place(domain, branch),
+        Check::Known => unknown_place(domain, nodes, branch),
+        Check::Whole => broken_place(domain, nodes, branch),
+        Check::Simple => looping_place(domain, nodes, branch),
     }
 }
 
 /// The first place at which one of the branches fails a check, where places count through them as one list.
-pub(crate) fn first_fault_of(domain: &Domain, check: Check, paths: &[Vec<String>]) -> Option<usize>
-    requires { places_of (branches_of paths.now) < 2 ^ 64 }
+pub(crate) fn first_fault_of(
+    domain: &Domain,
+    check: Check,
+    nodes: &[Option<Node>],
+    paths: &[Vec<String>],
+) -> Option<usize>
+    requires few { places_of (branches_of paths.now) < 2 ^ 64 }
+    requires nodes { AreNodes domain.now (flat_map (λ branch. branch) (branches_of paths.now)) nodes.now }
     ensures { result ≡ first_fault domain.now check (branches_of paths.now) }
 {
     let mut before = 0;
+    let mut rest = nodes;
     for branch in paths {
-        if let Some(place) = fault_of(domain, check, branch.as_slice()) {
+        if let Some(place) = fault_of(domain, check, rest, branch.as_slice()) {
             return Some(before + place);
         }
         before += branch.len();
+        rest = nodes_behind(rest, branch.len());
     }
     None
 }

@@ -1,5 +1,5 @@
 -- Offers that wait to be taken.
-use Rattle.std.specs.Prelude.{ℕ, ◌≡◌, ◌+◌, ◌==◌, ◌&&◌, ◌<◌, Bool, All, List, [], map, filter, length, nat_lt, slice_index_or}
+use Rattle.std.specs.Prelude.{ℕ, ◌≡◌, ◌+◌, ◌==◌, ◌&&◌, ◌<◌, Bool, All, List, [], ◌∷◌, if◌then◌else◌, map, filter, length, nat_lt, slice_index_or}
 use Rattle.cqf_model.specs.declared.frames.Offer.{Offer}
 use Rattle.cqf_model.specs.declared.frames.Offered.{Offered}
 use Rattle.cqf_model.specs.Traffic.{Received, numbered, offer_received}
@@ -32,3 +32,11 @@ pub record IsDue (offers : List Offer) (bridge end : ℕ) (due : Due) : Type 0 w
 pub record IsListed (offers : List Offer) (bridge end : ℕ) (list : List Due) : Type 0 where
   pub are : map (seen offers) list ≡ filter (is_kept bridge end) (numbered offers)
   pub each : All (IsDue offers bridge end) list
+
+-- the offers at a bridge and before an end, of some whose first stands at a place, as they are listed
+abbrev pub dues_in : ℕ → ℕ → ℕ → List Offer → List Due
+dues_in bridge end place [] = []
+dues_in bridge end place (offer ∷ offers) =
+    if (offer.bridge == bridge) && nat_lt offer.at.0 end
+    then record { at = offer.at.0; place = place } ∷ dues_in bridge end (place + 1) offers
+    else dues_in bridge end (place + 1) offers

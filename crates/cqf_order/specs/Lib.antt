@@ -1,2 +1,3 @@
 pub mod InTime
 pub mod BookOrder
+pub mod Waiting

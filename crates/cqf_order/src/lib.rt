@@ -1,11 +1,14 @@
 //! The order in which offers are taken at the edge, by instant and then by their place among the offers; and the order
 //! in which a book has drops, by cycle, bridge and frame (profile).
 //!
+//! - [`InTime`] gives a bridge's offers before an instant one after the other, in the order in which they are taken. Where
+//!   they stand in that order it takes no memory.
 //! - [`in_time`] gives the places of a bridge's offers before an instant in the order in which they are taken.
 //! - [`sort_drops`] puts drops into the order of a book.
 #![tactic(auto)]
 
 mod drops;
+mod waiting;
 
 ghost use Rattle.std.specs.Prelude.{◌≡◌, ◌==◌, ◌&&◌, All, IfOk, map, nat_lt};
 ghost use Rattle.std.specs.List.Sorted.{IsNonDecreasingBy};
@@ -17,6 +20,7 @@ use cqf_model::Offer;
 use cqf_units::Memory;
 pub use drops::sort_drops;
 use std::alloc::Global;
+pub use waiting::InTime;
 
 /// An offer that waits to be taken: its instant in nanoseconds, and its place among the offers, from 0.
 #[derive(Clone, Copy, Debug, PartialEq, Eq)]
@@ -26,7 +30,7 @@ pub struct Due {
 }
 
 /// Whether the offer is at the bridge and before the end.
-fn is_before(offer: &Offer, bridge: u8, end: u64) -> bool
+pub(crate) fn is_before(offer: &Offer, bridge: u8, end: u64) -> bool
     ensures { result ≡ ((offer.now.bridge == bridge) && nat_lt offer.now.at.0 end) }
 {
     offer.bridge == bridge && offer.at.0 < end
