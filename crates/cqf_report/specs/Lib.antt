@@ -9,3 +9,4 @@ pub mod Faults
 pub mod BackgroundFrames
 pub mod OtherColumns
 pub mod TableLaws
+pub mod HistoryText

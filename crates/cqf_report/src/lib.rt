@@ -1,13 +1,13 @@
 //! Tables as comma-separated values, read and written by the crate `csv`: offers, background frames and arrivals in, starts
-//! and books out.
+//! and books out. And histories, which are written line by line.
 //!
 //! - [`read_offers`] reads the offers of a run, [`read_background`] its background frames, and [`read_arrivals`] the
 //!   arrivals of a port.
 //! - [`TableFault`] says why a table is refused, and at which row.
-//! - [`write_book`] writes the book of a run, [`write_starts`] the starts of a port.
+//! - [`write_book`] writes the book of a run, [`write_history`] its history, [`write_starts`] the starts of a port.
 //!
 //! `specs/` says what a text holds (`Records`, by what `csv` reads), what its rows mean (`Table`, `Offers`,
-//! `BackgroundFrames`, `Arrivals`), how a fault prints (`Faults`), and which text is written (`Written`, `Starts`, `Books`).
+//! `BackgroundFrames`, `Arrivals`), how a fault prints (`Faults`), and which text is written (`Written`, `Starts`, `Books`, `HistoryText`).
 //!
 //! ```text
 //! read_arrivals(alloc, b"at,class,octets,frame\n10,6,64,1\n")
@@ -20,6 +20,7 @@
 mod arrivals;
 mod background;
 mod books;
+mod history;
 mod laws;
 mod lines;
 mod names;
@@ -32,6 +33,7 @@ mod tables;
 pub use arrivals::read_arrivals;
 pub use background::read_background;
 pub use books::write_book;
+pub use history::write_history;
 pub use laws::first_fault_is_told;
 pub use offers::read_offers;
 pub use starts::write_starts;
