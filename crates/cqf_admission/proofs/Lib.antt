@@ -6,4 +6,5 @@ mod ColumnLemmas
 mod TableLemmas
 mod GrantLemmas
 mod RunLemmas
+mod CallLemmas
 mod PartLemmas
