@@ -7,4 +7,5 @@ mod ColumnLemmas
 mod TableLemmas
 mod GrantLemmas
 mod RunLemmas
+mod CallLemmas
 mod PartLemmas
