@@ -1,0 +1,3 @@
+pub mod Follows
+pub mod Cycles
+pub mod NoFaults
