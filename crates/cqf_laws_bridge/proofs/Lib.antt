@@ -6,3 +6,4 @@ mod Anew
 mod TakenCycles
 mod Losses
 mod OwnPages
+mod SameFrames

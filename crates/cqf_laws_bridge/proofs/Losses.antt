@@ -24,7 +24,7 @@ use Rattle.cqf_bridge.specs.declared.faults.BridgeFault.{BridgeFault}
 use Rattle.cqf_bridge.specs.declared.faults.BridgeFault.TheVariants.{Memory, OverOctets, Spent, StrangeBatch, WrongCycle}
 use Rattle.cqf_bridge.specs.Batch.{LinkBatch}
 use Rattle.cqf_bridge.specs.BridgeState.{BridgeState}
-use Rattle.cqf_bridge.specs.Receiving.{AreBatchesOf, IsReceiveFault, MayCome, links_into}
+use Rattle.cqf_bridge.specs.Receiving.{AreBatchesOf, IsFirstOver, IsReceiveFault, MayCome, links_into, verdicts_in}
 use Rattle.cqf_laws_bridge.specs.Follows.{HasSentOfTheNetwork, batch_of, batches_into, handed_in}
 use Rattle.cqf_laws_bridge.specs.NoFaults.{LosesNothing}
 use Rattle.cqf_laws_bridge.proofs.LinkLists.{kept_number, link_that_enters}
@@ -127,6 +127,17 @@ module _ (run : Run) (cycles cycle bridge : ℕ) (net : Network) (compiled : IsC
       themselves [] = refl
       themselves (l ∷ ls) = ap (λ (xs : List ℕ). l ∷ xs) (themselves ls)
 
+-- and none of their frames is over its octets
+pub none_over : BatchIsWholeInItsCycle → CycleBringsItsBatches → LossesAreOfCycles → GateIsReservation → (run : Run) (cycles cycle bridge frame : ℕ)
+    (net : Network) → IsCompiledNetwork run cycles net → LosesNothing run cycles net → cycle < cycles →
+    IsFirstOver (verdicts_in run bridge cycle (batches_into run.domain net.carried bridge cycle)) frame → ⊥
+none_over whole brings losses reserves run cycles cycle bridge frame net compiled loses in_cycles over =
+    let taken = verdicts_are brings reserves run cycles cycle bridge net compiled in
+    let batches = batches_into run.domain net.carried bridge cycle in
+    let inside : Contains (policed_of run net.carried bridge cycle) over.over =
+    subst (λ (ps : List Policed). Contains ps over.over) taken (contains_at (verdicts_in run bridge cycle batches) over.place over.over over.there) in
+    none_lost_in run cycles cycle bridge net compiled loses in_cycles whole losses over.over inside (subst IsLoss (sym over.exceeds) tt)
+
 -- so a bridge that has sent as the network does doesn't receive the cycle for want of memory alone
 pub memory_alone : BatchIsWholeInItsCycle → CycleBringsItsBatches → LossesAreOfCycles → GateIsReservation → (run : Run) (cycles cycle : ℕ) (net : Network)
     (before after : BridgeState) (fault : BridgeFault) → IsCompiledNetwork run cycles net → LosesNothing run cycles net →
@@ -142,10 +153,5 @@ memory_alone whole brings losses reserves run cycles cycle net before after Stra
     absurd (h.1 (subst (λ (x : Domain). AreBatchesOf x before.number cycle (table_of run.tables cycle) batches) (sym has.of_run.domain)
     (batches_may_come run cycles cycle before.number net compiled loses in_cycles whole losses)))
 memory_alone whole brings losses reserves run cycles cycle net before after (OverOctets frame) compiled loses has next in_cycles h =
-    let over = h.1 in
-    let taken = verdicts_are brings reserves run cycles cycle before.number net compiled in
-    let inside : Contains (policed_of run net.carried before.number cycle) over.over =
-    subst (λ (ps : List Policed). Contains ps over.over) taken (contains_at _ over.place over.over over.there) in
-    absurd (none_lost_in run cycles cycle before.number net compiled loses in_cycles whole losses over.over inside
-    (subst IsLoss (sym over.exceeds) tt))
+    absurd (none_over whole brings losses reserves run cycles cycle before.number frame net compiled loses in_cycles h.1)
 memory_alone whole brings losses reserves run cycles cycle net before after Memory compiled loses has next in_cycles h = refl

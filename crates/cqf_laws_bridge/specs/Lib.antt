@@ -1,3 +1,4 @@
 pub mod Follows
 pub mod Cycles
+pub mod LongerRuns
 pub mod NoFaults

@@ -15,7 +15,7 @@ use Rattle.cqf_bridge.specs.declared.faults.BridgeFault.{BridgeFault}
 use Rattle.cqf_bridge.specs.declared.faults.BridgeFault.TheVariants.{Memory}
 use Rattle.cqf_bridge.specs.BridgeState.{BridgeState}
 use Rattle.cqf_bridge.specs.Faults.{IsSendFault}
-use Rattle.cqf_bridge.specs.Receiving.{AreBatchesOf, IsReceiveFault}
+use Rattle.cqf_bridge.specs.Receiving.{AreBatchesOf, IsFirstOver, IsReceiveFault, verdicts_in}
 use Rattle.cqf_laws_bridge.specs.Follows.{FollowsTheNetwork, HasSentOfTheNetwork, batches_into, handed_in}
 
 -- nothing is lost inside in so many cycles
@@ -37,6 +37,11 @@ RunOfHistoryLosesNothing = (d : Domain) (entries : List Recorded) (offers : List
 abbrev pub BatchesMayCome : Type 0
 BatchesMayCome = (run : Run) (cycles cycle bridge : ℕ) (net : Network) → IsCompiledNetwork run cycles net → LosesNothing run cycles net →
     cycle < cycles → AreBatchesOf run.domain bridge cycle (table_of run.tables cycle) (batches_into run.domain net.carried bridge cycle)
+
+-- and none of them is over its octets
+abbrev pub NoneIsOver : Type 0
+NoneIsOver = (run : Run) (cycles cycle bridge frame : ℕ) (net : Network) → IsCompiledNetwork run cycles net → LosesNothing run cycles net →
+    cycle < cycles → ¬ IsFirstOver (verdicts_in run bridge cycle (batches_into run.domain net.carried bridge cycle)) frame
 
 -- a bridge that follows the network refuses to send the next cycle for want of memory alone
 abbrev pub SendsButForMemory : Type 0

@@ -1,5 +1,5 @@
 //! The faults of a bridge that follows the network.
-ghost use Rattle.cqf_laws_bridge.specs.NoFaults.{BatchesMayCome, OrderlyRunLosesNothing, ReceivesButForMemory, RunOfHistoryLosesNothing, SendsButForMemory};
+ghost use Rattle.cqf_laws_bridge.specs.NoFaults.{BatchesMayCome, NoneIsOver, OrderlyRunLosesNothing, ReceivesButForMemory, RunOfHistoryLosesNothing, SendsButForMemory};
 
 /// In a run of orderly tables, as those of a legal history of admissions are, nothing is lost inside, whatever is offered and
 /// beside any background frames (IEEE 802.1Q, Annex T, and the profile).
@@ -11,10 +11,12 @@ pub fn history_loses_nothing()
     cqf_laws_history::tables_are_orderly();
 }
 
-/// Where nothing is lost inside, the batches of a cycle may come to the bridge in which their links end, and a bridge that
-/// follows the network neither refuses to send the next cycle nor to receive it, but for want of memory.
+/// Where nothing is lost inside, the batches of a cycle may come to the bridge in which their links end, none of their frames is
+/// over its octets there, and a bridge that follows the network refuses neither to send the next cycle nor to receive it, but for
+/// want of memory.
 pub fn no_other_fault()
     ensures batches { BatchesMayCome }
+    ensures none_over { NoneIsOver }
     ensures sends { SendsButForMemory }
     ensures receives { ReceivesButForMemory }
 {
