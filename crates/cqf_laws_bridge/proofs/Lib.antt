@@ -7,3 +7,4 @@ mod TakenCycles
 mod Losses
 mod OwnPages
 mod SameFrames
+mod Courses
