@@ -3,3 +3,4 @@ pub mod PortRecord
 pub mod BridgeState
 pub mod Faults
 pub mod Sending
+pub mod Receiving

@@ -1,0 +1,10 @@
+mod Beginning
+mod LinkLists
+mod SentPorts
+mod SentCycles
+mod Anew
+mod TakenCycles
+mod Losses
+mod OwnPages
+mod SameFrames
+mod Courses

@@ -1,0 +1,72 @@
+-- The bridges of a domain, driven cycle by cycle, with nothing between them but their batches.
+use Rattle.std.specs.Prelude.{ℕ, ◌≡◌, ◌+◌, ◌≤◌, ◌<◌, ◌++◌, List, length, map, Contains}
+use Rattle.cqf_model.specs.declared.frames.Dropped.{Dropped}
+use Rattle.cqf_model.specs.Book.{Contents, IsBook, page_of}
+use Rattle.cqf_model.specs.Domain.{Domain, IsAccepted, bridge_of}
+use Rattle.cqf_model.specs.Network.{Network, compiled_lists}
+use Rattle.cqf_model.specs.Run.{Run}
+use Rattle.cqf_laws_pages.specs.BridgeCycle.{IsCompiledNetwork}
+use Rattle.cqf_laws_pages.specs.Gathered.{backed_for}
+use Rattle.cqf_laws_pages.specs.PageLaws.{book_of_pages}
+use Rattle.cqf_bridge.specs.Batch.{LinkBatch}
+use Rattle.cqf_bridge.specs.BridgeState.{BridgeState, SendsCycle, new_bridge}
+use Rattle.cqf_bridge.specs.Receiving.{ReceivesCycle, links_into}
+use Rattle.cqf_laws_bridge.specs.Cycles.{page_given}
+use Rattle.cqf_laws_bridge.specs.Follows.{FollowsTheNetwork, HasSentOfTheNetwork}
+
+-- what bridges do, by bridge and cycle: what each was before the cycle, and when it had sent it; the batches behind which it put its
+-- own, its own, and those that it was handed; and what it dropped
+pub record Course : Type 0 where
+  pub before : ℕ → ℕ → BridgeState
+  pub halfway : ℕ → ℕ → BridgeState
+  pub given : ℕ → ℕ → List LinkBatch
+  pub sent : ℕ → ℕ → List LinkBatch
+  pub handed : ℕ → ℕ → List LinkBatch
+  pub dropped : ℕ → ℕ → List Dropped
+
+-- a bridge is handed in a cycle a batch for each link that ends in it, by number, and each is one that the bridge which the link
+-- leaves sent in the cycle
+pub record ArePassedOn (d : Domain) (course : Course) (bridge cycle : ℕ) : Type 0 where
+  pub one_each : map (λ (x : LinkBatch). x.link) (course.handed bridge cycle) ≡ links_into d bridge
+  pub was_sent : (x : LinkBatch) → Contains (course.handed bridge cycle) x → Contains (course.sent (bridge_of d x.link) cycle) x
+
+-- a bridge sends a cycle, with the run's background frames, and receives it, with the run's table and offers
+pub record GoesThrough (run : Run) (course : Course) (bridge cycle : ℕ) : Type 0 where
+  pub sends : SendsCycle (course.before bridge cycle) (course.halfway bridge cycle) cycle (backed_for run.domain run.background bridge cycle)
+      (course.given bridge cycle) (course.given bridge cycle ++ course.sent bridge cycle)
+  pub passed_on : ArePassedOn run.domain course bridge cycle
+  pub receives : ReceivesCycle run (course.halfway bridge cycle) (course.before bridge (cycle + 1)) cycle (course.handed bridge cycle)
+      (course.dropped bridge cycle)
+
+-- the bridges of the run's domain begin with nothing done, and go through so many cycles
+pub record AreDriven (run : Run) (cycles : ℕ) (course : Course) : Type 0 where
+  pub begin : (bridge : ℕ) → bridge < length run.domain.bridges → course.before bridge 0 ≡ new_bridge run.domain bridge
+  pub go_on : (bridge cycle : ℕ) → bridge < length run.domain.bridges → cycle < cycles → GoesThrough run course bridge cycle
+
+-- then each follows the network before each cycle and behind the last, and has sent as the network does in between. The network may be
+-- one of more cycles
+abbrev pub DrivenBridgesFollow : Type 0
+DrivenBridgesFollow = (run : Run) (cycles driven bridge cycle : ℕ) (net : Network) (course : Course) → IsCompiledNetwork run cycles net →
+    driven ≤ cycles → AreDriven run driven course → bridge < length run.domain.bridges → cycle ≤ driven →
+    FollowsTheNetwork run net (course.before bridge cycle)
+
+abbrev pub DrivenBridgesSend : Type 0
+DrivenBridgesSend = (run : Run) (cycles driven bridge cycle : ℕ) (net : Network) (course : Course) → IsCompiledNetwork run cycles net →
+    driven ≤ cycles → AreDriven run driven course → bridge < length run.domain.bridges → cycle < driven →
+    HasSentOfTheNetwork run net (course.halfway bridge cycle)
+
+-- what a bridge gave in a cycle
+abbrev pub page_of_course : Course → ℕ → ℕ → Contents
+page_of_course course bridge cycle =
+    page_given (course.sent bridge cycle) (course.halfway bridge cycle).background (course.dropped bridge cycle)
+
+-- so what the bridges give is the run's book, page by page
+abbrev pub DrivenBridgesGiveTheirPages : Type 0
+DrivenBridgesGiveTheirPages = (run : Run) (cycles bridge cycle : ℕ) (course : Course) (book : Contents) → IsAccepted run.domain →
+    IsBook run (compiled_lists run.domain) cycles book → AreDriven run cycles course → bridge < length run.domain.bridges → cycle < cycles →
+    page_of run.domain bridge cycle book ≡ page_of_course course bridge cycle
+
+abbrev pub DrivenBridgesGiveTheBook : Type 0
+DrivenBridgesGiveTheBook = (run : Run) (cycles : ℕ) (course : Course) (book : Contents) → IsAccepted run.domain →
+    IsBook run (compiled_lists run.domain) cycles book → AreDriven run cycles course →
+    book ≡ book_of_pages run.domain cycles (page_of_course course)

@@ -1,0 +1,23 @@
+//! The bridges of a domain, driven together.
+ghost use Rattle.cqf_laws_bridge.specs.Driven.{DrivenBridgesFollow, DrivenBridgesGiveTheBook, DrivenBridgesGiveTheirPages, DrivenBridgesSend};
+
+use crate::{new_bridge_follows, page_follows, receiving_follows, sending_follows};
+
+/// Where the bridges of a domain begin with nothing done, and in each cycle each sends, and then receives with the batches that the
+/// others sent to it, each follows the legal network of the run, and what they give is the run's book: the network is nothing but
+/// its bridges and what they pass on (IEEE 802.1Q, Annex T).
+///
+/// Nothing is said of the order in which bridges are called within a cycle, so each order, on however many threads, gives that
+/// book.
+pub fn driven_bridges_give_the_book()
+    ensures follow { DrivenBridgesFollow }
+    ensures send { DrivenBridgesSend }
+    ensures pages { DrivenBridgesGiveTheirPages }
+    ensures book { DrivenBridgesGiveTheBook }
+{
+    new_bridge_follows();
+    sending_follows();
+    receiving_follows();
+    page_follows();
+    cqf_laws_pages::book_is_its_pages();
+}
