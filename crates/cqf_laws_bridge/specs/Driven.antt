@@ -1,13 +1,18 @@
 -- The bridges of a domain, driven cycle by cycle, with nothing between them but their batches.
 use Rattle.std.specs.Prelude.{ℕ, ◌≡◌, ◌+◌, ◌≤◌, ◌<◌, ◌++◌, List, length, map, Contains}
+use Rattle.cqf_model.specs.declared.frames.Background.{Background}
 use Rattle.cqf_model.specs.declared.frames.Dropped.{Dropped}
+use Rattle.cqf_model.specs.declared.frames.Offer.{Offer}
 use Rattle.cqf_model.specs.Book.{Contents, IsBook, page_of}
 use Rattle.cqf_model.specs.Domain.{Domain, IsAccepted, bridge_of}
+use Rattle.cqf_model.specs.History.{IsLegalHistory, Recorded, seals}
+use Rattle.cqf_model.specs.HistoryBook.{run_of_history}
 use Rattle.cqf_model.specs.Network.{Network, compiled_lists}
-use Rattle.cqf_model.specs.Run.{Run}
+use Rattle.cqf_model.specs.Run.{AreBackground, AreOffers, Run}
 use Rattle.cqf_laws_pages.specs.BridgeCycle.{IsCompiledNetwork}
 use Rattle.cqf_laws_pages.specs.Gathered.{backed_for}
 use Rattle.cqf_laws_pages.specs.PageLaws.{book_of_pages}
+use Rattle.cqf_shift.specs.Books.{SaysTheShift}
 use Rattle.cqf_bridge.specs.declared.faults.BridgeFault.{BridgeFault}
 use Rattle.cqf_bridge.specs.declared.faults.BridgeFault.TheVariants.{Memory}
 use Rattle.cqf_bridge.specs.Batch.{LinkBatch}
@@ -97,3 +102,13 @@ DrivenBridgesReceiveButForMemory = (run : Run) (cycles cycle bridge : ℕ) (net 
     IsCompiledNetwork run cycles net → LosesNothing run cycles net → cycle < cycles → HaveAllSent run course cycle →
     bridge < length run.domain.bridges → ArePassedOn run.domain course bridge cycle →
     IsReceiveFault run (course.halfway bridge cycle) after cycle (handed_with run cycle (course.handed bridge cycle)) fault → fault ≡ Memory
+
+-- and what driven bridges give under the tables of a legal history says the shift: each frame that its reservation covers leaves its
+-- path's k-th bridge on each branch k cycles after its own cycle, no other frame leaves, and every other offer is dropped at its edge with
+-- its reason
+abbrev pub DrivenBridgesSayTheShift : Type 0
+DrivenBridgesSayTheShift =
+    (d : Domain) (entries : List Recorded) (offers : List Offer) (background : List Background) (cycles : ℕ) (course : Course) →
+    IsAccepted d → IsLegalHistory d entries → cycles ≤ seals entries → AreOffers d offers → AreBackground d background →
+    (let run = run_of_history d entries offers background cycles in
+    AreDriven run cycles course → SaysTheShift run (book_of_pages d cycles (page_of_course course)))

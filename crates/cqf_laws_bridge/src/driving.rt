@@ -4,6 +4,7 @@ ghost use Rattle.cqf_laws_bridge.specs.Driven.{
   DrivenBridgesGiveTheBook,
   DrivenBridgesGiveTheirPages,
   DrivenBridgesReceiveButForMemory,
+  DrivenBridgesSayTheShift,
   DrivenBridgesSend,
   DrivenBridgesSendButForMemory,
 };
@@ -39,4 +40,15 @@ pub fn driven_bridges_want_memory_alone()
     sending_follows();
     receiving_follows();
     no_other_fault();
+}
+
+/// What bridges give that are driven so, under the tables of a legal history of admissions, says the shift, for every accepted domain,
+/// whatever is offered and beside any background frames (IEEE 802.1Q, Annex T, and the profile).
+pub fn driven_bridges_say_the_shift()
+    ensures { DrivenBridgesSayTheShift }
+{
+    driven_bridges_give_the_book();
+    cqf_laws_network::book_exists();
+    cqf_laws_history::tables_are_orderly();
+    cqf_laws_book::book_of_history_says_the_shift();
 }
