@@ -1,6 +1,6 @@
 -- Bridges that pass on their batches follow the network together.
-use Rattle.std.proofs.Common.{◌≡◌, ℕ, zero, suc, ◌+◌, ◌≤◌, ◌<◌, List, [], ◌∷◌, ◌++◌, length, map, filter, sym, ap, refl, ◌∙◌, arith, subst, Contains}
-use Rattle.std.proofs.lemmas.List.{append_cancel_left}
+use Rattle.std.proofs.Common.{◌≡◌, ℕ, zero, suc, ◌+◌, ◌≤◌, ◌<◌, List, ◌++◌, length, map, filter, sym, ap, ◌∙◌, arith, subst, Contains}
+use Rattle.std.proofs.lemmas.List.{append_cancel_left, map-id}
 use Rattle.std.proofs.lemmas.Simd.{map-map}
 use Rattle.cqf_lists.proofs.EachBelow.{same_below}
 use Rattle.cqf_lists.proofs.Made.{map_same}
@@ -31,11 +31,6 @@ pub record IsBefore (run : Run) (net : Network) (course : Course) (bridge cycle 
   pub follows : FollowsTheNetwork run net (course.before bridge cycle)
   pub received : (course.before bridge cycle).received ≡ cycle
   pub number : (course.before bridge cycle).number ≡ bridge
-
--- each for itself
-themselves : {X : Type 0} (xs : List X) → map (λ (x : X). x) xs ≡ xs
-themselves [] = refl
-themselves {X} (x ∷ xs) = ap (λ (ys : List X). x ∷ ys) (themselves xs)
 
 module _ (run : Run) (cycles : ℕ) (net : Network) (course : Course) (compiled : IsCompiledNetwork run cycles net) (sending : SendingFollows) (receiving : ReceivingFollows) where
   -- it gives the network's batches in the cycle
@@ -87,7 +82,7 @@ module _ (run : Run) (cycles : ℕ) (net : Network) (course : Course) (compiled 
     handed_are bridge passed =
         let of_link = batch_of run.domain net.carried cycle in
         let handed = course.handed bridge cycle in
-        sym (themselves handed)
+        sym (map-id handed)
         ∙ map_same (λ (x : LinkBatch). x) (λ (x : LinkBatch). of_link x.link) handed (handed_is bridge passed)
         ∙ sym (map-map of_link (λ (x : LinkBatch). x.link) handed)
         ∙ ap (map of_link) passed.one_each
