@@ -1,7 +1,8 @@
 -- A bridge before its first cycle, and the background frames that it is handed.
-use Rattle.std.proofs.Common.{◌≡◌, ℕ, ◌+◌, ◌*◌, ◌<◌, ◌≤◌, true, List, [], ◌∷◌, ◌==◌, length, map, filter, ap, refl, ◌∙◌, inl, inr, arith, subst, Contains, eqb-true}
+use Rattle.std.proofs.Common.{◌≡◌, ℕ, ◌+◌, ◌*◌, ◌<◌, ◌≤◌, true, List, [], ◌∷◌, ◌==◌, length, filter, ap, refl, ◌∙◌, inl, inr, arith, subst, Contains, eqb-true}
 use Rattle.std.specs.List.{enumerate_from}
 use Rattle.std.proofs.lemmas.Bool.{and_parts}
+use Rattle.std.proofs.lemmas.List.{map-id}
 use Rattle.std.proofs.lemmas.Simd.{map-map}
 use Rattle.cqf_lists.proofs.EachBelow.{contains_from_below}
 use Rattle.cqf_lists.proofs.Members.{contains_cases, contains_from_filter, contains_from_map, contains_here, contains_later, contains_none}
@@ -50,17 +51,12 @@ new_follows run net number inside = record {
     domain = refl;
     inside = inside;
     not_spent = refl;
-    links = map-map (λ (r : PortRecord). r.link) (new_record run.domain) (links_from run.domain number) ∙ themselves (links_from run.domain number);
+    links = map-map (λ (r : PortRecord). r.link) (new_record run.domain) (links_from run.domain number) ∙ map-id (links_from run.domain number);
   };
   turn = refl;
   ports = λ r held. (let f = contains_from_map (new_record run.domain) (links_from run.domain number) r held in
       subst (λ (p : PortRecord). HasTaken run.domain (0 * run.domain.cycle_time) (comes_before run net.carried p.link 0) p) f.2 (new_port run net f.0));
 }
-  where
-    -- each number for itself
-    themselves : (ls : List ℕ) → map (λ (l : ℕ). l) ls ≡ ls
-    themselves [] = refl
-    themselves (l ∷ ls) = ap (λ (xs : List ℕ). l ∷ xs) (themselves ls)
 
 -- a numbered element is one of the list
 of_numbered : {X : Type 0} (n : ℕ) (xs : List X) (p : ℕ × X) → Contains (enumerate_from n xs) p → Contains xs p.1

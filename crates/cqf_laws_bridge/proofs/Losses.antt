@@ -3,6 +3,7 @@ use Rattle.std.proofs.Common.{◌≡◌, ℕ, ◌+◌, ◌-◌, ◌*◌, ◌<◌
 use Rattle.std.specs.Prelude.{Option, Some, None}
 use Rattle.std.proofs.lemmas.Bool.{cond-true}
 use Rattle.std.proofs.lemmas.List.Elements.{Contains-append_left}
+use Rattle.std.proofs.lemmas.List.{map-id}
 use Rattle.std.proofs.lemmas.Simd.{map-map}
 use Rattle.cqf_lists.specs.Lists.{each_below}
 use Rattle.cqf_lists.proofs.EachBelow.{contains_below}
@@ -114,18 +115,13 @@ module _ (run : Run) (cycles cycle bridge : ℕ) (net : Network) (compiled : IsC
       let of_link = batch_of d net.carried cycle in
       let links = links_into d bridge in
       record {
-        one_each = map-map (λ (b : LinkBatch). b.link) of_link links ∙ themselves links;
+        one_each = map-map (λ (b : LinkBatch). b.link) of_link links ∙ map-id links;
         of_cycle = λ b h. (let f = contains_from_map of_link links b h in sym (ap (λ (y : LinkBatch). y.cycle) f.2));
         frames = λ b sent h of_batch. (let f = contains_from_map of_link links b h in
             let here = (kept_number (λ l. enters d l bridge) (length d.links) f.0 f.1).1 in
             subst (λ (y : LinkBatch). MayCome d bridge cycle (table_of run.tables cycle) y.link sent) f.2
             (frame_may_come f.0 sent here (subst (λ (y : LinkBatch). Contains y.frames sent) (sym f.2) of_batch)));
       }
-    where
-      -- each number for itself
-      themselves : (ls : List ℕ) → map (λ (l : ℕ). l) ls ≡ ls
-      themselves [] = refl
-      themselves (l ∷ ls) = ap (λ (xs : List ℕ). l ∷ xs) (themselves ls)
 
 -- and none of their frames is over its octets
 pub none_over : BatchIsWholeInItsCycle → CycleBringsItsBatches → LossesAreOfCycles → GateIsReservation → (run : Run) (cycles cycle bridge frame : ℕ)

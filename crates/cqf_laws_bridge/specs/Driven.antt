@@ -1,18 +1,27 @@
 -- The bridges of a domain, driven cycle by cycle, with nothing between them but their batches.
 use Rattle.std.specs.Prelude.{ℕ, ◌≡◌, ◌+◌, ◌≤◌, ◌<◌, ◌++◌, List, length, map, Contains}
+use Rattle.cqf_model.specs.declared.frames.Background.{Background}
 use Rattle.cqf_model.specs.declared.frames.Dropped.{Dropped}
+use Rattle.cqf_model.specs.declared.frames.Offer.{Offer}
 use Rattle.cqf_model.specs.Book.{Contents, IsBook, page_of}
 use Rattle.cqf_model.specs.Domain.{Domain, IsAccepted, bridge_of}
+use Rattle.cqf_model.specs.History.{IsLegalHistory, Recorded, seals}
+use Rattle.cqf_model.specs.HistoryBook.{run_of_history}
 use Rattle.cqf_model.specs.Network.{Network, compiled_lists}
-use Rattle.cqf_model.specs.Run.{Run}
+use Rattle.cqf_model.specs.Run.{AreBackground, AreOffers, Run}
 use Rattle.cqf_laws_pages.specs.BridgeCycle.{IsCompiledNetwork}
 use Rattle.cqf_laws_pages.specs.Gathered.{backed_for}
 use Rattle.cqf_laws_pages.specs.PageLaws.{book_of_pages}
+use Rattle.cqf_shift.specs.Books.{SaysTheShift}
+use Rattle.cqf_bridge.specs.declared.faults.BridgeFault.{BridgeFault}
+use Rattle.cqf_bridge.specs.declared.faults.BridgeFault.TheVariants.{Memory}
 use Rattle.cqf_bridge.specs.Batch.{LinkBatch}
 use Rattle.cqf_bridge.specs.BridgeState.{BridgeState, SendsCycle, new_bridge}
-use Rattle.cqf_bridge.specs.Receiving.{ReceivesCycle, links_into}
+use Rattle.cqf_bridge.specs.Faults.{IsSendFault}
+use Rattle.cqf_bridge.specs.Receiving.{IsReceiveFault, ReceivesCycle, links_into}
 use Rattle.cqf_laws_bridge.specs.Cycles.{page_given}
-use Rattle.cqf_laws_bridge.specs.Follows.{FollowsTheNetwork, HasSentOfTheNetwork}
+use Rattle.cqf_laws_bridge.specs.Follows.{FollowsTheNetwork, HasSentOfTheNetwork, handed_with}
+use Rattle.cqf_laws_bridge.specs.NoFaults.{LosesNothing}
 
 -- what bridges do, by bridge and cycle: what each was before the cycle, and when it had sent it; the batches behind which it put its
 -- own, its own, and those that it was handed; and what it dropped
@@ -30,10 +39,15 @@ pub record ArePassedOn (d : Domain) (course : Course) (bridge cycle : ℕ) : Typ
   pub one_each : map (λ (x : LinkBatch). x.link) (course.handed bridge cycle) ≡ links_into d bridge
   pub was_sent : (x : LinkBatch) → Contains (course.handed bridge cycle) x → Contains (course.sent (bridge_of d x.link) cycle) x
 
--- a bridge sends a cycle, with the run's background frames, and receives it, with the run's table and offers
+-- a bridge sends a cycle, with the run's background frames
+abbrev pub SendsInCourse : Run → Course → ℕ → ℕ → Type 0
+SendsInCourse run course bridge cycle =
+    SendsCycle (course.before bridge cycle) (course.halfway bridge cycle) cycle (backed_for run.domain run.background bridge cycle)
+    (course.given bridge cycle) (course.given bridge cycle ++ course.sent bridge cycle)
+
+-- and receives it, with the run's table and offers
 pub record GoesThrough (run : Run) (course : Course) (bridge cycle : ℕ) : Type 0 where
-  pub sends : SendsCycle (course.before bridge cycle) (course.halfway bridge cycle) cycle (backed_for run.domain run.background bridge cycle)
-      (course.given bridge cycle) (course.given bridge cycle ++ course.sent bridge cycle)
+  pub sends : SendsInCourse run course bridge cycle
   pub passed_on : ArePassedOn run.domain course bridge cycle
   pub receives : ReceivesCycle run (course.halfway bridge cycle) (course.before bridge (cycle + 1)) cycle (course.handed bridge cycle)
       (course.dropped bridge cycle)
@@ -70,3 +84,31 @@ abbrev pub DrivenBridgesGiveTheBook : Type 0
 DrivenBridgesGiveTheBook = (run : Run) (cycles : ℕ) (course : Course) (book : Contents) → IsAccepted run.domain →
     IsBook run (compiled_lists run.domain) cycles book → AreDriven run cycles course →
     book ≡ book_of_pages run.domain cycles (page_of_course course)
+
+-- a bridge that was driven through the cycles before one refuses to send that one for want of memory alone
+abbrev pub DrivenBridgesSendButForMemory : Type 0
+DrivenBridgesSendButForMemory = (run : Run) (cycles cycle bridge : ℕ) (net : Network) (course : Course) (after : BridgeState) (fault : BridgeFault) →
+    IsCompiledNetwork run cycles net → cycle ≤ cycles → AreDriven run cycle course → bridge < length run.domain.bridges →
+    IsSendFault (course.before bridge cycle) after cycle fault → fault ≡ Memory
+
+-- the bridges were driven through the cycles before one, and all have sent it
+pub record HaveAllSent (run : Run) (course : Course) (cycle : ℕ) : Type 0 where
+  pub driven : AreDriven run cycle course
+  pub sent_it : (bridge : ℕ) → bridge < length run.domain.bridges → SendsInCourse run course bridge cycle
+
+-- then one that is handed what the others sent refuses to receive it for want of memory alone, where nothing is lost inside
+abbrev pub DrivenBridgesReceiveButForMemory : Type 0
+DrivenBridgesReceiveButForMemory = (run : Run) (cycles cycle bridge : ℕ) (net : Network) (course : Course) (after : BridgeState) (fault : BridgeFault) →
+    IsCompiledNetwork run cycles net → LosesNothing run cycles net → cycle < cycles → HaveAllSent run course cycle →
+    bridge < length run.domain.bridges → ArePassedOn run.domain course bridge cycle →
+    IsReceiveFault run (course.halfway bridge cycle) after cycle (handed_with run cycle (course.handed bridge cycle)) fault → fault ≡ Memory
+
+-- and what driven bridges give under the tables of a legal history says the shift: each frame that its reservation covers leaves its
+-- path's k-th bridge on each branch k cycles after its own cycle, no other frame leaves, and every other offer is dropped at its edge with
+-- its reason
+abbrev pub DrivenBridgesSayTheShift : Type 0
+DrivenBridgesSayTheShift =
+    (d : Domain) (entries : List Recorded) (offers : List Offer) (background : List Background) (cycles : ℕ) (course : Course) →
+    IsAccepted d → IsLegalHistory d entries → cycles ≤ seals entries → AreOffers d offers → AreBackground d background →
+    (let run = run_of_history d entries offers background cycles in
+    AreDriven run cycles course → SaysTheShift run (book_of_pages d cycles (page_of_course course)))

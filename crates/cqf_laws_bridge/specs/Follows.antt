@@ -62,7 +62,10 @@ batches_from d carried bridge cycle = map (batch_of d carried cycle) (links_from
 abbrev pub batches_into : Domain → Carried → ℕ → ℕ → List LinkBatch
 batches_into d carried bridge cycle = map (batch_of d carried cycle) (links_into d bridge)
 
--- what a bridge is handed with a cycle of a run: the table of the cycle, and the batches of the links that end in it
+-- what a bridge is handed with a cycle of a run: the table of the cycle, and batches
+abbrev pub handed_with : Run → ℕ → List LinkBatch → Handed
+handed_with run cycle batches = record { table_cycle = cycle; rows = table_of run.tables cycle; batches = batches }
+
+-- the table, and the network's batches of the links that end in it
 abbrev pub handed_in : Run → Network → ℕ → ℕ → Handed
-handed_in run net bridge cycle =
-    record { table_cycle = cycle; rows = table_of run.tables cycle; batches = batches_into run.domain net.carried bridge cycle }
+handed_in run net bridge cycle = handed_with run cycle (batches_into run.domain net.carried bridge cycle)

@@ -15,8 +15,8 @@ TablesToComeDontCount = (run : Run) (others : List (List Row)) (net : Network) (
     FollowsTheNetwork run net b → FollowsTheNetwork (with_tables run others) net b
 
 -- and halfway through a cycle the cycle's own table doesn't count yet
-abbrev pub NorHalfway : Type 0
-NorHalfway = (run : Run) (others : List (List Row)) (net : Network) (b : BridgeState) → HaveTheSameTables b.received run.tables others →
+abbrev pub TablesToComeDontCountHalfway : Type 0
+TablesToComeDontCountHalfway = (run : Run) (others : List (List Row)) (net : Network) (b : BridgeState) → HaveTheSameTables b.received run.tables others →
     HasSentOfTheNetwork run net b → HasSentOfTheNetwork (with_tables run others) net b
 
 -- a run, of which another with the same tables in its cycles is the beginning, with the legal networks of both
@@ -31,6 +31,6 @@ LongerRunIsFollowed = (run : Run) (others : List (List Row)) (cycles longer : �
     IsLonger run others cycles longer net more → b.received ≤ cycles → FollowsTheNetwork (with_tables run others) net b → FollowsTheNetwork run more b
 
 -- and so does one that has sent a cycle of it
-abbrev pub AndHalfway : Type 0
-AndHalfway = (run : Run) (others : List (List Row)) (cycles longer : ℕ) (net more : Network) (b : BridgeState) →
+abbrev pub LongerRunIsFollowedHalfway : Type 0
+LongerRunIsFollowedHalfway = (run : Run) (others : List (List Row)) (cycles longer : ℕ) (net more : Network) (b : BridgeState) →
     IsLonger run others cycles longer net more → b.received < cycles → HasSentOfTheNetwork (with_tables run others) net b → HasSentOfTheNetwork run more b

@@ -1,7 +1,15 @@
 //! The bridges of a domain, driven together.
-ghost use Rattle.cqf_laws_bridge.specs.Driven.{DrivenBridgesFollow, DrivenBridgesGiveTheBook, DrivenBridgesGiveTheirPages, DrivenBridgesSend};
+ghost use Rattle.cqf_laws_bridge.specs.Driven.{
+  DrivenBridgesFollow,
+  DrivenBridgesGiveTheBook,
+  DrivenBridgesGiveTheirPages,
+  DrivenBridgesReceiveButForMemory,
+  DrivenBridgesSayTheShift,
+  DrivenBridgesSend,
+  DrivenBridgesSendButForMemory,
+};
 
-use crate::{new_bridge_follows, page_follows, receiving_follows, sending_follows};
+use crate::{new_bridge_follows, no_other_fault, page_follows, receiving_follows, sending_follows};
 
 /// Where the bridges of a domain begin with nothing done, and in each cycle each sends, and then receives with the batches that the
 /// others sent to it, each follows the legal network of the run, and what they give is the run's book: the network is nothing but
@@ -20,4 +28,27 @@ pub fn driven_bridges_give_the_book()
     receiving_follows();
     page_follows();
     cqf_laws_pages::book_is_its_pages();
+}
+
+/// Bridges that are driven so refuse to send a cycle for want of memory alone, and to receive it, too, in a run that loses nothing
+/// inside, as under the tables of a history ([`crate::history_loses_nothing`]).
+pub fn driven_bridges_want_memory_alone()
+    ensures sends { DrivenBridgesSendButForMemory }
+    ensures receives { DrivenBridgesReceiveButForMemory }
+{
+    new_bridge_follows();
+    sending_follows();
+    receiving_follows();
+    no_other_fault();
+}
+
+/// What bridges give that are driven so, under the tables of a legal history of admissions, says the shift, for every accepted domain,
+/// whatever is offered and beside any background frames (IEEE 802.1Q, Annex T, and the profile).
+pub fn driven_bridges_say_the_shift()
+    ensures { DrivenBridgesSayTheShift }
+{
+    driven_bridges_give_the_book();
+    cqf_laws_network::book_exists();
+    cqf_laws_history::tables_are_orderly();
+    cqf_laws_book::book_of_history_says_the_shift();
 }

@@ -1,5 +1,12 @@
 //! The faults of a bridge that follows the network.
-ghost use Rattle.cqf_laws_bridge.specs.NoFaults.{BatchesMayCome, NoneIsOver, OrderlyRunLosesNothing, ReceivesButForMemory, RunOfHistoryLosesNothing, SendsButForMemory};
+ghost use Rattle.cqf_laws_bridge.specs.NoFaults.{
+  BatchesMayCome,
+  NoneIsOver,
+  OrderlyRunLosesNothing,
+  ReceivesButForMemory,
+  RunOfHistoryLosesNothing,
+  SendsButForMemory,
+};
 
 /// In a run of orderly tables, as those of a legal history of admissions are, nothing is lost inside, whatever is offered and
 /// beside any background frames (IEEE 802.1Q, Annex T, and the profile).

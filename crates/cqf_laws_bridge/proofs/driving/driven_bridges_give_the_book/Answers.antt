@@ -3,12 +3,12 @@ use Rattle.cqf_laws_bridge.proofs.driving.driven_bridges_give_the_book.Goals as 
 
 pub returns-clause-follow : goal.returns-clause-follow
 returns-clause-follow c run cycles driven bridge cycle net course compiled few are inside upto =
-    (all_before run cycles driven net course compiled few are c.sending_follows.ensures c.receiving_follows.ensures
+    (all_before run cycles net course compiled c.sending_follows.ensures c.receiving_follows.ensures driven few are
     c.new_bridge_follows.ensures.follows cycle upto bridge inside).follows
 
 pub returns-clause-send : goal.returns-clause-send
 returns-clause-send c run cycles driven bridge cycle net course compiled few are inside within =
-    all_halfway run cycles driven net course compiled few are c.sending_follows.ensures c.receiving_follows.ensures
+    all_halfway run cycles net course compiled c.sending_follows.ensures c.receiving_follows.ensures driven few are
     c.new_bridge_follows.ensures.follows cycle within bridge inside
 
 pub returns-clause-pages : goal.returns-clause-pages
