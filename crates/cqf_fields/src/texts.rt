@@ -24,7 +24,7 @@ fn text_in(alloc: Global, value: &Value, key: Key) -> Result<String, TomlFault>
 fn texts_in(alloc: Global, values: &[Value], key: Key) -> Result<Vec<String>, TomlFault>
     ensures { Gives TomlFault.Memory (λ texts. map string_bytes texts.items) result (texts_from key (items_view values.now)) }
 {
-    let mut texts = Vec::new(alloc);
+    let mut texts = Vec::with_capacity(alloc, values.len()).map_err(|_| TomlFault::Memory)?;
     for value in values {
         let text = text_in(alloc, value, key)?;
         texts.push(text).map_err(|_| TomlFault::Memory)?;

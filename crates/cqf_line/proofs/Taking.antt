@@ -1,6 +1,8 @@
 -- Taking the offers that are due, one after the other.
-use Rattle.std.proofs.Common.{ℕ, ◌≡◌, ◌+◌, ◌*◌, ◌∙◌, ◌<◌, ◌≤◌, List, [], ◌∷◌, ◌++◌, length, map, take, get_or, sym, ap, subst, arith, take_all}
+use Rattle.std.proofs.Common.{ℕ, ◌≡◌, ◌+◌, ◌*◌, ◌∙◌, ◌<◌, ◌≤◌, ◌-◌, drop, List, [], ◌∷◌, ◌++◌, length, map, take, get_or, sym, ap, subst, arith, take_all, get_or-drop}
+use Rattle.std.specs.Prelude.{suc}
 use Rattle.std.specs.List.{All}
+use Rattle.std.proofs.Math.Seq.{drop-cons}
 use Rattle.std.specs.List.Sorted.{IsNonDecreasingBy}
 use Rattle.std.proofs.lemmas.List.{take_more, map-append, get_or_default}
 use Rattle.std.proofs.lemmas.List.Elements.{All-weaker}
@@ -100,3 +102,73 @@ pub IsAlong-end : (cycles : ℕ) (offers : List Offer) (dues : List Due) (k : �
 IsAlong-end cycles offers dues k port gate drops all along =
     let P : List Due → Type 0 = λ xs. HasPoliced port gate drops (policed_dues cycles offers xs) in
     record { policed = subst P (take_all k dues all) along.policed; reached = along.reached }
+
+-- these are left of some: all but so many in front
+pub record AreLeft (all left : List Due) : Type 0 where
+  pub few : length left ≤ length all
+  pub are : left ≡ drop (length all - length left) all
+
+-- how many were taken
+abbrev pub taken_of : List Due → List Due → ℕ
+taken_of all left = length all - length left
+
+-- lists that are the same have the same elements behind the first
+same_rest : {X : Type 0} {x y : X} {xs ys : List X} → x ∷ xs ≡ y ∷ ys → xs ≡ ys
+same_rest {X} {x} {y} {xs} {ys} e = ap (drop 1) e
+
+-- at first all are left
+pub all_left : (all : List Due) → AreLeft all all
+all_left all =
+    let none : 0 ≡ length all - length all = omega arith in
+    record { few = omega arith; are = ap (λ (k : ℕ). drop k all) none }
+
+module _ (all left after : List Due) (due : Due) (h : AreLeft all left) (next : left ≡ due ∷ after) where
+  -- one is left at least
+  pub some_left : taken_of all left < length all
+  some_left = omega (arith, h.few, ap (λ (xs : List Due). length xs) next)
+
+  -- the first that is left is the next
+  pub is_next : due ≡ get_or all (taken_of all left) due
+  is_next = ap (λ (xs : List Due). get_or xs 0 due) (sym next ∙ h.are) ∙ get_or-drop (taken_of all left) all 0 due
+      ∙ (let same : taken_of all left + 0 ≡ taken_of all left = omega arith in ap (λ (k : ℕ). get_or all k due) same)
+
+  -- one more was taken
+  pub one_more : taken_of all after ≡ taken_of all left + 1
+  one_more = omega (arith, h.few, ap (λ (xs : List Due). length xs) next)
+
+  -- and the others are left
+  pub others_left : AreLeft all after
+  others_left =
+      let step : suc (taken_of all left) ≡ taken_of all after = omega (arith, one_more) in
+      let cut : drop (taken_of all left) all ≡ get_or all (taken_of all left) due ∷ drop (suc (taken_of all left)) all =
+      drop-cons all (taken_of all left) due some_left in
+      record {
+        few = omega (arith, h.few, ap (λ (xs : List Due). length xs) next);
+        are = same_rest (sym next ∙ h.are ∙ cut) ∙ ap (λ (k : ℕ). drop k all) step;
+      }
+
+-- where none is left all were taken
+pub none_left : (all left : List Due) → left ≡ [] → length all ≤ taken_of all left
+none_left all left none = omega (arith, ap (λ (xs : List Due). length xs) none)
+
+-- the one that is taken next is due
+module _ (cycles : ℕ) (offers : List Offer) (all left after : List Due) (due : Due) (h : AreLeft all left) (next : left ≡ due ∷ after)
+    (each : All (IsDue offers 0 (cycles * 125000)) all) where
+  -- it is a due offer
+  pub is_due : IsDue offers 0 (cycles * 125000) due
+  is_due = subst (IsDue offers 0 (cycles * 125000)) (sym (is_next all left after due h next))
+      (each (taken_of all left) due (some_left all left after due h next))
+
+  -- and the next of all
+  pub due_read : due ≡ get_or all (taken_of all left) no_due
+  due_read = is_next all left after due h next ∙ get_or_default all (taken_of all left) due no_due (some_left all left after due h next)
+
+  -- the offer that was read is that of the next of all
+  pub offer_read : (offer : Offer) → offer ≡ get_or offers due.place offer → offer ≡ get_or offers (get_or all (taken_of all left) no_due).place offer
+  offer_read offer is = is ∙ ap (λ (d : Due). get_or offers d.place offer) due_read
+
+  -- its instant is early
+  pub instant_early : (offer : Offer) → offer ≡ get_or offers due.place offer → offer.at.0 < cycles * 125000
+  instant_early offer is =
+      let same : offer ≡ get_or offers due.place no_offer = is ∙ get_or_default offers due.place offer no_offer is_due.inside in
+      omega (arith, is_due.early, is_due.instant, ap (λ (o : Offer). o.at.0) same)

@@ -13,7 +13,7 @@ use crate::compiled::CYCLE_TIME;
 use crate::edge::Edge;
 use cqf_laws_network::book_is_unique;
 use cqf_model::{Book, Offer, Start, Started};
-use cqf_order::{Due, in_time, sort_drops};
+use cqf_order::{InTime, sort_drops};
 use cqf_shift::book_says_the_shift;
 use cqf_units::{Memory, Nanos, cycle_of};
 use std::alloc::Global;
@@ -45,15 +45,20 @@ fn started(alloc: Global, starts: &[Start]) -> Result<Vec<Started>, Memory>
 }
 
 /// The edge once it has taken the offers that are due, one after the other.
-fn taken(alloc: Global, offers: &[Offer], dues: &[Due], cycles: u32) -> Result<Edge, Memory>
+fn taken(
+    alloc: Global,
+    offers: &[Offer],
+    dues: &mut InTime<'_>,
+    cycles: u32,
+) -> Result<Edge, Memory>
     requires few { length offers.now ≤ 1000000 }
     requires short { cycles ≤ 100000 }
-    requires each { All (IsDue offers.now 0 (cycles * 125000)) dues.now }
-    requires ascends { IsNonDecreasingBy (λ due. due.at) dues.now }
-    ensures { IfOk result (λ edge. HasTaken cycles offers.now dues.now edge.port edge.gate edge.drops.items) }
+    requires each { All (IsDue offers.now 0 (cycles * 125000)) dues.old }
+    requires ascends { IsNonDecreasingBy (λ due. due.at) dues.old }
+    ensures { IfOk result (λ edge. HasTaken cycles offers.now dues.old edge.port edge.gate edge.drops.items) }
 {
     let mut edge = Edge::new(alloc);
-    for due in dues {
+    while let Some(due) = dues.take_next() {
         edge.take(due.place, &offers[due.place])?;
     }
     Ok(edge)
@@ -95,8 +100,8 @@ pub fn line_book(alloc: Global, offers: Vec<Offer>, cycles: u32) -> Result<Book,
     book_is_unique();
     book_says_the_shift();
     let end = end_of_run(cycles);
-    let dues = in_time(alloc, offers.as_slice(), 0, end)?;
-    let mut edge = taken(alloc, offers.as_slice(), dues.as_slice(), cycles)?;
+    let mut dues = InTime::new(alloc, offers.as_slice(), 0, end)?;
+    let mut edge = taken(alloc, offers.as_slice(), &mut dues, cycles)?;
     // what isn't needed any more gives its memory back
     drop(dues);
     drop(offers);

@@ -37,7 +37,7 @@ impl Request {
     pub fn try_copy(&self, alloc: Global) -> Result<Request, Memory>
         ensures { IfOk result (λ copy. request_text copy ≡ request_text self.now) }
     {
-        let mut paths = Vec::new(alloc);
+        let mut paths = Vec::with_capacity(alloc, self.paths.len())?;
         for path in &self.paths {
             paths.push(copied(alloc, path.as_slice())?)?;
         }
@@ -53,7 +53,7 @@ impl Request {
 fn copied(alloc: Global, texts: &[String]) -> Result<Vec<String>, Memory>
     ensures { IfOk result (λ copies. map string_bytes copies.items ≡ map string_bytes texts.now) }
 {
-    let mut copies = Vec::new(alloc);
+    let mut copies = Vec::with_capacity(alloc, texts.len())?;
     for text in texts {
         copies.push(String::from_str(alloc, text.as_str())?)?;
     }

@@ -12,7 +12,7 @@ use Rattle.cqf_line.proofs.book.line_book.Goals as goal
 pub started-requires : goal.started-requires
 started-requires c =
     let A : List Start → Type 0 = λ xs. All (λ (s : Start). s.start.0 < 1000000000000) xs in
-    subst A (sym c.as_slice-4.ensures.value)
+    subst A (sym c.as_slice-3.ensures.value)
     (All-weaker (λ (s : Start). s.start.0 < c.end_of_run-end.result) (λ (s : Start). s.start.0 < 1000000000000) (λ s early. omega (arith, early, c.end_of_run-end.ensures, c.requires.short)) _
     (starts-early _ c.end_of_run-end.result _ c.in_ok-starts.ensures.ok))
 
@@ -23,7 +23,7 @@ returns c =
     let order = rw c.as_slice.ensures.value at c.in_ok-dues.ensures.order in
     let taken = rw c.as_slice-2.ensures.value at c.in_ok-edge.ensures in
     let book = book-of-calls c.args.cycles c.end_of_run-end.result c.args.offers.items _ _ _ _ _ _ _ _ _ _ _ _
-    c.end_of_run-end.ensures c.as_slice-3.ensures.value (c.into_drops-drops.ensures ∙ c.run.ensures.drops) c.as_slice-4.ensures.value refl c.new.ensures.items
+    c.end_of_run-end.ensures refl (c.into_drops-drops.ensures ∙ c.run.ensures.drops) c.as_slice-3.ensures.value refl c.new-2.ensures.items
     each order taken c.in_ok-starts.ensures.ok c.in_ok-started.ensures c.in_ok-sort_drops.ensures.ok in
     record {
       book = book;
