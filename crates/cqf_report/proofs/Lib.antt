@@ -8,3 +8,8 @@ pub mod ArrivalLemmas
 pub mod BackgroundLemmas
 pub mod FirstRows
 pub mod NameLemmas
+pub mod LinkCounts
+pub mod LinkPieces
+pub mod LinkMost
+pub mod LinkLines
+pub mod LinkOrders

@@ -3,7 +3,7 @@ use Rattle.std.proofs.Common.{◌≡◌, ◌≢◌, ◌≤◌, ◌<◌, ◌^◌,
 use Rattle.std.proofs.Common.{take, get_or, ◌+◌, length, refl, sym, ap, ◌∙◌, append_assoc, arith}
 use Rattle.std.proofs.lemmas.List.{append-nil, take_all, take_more}
 use Rattle.std.proofs.lemmas.Grind.{flat_map-append}
-use Rattle.std.proofs.lemmas.Fmt.{digits_decimal}
+use Rattle.std.proofs.lemmas.Fmt.{decimal_is_IsNumeral_wide, digits_decimal}
 use Rattle.std.proofs.lemmas.Str.Parse.{numerals_by_value, tells_all_ascii_digits}
 use Rattle.cqf_units.specs.Name.{is_name, is_name_byte}
 use Rattle.std.proofs.lemmas.Bool.Decides.{nat_tests}
@@ -92,6 +92,12 @@ digits-plain (c ∷ bytes) digits =
 -- a decimal number stands without quotes
 pub decimal-plain : (n : ℕ) → n < 2 ^ 64 → IsPlain (decimal n)
 decimal-plain n small = digits-plain (decimal n) (digits_decimal (numerals_by_value (λ ds. all_ascii_digits ds ≡ true) tells_all_ascii_digits) n small)
+
+-- and so does a wider one
+pub wide-plain : (n : ℕ) → n < 2 ^ 128 → IsPlain (decimal n)
+wide-plain n small =
+    let numerals = numerals_by_value (λ ds. all_ascii_digits ds ≡ true) tells_all_ascii_digits in
+    digits-plain (decimal n) (numerals.from (decimal n) (decimal_is_IsNumeral_wide n (omega (arith, small))).0.1)
 
 -- a name stands without quotes
 name_byte-high : (c : ℕ) → is_name_byte c ≡ true → 44 < c

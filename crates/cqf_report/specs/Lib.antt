@@ -10,3 +10,4 @@ pub mod BackgroundFrames
 pub mod OtherColumns
 pub mod TableLaws
 pub mod HistoryText
+pub mod LinkSums

@@ -1,9 +1,14 @@
-//! What the definitions of the tables mean in words of places alone.
+//! What the definitions of the tables mean in words of places alone, and those of the sums by link.
 
-ghost use Rattle.std.specs.Prelude.{List};
+ghost use Rattle.std.specs.Prelude.{ℕ, List};
+ghost use Rattle.cqf_model.specs.declared.frames.Started.{Started};
+ghost use Rattle.cqf_model.specs.Book.{Contents, IsBook};
 ghost use Rattle.cqf_model.specs.Domain.{Domain as DomainValue};
+ghost use Rattle.cqf_model.specs.GateList.{Entry};
+ghost use Rattle.cqf_model.specs.Run.{Run};
 ghost use Rattle.cqf_report.specs.Arrivals.{arrival_instant, arrival_of};
 ghost use Rattle.cqf_report.specs.BackgroundFrames.{background_instant, background_of};
+ghost use Rattle.cqf_report.specs.LinkSums.{AreInOrder, IsMost, most_on};
 ghost use Rattle.cqf_report.specs.Offers.{offer_instant, offer_of};
 ghost use Rattle.cqf_report.specs.Records.{Fields};
 ghost use Rattle.cqf_report.specs.Table.{in_five, in_four};
@@ -15,4 +20,15 @@ pub fn first_fault_is_told()
     ensures arrivals { (rows : List Fields) → TellsFirst (in_four arrival_of) arrival_instant rows }
     ensures offers { (d : DomainValue) (rows : List Fields) → TellsFirst (in_four (offer_of d)) offer_instant rows }
     ensures background { (d : DomainValue) (rows : List Fields) → TellsFirst (in_five (background_of d)) background_instant rows }
+{}
+
+/// Law: the most octets that a link has in one cycle is so, over all cycles: no cycle has more, and one has it, unless it
+/// is 0.
+pub fn most_is_the_greatest()
+    ensures { (link : ℕ) (starts : List Started) → IsMost link starts (most_on link starts) }
+{}
+
+/// Law: the starts of every book stand in order of cycle, and within a cycle in order of link.
+pub fn books_are_in_order()
+    ensures { (run : Run) (lists : ℕ → List Entry) (cycles : ℕ) (book : Contents) → IsBook run lists cycles book → AreInOrder book.starts }
 {}

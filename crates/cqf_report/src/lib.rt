@@ -4,10 +4,12 @@
 //! - [`read_offers`] reads the offers of a run, [`read_background`] its background frames, and [`read_arrivals`] the
 //!   arrivals of a port.
 //! - [`TableFault`] says why a table is refused, and at which row.
-//! - [`write_book`] writes the book of a run, [`write_history`] its history, [`write_starts`] the starts of a port.
+//! - [`write_book`] writes the book of a run, [`write_links`] its sums by link, [`write_history`] its history, and
+//!   [`write_starts`] the starts of a port.
 //!
 //! `specs/` says what a text holds (`Records`, by what `csv` reads), what its rows mean (`Table`, `Offers`,
-//! `BackgroundFrames`, `Arrivals`), how a fault prints (`Faults`), and which text is written (`Written`, `Starts`, `Books`, `HistoryText`).
+//! `BackgroundFrames`, `Arrivals`), how a fault prints (`Faults`), and which text is written (`Written`, `Starts`, `Books`,
+//! `HistoryText`, `LinkSums`).
 //!
 //! ```text
 //! read_arrivals(alloc, b"at,class,octets,frame\n10,6,64,1\n")
@@ -23,6 +25,7 @@ mod books;
 mod history;
 mod laws;
 mod lines;
+mod links;
 mod names;
 mod offers;
 mod records;
@@ -34,7 +37,8 @@ pub use arrivals::read_arrivals;
 pub use background::read_background;
 pub use books::write_book;
 pub use history::write_history;
-pub use laws::first_fault_is_told;
+pub use laws::{books_are_in_order, first_fault_is_told, most_is_the_greatest};
+pub use links::write_links;
 pub use offers::read_offers;
 pub use starts::write_starts;
 pub use tables::{OfferFault, TableFault};

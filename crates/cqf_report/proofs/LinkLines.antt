@@ -1,0 +1,26 @@
+-- How the lines of links follow one another.
+use Rattle.std.proofs.Common.{◌≡◌, ℕ, suc, ◌+◌, ◌++◌, List, ap, ◌∙◌, refl, append_assoc, arith}
+use Rattle.cqf_lists.specs.Lists.{each_below}
+use Rattle.cqf_model.specs.declared.frames.Started.{Started}
+use Rattle.cqf_model.specs.Domain.{Domain}
+use Rattle.cqf_report.specs.Books.{name_of_link}
+use Rattle.cqf_report.specs.LinkSums.{frames_on, link_fields, most_on, octets_on, sums_fields}
+use Rattle.cqf_report.specs.Written.{line_of}
+
+module _ (header : List ℕ) (d : Domain) (starts : List Started) (link : ℕ) where
+  -- the line of a link's sums is its line
+  same_line : (ends : List ℕ) (frames octets most : ℕ) → ends ≡ name_of_link d link → frames ≡ frames_on link starts → octets ≡ octets_on link starts →
+      most ≡ most_on link starts → line_of (sums_fields ends frames octets most) ≡ line_of (link_fields d starts link)
+  same_line ends frames octets most is_ends is_frames is_octets is_most = rw (is_ends, is_frames, is_octets, is_most) refl
+
+  -- and stands behind those of the links before it
+  pub one_line_more : (ends : List ℕ) (frames octets most : ℕ) → ends ≡ name_of_link d link → frames ≡ frames_on link starts →
+      octets ≡ octets_on link starts → most ≡ most_on link starts →
+      (header ++ each_below (λ l. line_of (link_fields d starts l)) link) ++ line_of (sums_fields ends frames octets most)
+      ≡ header ++ each_below (λ l. line_of (link_fields d starts l)) (link + 1)
+  one_line_more ends frames octets most is_ends is_frames is_octets is_most =
+      let line : ℕ → List ℕ = λ l. line_of (link_fields d starts l) in
+      let next : suc link ≡ link + 1 = omega arith in
+      ap (λ (text : List ℕ). (header ++ each_below line link) ++ text) (same_line ends frames octets most is_ends is_frames is_octets is_most)
+      ∙ append_assoc header (each_below line link) (line link)
+      ∙ ap (λ (n : ℕ). header ++ each_below line n) next

@@ -1,0 +1,59 @@
+-- The sums of streams' frames by link, and these as a text (profile).
+use Rattle.std.specs.Prelude.{ℕ, ◌≡◌, ◌≤◌, ◌<◌, ◌++◌, ◌==◌, ◌&&◌, ◌⊎◌, List, [], ◌∷◌, Bool, if◌then◌else◌}
+use Rattle.std.specs.Prelude.{codes, count_by, decimal, fold, length, max, sum_by}
+use Rattle.std.specs.List.{AllPairs}
+use Rattle.cqf_lists.specs.Lists.{each_below}
+use Rattle.cqf_model.specs.declared.frames.Started.{Started}
+use Rattle.cqf_model.specs.Book.{Contents}
+use Rattle.cqf_model.specs.Domain.{Domain}
+use Rattle.cqf_report.specs.Books.{name_of_link}
+use Rattle.cqf_report.specs.Records.{Fields}
+use Rattle.cqf_report.specs.Written.{line_of}
+
+-- how many of some starts are on a link, and how many octets these have together
+abbrev pub frames_on : ℕ → List Started → ℕ
+frames_on link starts = count_by (λ (start : Started). start.link == link) starts
+
+abbrev pub octets_on : ℕ → List Started → ℕ
+octets_on link starts = sum_by (λ (start : Started). if start.link == link then start.octets else 0) starts
+
+-- the octets of those that are on a link in one cycle
+abbrev pub octets_in : ℕ → ℕ → List Started → ℕ
+octets_in link cycle starts =
+    sum_by (λ (start : Started). if (start.link == link) && (start.cycle.0 == cycle) then start.octets else 0) starts
+
+-- the most octets that are on a link in one cycle, of the cycles in which anything starts; 0 where nothing does
+abbrev pub most_on : ℕ → List Started → ℕ
+most_on link starts = fold (λ most (start : Started). max most (octets_in link start.cycle.0 starts)) 0 starts
+
+-- a number is the most that a link has in one cycle: no cycle has more, and one has it, unless it is 0
+pub record IsMost (link : ℕ) (starts : List Started) (most : ℕ) : Type 0 where
+  pub no_more : (cycle : ℕ) → octets_in link cycle starts ≤ most
+  pub reached : (most ≡ 0) ⊎ ((cycle : ℕ) × (octets_in link cycle starts ≡ most))
+
+-- two starts are of one batch: on one link in one cycle
+abbrev pub are_of_one_batch : Started → Started → Bool
+are_of_one_batch first second = (first.link == second.link) && (first.cycle.0 == second.cycle.0)
+
+-- of two starts the first is in an earlier cycle, or in the same one and not on a later link
+abbrev pub IsBefore : Started → Started → Type 0
+IsBefore first second = (first.cycle.0 < second.cycle.0) ⊎ ((first.cycle.0 ≡ second.cycle.0) × (first.link ≤ second.link))
+
+-- starts are in order of cycle, and within a cycle in order of link, as those of a book are
+abbrev pub AreInOrder : List Started → Type 0
+AreInOrder starts = AllPairs IsBefore starts
+
+-- the header of the table
+abbrev pub link_header : Fields
+link_header = codes "link" ∷ codes "frames" ∷ codes "octets" ∷ codes "most" ∷ []
+
+-- a link by its ends, its frames, their octets, and the most octets in one cycle
+abbrev pub sums_fields : List ℕ → ℕ → ℕ → ℕ → Fields
+sums_fields ends frames octets most = ends ∷ decimal frames ∷ decimal octets ∷ decimal most ∷ []
+
+abbrev pub link_fields : Domain → List Started → ℕ → Fields
+link_fields d starts link = sums_fields (name_of_link d link) (frames_on link starts) (octets_on link starts) (most_on link starts)
+
+-- the text of a book's sums by link: the header, and then one line a link, by number. Only streams' frames count
+abbrev pub links_text : Domain → Contents → List ℕ
+links_text d book = line_of link_header ++ each_below (λ link. line_of (link_fields d book.starts link)) (length d.links)

@@ -1,0 +1,199 @@
+//! The sums of streams' frames by link, written as a text.
+
+ghost use Rattle.std.specs.Prelude.{ℕ, ◌≡◌, ◌≤◌, ◌<◌, ◌^◌, ◌++◌, ◌==◌, ◌&&◌, List, IfOk, Some, length, map, max, sum_by, slice_index, slice_set};
+ghost use Rattle.cqf_model.specs.Book.{contents_of};
+ghost use Rattle.cqf_report.specs.Written.{HasWritten, IsPlain, line_of};
+ghost use Rattle.cqf_report.specs.LinkSums.{AreInOrder, are_of_one_batch, frames_on, link_header, links_text, most_on, octets_on, sums_fields};
+
+use crate::lines::{open_writer, write_line, written_text};
+use crate::names::LinkNames;
+use cqf_lanes::octet_sum;
+use cqf_model::{Book, Started};
+use cqf_topology::Domain;
+use cqf_units::Memory;
+use csv::Writer;
+use itoa::Buffer;
+use rayon::prelude::*;
+use std::alloc::Global;
+use std::io::Write;
+use std::thread::Threads;
+
+/// The most starts that are summed at a time.
+const PIECE: usize = 1_048_576;
+
+/// How many links a start can name.
+const LINKS: usize = 256;
+
+/// How many frames there are, and how many octets they have together.
+#[derive(Clone, Copy)]
+struct Sums {
+    frames: u128,
+    octets: u128,
+}
+
+/// How many starts of a piece are on the link.
+fn frames_of_piece(rt: &(impl Threads + Sync), piece: &[Started], link: u8) -> usize
+    requires { length piece.now ≤ 1048576 }
+    ensures { result ≡ frames_on link piece.now }
+{
+    piece
+        .par_iter()
+        .filter(
+            |start: &&Started| -> bool
+                ensures { result ≡ (start.now.now.link == link) }
+            { start.link == link },
+        )
+        .count(rt)
+}
+
+/// How many octets the starts of a piece that are on the link have together.
+fn octets_of_piece(rt: &(impl Threads + Sync), piece: &[Started], link: u8) -> u64
+    requires { length piece.now ≤ 1048576 }
+    ensures { result ≡ octets_on link piece.now }
+{
+    piece
+        .par_iter()
+        .filter(
+            |start: &&Started| -> bool
+                ensures { result ≡ (start.now.now.link == link) }
+            { start.link == link },
+        )
+        .map(
+            |start: &Started| -> u64
+                ensures octets { result ≡ start.now.octets }
+                ensures short { result < 2 ^ 32 }
+            { u64::from(start.octets) },
+        )
+        .sum(rt)
+}
+
+/// The frames of the starts that are on the link, in pieces that many threads share.
+fn sums_of_link(rt: &(impl Threads + Sync), starts: &[Started], link: u8) -> Sums
+    ensures frames { result.frames ≡ frames_on link starts.now }
+    ensures octets { result.octets ≡ octets_on link starts.now }
+{
+    let mut frames: u128 = 0;
+    let mut octets: u128 = 0;
+    for piece in starts.chunks(PIECE) {
+        frames += frames_of_piece(rt, piece, link) as u128;
+        octets += u128::from(octets_of_piece(rt, piece, link));
+    }
+    Sums { frames, octets }
+}
+
+/// The octets of starts, all together.
+fn octets_of(alloc: Global, starts: &[Started]) -> Result<u128, Memory>
+    ensures { IfOk result (λ octets. octets ≡ sum_by (λ start. start.octets) starts.now) }
+{
+    let mut octets: u128 = 0;
+    for piece in starts.chunks(PIECE) {
+        let column = octet_column(alloc, piece)?;
+        octets += u128::from(octet_sum(column.as_slice()));
+    }
+    Ok(octets)
+}
+
+/// The octets of each start.
+fn octet_column(alloc: Global, starts: &[Started]) -> Result<Vec<u32>, Memory>
+    ensures { IfOk result (λ column. column.items ≡ map (λ start. start.octets) starts.now) }
+{
+    starts.iter().map(|start| start.octets).collect(alloc)
+}
+
+/// Raises what a link has to a number, if that is more.
+fn raise(most: &mut Vec<u128>, link: u8, octets: u128)
+    requires { length most.old.items ≡ 256 }
+    ensures { most.new.items ≡ slice_set most.old.items link (max (slice_index most.old.items link) octets) }
+{
+    let place = usize::from(link);
+    most[place] = most[place].max(octets);
+}
+
+/// The most octets that each of the links 0 to 255 has in one cycle. Starts on one link in one cycle stand side by side.
+fn most_by_link(alloc: Global, starts: &[Started]) -> Result<Vec<u128>, Memory>
+    requires { AreInOrder starts.now }
+    ensures all { IfOk result (λ most. length most.items ≡ 256) }
+    ensures most { IfOk result (λ most. (link : ℕ) → link < 256 → slice_index most.items link ≡ most_on link starts.now) }
+{
+    let mut most: Vec<u128> = vec![in alloc; 0; LINKS]?;
+    for batch in starts.chunk_by(
+        |first: &Started, second: &Started| -> bool
+            ensures { result ≡ are_of_one_batch first.now second.now }
+        { first.link == second.link && first.cycle.0 == second.cycle.0 },
+    ) {
+        let octets = octets_of(alloc, batch)?;
+        raise(&mut most, batch[0].link, octets);
+    }
+    Ok(most)
+}
+
+/// Writes the line of a link.
+fn write_sums<W: Write + Drop>(
+    writer: &mut Writer<W>,
+    link: &str,
+    sums: Sums,
+    most: u128,
+) -> Result<(), Memory>
+    requires { IsPlain link.now }
+    ensures { IfOk result (λ _. (text : List ℕ) → HasWritten W.contents writer.old text
+        → HasWritten W.contents writer.new (text ++ line_of (sums_fields link.now sums.frames sums.octets most))) }
+{
+    let mut in_frames = Buffer::new();
+    let mut in_octets = Buffer::new();
+    let mut in_most = Buffer::new();
+    write_line(
+        writer,
+        &[
+            link.as_bytes(),
+            in_frames.format(sums.frames).as_bytes(),
+            in_octets.format(sums.octets).as_bytes(),
+            in_most.format(most).as_bytes(),
+        ],
+    )
+}
+
+/// Writes the header.
+fn write_header<W: Write + Drop>(writer: &mut Writer<W>) -> Result<(), Memory>
+    ensures { IfOk result (λ _. (text : List ℕ) → HasWritten W.contents writer.old text → HasWritten W.contents writer.new (text ++ line_of link_header)) }
+{
+    let names = [
+        b"link".as_slice(),
+        b"frames".as_slice(),
+        b"octets".as_slice(),
+        b"most".as_slice(),
+    ];
+    write_line(writer, &names)
+}
+
+/// The sums of a book's streams' frames by link: the header `link,frames,octets,most`, and one line a link, by number,
+/// `FROM>TO,FRAMES,OCTETS,MOST`: how many frames the link started, how many octets they have together, and the most octets
+/// that it started in one cycle (profile). Background frames don't count. The starts stand in order of cycle, and within a
+/// cycle in order of link, as in every book. The error is want of memory.
+pub fn write_links(
+    rt: &(impl Threads + Sync),
+    alloc: Global,
+    domain: &Domain,
+    book: &Book,
+) -> Result<Vec<u8>, Memory>
+    requires { AreInOrder book.now.starts.items }
+    ensures { IfOk result (λ text. text.items ≡ links_text domain.now (contents_of book.now)) }
+{
+    let starts = book.starts.as_slice();
+    let names = LinkNames::new(alloc, domain)?;
+    let most = most_by_link(alloc, starts)?;
+    let mut writer = open_writer(alloc);
+    write_header(&mut writer)?;
+    for link in 0..domain.links() {
+        let sums = sums_of_link(rt, starts, link);
+        write_sums(
+            &mut writer,
+            names.name_of(link),
+            sums,
+            most[usize::from(link)],
+        )?;
+    }
+    written_text(writer)
+}
+
+#[cfg(test)]
+mod tests;
