@@ -1,11 +1,11 @@
 -- From what each step of a run says to what the run comes to.
-use Rattle.std.proofs.Common.{◌≡◌, ◌≢◌, ◌⊎◌, ◌≤◌, ◌∙◌, ℕ, zero, suc, List, [], ◌∷◌, Bool, true, false, length, arith, codes, inl, inr, sym, subst, refl}
+use Rattle.std.proofs.Common.{◌≡◌, ◌≢◌, ◌⊎◌, ◌≤◌, ◌∙◌, ℕ, zero, suc, List, [], ◌∷◌, Bool, false, length, arith, codes, inl, inr, sym, subst, refl}
 use Rattle.std.specs.Str.{IsUtf8}
 use Rattle.std.specs.Io.KnownBytes.{IsAtEnd}
 use Rattle.cqf_stop.specs.Stops.{EndsWith, line_of}
 use Rattle.cqf_words.specs.Words.{EndsWords, Mean}
 use Rattle.cqf_engine.specs.Edge.{HasTold, IsHeard, Marks, Reading, Writing}
-use Rattle.cqf_engine.specs.Run.{first_line, input_of, words_of, Ends, EndsInput, EndsRead, HandsOver, HasCause, HasRun, IsBehindWords, IsDone, IsInputFault, IsOutput, IsOutputFault, IsRefusal, IsStopped, IsToldOutput, IsTooLong, Tells}
+use Rattle.cqf_engine.specs.Run.{first_line, input_of, words_of, Ends, EndsInput, EndsRead, HandsOver, HasCause, HasRun, IsBehindWords, IsOutput, IsRefusal, IsStopped, IsToldOutput, IsTooLong, Tells}
 use Rattle.cqf_engine.proofs.EdgeLemmas.{Appends-whole}
 use Rattle.cqf_stop.specs.declared.stops.Stop.{Stop}
 use Rattle.cqf_engine.specs.declared.heard.Broken.{Broken}
@@ -202,13 +202,12 @@ HasRun-given words input output job some sound at_end short means h = record {
   sound = sound;
 }
 
--- a run that is done ends with its output
-pub Ends-ran : (words : List (List ℕ)) (input : Reading) (output faults : Writing) (text : List ℕ) (status : ℕ) → IsHeard input → IsBehindWords words input
-    → HasRun words input text → HandsOver text output faults status → Ends words input output faults status
-Ends-ran words input output faults text status heard behind_words ran h =
+-- a run that hands over what it has for its output ends with that, or with the output's fault
+Ends-told : (words : List (List ℕ)) (input : Reading) (output faults : Writing) (text : List ℕ) (status : ℕ) → IsHeard input → IsBehindWords words input
+    → IsToldOutput words input text → input.failed ≡ false → HandsOver text output faults status → Ends words input output faults status
+Ends-told words input output faults text status heard behind_words is_output sound h =
     let not_one : status ≡ 1 → ⊥ = λ one. elim h.statuses [ inl zero_is ↦ omega arith | inr four ↦ omega arith ] in
     let not_two : status ≡ 2 → ⊥ = λ two. elim h.statuses [ inl zero_is ↦ omega arith | inr four ↦ omega arith ] in
-    let is_output : IsToldOutput words input text = inl (ran.is_done, ran.at_end) in
     record {
       statuses = elim h.statuses [ inl zero_is ↦ omega arith | inr four ↦ omega arith ];
       heard = heard;
@@ -223,40 +222,8 @@ Ends-ran words input output faults text status heard behind_words ran h =
       memory = λ three. absurd (elim h.statuses [ inl zero_is ↦ omega arith | inr four ↦ omega arith ]);
       fault = λ four. inr (record {
         refused = (h.fault four).0;
-        sound = ran.sound;
-        text = text;
-        is_output = is_output;
-        told = h.told;
-        line = (h.fault four).1;
-      });
-      sound = λ _. ran.sound;
-      accepted = λ not_four. elim h.statuses [ inl zero_is ↦ (h.done zero_is).0 | inr four ↦ absurd (not_four four) ];
-    }
-
--- help that was asked for is told, or the output refuses some of it
-pub Ends-helped : (words : List (List ℕ)) (input : Reading) (output faults : Writing) (stop : Stop) (status : ℕ) → IsHeard input → IsBehindWords words input
-    → IsStopped words input stop → stop.status ≡ 0 → HandsOver stop.text.items output faults status → Ends words input output faults status
-Ends-helped words input output faults stop status heard behind_words s help h =
-    let not_one : status ≡ 1 → ⊥ = λ one. elim h.statuses [ inl zero_is ↦ omega arith | inr four ↦ omega arith ] in
-    let not_two : status ≡ 2 → ⊥ = λ two. elim h.statuses [ inl zero_is ↦ omega arith | inr four ↦ omega arith ] in
-    let is_output : IsToldOutput words input stop.text.items = inr ((s.cause (λ four. omega arith)).help help, (λ none. s.at_end none (inl help))) in
-    let sound : input.failed ≡ false = s.sound (omega arith) in
-    record {
-      statuses = elim h.statuses [ inl zero_is ↦ omega arith | inr four ↦ omega arith ];
-      heard = heard;
-      behind_words = behind_words;
-      done = λ zero_is. (stop.text.items, is_output, Appends-whole output stop.text.items h.told (h.done zero_is).0);
-      clean = λ zero_is. (h.done zero_is).1;
-      quiet = λ some not_four. absurd (elim h.statuses [ inl zero_is ↦ some zero_is | inr four ↦ not_four four ]);
-      whole = λ one. absurd (not_one one);
-      refused = λ one. absurd (not_one one);
-      at_end = λ two. absurd (not_two two);
-      misused = λ two. absurd (not_two two);
-      memory = λ three. absurd (elim h.statuses [ inl zero_is ↦ omega arith | inr four ↦ omega arith ]);
-      fault = λ four. inr (record {
-        refused = (h.fault four).0;
         sound = sound;
-        text = stop.text.items;
+        text = text;
         is_output = is_output;
         told = h.told;
         line = (h.fault four).1;
@@ -264,6 +231,19 @@ Ends-helped words input output faults stop status heard behind_words s help h =
       sound = λ _. sound;
       accepted = λ not_four. elim h.statuses [ inl zero_is ↦ (h.done zero_is).0 | inr four ↦ absurd (not_four four) ];
     }
+
+-- a run that is done ends with its output
+pub Ends-ran : (words : List (List ℕ)) (input : Reading) (output faults : Writing) (text : List ℕ) (status : ℕ) → IsHeard input → IsBehindWords words input
+    → HasRun words input text → HandsOver text output faults status → Ends words input output faults status
+Ends-ran words input output faults text status heard behind_words ran h =
+    Ends-told words input output faults text status heard behind_words (inl (ran.is_done, ran.at_end)) ran.sound h
+
+-- help that was asked for is told, or the output refuses some of it
+pub Ends-helped : (words : List (List ℕ)) (input : Reading) (output faults : Writing) (stop : Stop) (status : ℕ) → IsHeard input → IsBehindWords words input
+    → IsStopped words input stop → stop.status ≡ 0 → HandsOver stop.text.items output faults status → Ends words input output faults status
+Ends-helped words input output faults stop status heard behind_words s help h =
+    Ends-told words input output faults stop.text.items status heard behind_words
+    (inr ((s.cause (λ four. omega arith)).help help, (λ none. s.at_end none (inl help)))) (s.sound (omega arith)) h
 
 -- a run that is stopped, and not for help, ends as it was stopped
 pub Ends-barred : (words : List (List ℕ)) (input : Reading) (output faults : Writing) (stop : Stop) (status : ℕ) → IsHeard input → IsBehindWords words input

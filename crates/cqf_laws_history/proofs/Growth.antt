@@ -310,6 +310,10 @@ seal_closes_table d entries rows next seat state =
 first_of_none : (front : List Cycle) (x : Cycle) → slice_get front 0 ≡ None → slice_get (front ++ x ∷ []) 0 ≡ Some x
 first_of_none front x e = ap (λ (xs : List Cycle). slice_get (xs ++ x ∷ []) 0) (nil_from_none front e)
 
+-- a row by its end
+abbrev row_ending : Row → Option Cycle → Row
+row_ending row end = record { no = row.no; name = row.name; octets = row.octets; tree = row.tree; admitted = row.admitted; withdrawn = end }
+
 -- a row that is held without an end is held with an end from this cycle on
 held_with_end : (row : Row) (cycle number : ℕ) → 0 < residence row → (row.no ≡ number → row.withdrawn ≡ None) →
     is_held (ended_row number cycle row) cycle ≡ is_held row cycle
@@ -317,26 +321,9 @@ held_with_end row cycle number long open_end = by_number (row.no == number) refl
   where
     -- the row is held in the cycle as before, whether it has the number or not
     by_number : (b : Bool) → (row.no == number) ≡ b → is_held (ended_row number cycle row) cycle ≡ is_held row cycle
-    by_number false t = ap (λ (c : Bool). is_held
-        (if c then (let made : Row = record {
-          no = row.no;
-          name = row.name;
-          octets = row.octets;
-          tree = row.tree;
-          admitted = row.admitted;
-          withdrawn =
-              Some (record { 0 = cycle });
-        } in made) else row) cycle) t
+    by_number false t = ap (λ (c : Bool). is_held (if c then row_ending row (Some (record { 0 = cycle })) else row) cycle) t
     by_number true t =
-        let made : Row = record {
-          no = row.no;
-          name = row.name;
-          octets = row.octets;
-          tree = row.tree;
-          admitted = row.admitted;
-          withdrawn =
-              Some (record { 0 = cycle });
-        } in
+        let made = row_ending row (Some (record { 0 = cycle })) in
         let none : row.withdrawn ≡ None = open_end (eqb-true row.no number t) in
         ap (λ (c : Bool). is_held (if c then made else row) cycle) t
         ∙ ap (λ (b : Bool). nat_le row.admitted.0 cycle && b) (lt-ltb cycle (cycle + residence row) (omega (arith, long)))
@@ -348,10 +335,6 @@ end_of : (d : Domain) (entries : List Recorded) (row : Row) → Contains (stream
 end_of d entries row h =
     let s = stream_of d entries row h in
     ap (λ (r : Row). r.withdrawn) (sym s.2) ∙ ap (withdrawn_before entries (length entries)) (ap (λ (r : Row). r.no) s.2)
-
--- a row by its end
-abbrev row_ending : Row → Option Cycle → Row
-row_ending row end = record { no = row.no; name = row.name; octets = row.octets; tree = row.tree; admitted = row.admitted; withdrawn = end }
 
 -- with one withdrawal more, a row ends where it has that number
 ended_by : (v w : ℕ → Option Cycle) (number cycle : ℕ) → ((other : ℕ) → (number == other) ≡ true → v other ≡ Some (record { 0 = cycle })) →

@@ -25,6 +25,7 @@ use Rattle.cqf_lists.proofs.Members.{contains_none}
 use Rattle.cqf_lists.proofs.Pairs.{pairs_none, pairs_push, pairs_weaker}
 use Rattle.cqf_lists.proofs.Places.{first_stays, slice_get_behind, slice_get_front}
 use Rattle.cqf_model.proofs.Texts.{is_text_itself}
+use Rattle.cqf_laws_history.specs.StateLaws.{granted_row}
 use Rattle.cqf_laws_history.proofs.Granted.{IsGranted, granted, is_tree}
 use Rattle.cqf_laws_history.proofs.Places.{admitted_at, admitted_before, entry_at, sealed_before, sealed_more, streams_front, with_end, withdrawn_at}
 use Rattle.cqf_laws_history.proofs.Places.{withdrawn_before}
@@ -182,18 +183,6 @@ pushed_cases rows new row h =
       | inr k ↦ elim (contains_cases new [] row k) [ inl e ↦ inr e | inr none ↦ absurd (contains_none row none) ]
     ]
 
--- the row of a stream that is admitted behind so many Seals
-abbrev new_row : Domain → Asked → ℕ → ℕ → Row
-new_row d asked number effect =
-    record {
-      no = number;
-      name = asked.name;
-      octets = asked.octets;
-      tree = record { items = tree_of d asked.paths };
-      admitted = record { 0 = effect };
-      withdrawn = None;
-    }
-
 -- a stream more that finds room on each link of its path
 load_more : (d : Domain) (rows : List Row) (new : Row) (p q : Row → Bool) (v w : ℕ → Option Cycle) (l : ℕ) →
     ((row : Row) → Contains rows row → p (with_end v row) ≡ true → q (with_end w row) ≡ true) → link_cost (filter q (map (with_end w) rows)) l ≤ budget d l →
@@ -218,7 +207,7 @@ load_more d rows new p q v w l less within room =
 
 -- an entry that admits a stream keeps all that
 sound_admitted : (d : Domain) (entries : List Recorded) (n : ℕ) (asked : Asked) → suc n ≤ length entries →
-    admitted_at d entries n ≡ new_row d asked (length (streams_of d (take n entries))) (sealed_before entries n) ∷ [] →
+    admitted_at d entries n ≡ granted_row d (length (streams_of d (take n entries))) (sealed_before entries n) asked ∷ [] →
     ((number : ℕ) → withdrawn_before entries (suc n) number ≡ withdrawn_before entries n number) →
     IsGranted d (held_in d (take n entries) (sealed_before entries n)) asked → Sound d entries n → Sound d entries (suc n)
 sound_admitted d entries n asked h is ends g s =
@@ -231,7 +220,7 @@ sound_admitted d entries n asked h is ends g s =
     let streams = streams_front entries n (omega (arith, h)) d in
     let held = filter (λ (row : Row). is_held row c) (map (with_end w) rows) in
     let granted_here : IsGranted d held asked = subst (λ (xs : List Row). IsGranted d (filter (λ (row : Row). is_held row c) xs) asked) streams g in
-    let new = new_row d asked (length (streams_of d (take n entries))) c in
+    let new = granted_row d (length (streams_of d (take n entries))) c asked in
     let count : new.no ≡ length rows = ap length streams ∙ length-map rows (with_end w) in
     let same : admitted_before d entries (suc n) ≡ rows ++ new ∷ [] = ap (λ (xs : List Row). rows ++ xs) is in
     let back : (row : Row) → Contains (admitted_before d entries (suc n)) row → Contains rows row ⊎ (new ≡ row) =

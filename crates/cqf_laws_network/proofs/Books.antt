@@ -11,7 +11,7 @@ use Rattle.cqf_lists.specs.Lists.{each_below}
 use Rattle.cqf_lists.proofs.EachBelow.{contains_from_below, filter_none, same_below}
 use Rattle.cqf_lists.proofs.Filters.{filter_weaker}
 use Rattle.cqf_lists.proofs.Fronts.{filter_front}
-use Rattle.cqf_lists.proofs.Members.{contains_from_flat, contains_from_map, contains_none, contains_one}
+use Rattle.cqf_lists.proofs.Members.{contains_from_map}
 use Rattle.cqf_units.proofs.Cycles.{before_cycle, takes_time}
 use Rattle.cqf_model.specs.declared.frames.Dropped.{Dropped}
 use Rattle.cqf_model.specs.declared.frames.Sent.{Sent}
@@ -21,11 +21,12 @@ use Rattle.cqf_model.specs.declared.topology.Row.{Row}
 use Rattle.cqf_model.specs.Book.{Contents, IsBook, background_of, drop_by, drops_in, drops_of, is_of_place, started, started_backed, starts_of}
 use Rattle.cqf_model.specs.Domain.{Domain, cycle_of}
 use Rattle.cqf_model.specs.GateList.{Entry}
-use Rattle.cqf_model.specs.Network.{IsLegalNetwork, Network, comes_before}
+use Rattle.cqf_model.specs.Network.{IsLegalNetwork, Network}
 use Rattle.cqf_model.specs.Run.{Run}
-use Rattle.cqf_model.specs.Traffic.{Carried, DroppedFor, ExceedsGate, LacksRow, Policed, Queued, Received, Verdict, policed_before}
+use Rattle.cqf_model.specs.Traffic.{Carried, Policed, policed_before}
 use Rattle.cqf_model.proofs.Coming.{policed_front}
-use Rattle.cqf_model.proofs.Sending.{backed_within, sent_within}
+use Rattle.cqf_model.proofs.Drops.{dropped_at, drops_at}
+use Rattle.cqf_model.proofs.Sending.{backed_in_run, sent_in_run}
 use Rattle.cqf_laws_port.specs.PortLaws.{LegalPartIsLegalForTheSamePast}
 use Rattle.cqf_laws_network.specs.NetworkLaws.{HaveOnePast, IsShorter, backed_before, book_before_cycle, carried_before, drops_before_cycle, network_before}
 use Rattle.cqf_laws_network.specs.NetworkLaws.{starts_before_cycle, with_tables}
@@ -68,43 +69,15 @@ module _ {A : Type 0} (at : A → ℕ) (by : ℕ → ℕ → A → Started) (bea
       let some = takes_time d.cycle_time (at x) longer (within l h x m) in
       lt-ltb (at x) end (before_cycle d.cycle_time (at x) cycle cycles some (eqb-true (cycle_of d (at x)) cycle e) k)))))
 
--- a drop bears its cycle
-dropped_cycle : (cycle bridge : ℕ) (x : Received) (verdict : Verdict) (drop : Dropped) → Contains (drop_by cycle bridge x verdict) drop → drop.cycle.0 ≡ cycle
-dropped_cycle cycle bridge x (DroppedFor reason) drop h =
-    let own : Dropped = record { cycle = record { 0 = cycle }; bridge = bridge; frame = x.frame; octets = x.octets; reason = reason } in
-    sym (ap (λ (y : Dropped). y.cycle.0) (contains_one own drop h))
-dropped_cycle cycle bridge x (Queued row) drop h = absurd (contains_none drop h)
-dropped_cycle cycle bridge x LacksRow drop h = absurd (contains_none drop h)
-dropped_cycle cycle bridge x ExceedsGate drop h = absurd (contains_none drop h)
-
--- the drops at a bridge in a cycle of the offer at a place
-abbrev drops_at : Domain → (ℕ → List Policed) → ℕ → ℕ → ℕ → List Dropped
-drops_at d policed cycle bridge place =
-    flat_map (λ (p : Policed). drop_by cycle bridge p.received p.verdict) (filter (is_of_place d cycle place) (policed bridge))
-
 -- the drops of a cycle bear it
 drop_cycle : (d : Domain) (places : ℕ) (policed : ℕ → List Policed) (cycle bridges : ℕ) (x : Dropped) →
     Contains (each_below (drops_in d places policed cycle) bridges) x → x.cycle.0 ≡ cycle
 drop_cycle d places policed cycle bridges x h =
     let w = contains_from_below (drops_in d places policed cycle) bridges x h in
-    let v = contains_from_below (drops_at d policed cycle w.0) places x w.2 in
-    let p = contains_from_flat (λ (p : Policed). drop_by cycle w.0 p.received p.verdict) (filter (is_of_place d cycle v.0) (policed w.0)) x v.2 in
-    dropped_cycle cycle w.0 p.0.received p.0.verdict x p.2
+    sym (ap (λ (y : Dropped). y.cycle.0) (dropped_at d places policed cycle w.0 x w.2).is)
 
 module _ (run : Run) (others : List (List Row)) (lists : ℕ → List Entry) (cycles longer : ℕ) (net : Network)
     (shorter : IsShorter cycles longer run.tables others) (legal : IsLegalNetwork run lists longer net) where
-  -- a link sends within the run
-  sent_in_run : (l : ℕ) → l < length run.domain.links → (x : Sent) → Contains (net.carried l) x → x.start.0 < longer * run.domain.cycle_time
-  sent_in_run l h =
-      sent_within run.domain (lists l) (longer * run.domain.cycle_time) l (comes_before run net.carried l longer) (net.carried l) (net.backed l)
-      (legal.sends l h)
-
-  -- its background frames too
-  backed_in_run : (l : ℕ) → l < length run.domain.links → (x : Start) → Contains (net.backed l) x → x.start.0 < longer * run.domain.cycle_time
-  backed_in_run l h =
-      backed_within run.domain (lists l) (longer * run.domain.cycle_time) l (comes_before run net.carried l longer) (net.carried l) (net.backed l)
-      (legal.sends l h)
-
   -- what the shorter run's links carry
   abbrev short : Carried
   short = carried_before (cycles * run.domain.cycle_time) net.carried
@@ -161,13 +134,15 @@ module _ (run : Run) (others : List (List Row)) (lists : ℕ → List Entry) (cy
   -- and so are its starts of streams' frames
   sent_beginning : starts_before_cycle cycles (starts_of run.domain longer net.carried) ≡ starts_of run.domain cycles short
   sent_beginning =
-      starts_beginning (λ (sent : Sent). sent.start.0) started (λ cycle link x. refl) run.domain cycles longer net.carried shorter.fewer sent_in_run
+      starts_beginning (λ (sent : Sent). sent.start.0) started (λ cycle link x. refl) run.domain cycles longer net.carried shorter.fewer
+      (λ l h. sent_in_run run lists longer net legal l)
 
   -- and of background frames
   background_beginning : starts_before_cycle cycles (background_of run.domain longer net.backed) ≡ background_of run.domain cycles
       (λ l. backed_before (cycles * run.domain.cycle_time) (net.backed l))
   background_beginning =
-      starts_beginning (λ (start : Start). start.start.0) started_backed (λ cycle link x. refl) run.domain cycles longer net.backed shorter.fewer backed_in_run
+      starts_beginning (λ (start : Start). start.start.0) started_backed (λ cycle link x. refl) run.domain cycles longer net.backed shorter.fewer
+      (λ l h. backed_in_run run lists longer net legal l)
 
 -- the book of a shorter run
 pub book_beginning : LegalPartIsLegalForTheSamePast → (run : Run) (others : List (List Row)) (lists : ℕ → List Entry) (cycles longer : ℕ) (book : Contents) →

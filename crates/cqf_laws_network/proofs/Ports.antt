@@ -1,13 +1,13 @@
 -- What a port of a network sends before an instant hangs on the front of what comes to it alone.
-use Rattle.std.proofs.Common.{◌≡◌, ℕ, ◌+◌, ◌-◌, ◌<◌, ◌≤◌, List, length, length-append, get_or-append-add, sym, ap, ◌∙◌, inl, inr, arith, refl}
+use Rattle.std.proofs.Common.{◌≡◌, ℕ, ◌<◌, ◌≤◌, List, length, length-append, sym, ap, ◌∙◌, inl, inr, arith, refl}
 use Rattle.std.specs.Prelude.{◌++◌, Contains, nat_lt, slice_index_or}
 use Rattle.std.specs.List.{flat_map}
-use Rattle.std.proofs.lemmas.Bool.{cases_lt, lt-ltb, ltb-true}
+use Rattle.std.proofs.lemmas.Bool.{lt-ltb, ltb-true}
 use Rattle.std.proofs.lemmas.List.{get_or-map, get_or_append_left, length-map}
-use Rattle.std.proofs.lemmas.List.Elements.{Contains-get_or}
 use Rattle.cqf_lists.proofs.EachBelow.{filter_each}
 use Rattle.cqf_lists.proofs.Fronts.{Front}
 use Rattle.cqf_lists.proofs.Members.{contains_from_filter}
+use Rattle.cqf_lists.proofs.Places.{in_either}
 use Rattle.cqf_model.specs.declared.frames.Sent.{Sent}
 use Rattle.cqf_model.specs.declared.ports.Arrival.{Arrival}
 use Rattle.cqf_model.specs.declared.ports.Start.{Start}
@@ -24,21 +24,9 @@ use Rattle.cqf_laws_network.proofs.Came.{Late}
 in_front : (n : ℕ) (front rest : List QueuedFrame) → ((x : QueuedFrame) → Contains rest x → Late n x) → (p : ℕ) → p < length (front ++ rest) →
     (slice_index_or (front ++ rest) p no_frame).arrival.at.0 < n → p < length front
 in_front n front rest late p l came =
-    elim (cases_lt p (length front)) [
+    elim (in_either front rest p no_frame l) [
       | inl k ↦ k
-      | inr g ↦
-          let k = p - length front in
-          let at : p ≡ length front + k = omega (arith, g) in
-          let inside : k < length rest = omega (arith, l, g, length-append front rest) in
-          let e : slice_index_or (front ++ rest) p no_frame ≡ slice_index_or rest k no_frame =
-          ap (λ (i : ℕ). slice_index_or (front ++ rest) i no_frame) at ∙ get_or-append-add front rest k no_frame in
-          absurd (omega (
-            arith,
-            came,
-            ap (λ (x : QueuedFrame). x.arrival.at.0) e,
-            late (slice_index_or rest k no_frame)
-                (Contains-get_or rest k no_frame inside),
-          ))
+      | inr m ↦ absurd (omega (arith, came, late (slice_index_or (front ++ rest) p no_frame) m))
     ]
 
 -- the arrival at a place is that of the frame queued there

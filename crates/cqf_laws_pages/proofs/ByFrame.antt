@@ -8,7 +8,7 @@ use Rattle.cqf_lists.specs.Lists.{each_below}
 use Rattle.cqf_lists.proofs.EachBelow.{below_plus, contains_from_below, filter_none, same_below}
 use Rattle.cqf_lists.proofs.Keys.{by_key}
 use Rattle.cqf_lists.proofs.Made.{contains_if, filter_made}
-use Rattle.cqf_lists.proofs.Members.{contains_filter, contains_from_filter, contains_from_flat, contains_from_map, contains_none, contains_one}
+use Rattle.cqf_lists.proofs.Members.{contains_filter, contains_from_filter, contains_from_flat, contains_from_map}
 use Rattle.cqf_model.specs.declared.frames.Dropped.{Dropped}
 use Rattle.cqf_model.specs.declared.frames.Offer.{Offer}
 use Rattle.cqf_model.specs.declared.frames.Offered.{Offered}
@@ -19,22 +19,13 @@ use Rattle.cqf_model.specs.Book.{drop_by, drops_in, is_of_place}
 use Rattle.cqf_model.specs.Domain.{cycle_of, enters}
 use Rattle.cqf_model.specs.Run.{Run}
 use Rattle.cqf_model.specs.Table.{row_of, table_of}
-use Rattle.cqf_model.specs.Traffic.{Carried, DroppedFor, ExceedsGate, LacksRow, Policed, Queued, Received, Relayed, Verdict, is_offered_at, numbered}
+use Rattle.cqf_model.specs.Traffic.{Carried, DroppedFor, Policed, Received, Relayed, is_offered_at, numbered}
 use Rattle.cqf_model.specs.Traffic.{offer_received, offered_at, police, police_all, received_at, relayed_at, sent_received, verdict_by, whole_at, within_gate}
+use Rattle.cqf_model.proofs.Drops.{dropped_for}
 use Rattle.cqf_model.proofs.Policing.{behind_those_before, inside_drops_none, police_member}
 use Rattle.cqf_laws_pages.specs.BridgeCycle.{policed_in, received_in}
 use Rattle.cqf_laws_pages.specs.Gathered.{IsInOrderOf, dropped_of}
 use Rattle.cqf_laws_pages.proofs.Continued.{policed_when}
-
--- a drop has its frame's number, and a reason
-dropped_frame : (cycle bridge : ℕ) (x : Received) (verdict : Verdict) (drop : Dropped) → Contains (drop_by cycle bridge x verdict) drop → (reason : Reason) ×
-    (verdict ≡ DroppedFor reason) × (drop.frame ≡ x.frame)
-dropped_frame cycle bridge x (DroppedFor reason) drop h =
-    let own : Dropped = record { cycle = record { 0 = cycle }; bridge = bridge; frame = x.frame; octets = x.octets; reason = reason } in
-    (reason, refl, sym (ap (λ (y : Dropped). y.frame) (contains_one own drop h)))
-dropped_frame cycle bridge x (Queued row) drop h = absurd (contains_none drop h)
-dropped_frame cycle bridge x LacksRow drop h = absurd (contains_none drop h)
-dropped_frame cycle bridge x ExceedsGate drop h = absurd (contains_none drop h)
 
 -- an offer's frame is numbered by its place, from 1
 pub record IsNumbered (places frame : ℕ) : Type 0 where
@@ -111,14 +102,15 @@ module _ (run : Run) (carried : Carried) where
         let d = run.domain in
         let w = contains_from_flat (λ (p : Policed). drop_by cycle bridge p.received p.verdict) policed drop h in
         let p = w.0 in
-        let f = dropped_frame cycle bridge p.received p.verdict drop w.2 in
+        let f = dropped_for cycle bridge p.received p.verdict drop w.2 in
         let r = behind_those_before d run.tables bridge (earlier bridge) (received_in run carried bridge cycle) p w.1 in
         let before = earlier bridge ++ police_all d run.tables bridge (earlier bridge) r.before in
         let same : r.x ≡ p.received = sym (ap (λ (q : Policed). q.received) r.is) in
         let verdict : (police d run.tables bridge before p.received).verdict ≡ DroppedFor f.0 =
         subst (λ (x : Received). (police d run.tables bridge before x).verdict ≡ DroppedFor f.0) same (sym (ap (λ (q : Policed). q.verdict) r.is) ∙ f.1) in
         let k = came p w.1 in
-        subst (IsNumbered (length run.offers)) (sym f.2) (dropped_numbered bridge (cycle * d.cycle_time + k.0) before p.received f.0 k.2 verdict)
+        subst (IsNumbered (length run.offers)) (ap (λ (y : Dropped). y.frame) f.2)
+        (dropped_numbered bridge (cycle * d.cycle_time + k.0) before p.received f.0 k.2 verdict)
 
     -- the drops of a frame are those of its place
     drops_of_frame : (place : ℕ) →
@@ -126,8 +118,8 @@ module _ (run : Run) (carried : Carried) where
     drops_of_frame place =
         filter_made (λ (p : Policed). drop_by cycle bridge p.received p.verdict) (is_of_place run.domain cycle place)
         (λ (x : Dropped). x.frame == place + 1) policed (λ p drop h k.
-        let f = dropped_frame cycle bridge p.received p.verdict drop k in
-        ap (λ (n : ℕ). n == place + 1) f.2
+        let f = dropped_for cycle bridge p.received p.verdict drop k in
+        sym (ap (λ (y : Dropped). y.frame == place + 1) f.2)
         ∙ sym (ap (λ (b : Bool). b && (p.received.frame == place + 1))
         (eq-eqb (cycle_of run.domain p.received.at) cycle (policed_when run carried bridge cycle (earlier bridge) p h))))
 

@@ -1,46 +1,29 @@
 -- The pages of a book, and the book of its pages.
 use Rattle.std.proofs.Common.{◌≡◌, ℕ, ◌*◌, ◌<◌, List, length, sym, refl, ap, ◌∙◌, inl, inr, subst}
 use Rattle.std.specs.Prelude.{[], ◌&&◌, ◌==◌, filter, map, Contains, if◌then◌else◌}
-use Rattle.std.specs.List.{flat_map}
 use Rattle.std.proofs.lemmas.Bool.{and_from, and_left, and_right, cases_Bool, cond-false, cond-true, eq-eqb, ne_eqb}
 use Rattle.cqf_lists.specs.Lists.{each_below}
 use Rattle.cqf_lists.proofs.EachBelow.{contains_from_below, filter_below, filter_each, filter_none, same_below}
 use Rattle.cqf_lists.proofs.Made.{contains_if}
-use Rattle.cqf_lists.proofs.Members.{contains_from_flat, contains_from_map, contains_none, contains_one}
+use Rattle.cqf_lists.proofs.Members.{contains_from_map}
 use Rattle.cqf_lists.proofs.Picked.{filter_one}
 use Rattle.cqf_model.specs.declared.frames.Dropped.{Dropped}
 use Rattle.cqf_model.specs.declared.frames.Started.{Started}
 use Rattle.cqf_model.specs.declared.ports.Start.{Start}
-use Rattle.cqf_model.specs.Book.{Contents, backed_batch, background_in, background_of, batch, drop_by, drops_in, drops_of, is_of_place, page_drops, page_of}
+use Rattle.cqf_model.specs.Book.{Contents, backed_batch, background_in, background_of, batch, drops_in, drops_of, page_drops, page_of}
 use Rattle.cqf_model.specs.Book.{page_starts, started, started_backed, starts_in, starts_of}
 use Rattle.cqf_model.specs.Domain.{Domain, IsAccepted, bridge_of, leaves}
-use Rattle.cqf_model.specs.Traffic.{Carried, DroppedFor, ExceedsGate, LacksRow, Policed, Queued, Received, Verdict, policed_before}
+use Rattle.cqf_model.specs.Traffic.{Carried, Policed, policed_before}
+use Rattle.cqf_model.proofs.Drops.{dropped_at}
 use Rattle.cqf_model.proofs.Links.{bridge_within, leaves_its_bridge}
 use Rattle.cqf_laws_pages.specs.PageLaws.{HaveTheSamePages, IsSomeBook, book_of_pages, drops_of_pages, is_on_link, on_links_of, starts_of_pages}
 
--- a drop is of the cycle and the bridge of its list
-dropped_at : (cycle bridge : ℕ) (x : Received) (verdict : Verdict) (drop : Dropped) → Contains (drop_by cycle bridge x verdict) drop → (drop.cycle.0 ≡ cycle) ×
-    (drop.bridge ≡ bridge)
-dropped_at cycle bridge x (DroppedFor reason) drop h =
-    let own : Dropped = record { cycle = record { 0 = cycle }; bridge = bridge; frame = x.frame; octets = x.octets; reason = reason } in
-    let is = contains_one own drop h in
-    (sym (ap (λ (y : Dropped). y.cycle.0) is), sym (ap (λ (y : Dropped). y.bridge) is))
-dropped_at cycle bridge x (Queued row) drop h = absurd (contains_none drop h)
-dropped_at cycle bridge x LacksRow drop h = absurd (contains_none drop h)
-dropped_at cycle bridge x ExceedsGate drop h = absurd (contains_none drop h)
-
--- the drops at a bridge in a cycle of the offer at a place
-abbrev drops_at : Domain → (ℕ → List Policed) → ℕ → ℕ → ℕ → List Dropped
-drops_at d policed cycle bridge place =
-    flat_map (λ (p : Policed). drop_by cycle bridge p.received p.verdict) (filter (is_of_place d cycle place) (policed bridge))
-
--- so is each drop of a bridge in a cycle
+-- each drop of a bridge in a cycle bears both
 drop_of : (d : Domain) (places : ℕ) (policed : ℕ → List Policed) (cycle bridge : ℕ) (x : Dropped) → Contains (drops_in d places policed cycle bridge) x →
     (x.cycle.0 ≡ cycle) × (x.bridge ≡ bridge)
 drop_of d places policed cycle bridge x h =
-    let v = contains_from_below (drops_at d policed cycle bridge) places x h in
-    let p = contains_from_flat (λ (p : Policed). drop_by cycle bridge p.received p.verdict) (filter (is_of_place d cycle v.0) (policed bridge)) x v.2 in
-    dropped_at cycle bridge p.0.received p.0.verdict x p.2
+    let from = dropped_at d places policed cycle bridge x h in
+    (sym (ap (λ (y : Dropped). y.cycle.0) from.is), sym (ap (λ (y : Dropped). y.bridge) from.is))
 
 -- the page's drops are those at the bridge in the cycle
 pub drops_on_page : (d : Domain) (cycles places : ℕ) (policed : ℕ → List Policed) (bridge cycle : ℕ) → bridge < length d.bridges → cycle < cycles →

@@ -29,7 +29,8 @@ use Rattle.cqf_laws_network.specs.NetworkLaws.{BeginningIsLegal, HaveOnePast, Is
 use Rattle.cqf_laws_cycle.specs.Compiled.{GateGivesClass, PortListIsOpen, given_class, open_class}
 use Rattle.cqf_laws_pages.specs.BridgeCycle.{IsCompiledNetwork}
 use Rattle.cqf_laws_pages.specs.PortCycle.{MakesTheBatch, StartsInCycle, waits_in}
-use Rattle.cqf_laws_pages.proofs.Closed.{IsClosedUntil, front_legal, more_legal}
+use Rattle.cqf_model.proofs.Arrivals.{IsClosedUntil, front_legal}
+use Rattle.cqf_laws_pages.proofs.Closed.{more_legal}
 use Rattle.cqf_laws_pages.proofs.Continued.{waits_on}
 
 -- the class that a cycle gives is of streams, and the cycle doesn't send it

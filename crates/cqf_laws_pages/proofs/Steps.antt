@@ -1,8 +1,8 @@
 -- A run goes on cycle by cycle.
-use Rattle.std.proofs.Common.{◌≡◌, ℕ, ◌+◌, ◌*◌, ◌/◌, ◌<◌, ◌≤◌, List, length, sym, refl, ap, ◌∙◌, inl, inr, arith, subst, true, eqb-true, Contains}
+use Rattle.std.proofs.Common.{◌≡◌, ℕ, ◌+◌, ◌*◌, ◌/◌, ◌<◌, ◌≤◌, List, sym, refl, ap, ◌∙◌, arith, subst, true, eqb-true, Contains}
 use Rattle.std.specs.Prelude.{[], ◌++◌, ◌==◌, nat_lt, zero, suc}
 use Rattle.std.proofs.Math.Nat.{mul-le-mul_right}
-use Rattle.std.proofs.lemmas.Bool.{cases_lt, lt-ltb, ltb-true}
+use Rattle.std.proofs.lemmas.Bool.{lt-ltb, ltb-true}
 use Rattle.std.proofs.lemmas.List.{append-nil}
 use Rattle.cqf_lists.specs.Lists.{each_below}
 use Rattle.cqf_lists.proofs.EachBelow.{contains_below, contains_from_below, filter_each}
@@ -21,7 +21,7 @@ use Rattle.cqf_model.specs.Run.{Run}
 use Rattle.cqf_model.specs.Traffic.{Carried, Policed, policed_before}
 use Rattle.cqf_model.proofs.Coming.{backed_in_late}
 use Rattle.cqf_model.proofs.Legal.{none_at_0}
-use Rattle.cqf_model.proofs.Sending.{backed_within, sent_within}
+use Rattle.cqf_model.proofs.Sending.{backed_in_run, backed_within, sent_in_run, sent_within}
 use Rattle.cqf_laws_port.specs.PortLaws.{LateArrivalChangesNothing, LegalStartsExist}
 use Rattle.cqf_laws_network.specs.NetworkLaws.{BeginningIsLegal, BridgesGoByThePast, CarryTheSame, HaveOnePast, HaveTheSameTables, IsShorter, backed_before}
 use Rattle.cqf_laws_network.specs.NetworkLaws.{PortGoesByThePast, PortsGetThePast, Sending, ShorterRunIsTheBeginning, network_before, sent_before, with_tables}
@@ -91,31 +91,13 @@ early t cycle cycles longer cycle_time within k e =
 
 -- the beginning of a run sends the same in its cycles
 module _ (run : Run) (lists : ℕ → List Entry) (cycles longer : ℕ) (net : Network) (legal : IsLegalNetwork run lists longer net) where
-  -- a link sends within the run
-  sent_in_run : (l : ℕ) (x : Sent) → Contains (net.carried l) x → x.start.0 < longer * run.domain.cycle_time
-  sent_in_run l x h =
-      elim (cases_lt l (length run.domain.links)) [
-        | inl k ↦ sent_within run.domain (lists l) (longer * run.domain.cycle_time) l (comes_before run net.carried l longer) (net.carried l) (net.backed l)
-            (legal.sends l k) x h
-        | inr g ↦ absurd (contains_none x (subst (λ (xs : List Sent). Contains xs x) (legal.no_others l g).0 h))
-      ]
-
-  -- its background frames too
-  backed_in_run : (l : ℕ) (x : Start) → Contains (net.backed l) x → x.start.0 < longer * run.domain.cycle_time
-  backed_in_run l x h =
-      elim (cases_lt l (length run.domain.links)) [
-        | inl k ↦ backed_within run.domain (lists l) (longer * run.domain.cycle_time) l (comes_before run net.carried l longer) (net.carried l) (net.backed l)
-            (legal.sends l k) x h
-        | inr g ↦ absurd (contains_none x (subst (λ (xs : List Start). Contains xs x) (legal.no_others l g).1 h))
-      ]
-
-  -- so the batches of the first cycles are of the beginning
+  -- the batches of the first cycles are of the beginning
   batch_kept : (l cycle : ℕ) → cycle < cycles →
       batch run.domain net.carried l cycle ≡ batch run.domain (network_before (cycles * run.domain.cycle_time) net).carried l cycle
   batch_kept l cycle k =
       filter_weaker (λ (sent : Sent). cycle_of run.domain sent.start.0 == cycle) (λ (sent : Sent). nat_lt sent.start.0 (cycles * run.domain.cycle_time))
       (net.carried l)
-      (λ x m e. early x.start.0 cycle cycles longer run.domain.cycle_time (sent_in_run l x m) k e)
+      (λ x m e. early x.start.0 cycle cycles longer run.domain.cycle_time (sent_in_run run lists longer net legal l x m) k e)
 
   -- those of background frames too
   background_kept : (l cycle : ℕ) → cycle < cycles →
@@ -123,7 +105,7 @@ module _ (run : Run) (lists : ℕ → List Entry) (cycles longer : ℕ) (net : N
   background_kept l cycle k =
       filter_weaker (λ (start : Start). cycle_of run.domain start.start.0 == cycle) (λ (start : Start). nat_lt start.start.0 (cycles * run.domain.cycle_time))
       (net.backed l)
-      (λ x m e. early x.start.0 cycle cycles longer run.domain.cycle_time (backed_in_run l x m) k e)
+      (λ x m e. early x.start.0 cycle cycles longer run.domain.cycle_time (backed_in_run run lists longer net legal l x m) k e)
 
 -- what is sent before an instant, of that before a later one
 sent_before_less : (t n : ℕ) (sents : List Sent) → t ≤ n → sent_before t sents ≡ sent_before t (sent_before n sents)

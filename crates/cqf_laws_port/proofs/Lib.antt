@@ -1,6 +1,5 @@
 pub mod Alike
 pub mod Spans
 pub mod Settled
-pub mod Late
 pub mod Decide
 pub mod Exist

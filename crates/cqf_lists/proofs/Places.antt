@@ -1,6 +1,9 @@
 -- Elements of a list by their places.
-use Rattle.std.proofs.Common.{◌≡◌, ℕ, ◌+◌, ◌<◌, ◌⊎◌, List, Some, None, length, refl, inl, inr, arith}
-use Rattle.std.specs.Prelude.{[], ◌∷◌, ◌++◌, slice_get, take, zero, suc}
+use Rattle.std.proofs.Common.{◌≡◌, ◌∙◌, ℕ, ◌+◌, ◌-◌, ◌<◌, ◌⊎◌, List, Some, None, length, refl, ap, sym, subst, inl, inr, arith}
+use Rattle.std.proofs.Common.{get_or-append-add, length-append}
+use Rattle.std.specs.Prelude.{[], ◌∷◌, ◌++◌, Contains, slice_get, slice_index_or, take, zero, suc}
+use Rattle.std.proofs.lemmas.Bool.{cases_lt}
+use Rattle.std.proofs.lemmas.List.Elements.{Contains-get_or}
 
 -- no list but the empty one has no first element
 pub nil_from_none : {X : Type 0} (xs : List X) → slice_get xs 0 ≡ None → xs ≡ []
@@ -39,3 +42,17 @@ slice_get_parts [] ys i x e = inr (i, omega arith, e)
 slice_get_parts (z ∷ xs) ys zero x e = inl e
 slice_get_parts (z ∷ xs) ys (suc i) x e =
     elim (slice_get_parts xs ys i x e) [ inl a ↦ inl a | inr b ↦ inr (b.0, omega (arith, b.1), b.2) ]
+
+-- a place in two lists end to end is in the first, or what stands there is of the second
+pub in_either : {X : Type 0} (xs ys : List X) (p : ℕ) (d : X) → p < length (xs ++ ys) → (p < length xs) ⊎ Contains ys (slice_index_or (xs ++ ys) p d)
+in_either {X} xs ys p d l =
+    elim (cases_lt p (length xs)) [
+      | inl k ↦ inl k
+      | inr g ↦
+          let k = p - length xs in
+          let at : p ≡ length xs + k = omega (arith, g) in
+          let inside : k < length ys = omega (arith, l, g, length-append xs ys) in
+          let e : slice_index_or (xs ++ ys) p d ≡ slice_index_or ys k d =
+          ap (λ (i : ℕ). slice_index_or (xs ++ ys) i d) at ∙ get_or-append-add xs ys k d in
+          inr (subst (λ (x : X). Contains ys x) (sym e) (Contains-get_or ys k d inside))
+    ]

@@ -1,8 +1,11 @@
+pub mod Arrivals
 pub mod ByCycle
 pub mod Coming
+pub mod Drops
 pub mod Legal
 pub mod Links
 pub mod Policing
 pub mod Residence
 pub mod Sending
+pub mod Starts
 pub mod Texts

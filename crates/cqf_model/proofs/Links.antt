@@ -15,7 +15,7 @@ use Rattle.cqf_model.specs.History.{link_from}
 use Rattle.cqf_model.specs.Table.{same_way}
 
 -- an octet takes time at each rate
-rate_positive : (rate : Rate) → 0 < nanos_of_octet rate
+pub rate_positive : (rate : Rate) → 0 < nanos_of_octet rate
 rate_positive Mb10 = omega arith
 rate_positive Mb100 = omega arith
 rate_positive Mb1000 = omega arith

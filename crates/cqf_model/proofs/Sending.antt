@@ -1,7 +1,8 @@
 -- What the transmissions of a port send, of either kind.
-use Rattle.std.proofs.Common.{◌≡◌, ℕ, ◌<◌, Bool, List, Option, Some, None, sym, ap, arith, subst, AllPairs, Contains}
+use Rattle.std.proofs.Common.{◌≡◌, ℕ, ◌*◌, ◌<◌, Bool, List, Option, Some, None, sym, ap, arith, inl, inr, length, subst, AllPairs, Contains}
 use Rattle.std.specs.Prelude.{filter, slice_index_or}
 use Rattle.std.specs.List.{flat_map}
+use Rattle.std.proofs.lemmas.Bool.{cases_lt}
 use Rattle.cqf_lists.proofs.Members.{contains_from_flat, contains_none, contains_one}
 use Rattle.cqf_lists.proofs.Pairs.{pairs_none, pairs_one}
 use Rattle.cqf_lists.proofs.Made.{filter_made, flat_map_same}
@@ -11,7 +12,8 @@ use Rattle.cqf_model.specs.declared.ports.Start.{Start}
 use Rattle.cqf_model.specs.Domain.{Domain}
 use Rattle.cqf_model.specs.GateList.{Entry}
 use Rattle.cqf_model.specs.Port.{Transmission}
-use Rattle.cqf_model.specs.Network.{QueuedFrame, Sends, backed_by, backed_of, no_frame, sent_by, sent_of}
+use Rattle.cqf_model.specs.Network.{IsLegalNetwork, Network, QueuedFrame, Sends, backed_by, backed_of, comes_before, no_frame, sent_by, sent_of}
+use Rattle.cqf_model.specs.Run.{Run}
 
 -- a stream's frame is sent when its transmission starts
 sent_when : (t : ℕ) (x : Arrival) (stream : Option ℕ) (sent : Sent) → Contains (sent_by t x stream) sent → sent.start.0 ≡ t
@@ -73,6 +75,26 @@ pub backed_within : (d : Domain) (entries : List Entry) (end l : ℕ) (queued : 
 backed_within d entries end l queued sents backed s x h =
     let w = contains_from_flat (backed_of queued) s.starts x (subst (λ (xs : List Start). Contains xs x) s.are_backed h) in
     omega (arith, backed_of_when queued w.0 x w.2, s.legal.before_end w.0.0 w.0.1 w.1)
+
+-- a link of a legal network sends within the run
+pub sent_in_run : (run : Run) (lists : ℕ → List Entry) (cycles : ℕ) (net : Network) → IsLegalNetwork run lists cycles net → (l : ℕ) (x : Sent) →
+    Contains (net.carried l) x → x.start.0 < cycles * run.domain.cycle_time
+sent_in_run run lists cycles net legal l x h =
+    elim (cases_lt l (length run.domain.links)) [
+      | inl k ↦ sent_within run.domain (lists l) (cycles * run.domain.cycle_time) l (comes_before run net.carried l cycles) (net.carried l) (net.backed l)
+          (legal.sends l k) x h
+      | inr g ↦ absurd (contains_none x (subst (λ (xs : List Sent). Contains xs x) (legal.no_others l g).0 h))
+    ]
+
+-- its background frames too
+pub backed_in_run : (run : Run) (lists : ℕ → List Entry) (cycles : ℕ) (net : Network) → IsLegalNetwork run lists cycles net → (l : ℕ) (x : Start) →
+    Contains (net.backed l) x → x.start.0 < cycles * run.domain.cycle_time
+backed_in_run run lists cycles net legal l x h =
+    elim (cases_lt l (length run.domain.links)) [
+      | inl k ↦ backed_within run.domain (lists l) (cycles * run.domain.cycle_time) l (comes_before run net.carried l cycles) (net.carried l) (net.backed l)
+          (legal.sends l k) x h
+      | inr g ↦ absurd (contains_none x (subst (λ (xs : List Start). Contains xs x) (legal.no_others l g).1 h))
+    ]
 
 -- of what is sent, that at the instants of a test is what the transmissions of these instants send
 pub sent_then : (test : ℕ → Bool) (queued : List QueuedFrame) (starts : List Transmission) →

@@ -1,19 +1,18 @@
 -- The next start of a port.
-use Rattle.std.proofs.Common.{ℕ, ◌≡◌, ◌+◌, ◌-◌, ◌*◌, ◌/◌, ◌%◌, ◌≤◌, ◌<◌, ◌++◌, [], ◌∷◌, List, Option, Some, None, get_or, min, max, IsBitSet, inl, inr, refl, sym, ap, subst, ◌∙◌, arith}
+use Rattle.std.proofs.Common.{ℕ, ◌≡◌, ◌+◌, ◌-◌, ◌*◌, ◌/◌, ◌%◌, ◌≤◌, ◌<◌, List, Option, Some, None, get_or, min, max, IsBitSet, inl, inr, sym, ap, subst, ◌∙◌, arith}
 use Rattle.std.specs.Prelude.{MatchOption}
 use Rattle.std.proofs.lemmas.Bool.{cases_lt}
 use Rattle.std.proofs.Math.Nat.{mod-add-div'}
-use Rattle.cqf_units.specs.Timing.{ending_of}
 use Rattle.cqf_units.specs.declared.timing.Nanos.{Nanos}
 use Rattle.cqf_model.specs.declared.ports.Arrival.{Arrival}
 use Rattle.cqf_model.specs.GateList.{Entry, InForce, IsOpen, round_of, states_at}
-use Rattle.cqf_model.specs.Port.{PortRules, Transmission, AreLegal, instant_of, class_of, octets_of}
+use Rattle.cqf_model.specs.Port.{PortRules, Transmission, instant_of, class_of}
 use Rattle.cqf_laws_port.specs.GateLaws.{StatesAreOfTheEntry, SomeEntryIsInForce}
-use Rattle.cqf_port.specs.PortState.{PortState, AreTaken, WasOpen}
-use Rattle.cqf_port.specs.Progress.{IsReady, NoneReady, IsAbreast, IsChosen}
+use Rattle.cqf_port.specs.PortState.{AreTaken, WasOpen}
+use Rattle.cqf_port.specs.Progress.{NoneReady, IsAbreast}
 use Rattle.cqf_port.specs.NextStart.{StartsNext, StartsNoMore, HaveCome, NeverReady, IsNextReady}
 use Rattle.cqf_port.specs.declared.progress.Progress.{Progress}
-use Rattle.cqf_port.proofs.Legal.{legal_start}
+use Rattle.cqf_model.proofs.Starts.{legal_start}
 use Rattle.cqf_port.proofs.Heads.{none_is_due, chosen_is_due}
 use Rattle.cqf_port.proofs.Steps.{abreast_skip}
 

@@ -6,7 +6,7 @@ use Rattle.cqf_model.specs.Port.{Transmission, PortRules, AreLegal, Waits, IsFir
 use Rattle.cqf_port.specs.PortState.{AreTaken}
 use Rattle.cqf_port.specs.Progress.{HasStarted, IsHead, IsHeadOf, IsAbreast, NoneReady, IsChosen}
 use Rattle.cqf_port.specs.declared.progress.Progress.{Progress}
-use Rattle.cqf_port.proofs.Legal.{IsDue}
+use Rattle.cqf_model.proofs.Starts.{IsDue}
 
 -- one number is below, at, or above another
 pub cases_order : (m n : ℕ) → (m < n) ⊎ ((m ≡ n) ⊎ (n < m))

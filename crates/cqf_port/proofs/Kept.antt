@@ -13,7 +13,7 @@ use Rattle.cqf_laws_port.specs.PortLaws.{LegalStartsAreUnique}
 use Rattle.cqf_port.specs.PortState.{PortState, AreTaken, IsPort, IsLast, WasOpen, Advances, start_of}
 use Rattle.cqf_port.specs.Progress.{IsNewest, AreNewest, IsAfterArrival, IsKept, AreMore}
 use Rattle.cqf_port.specs.declared.progress.Progress.{Progress}
-use Rattle.cqf_port.proofs.Legal.{same_arrival, last_arrival, arrival_after}
+use Rattle.cqf_port.proofs.Longer.{same_arrival, last_arrival, arrival_after}
 use Rattle.cqf_port.proofs.More.{range_to_end}
 use Rattle.cqf_port.proofs.Steps.{abreast_arrival, cases_same}
 

@@ -1,4 +1,4 @@
-pub mod Legal
+pub mod Longer
 pub mod Heads
 pub mod Steps
 pub mod Wire

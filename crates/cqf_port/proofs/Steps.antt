@@ -10,7 +10,9 @@ use Rattle.cqf_units.specs.Timing.{idle_after}
 use Rattle.cqf_port.specs.PortState.{AreTaken}
 use Rattle.cqf_port.specs.Progress.{HasStarted, IsHead, IsHeadOf, IsAbreast, AreInside, NoneReady, IsChosen, IsNextOf, IsAfterStart, IsAfterArrival}
 use Rattle.cqf_port.specs.declared.progress.Progress.{Progress}
-use Rattle.cqf_port.proofs.Legal.{IsDue, legal_skip, legal_start, legal_arrival, start_cases, same_arrival, last_arrival, arrival_after, arrival_before, longer}
+use Rattle.cqf_model.proofs.Arrivals.{one_more_legal}
+use Rattle.cqf_model.proofs.Starts.{IsDue, legal_skip, legal_start, start_cases}
+use Rattle.cqf_port.proofs.Longer.{same_arrival, last_arrival, arrival_after, arrival_before, longer}
 use Rattle.cqf_port.proofs.Heads.{cases_order, none_is_due, chosen_is_due, head_at}
 
 -- instants pass at which nothing starts
@@ -122,7 +124,7 @@ module _ (arrivals : List Arrival) (arrival : Arrival) (starts : List Transmissi
   -- a head stays one when a frame arrives
   head_still : (class place : ℕ) → IsHead arrivals starts class place → IsHead (arrivals ++ arrival ∷ []) starts class place
   head_still class place head = record {
-    inside = omega (arith, head.inside, longer arrivals arrival starts);
+    inside = omega (arith, head.inside, longer arrivals arrival);
     of_class = ap (λ (x : Arrival). x.class) (same_arrival arrivals arrival place head.inside) ∙ head.of_class;
     not_started = head.not_started;
     started_before = λ other lower same. head.started_before other lower (sym (ap (λ (x : Arrival). x.class) (same_arrival arrivals arrival other (omega (arith, head.inside)))) ∙ same);
@@ -131,7 +133,7 @@ module _ (arrivals : List Arrival) (arrival : Arrival) (starts : List Transmissi
   -- a frame that arrives in a class with no head is its head
   new_head : (rules : PortRules) (t : ℕ) → AreLegal rules arrivals t starts → ((place : ℕ) → place < length arrivals → class_of arrivals place ≡ arrival.class → HasStarted starts place) → IsHead (arrivals ++ arrival ∷ []) starts arrival.class (length arrivals)
   new_head rules t legal all = record {
-    inside = omega (arith, longer arrivals arrival starts);
+    inside = omega (arith, longer arrivals arrival);
     of_class = ap (λ (x : Arrival). x.class) (last_arrival arrivals arrival);
     not_started = λ s started. omega (arith, (legal.first (length arrivals) s started).waits.inside);
     started_before = λ other lower same. all other lower (sym (ap (λ (x : Arrival). x.class) (same_arrival arrivals arrival other lower)) ∙ same);
@@ -141,7 +143,7 @@ module _ (arrivals : List Arrival) (arrival : Arrival) (starts : List Transmissi
   none_still : (class : ℕ) → class ≢ arrival.class → IsHeadOf arrivals starts class None → IsHeadOf (arrivals ++ arrival ∷ []) starts class None
   none_still class differs all place inside same = elim (cases_lt place (length arrivals)) [
     | inl in_list ↦ all place in_list (sym (ap (λ (x : Arrival). x.class) (same_arrival arrivals arrival place in_list)) ∙ same)
-    | inr past ↦ (let here : length arrivals ≡ place = omega (arith, longer arrivals arrival starts) in
+    | inr past ↦ (let here : length arrivals ≡ place = omega (arith, longer arrivals arrival) in
         absurd (differs (sym same ∙ (let is_new : get_or (arrivals ++ arrival ∷ []) place no_arrival ≡ arrival = subst (λ (n : ℕ). get_or (arrivals ++ arrival ∷ []) n no_arrival ≡ arrival) here (last_arrival arrivals arrival) in ap (λ (x : Arrival). x.class) is_new))))
   ]
 
@@ -160,7 +162,7 @@ pub abreast_arrival : (rules : PortRules) (arrivals : List Arrival) (t : ℕ) (s
 abreast_arrival rules arrivals t starts arrival before after some abreast closed step low_class =
     let inside : (place s : ℕ) → Contains starts (place, s) → place < length arrivals = λ place s started. (abreast.legal.first place s started).waits.inside in
     record {
-      legal = legal_arrival rules arrivals t starts arrival some abreast.legal closed;
+      legal = one_more_legal rules arrivals arrival t starts some closed abreast.legal;
       idle = λ s later idle. omega (arith, step.idle_from, abreast.idle s later (λ place u started earlier. arrival_before arrivals arrival (λ x. idle_after u x.octets rules.octet_time ≤ s) place (inside place u started) (idle place u started earlier)));
       idle_again = λ s later free place u started earlier. arrival_after arrivals arrival (λ x. idle_after u x.octets rules.octet_time ≤ s) place (inside place u started) (abreast.idle_again s later (omega (arith, step.idle_from)) place u started earlier);
       soon = omega (arith, step.idle_from, abreast.soon);

@@ -1,22 +1,21 @@
 -- What isn't ready stays so until a head comes or a gate changes.
-use Rattle.std.proofs.Common.{ℕ, ◌≡◌, ◌+◌, ◌*◌, ◌≤◌, ◌<◌, List, Option, Some, None, get_or, IsBitSet, inl, inr, refl, sym, ap, subst, ◌∙◌, arith}
+use Rattle.std.proofs.Common.{ℕ, ◌≡◌, ◌+◌, ◌*◌, ◌≤◌, ◌<◌, List, Option, None, get_or, IsBitSet, inl, inr, sym, subst, ◌∙◌, arith}
 use Rattle.std.proofs.lemmas.Bool.{cases_lt}
-use Rattle.cqf_units.specs.Timing.{ending_of}
 use Rattle.cqf_model.specs.declared.ports.Arrival.{Arrival}
 use Rattle.cqf_model.specs.GateList.{Entry, states_at}
-use Rattle.cqf_model.specs.Port.{PortRules, Transmission, instant_of, class_of, octets_of}
+use Rattle.cqf_model.specs.Port.{PortRules, Transmission, class_of, octets_of}
 use Rattle.cqf_port.specs.PortState.{AreTaken}
-use Rattle.cqf_port.specs.Progress.{IsReady, NoneReady, IsAbreast, IsChosen, IsAfterStart, StepsTo}
+use Rattle.cqf_port.specs.Progress.{NoneReady, IsAbreast, IsChosen, IsAfterStart, StepsTo}
 use Rattle.cqf_port.specs.Quiet.{IsQuiet, IsQuietOf}
 use Rattle.cqf_port.specs.declared.progress.Progress.{Progress}
-use Rattle.cqf_port.proofs.Legal.{sends_for_some_time}
-use Rattle.cqf_port.proofs.Steps.{abreast_busy, abreast_none, abreast_start}
+use Rattle.cqf_model.proofs.Legal.{ends_later}
+use Rattle.cqf_port.proofs.Steps.{abreast_busy, abreast_none}
 
 -- where nothing can change, what isn't ready stays so
 pub none_stays_ready : (rules : PortRules) (arrivals : List Arrival) (heads : List (Option ℕ)) (t until : ℕ) → 0 < rules.octet_time → IsQuiet rules.entries arrivals heads t until → NoneReady rules arrivals heads t 0 → (s : ℕ) → t ≤ s → s < until → NoneReady rules arrivals heads s 0
 none_stays_ready rules arrivals heads t until some quiet none s from soon class place lowest low ready =
     let same = quiet class s place low from soon ready.is_head ready.come in
-    let sends = sends_for_some_time s (octets_of arrivals place) rules.octet_time some in
+    let sends = ends_later s (octets_of arrivals place) rules.octet_time some in
     none class place lowest low (record {
       is_head = ready.is_head;
       come = same.0;

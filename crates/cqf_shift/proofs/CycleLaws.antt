@@ -9,3 +9,7 @@ pub record CycleLaws : Type 0 where
   pub alone : StreamsAreSentAsAlone
   pub gives : GateGivesClass
   pub counts : GateCountsCycles
+
+-- the four as one
+pub cycle_laws : PortIsOneCycleLate → StreamsAreSentAsAlone → GateGivesClass → GateCountsCycles → CycleLaws
+cycle_laws late alone gives counts = record { late = late; alone = alone; gives = gives; counts = counts }

@@ -220,6 +220,11 @@ abbrev pub judged : Run → Offered → Verdict
 judged run x = edge_verdict run.domain x.offer.bridge (offer_cycle run.domain x) (λ row. nat_le (asked_with run.domain run.offers x row) row.octets)
     (row_for run.domain run.tables x)
 
+-- the verdict at the edge by a row, by whether it is live, begins here and has the octets left
+abbrev edge_by : Row → Bool → Bool → Bool → Verdict
+edge_by row live here fits =
+    if not live then DroppedFor Withdrawn else (if not here then DroppedFor OtherBridge else (if not fits then DroppedFor Octets else Queued row))
+
 -- two tests that agree on each row that is live and begins here give one verdict
 edge_same : (d : Domain) (bridge cycle : ℕ) (one two : Row → Bool) (found : Option Row) →
     ((row : Row) → found ≡ Some row → is_live row cycle ≡ true → begins_at d row bridge ≡ true → one row ≡ two row) →
@@ -227,109 +232,82 @@ edge_same : (d : Domain) (bridge cycle : ℕ) (one two : Row → Bool) (found : 
 edge_same d at cycle one two None same = refl
 edge_same d at cycle one two (Some row) same = choice (is_live row cycle) (begins_at d row at) (one row) (two row) (same row refl)
   where
-    -- the verdict at the edge, by whether the row is live, begins here and has the octets left
-    by : Bool → Bool → Bool → Verdict
-    by live here fits =
-        if not live then DroppedFor Withdrawn else (if not here then DroppedFor OtherBridge else (if not fits then DroppedFor Octets else Queued row))
-
     -- two tests that agree where the row is live and begins here give one verdict
-    choice : (live here a b : Bool) → (live ≡ true → here ≡ true → a ≡ b) → by live here a ≡ by live here b
-    choice true true a b e = ap (by true true) (e refl refl)
+    choice : (live here a b : Bool) → (live ≡ true → here ≡ true → a ≡ b) → edge_by row live here a ≡ edge_by row live here b
+    choice true true a b e = ap (edge_by row true true) (e refl refl)
     choice true false a b e = refl
     choice false here a b e = refl
 
--- so says a verdict by which an offer goes on
-pub judged_queued : (run : Run) (x : Offered) (row : Row) → Contains (numbered run.offers) x → judged run x ≡ Queued row → IsCovered run x row
-judged_queued run x row inside e =
-    let q = edge_queued run.domain x.offer.bridge (offer_cycle run.domain x) (λ row. nat_le (asked_with run.domain run.offers x row) row.octets)
-    (row_for run.domain run.tables x) row e in
-    record {
-      offered = inside;
-      named = q.0.is;
-      live = q.0.live;
-      first_bridge = q.0.here;
-      within =
-          leb-true (asked_with run.domain run.offers x row) row.octets q.1;
-    }
+module _ (run : Run) (x : Offered) where
+  -- the run's domain
+  abbrev d : Domain
+  d = run.domain
 
--- and a covered offer has it
-pub covered_judged : (run : Run) (x : Offered) (row : Row) → IsCovered run x row → judged run x ≡ Queued row
-covered_judged run x row covered =
-    edge_passes run.domain x.offer.bridge (offer_cycle run.domain x) (λ row. nat_le (asked_with run.domain run.offers x row) row.octets)
-    (row_for run.domain run.tables x) row
-    (record { is = covered.named; live = covered.live; here = covered.first_bridge })
-    (le-leb (asked_with run.domain run.offers x row) row.octets covered.within)
+  -- the offer's cycle
+  abbrev cycle : ℕ
+  cycle = offer_cycle run.domain x
 
--- so says a verdict by which it is dropped
-pub judged_dropped : (run : Run) (x : Offered) (reason : Reason) → Contains (numbered run.offers) x → judged run x ≡ DroppedFor reason →
-    IsUncovered run x reason
-judged_dropped run x reason inside e = record { offered = inside; is_reason = go (row_for run.domain run.tables x) refl e }
-  where
-    -- the run's domain
-    d : Domain
-    d = run.domain
+  -- whether a row has the octets left that the offer asks for
+  abbrev fits : Row → Bool
+  fits row = nat_le (asked_with run.domain run.offers x row) row.octets
 
-    -- the offer's cycle
-    cycle : ℕ
-    cycle = offer_cycle d x
+  -- so says a verdict by which an offer goes on
+  pub judged_queued : (row : Row) → Contains (numbered run.offers) x → judged run x ≡ Queued row → IsCovered run x row
+  judged_queued row inside e =
+      let q = edge_queued d x.offer.bridge cycle fits (row_for d run.tables x) row e in
+      record {
+        offered = inside;
+        named = q.0.is;
+        live = q.0.live;
+        first_bridge = q.0.here;
+        within = leb-true (asked_with d run.offers x row) row.octets q.1;
+      }
 
-    -- whether a row has the octets left that the offer asks for
-    fits : Row → Bool
-    fits row = nat_le (asked_with d run.offers x row) row.octets
+  -- and a covered offer has it
+  pub covered_judged : (row : Row) → IsCovered run x row → judged run x ≡ Queued row
+  covered_judged row covered =
+      edge_passes d x.offer.bridge cycle fits (row_for d run.tables x) row
+      (record { is = covered.named; live = covered.live; here = covered.first_bridge })
+      (le-leb (asked_with d run.offers x row) row.octets covered.within)
 
-    -- where the row that the offer names leads to a drop, the drop's reason is the first that fits
-    choice : (row : Row) (live here short : Bool) → row_for d run.tables x ≡ Some row → is_live row cycle ≡ live → begins_at d row x.offer.bridge ≡ here →
-        fits row ≡ short →
-        (if not live then DroppedFor Withdrawn else (if not here then DroppedFor OtherBridge else (if not short then DroppedFor Octets else Queued row)))
-        ≡ DroppedFor reason → IsReason run x reason
-    choice row true true true named a b c e = absurd (cc)
-    choice row true true false named a b c e =
-        let is : Octets ≡ reason = cc in
-        subst (IsReason run x) is (row, record { named = named; live = a; first_bridge = b; short = leb-false (asked_with d run.offers x row) row.octets c })
-    choice row true false short named a b c e =
-        let is : OtherBridge ≡ reason = cc in
-        subst (IsReason run x) is (row, record { named = named; live = a; elsewhere = b })
-    choice row false here short named a b c e =
-        let is : Withdrawn ≡ reason = cc in
-        subst (IsReason run x) is (row, record { named = named; not_live = a })
+  -- so says a verdict by which it is dropped
+  pub judged_dropped : (reason : Reason) → Contains (numbered run.offers) x → judged run x ≡ DroppedFor reason → IsUncovered run x reason
+  judged_dropped reason inside e = record { offered = inside; is_reason = go (row_for run.domain run.tables x) refl e }
+    where
+      -- where the row that the offer names leads to a drop, the drop's reason is the first that fits
+      choice : (row : Row) (live here short : Bool) → row_for d run.tables x ≡ Some row → is_live row cycle ≡ live → begins_at d row x.offer.bridge ≡ here →
+          fits row ≡ short → edge_by row live here short ≡ DroppedFor reason → IsReason run x reason
+      choice row true true true named a b c e = absurd (cc)
+      choice row true true false named a b c e =
+          let is : Octets ≡ reason = cc in
+          subst (IsReason run x) is (row, record { named = named; live = a; first_bridge = b; short = leb-false (asked_with d run.offers x row) row.octets c })
+      choice row true false short named a b c e =
+          let is : OtherBridge ≡ reason = cc in
+          subst (IsReason run x) is (row, record { named = named; live = a; elsewhere = b })
+      choice row false here short named a b c e =
+          let is : Withdrawn ≡ reason = cc in
+          subst (IsReason run x) is (row, record { named = named; not_live = a })
 
-    -- the reason of a drop is the first that fits, whether the offer names a row or none
-    go : (found : Option Row) → row_for d run.tables x ≡ found → edge_verdict d x.offer.bridge cycle fits found ≡ DroppedFor reason → IsReason run x reason
-    go None named e = let is : Unknown ≡ reason = cc in subst (IsReason run x) is named
-    go (Some row) named e = choice row (is_live row cycle) (begins_at d row x.offer.bridge) (fits row) named refl refl refl e
+      -- the reason of a drop is the first that fits, whether the offer names a row or none
+      go : (found : Option Row) → row_for d run.tables x ≡ found → edge_verdict d x.offer.bridge cycle fits found ≡ DroppedFor reason → IsReason run x reason
+      go None named e = let is : Unknown ≡ reason = cc in subst (IsReason run x) is named
+      go (Some row) named e = choice row (is_live row cycle) (begins_at d row x.offer.bridge) (fits row) named refl refl refl e
 
--- and an offer that isn't covered has it
-pub uncovered_judged : (run : Run) (x : Offered) (reason : Reason) → IsUncovered run x reason → judged run x ≡ DroppedFor reason
-uncovered_judged run x reason uncovered = go reason uncovered.is_reason
-  where
-    -- the run's domain
-    d : Domain
-    d = run.domain
+  -- and an offer that isn't covered has it
+  pub uncovered_judged : (reason : Reason) → IsUncovered run x reason → judged run x ≡ DroppedFor reason
+  uncovered_judged reason uncovered = go reason uncovered.is_reason
+    where
+      -- the verdict is the edge's by the row that the offer names
+      at_row : (row : Row) → row_for d run.tables x ≡ Some row → judged run x ≡ edge_verdict d x.offer.bridge cycle fits (Some row)
+      at_row row named = ap (edge_verdict d x.offer.bridge cycle fits) named
 
-    -- the offer's cycle
-    cycle : ℕ
-    cycle = offer_cycle d x
-
-    -- whether a row has the octets left that the offer asks for
-    fits : Row → Bool
-    fits row = nat_le (asked_with d run.offers x row) row.octets
-
-    -- the verdict is the edge's by the row that the offer names
-    at_row : (row : Row) → row_for d run.tables x ≡ Some row → judged run x ≡ edge_verdict d x.offer.bridge cycle fits (Some row)
-    at_row row named = ap (edge_verdict d x.offer.bridge cycle fits) named
-
-    -- the verdict at the edge by a row, by whether it is live, begins here and has the octets left
-    by : Row → Bool → Bool → Bool → Verdict
-    by row live here short =
-        if not live then DroppedFor Withdrawn else (if not here then DroppedFor OtherBridge else (if not short then DroppedFor Octets else Queued row))
-
-    -- the offer is dropped for the first reason that fits
-    go : (reason : Reason) → IsReason run x reason → judged run x ≡ DroppedFor reason
-    go Unknown named = ap (edge_verdict d x.offer.bridge cycle fits) named
-    go Withdrawn (row, r) = at_row row r.named ∙ ap (λ z. by row z (begins_at d row x.offer.bridge) (fits row)) r.not_live
-    go OtherBridge (row, r) = at_row row r.named ∙ ap₂ (λ y z. by row y z (fits row)) r.live r.elsewhere
-    go Octets (row, r) = at_row row r.named ∙ ap₂ (λ y z. by row y z (fits row)) r.live r.first_bridge
-        ∙ ap (by row true true) (lt-leb (asked_with d run.offers x row) row.octets r.short)
+      -- the offer is dropped for the first reason that fits
+      go : (reason : Reason) → IsReason run x reason → judged run x ≡ DroppedFor reason
+      go Unknown named = ap (edge_verdict d x.offer.bridge cycle fits) named
+      go Withdrawn (row, r) = at_row row r.named ∙ ap (λ z. edge_by row z (begins_at d row x.offer.bridge) (fits row)) r.not_live
+      go OtherBridge (row, r) = at_row row r.named ∙ ap₂ (λ y z. edge_by row y z (fits row)) r.live r.elsewhere
+      go Octets (row, r) = at_row row r.named ∙ ap₂ (λ y z. edge_by row y z (fits row)) r.live r.first_bridge
+          ∙ ap (edge_by row true true) (lt-leb (asked_with d run.offers x row) row.octets r.short)
 
 -- so the verdict is what the definitions say of the offer
 pub is_decided : (run : Run) (x : Offered) → Contains (numbered run.offers) x → IsDecided run x (judged run x)

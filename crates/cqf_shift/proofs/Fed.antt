@@ -1,13 +1,14 @@
 -- Where each link sends only what was queued to it, and no sooner: no frame is shorter than Ethernet's shortest, so what
 -- comes to each port in a cycle is within the link's budget.
-use Rattle.std.proofs.Common.{◌≡◌, ℕ, zero, suc, ◌<◌, ◌≤◌, inl, inr, ap, arith, All, AllPairs, Contains, length, le_trans, mul-le-mul_right}
+use Rattle.std.proofs.Common.{◌≡◌, ℕ, zero, suc, ◌<◌, ◌≤◌, inl, inr, ap, arith, All, AllPairs, Contains, length, le_trans, mul-le-mul_right, sym, ◌∙◌}
+use Rattle.std.specs.Option.{option_map_or}
 use Rattle.std.proofs.lemmas.List.Elements.{All-contains}
 use Rattle.cqf_model.specs.declared.frames.Sent.{Sent}
 use Rattle.cqf_model.specs.declared.topology.Row.{Row}
 use Rattle.cqf_model.specs.Domain.{Domain, bridge_of, budget, cycle_of}
 use Rattle.cqf_model.specs.Run.{IsOffer, Run}
 use Rattle.cqf_model.specs.Traffic.{Carried, Received, Policed, Queued, came_by, whole_at}
-use Rattle.cqf_model.specs.Network.{QueuedFrame, arrivals_of}
+use Rattle.cqf_model.specs.Network.{QueuedFrame, arrivals_of, queued_frame}
 use Rattle.cqf_laws_cycle.specs.Compiled.{given_class}
 use Rattle.cqf_laws_cycle.specs.OnePort.{load}
 use Rattle.cqf_model.proofs.Links.{octet_positive}
@@ -18,8 +19,51 @@ use Rattle.cqf_shift.proofs.Came.{came, came_how, numbered_member, policed, queu
 use Rattle.cqf_shift.proofs.CycleLaws.{CycleLaws}
 use Rattle.cqf_shift.proofs.Edges.{gate_is_reservation}
 use Rattle.cqf_shift.proofs.Policing.{Polices, polices, has_come}
-use Rattle.cqf_shift.proofs.Queues.{class_given, load_within_cost, policed_sorted, queue_in_order}
+use Rattle.cqf_shift.proofs.Queues.{class_given, load_within_cost, policed_sorted, queue_in_order, queued_from}
 use Rattle.cqf_shift.proofs.Trees.{GoesBy}
+
+-- the number of a queued frame's stream
+abbrev pub number_of : QueuedFrame → ℕ
+number_of q = option_map_or (λ (number : ℕ). number) q.stream 0
+
+-- what a link sends of a stream's queued frame that starts at an instant
+abbrev pub sent_from : QueuedFrame → ℕ → Sent
+sent_from q t = record { start = record { 0 = t }; frame = q.arrival.frame; stream = number_of q; octets = q.arrival.octets }
+
+-- what a link sends was queued to it, no later
+pub record IsSentOf (run : Run) (carried : Carried) (m : ℕ) (sent : Sent) : Type 0 where
+  pub p : Policed
+  pub inside : Contains (policed run carried (end_of_run run) (bridge_of run.domain m)) p
+  pub row : Row
+  pub verdict : p.verdict ≡ Queued row
+  pub goes : GoesBy row (came_by p.received.way) m
+  pub frame : sent.frame ≡ p.received.frame
+  pub stream : sent.stream ≡ row.no
+  pub octets : sent.octets ≡ p.received.octets
+  pub no_sooner : p.received.at ≤ sent.start.0
+
+-- each link does so
+abbrev pub IsFed : Run → Carried → Type 0
+IsFed run carried = (m : ℕ) → m < length run.domain.links → (sent : Sent) → Contains (carried m) sent → IsSentOf run carried m sent
+
+-- so it does where it sends a frame of its queue, which comes by the frame's start
+pub sent_of_queue : (run : Run) (carried : Carried) (m : ℕ) (q : QueuedFrame) (t : ℕ) (sent : Sent) → Contains (queued run carried (end_of_run run) m) q →
+    q.arrival.at.0 ≤ t → sent_from q t ≡ sent → (x : IsSentOf run carried m sent) × (queued_frame run.domain x.p.received x.row ≡ q)
+sent_of_queue run carried m q t sent c come is =
+    let from = queued_from run.domain m (policed run carried (end_of_run run) (bridge_of run.domain m)) q c in (
+      record {
+        p = from.p;
+        inside = from.inside;
+        row = from.row;
+        verdict = from.verdict;
+        goes = from.goes;
+        frame = ap (λ (z : Sent). z.frame) (sym is) ∙ ap (λ (z : QueuedFrame). z.arrival.frame) (sym from.is);
+        stream = ap (λ (z : Sent). z.stream) (sym is) ∙ ap number_of (sym from.is);
+        octets = ap (λ (z : Sent). z.octets) (sym is) ∙ ap (λ (z : QueuedFrame). z.arrival.octets) (sym from.is);
+        no_sooner = omega (arith, come, ap (λ (z : QueuedFrame). z.arrival.at.0) from.is, ap (λ (z : Sent). z.start.0) is);
+      },
+      from.is,
+    )
 
 module _ (laws : CycleLaws) (run : Run) (carried : Carried) (planned : IsPlanned run) where
   -- the run's domain
@@ -42,23 +86,7 @@ module _ (laws : CycleLaws) (run : Run) (carried : Carried) (planned : IsPlanned
   pub facts : (bridge : ℕ) → Polices run.domain run.tables bridge (came run carried (end_of_run run) bridge) (policed run carried (end_of_run run) bridge)
   facts bridge = polices (gate_is_reservation laws.counts) run carried bridge end some_time planned.orderly
 
-  -- what a link sends was queued to it, no later
-  pub record IsSentOf (m : ℕ) (sent : Sent) : Type 0 where
-    pub p : Policed
-    pub inside : Contains (policed run carried (end_of_run run) (bridge_of run.domain m)) p
-    pub row : Row
-    pub verdict : p.verdict ≡ Queued row
-    pub goes : GoesBy row (came_by p.received.way) m
-    pub frame : sent.frame ≡ p.received.frame
-    pub stream : sent.stream ≡ row.no
-    pub octets : sent.octets ≡ p.received.octets
-    pub no_sooner : p.received.at ≤ sent.start.0
-
-  -- each link does so
-  abbrev pub IsFed : Type 0
-  IsFed = (m : ℕ) → m < length run.domain.links → (sent : Sent) → Contains (carried m) sent → IsSentOf m sent
-
-  module _ (fed : IsFed) where
+  module _ (fed : IsFed run carried) where
     -- no frame is shorter than Ethernet's shortest, by induction on the instant
     least_before : (t bridge : ℕ) (x : Received) → Contains (came run carried end bridge) x → x.at < t → 64 ≤ x.octets
     least_before zero bridge x c l = absurd (omega (arith, l))

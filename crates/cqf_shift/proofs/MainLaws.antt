@@ -86,7 +86,7 @@ module _ (laws : CycleLaws) (run : Run) (carried : Carried) (alone : IsRunAlone 
 
       none_short : All (λ (sent : Sent). 64 ≤ sent.octets) (carried link)
       none_short = all_from_members (λ (sent : Sent). 64 ≤ sent.octets) (carried link) (λ sent c.
-          let s = (sent_for laws run carried alone link is_link sent c).0 in
+          let s = fed laws run carried alone link is_link sent c in
           let enough = All-contains (λ (p : Policed). 64 ≤ p.received.octets) (policed run carried (end_of_run run) (bridge_of d link)) s.p
           (least laws run carried alone.planned (fed laws run carried alone) (bridge_of d link)) s.inside in
           omega (arith, enough, s.octets))

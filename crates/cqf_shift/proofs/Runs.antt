@@ -1,7 +1,6 @@
 -- A legal run of streams' frames alone: what each link sends, and when.
 use Rattle.std.proofs.Common.{◌≡◌, ℕ, ◌+◌, ◌-◌, ◌*◌, ◌/◌, ◌<◌, ◌≤◌, ◌∷◌, [], List, sym, ap, ◌∙◌, subst, arith, refl, Contains, map, length, get_or}
 use Rattle.std.proofs.Common.{mul-le-mul_right}
-use Rattle.std.specs.Option.{option_map_or}
 use Rattle.std.proofs.lemmas.List.{get_or-map, get_or_default, length-map}
 use Rattle.std.proofs.lemmas.List.Elements.{Contains-get_or}
 use Rattle.cqf_model.specs.declared.frames.Sent.{Sent}
@@ -22,18 +21,13 @@ use Rattle.cqf_lists.proofs.Members.{contains_map, contains_from_map}
 use Rattle.cqf_lists.proofs.Pairs.{pairs_map}
 use Rattle.cqf_shift.proofs.Came.{policed, queued}
 use Rattle.cqf_shift.proofs.CycleLaws.{CycleLaws}
-use Rattle.cqf_shift.proofs.Fed.{IsFed, queue_class, queue_sorted, within_budget}
+use Rattle.cqf_shift.proofs.Fed.{IsFed, IsSentOf, number_of, queue_class, queue_sorted, sent_from, sent_of_queue, within_budget}
 use Rattle.cqf_shift.proofs.Queues.{gives_streams, queued_from, queued_into}
 use Rattle.cqf_shift.proofs.Trees.{GoesBy}
 
--- the number of a queued frame's stream
-abbrev pub number_of : QueuedFrame → ℕ
-number_of q = option_map_or (λ (number : ℕ). number) q.stream 0
-
 -- what a transmission of a stream's frame sends
 abbrev pub sent_at : List QueuedFrame → Transmission → Sent
-sent_at queued start = let x = get_or queued start.0 no_frame in
-    record { start = record { 0 = start.1 }; frame = x.arrival.frame; stream = number_of x; octets = x.arrival.octets }
+sent_at queued start = sent_from (get_or queued start.0 no_frame) start.1
 
 module _ (laws : CycleLaws) (run : Run) (carried : Carried) (alone : IsRunAlone run carried) where
   -- the run's domain
@@ -61,10 +55,7 @@ module _ (laws : CycleLaws) (run : Run) (carried : Carried) (alone : IsRunAlone 
   sends_one m place t inside =
       let q = get_or (waiting m) place no_frame in
       let from = queued_from d m (given (bridge_of d m)) q (Contains-get_or (waiting m) place no_frame inside) in
-      subst (λ (z : QueuedFrame). sent_by t z.arrival z.stream ≡ the_sent z t ∷ []) from.is refl
-    where
-      the_sent : QueuedFrame → ℕ → Sent
-      the_sent x t = record { start = record { 0 = t }; frame = x.arrival.frame; stream = number_of x; octets = x.arrival.octets }
+      subst (λ (z : QueuedFrame). sent_by t z.arrival z.stream ≡ sent_from z t ∷ []) from.is refl
 
   -- a start is of a place in the queue
   pub start_in_queue : (m : ℕ) (is_link : m < length run.domain.links) (place s : ℕ) → Contains (sends m is_link).starts (place, s) →
@@ -79,19 +70,11 @@ module _ (laws : CycleLaws) (run : Run) (carried : Carried) (alone : IsRunAlone 
       s.are_sent ∙ flat_map_ones (sent_of (waiting m)) (sent_at (waiting m)) s.starts
       (λ start c. sends_one m start.0 start.1 (start_in_queue m is_link start.0 start.1 c))
 
-  -- what a link sends was queued to it, no later
+  -- what a link sends was queued to it, no later, and at which place
   pub record IsSentFor (m : ℕ) (sent : Sent) : Type 0 where
-    pub p : Policed
-    pub inside : Contains (policed run carried (end_of_run run) (bridge_of run.domain m)) p
-    pub row : Row
-    pub verdict : p.verdict ≡ Queued row
-    pub goes : GoesBy row (came_by p.received.way) m
-    pub frame : sent.frame ≡ p.received.frame
-    pub stream : sent.stream ≡ row.no
-    pub octets : sent.octets ≡ p.received.octets
-    pub no_sooner : p.received.at ≤ sent.start.0
+    pub from : IsSentOf run carried m sent
     pub place : ℕ
-    pub at_place : queued_frame run.domain p.received row ≡ get_or (queued run carried (end_of_run run) m) place no_frame
+    pub at_place : queued_frame run.domain from.p.received from.row ≡ get_or (queued run carried (end_of_run run) m) place no_frame
     pub in_queue : place < length (queued run carried (end_of_run run) m)
     pub is : sent_at (queued run carried (end_of_run run) m) (place, sent.start.0) ≡ sent
 
@@ -105,22 +88,14 @@ module _ (laws : CycleLaws) (run : Run) (carried : Carried) (alone : IsRunAlone 
       let first = s.legal.first place r.0.1 r.1 in
       let in_queue : place < length (waiting m) = start_in_queue m is_link place r.0.1 r.1 in
       let q = get_or (waiting m) place no_frame in
-      let from = queued_from d m (given (bridge_of d m)) q (Contains-get_or (waiting m) place no_frame in_queue) in
       let instant : instant_of (arrivals_of (waiting m)) place ≡ q.arrival.at.0 =
       ap (λ (a : Arrival). a.at.0) (get_or-map (λ (q : QueuedFrame). q.arrival) (waiting m) place no_frame no_arrival in_queue) in
+      let x = sent_of_queue run carried m q r.0.1 sent (Contains-get_or (waiting m) place no_frame in_queue) (omega (arith, first.waits.come, instant)) r.2 in
       let start : r.0.1 ≡ sent.start.0 = ap (λ (z : Sent). z.start.0) r.2 in (
         record {
-          p = from.p;
-          inside = from.inside;
-          row = from.row;
-          verdict = from.verdict;
-          goes = from.goes;
-          frame = ap (λ (z : Sent). z.frame) (sym r.2) ∙ ap (λ (z : QueuedFrame). z.arrival.frame) (sym from.is);
-          stream = ap (λ (z : Sent). z.stream) (sym r.2) ∙ ap number_of (sym from.is);
-          octets = ap (λ (z : Sent). z.octets) (sym r.2) ∙ ap (λ (z : QueuedFrame). z.arrival.octets) (sym from.is);
-          no_sooner = omega (arith, first.waits.come, instant, start, ap (λ (z : QueuedFrame). z.arrival.at.0) from.is);
+          from = x.0;
           place = place;
-          at_place = from.is;
+          at_place = x.1;
           in_queue = in_queue;
           is = ap (λ (z : ℕ). sent_at (waiting m) (place, z)) (sym start) ∙ r.2;
         },
@@ -128,21 +103,8 @@ module _ (laws : CycleLaws) (run : Run) (carried : Carried) (alone : IsRunAlone 
       )
 
   -- so a legal run is fed
-  pub fed : IsFed laws run carried alone.planned
-  fed m is_link sent c =
-      let s = (sent_for m is_link sent c).0 in
-      record {
-        p = s.p;
-        inside = s.inside;
-        row = s.row;
-        verdict = s.verdict;
-        goes = s.goes;
-        frame = s.frame;
-        stream = s.stream;
-        octets = s.octets;
-        no_sooner =
-            s.no_sooner;
-      }
+  pub fed : IsFed run carried
+  fed m is_link sent c = (sent_for m is_link sent c).0.from
 
   -- what is at a place of what the port sees
   seen : (m place : ℕ) → place < length (waiting m) → (q : QueuedFrame) × Contains (waiting m) q ×
@@ -227,16 +189,16 @@ module _ (laws : CycleLaws) (run : Run) (carried : Carried) (alone : IsRunAlone 
           subst (λ z. s + (z + 20) * r ≤ (b / n + 1) * n + (n - g)) eo (subst (λ z. s + (o + 20) * r ≤ (z / n + 1) * n + (n - g)) ea h)
 
   -- the same for each frame that a link sends
-  pub sent_timed : (m : ℕ) (is_link : m < length run.domain.links) (sent : Sent) → Contains (carried m) sent → (x : IsSentFor m sent) ×
+  pub sent_timed : (m : ℕ) (is_link : m < length run.domain.links) (sent : Sent) → Contains (carried m) sent → (x : IsSentOf run carried m sent) ×
       IsTimed m x.p.received.at sent
   sent_timed m is_link sent c =
       let r = sent_for m is_link sent c in
       let x = r.0 in
       let arrival = get_or-map (λ (q : QueuedFrame). q.arrival) (waiting m) x.place no_frame no_arrival x.in_queue in (
-        x,
-        timed m is_link sent x.place x.p.received.at r.1 x.in_queue
+        x.from,
+        timed m is_link sent x.place x.from.p.received.at r.1 x.in_queue
             (ap (λ (a : Arrival). a.at.0) arrival ∙ ap (λ (z : QueuedFrame). z.arrival.at.0) (sym x.at_place))
-            (ap (λ (a : Arrival). a.octets) arrival ∙ ap (λ (z : QueuedFrame). z.arrival.octets) (sym x.at_place) ∙ sym x.octets),
+            (ap (λ (a : Arrival). a.octets) arrival ∙ ap (λ (z : QueuedFrame). z.arrival.octets) (sym x.at_place) ∙ sym x.from.octets),
       )
 
   -- a start is in the cycle after the queued frame's

@@ -1,14 +1,14 @@
 -- A legal run beside background frames is for the streams' frames a legal run of them alone.
 use Rattle.std.proofs.Common.{◌≡◌, ℕ, ◌*◌, ◌/◌, ◌<◌, ◌≤◌, [], List, Bool, true, false, Option, Some, None, inl, inr, sym, ap, ◌∙◌, subst, arith, refl, AllPairs}
+use Rattle.std.specs.Option.{option_map_or}
 use Rattle.std.proofs.Common.{Contains, filter, sum_by, length, get_or, is_some, ◌==◌, if◌then◌else◌, le_trans, le_of_eq, leb-true}
 use Rattle.std.proofs.lemmas.Bool.{cases_Bool, cond-true, false≢true}
 use Rattle.std.proofs.lemmas.List.{get_or-map, length-map}
 use Rattle.std.proofs.lemmas.List.Elements.{All-contains, Contains-get_or}
-use Rattle.std.proofs.lemmas.Option.{same_Some}
 use Rattle.cqf_units.specs.Timing.{wire_of}
 use Rattle.cqf_model.specs.declared.frames.Sent.{Sent}
 use Rattle.cqf_model.specs.declared.ports.Arrival.{Arrival}
-use Rattle.cqf_model.specs.Domain.{Domain, bridge_of, budget, octet_time_of}
+use Rattle.cqf_model.specs.Domain.{Domain, budget, octet_time_of}
 use Rattle.cqf_model.specs.Port.{class_of, no_arrival}
 use Rattle.cqf_model.specs.Run.{IsBackground, Run}
 use Rattle.cqf_model.specs.Traffic.{Carried}
@@ -19,25 +19,26 @@ use Rattle.cqf_laws_cycle.specs.OnePort.{ComeInCycles, IsStreams, IsWithinBudget
 use Rattle.cqf_model.proofs.Links.{gap_within, octet_positive}
 use Rattle.cqf_shift.specs.Alone.{IsPlanned, IsRunAlone, SendsAlone, end_of_run}
 use Rattle.cqf_shift.specs.Run.{IsLegalRun, RunBesideIsRunAlone}
-use Rattle.cqf_lists.proofs.Members.{all_from_members, contains_cases, contains_filter, contains_from_flat, contains_none}
+use Rattle.cqf_lists.proofs.Members.{all_from_members, contains_filter, contains_from_flat, contains_none, contains_one}
 use Rattle.cqf_lists.proofs.Pairs.{pairs_map, pairs_of_kept}
 use Rattle.cqf_lists.proofs.Sums.{sum_filter, sum_le_members, sum_map}
-use Rattle.cqf_shift.proofs.Came.{policed}
 use Rattle.cqf_shift.proofs.CycleLaws.{CycleLaws}
-use Rattle.cqf_shift.proofs.Fed.{IsFed, IsSentOf, queue_class, queue_sorted, some_time, within_budget}
-use Rattle.cqf_shift.proofs.Queues.{gives_streams, queued_from}
+use Rattle.cqf_shift.proofs.Fed.{IsFed, queue_class, queue_sorted, sent_from, sent_of_queue, some_time, within_budget}
+use Rattle.cqf_shift.proofs.Queues.{gives_streams}
 use Rattle.cqf_shift.proofs.QueuesByCycles.{comes_of, streams_that_come}
 
--- what a frame sends that is of a stream, or of none
-sent_of_frame : (t : ℕ) (x : Arrival) (stream : Option ℕ) (sent : Sent) → Contains (sent_by t x stream) sent → (number : ℕ) × (stream ≡ Some number) ×
-    (record { start = record { 0 = t }; frame = x.frame; stream = number; octets = x.octets } ≡ sent)
-sent_of_frame t x None sent c = absurd (contains_none sent c)
-sent_of_frame t x (Some number) sent c =
-    (number, refl, elim (contains_cases (the_sent number) [] sent c) [ inl e ↦ e | inr h ↦ absurd (contains_none sent h) ])
+-- a frame that sends something is of a stream, and sends this
+sent_of_frame : (t : ℕ) (q : QueuedFrame) (stream : Option ℕ) (sent : Sent) → q.stream ≡ stream → Contains (sent_by t q.arrival stream) sent →
+    (is_of_stream q ≡ true) × (sent_from q t ≡ sent)
+sent_of_frame t q None sent e c = absurd (contains_none sent c)
+sent_of_frame t q (Some number) sent e c = (
+  ap is_some e,
+  ap (λ (o : Option ℕ). sent_numbered (option_map_or (λ (k : ℕ). k) o 0)) e ∙ contains_one (sent_numbered number) sent c,
+)
   where
     -- the frame as it is sent for the stream of a number
-    the_sent : ℕ → Sent
-    the_sent number = record { start = record { 0 = t }; frame = x.frame; stream = number; octets = x.octets }
+    sent_numbered : ℕ → Sent
+    sent_numbered number = record { start = record { 0 = t }; frame = q.arrival.frame; stream = number; octets = q.arrival.octets }
 
 module _ (laws : CycleLaws) (run : Run) (net : Network) (legal : IsLegalRun run net) where
   -- the run's domain
@@ -77,38 +78,18 @@ module _ (laws : CycleLaws) (run : Run) (net : Network) (legal : IsLegalRun run 
   stream_waits m q c of_stream = subst (λ z. Contains z q) (streams m) (contains_filter is_of_stream (comes m) q c of_stream)
 
   -- so each link sends what was queued to it, no sooner
-  fed : IsFed laws run net.carried planned
+  fed : IsFed run net.carried
   fed m is_link sent c =
       let s = sends m is_link in
       let start = contains_from_flat (sent_of (comes m)) s.starts sent (subst (λ z. Contains z sent) s.are_sent c) in
       let place = start.0.0 in
       let first = s.legal.first place start.0.1 start.1 in
       let in_list : place < length (comes m) = omega (arith, first.waits.inside, length-map (comes m) (λ (q : QueuedFrame). q.arrival)) in
-      from_place place start.0.1 in_list
-      (subst (λ (z : Arrival). z.at.0 ≤ start.0.1)
-      (get_or-map (λ (q : QueuedFrame). q.arrival) (comes m) place no_frame no_arrival in_list) first.waits.come) start.2
-    where
-      from_frame : (q : QueuedFrame) (t : ℕ) → Contains (comes m) q → q.arrival.at.0 ≤ t → Contains (sent_by t q.arrival q.stream) sent →
-          IsSentOf laws run net.carried planned m sent
-      from_frame q t here come c =
-          let is = sent_of_frame t q.arrival q.stream sent c in
-          let of_stream : is_of_stream q ≡ true = ap is_some is.1 in
-          let from = queued_from d m (policed run carried (end_of_run run) (bridge_of d m)) q (stream_waits m q here of_stream) in
-          record {
-            p = from.p;
-            inside = from.inside;
-            row = from.row;
-            verdict = from.verdict;
-            goes = from.goes;
-            frame = ap (λ (z : Sent). z.frame) (sym is.2) ∙ ap (λ (z : QueuedFrame). z.arrival.frame) (sym from.is);
-            stream = ap (λ (z : Sent). z.stream) (sym is.2) ∙ same_Some is.0 from.row.no (sym is.1 ∙ ap (λ (z : QueuedFrame). z.stream) (sym from.is));
-            octets = ap (λ (z : Sent). z.octets) (sym is.2) ∙ ap (λ (z : QueuedFrame). z.arrival.octets) (sym from.is);
-            no_sooner = omega (arith, come, ap (λ (z : QueuedFrame). z.arrival.at.0) from.is, ap (λ (z : Sent). z.start.0) is.2);
-          }
-
-      from_place : (place t : ℕ) → place < length (comes m) → (get_or (comes m) place no_frame).arrival.at.0 ≤ t →
-          Contains (sent_of (comes m) (place, t)) sent → IsSentOf laws run net.carried planned m sent
-      from_place place t inside come c = from_frame (get_or (comes m) place no_frame) t (Contains-get_or (comes m) place no_frame inside) come c
+      let q = get_or (comes m) place no_frame in
+      let is = sent_of_frame start.0.1 q q.stream sent refl start.2 in
+      let come = subst (λ (z : Arrival). z.at.0 ≤ start.0.1)
+      (get_or-map (λ (q : QueuedFrame). q.arrival) (comes m) place no_frame no_arrival in_list) first.waits.come in
+      (sent_of_queue run carried m q start.0.1 sent (stream_waits m q (Contains-get_or (comes m) place no_frame in_list) is.0) come is.1).0
 
   -- the class of a queued frame is a stream's
   class_waits : (m : ℕ) (q : QueuedFrame) → Contains (waiting m) q → 6 ≤ q.arrival.class

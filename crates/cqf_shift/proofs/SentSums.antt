@@ -25,7 +25,8 @@ use Rattle.cqf_shift.proofs.CycleLaws.{CycleLaws}
 use Rattle.cqf_shift.proofs.Fed.{facts}
 use Rattle.cqf_shift.proofs.Policing.{taken}
 use Rattle.cqf_shift.proofs.Queues.{one_or_none}
-use Rattle.cqf_shift.proofs.Runs.{number_of, sends, sent_at, sents_are, sent_timed, start_timed, start_in_queue}
+use Rattle.cqf_shift.proofs.Fed.{number_of}
+use Rattle.cqf_shift.proofs.Runs.{sends, sent_at, sents_are, sent_timed, start_timed, start_in_queue}
 
 -- an element stands at its place
 placed_at : {X : Type 0} (xs : List X) (k : ℕ) (e : X) → k < length xs → Contains (enumerate_from 0 xs) (k, get_or xs k e)

@@ -1,8 +1,9 @@
 -- The starts of a legal run are the shift, and its drops are what isn't covered.
-use Rattle.std.proofs.Common.{◌≡◌, ℕ, ◌+◌, ◌-◌, ◌<◌, ◌∷◌, [], ◌++◌, List, inl, inr, sym, ap, ◌∙◌, subst, arith, refl, Contains, filter, flat_map, length}
+use Rattle.std.proofs.Common.{◌≡◌, ℕ, ◌+◌, ◌-◌, ◌<◌, [], ◌++◌, List, inl, inr, sym, ap, ◌∙◌, subst, arith, refl, Contains, filter, length}
 use Rattle.std.proofs.Common.{eq-eqb, eqb-true, ◌==◌}
 use Rattle.std.proofs.lemmas.Bool.{and_from, and_parts}
 use Rattle.std.proofs.lemmas.List.Elements.{All-contains}
+use Rattle.cqf_model.proofs.Drops.{drop_for, dropped_at, drops_at}
 use Rattle.cqf_model.proofs.Policing.{inside_drops_none}
 use Rattle.cqf_model.specs.declared.frames.Dropped.{Dropped}
 use Rattle.cqf_model.specs.declared.frames.Offered.{Offered}
@@ -13,7 +14,7 @@ use Rattle.cqf_model.specs.Domain.{Domain, cycle_of, bridge_of}
 use Rattle.cqf_model.specs.Table.{row_of, table_of}
 use Rattle.cqf_lists.specs.Lists.{each_below}
 use Rattle.cqf_model.specs.Run.{IsOffer, Run}
-use Rattle.cqf_model.specs.Traffic.{Relayed, Carried, Received, Policed, Verdict, Queued, DroppedFor, LacksRow, ExceedsGate, offer_received, police_all}
+use Rattle.cqf_model.specs.Traffic.{Relayed, Carried, Received, Policed, DroppedFor, offer_received, police_all}
 use Rattle.cqf_model.specs.Traffic.{verdict_by, within_gate}
 use Rattle.cqf_model.specs.Network.{Network}
 use Rattle.cqf_model.specs.Shift.{InShift, IsUncovered, offer_cycle}
@@ -22,8 +23,7 @@ use Rattle.cqf_shift.specs.Alone.{IsPlanned, IsRunAlone, end_of_run}
 use Rattle.cqf_shift.specs.Books.{BookSaysTheShift, IsOfUncovered}
 use Rattle.cqf_shift.specs.Run.{RunBesideIsRunAlone}
 use Rattle.cqf_units.proofs.Cycles.{cycle_below}
-use Rattle.cqf_lists.proofs.Members.{contains_map, contains_from_map, contains_filter, contains_from_filter, contains_flat, contains_from_flat, contains_here}
-use Rattle.cqf_lists.proofs.Members.{contains_cases, contains_none}
+use Rattle.cqf_lists.proofs.Members.{contains_map, contains_from_map, contains_filter, contains_from_filter, contains_flat, contains_here}
 use Rattle.cqf_lists.proofs.EachBelow.{contains_below, contains_from_below}
 use Rattle.cqf_shift.proofs.Came.{IsOfferedHere, IsRelayed, came, came_how, numbered_member, policed}
 use Rattle.cqf_shift.proofs.CycleLaws.{CycleLaws}
@@ -34,22 +34,6 @@ use Rattle.cqf_shift.proofs.Policing.{has_come}
 use Rattle.cqf_shift.proofs.Runs.{queued_starts, sent_timed}
 use Rattle.cqf_shift.proofs.Trees.{hop_inside}
 use Rattle.cqf_shift.proofs.Ways.{comes_on, covered_tree, on_way}
-
--- the drop of a verdict
-drop_of_verdict : (cycle bridge : ℕ) (x : Received) (v : Verdict) (y : Dropped) → Contains (drop_by cycle bridge x v) y → (reason : Reason) ×
-    (v ≡ DroppedFor reason) × (record { cycle = record { 0 = cycle }; bridge = bridge; frame = x.frame; octets = x.octets; reason = reason } ≡ y)
-drop_of_verdict cycle bridge x (Queued row) y c = absurd (contains_none y c)
-drop_of_verdict cycle bridge x (DroppedFor reason) y c = (reason, refl, only_one c)
-  where
-    -- the drop for that reason
-    it : Dropped
-    it = record { cycle = record { 0 = cycle }; bridge = bridge; frame = x.frame; octets = x.octets; reason = reason }
-
-    -- what is in the list of that drop alone is that drop
-    only_one : Contains (it ∷ []) y → it ≡ y
-    only_one c = elim (contains_cases it [] y c) [ inl e ↦ e | inr h ↦ absurd (contains_none y h) ]
-drop_of_verdict cycle bridge x LacksRow y c = absurd (contains_none y c)
-drop_of_verdict cycle bridge x ExceedsGate y c = absurd (contains_none y c)
 
 module _ (laws : CycleLaws) (run : Run) (carried : Carried) (alone : IsRunAlone run carried) where
   -- what a link sends is in the shift
@@ -194,28 +178,20 @@ book_says_the_shift laws beside run book accepted orderly offered background is_
         (contains_below (starts_in d carried cycle) (length d.links) link s r.is_link mapped) in
         (s, subst (λ z. Contains z s) (sym is_book.are_starts) here, r.is_frame, refl, refl)
 
-    -- the drops of a cycle at a bridge, of the offer at a place
-    of_place : ℕ → ℕ → ℕ → List Dropped
-    of_place cycle bridge place = flat_map (λ (p : Policed). drop_by cycle bridge p.received p.verdict) (filter (is_of_place d cycle place) (given bridge))
-
     -- each drop in the book is of an offer that isn't covered
     only_drops : (x : Dropped) → Contains book.drops x → IsOfUncovered run x
     only_drops x c =
         let by_cycle = contains_from_below (λ cycle. each_below (drops_in d (length run.offers) given cycle) (length d.bridges)) (length run.tables) x
         (subst (λ z. Contains z x) is_book.are_drops c) in
         let by_bridge = contains_from_below (drops_in d (length run.offers) given by_cycle.0) (length d.bridges) x by_cycle.2 in
-        let by_place = contains_from_below (of_place by_cycle.0 by_bridge.0) (length run.offers) x by_bridge.2 in
-        let p = contains_from_flat (λ (p : Policed). drop_by by_cycle.0 by_bridge.0 p.received p.verdict)
-        (filter (is_of_place d by_cycle.0 by_place.0) (given by_bridge.0)) x by_place.2 in
-        let kept = contains_from_filter (is_of_place d by_cycle.0 by_place.0) (given by_bridge.0) p.0 p.1 in
-        let parts = and_parts (cycle_of d p.0.received.at == by_cycle.0) (p.0.received.frame == by_place.0 + 1) kept.1 in
-        let drop = drop_of_verdict by_cycle.0 by_bridge.0 p.0.received p.0.verdict x p.2 in
-        let u = dropped_uncovered laws run carried alone.planned by_bridge.0 p.0 drop.0 kept.0 drop.1 in
-        subst (IsOfUncovered run) drop.2 (record {
+        let from = dropped_at d (length run.offers) given by_cycle.0 by_bridge.0 x by_bridge.2 in
+        let parts = and_parts (cycle_of d from.p.received.at == by_cycle.0) (from.p.received.frame == from.place + 1) from.of_place in
+        let u = dropped_uncovered laws run carried alone.planned by_bridge.0 from.p from.reason from.inside from.verdict in
+        subst (IsOfUncovered run) from.is (record {
           x = u.0.offered;
           uncovered = u.1;
           within_run = by_cycle.1;
-          cycle = sym (eqb-true (cycle_of d p.0.received.at) by_cycle.0 parts.0) ∙ ap (λ (z : Received). cycle_of d z.at) (sym u.0.is);
+          cycle = sym (eqb-true (cycle_of d from.p.received.at) by_cycle.0 parts.0) ∙ ap (λ (z : Received). cycle_of d z.at) (sym u.0.is);
           bridge = sym u.0.here;
           frame = ap (λ (z : Received). z.frame) (sym u.0.is);
           octets = ap (λ (z : Received). z.octets) (sym u.0.is);
@@ -232,7 +208,7 @@ book_says_the_shift laws beside run book accepted orderly offered background is_
         let passes = and_from (cycle_of d p.received.at == cycle) (p.received.frame == r.place + 1) (eq-eqb cycle cycle refl)
         (eq-eqb p.received.frame (r.place + 1) r.frame) in
         let kept = contains_filter (is_of_place d cycle r.place) (given bridge) p r.inside passes in
-        let it : Dropped = record { cycle = record { 0 = cycle }; bridge = bridge; frame = u.x.frame; octets = u.x.offer.octets; reason = x.reason } in
+        let it = drop_for cycle bridge p.received x.reason in
         let same : it ≡ x = λ i. record {
           cycle = record { 0 = sym u.cycle i };
           bridge = sym u.bridge i;
@@ -242,7 +218,7 @@ book_says_the_shift laws beside run book accepted orderly offered background is_
         } in
         let here = contains_flat (λ (q : Policed). drop_by cycle bridge q.received q.verdict) (filter (is_of_place d cycle r.place) (given bridge)) p it kept
         (contains_here it []) in
-        let placed = contains_below (of_place cycle bridge) (length run.offers) r.place it r.is_place here in
+        let placed = contains_below (drops_at d given cycle bridge) (length run.offers) r.place it r.is_place here in
         let bridged = contains_below (drops_in d (length run.offers) given cycle) (length d.bridges) bridge it r.is_bridge placed in
         let whole = contains_below (λ c. each_below (drops_in d (length run.offers) given c) (length d.bridges)) (length run.tables) cycle it in_run bridged in
         subst (λ z. Contains z x) (sym is_book.are_drops) (subst (λ z. Contains (drops_of d (length run.tables) (length run.offers) given) z) same whole)

@@ -19,7 +19,8 @@ use Rattle.cqf_shift.proofs.CycleLaws.{CycleLaws}
 use Rattle.cqf_shift.proofs.Fed.{facts}
 use Rattle.cqf_shift.proofs.Policing.{has_come}
 use Rattle.cqf_shift.proofs.Queues.{one_or_none}
-use Rattle.cqf_shift.proofs.Runs.{number_of, sends, sent_at, sent_for, sent_timed}
+use Rattle.cqf_shift.proofs.Fed.{number_of}
+use Rattle.cqf_shift.proofs.Runs.{sends, sent_at, sent_for, sent_timed}
 use Rattle.cqf_shift.proofs.SentSums.{Weight, arrives_within, arriving_counts, by_link, queued_counts, sent_counts, sent_was_queued}
 use Rattle.cqf_shift.proofs.Trees.{GoesBy, one_depth, one_way, same_goes}
 use Rattle.cqf_shift.proofs.Ways.{covered_tree, on_way, queued_member, same_stream}
@@ -217,13 +218,15 @@ module _ (laws : CycleLaws) (run : Run) (carried : Carried) (alone : IsRunAlone 
       let bridge = bridge_of d m in
       let sa = sent_for laws run carried alone m is_link a ca in
       let sb = sent_for laws run carried alone m is_link b cb in
-      let same = alike bridge bridge m sa.0.p sb.0.p sa.0.row sb.0.row sa.0.inside sb.0.inside sa.0.verdict sb.0.verdict sa.0.goes sb.0.goes
-      (sym sa.0.frame ∙ frames ∙ sb.0.frame) in
-      let cycle = cycle_of d sa.0.p.received.at in
+      let qa = sa.0.from in
+      let qb = sb.0.from in
+      let same = alike bridge bridge m qa.p qb.p qa.row qb.row qa.inside qb.inside qa.verdict qb.verdict qa.goes qb.goes
+      (sym qa.frame ∙ frames ∙ qb.frame) in
+      let cycle = cycle_of d qa.p.received.at in
       let f = queued_counts laws run carried alone m is_link (of_frame a.frame) cycle in
       let limit = single cycle m is_link a.frame in
-      let one_a = counts_one cycle a.frame sa.0.p.received sa.0.row refl (sym sa.0.frame) in
-      let one_b = counts_one cycle a.frame sb.0.p.received sb.0.row (sym same.cycle) (sym sb.0.frame ∙ sym frames) in
+      let one_a = counts_one cycle a.frame qa.p.received qa.row refl (sym qa.frame) in
+      let one_b = counts_one cycle a.frame qb.p.received qb.row (sym same.cycle) (sym qb.frame ∙ sym frames) in
       let at_a : f (get_or (queued run carried (end_of_run run) m) sa.0.place no_frame) ≡ 1 = ap f (sym sa.0.at_place) ∙ one_a in
       let at_b : f (get_or (queued run carried (end_of_run run) m) sb.0.place no_frame) ≡ 1 = ap f (sym sb.0.at_place) ∙ one_b in
       elim (cases_order sa.0.place sb.0.place) [

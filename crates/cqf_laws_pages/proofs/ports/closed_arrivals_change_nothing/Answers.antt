@@ -1,4 +1,5 @@
-use Rattle.cqf_laws_pages.proofs.Closed.{front_legal, more_legal}
+use Rattle.cqf_model.proofs.Arrivals.{front_legal}
+use Rattle.cqf_laws_pages.proofs.Closed.{more_legal}
 use Rattle.cqf_laws_pages.proofs.ports.closed_arrivals_change_nothing.Goals as goal
 
 pub returns : goal.returns

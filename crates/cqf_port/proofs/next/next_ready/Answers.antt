@@ -1,8 +1,7 @@
-use Rattle.std.proofs.Common.{ℕ, ◌≡◌, ◌+◌, ◌≤◌, ◌<◌, inl, inr, subst, sym, ap, ◌∙◌, arith}
+use Rattle.std.proofs.Common.{inl, inr, arith}
 use Rattle.std.proofs.lemmas.Bool.{cases_lt}
-use Rattle.cqf_model.specs.GateList.{round_of}
 use Rattle.cqf_port.specs.PortState.{rules_of}
-use Rattle.cqf_port.proofs.Wire.{octet_takes_time}
+use Rattle.cqf_model.proofs.Links.{rate_positive}
 use Rattle.cqf_port.proofs.Waiting.{none_stays_ready}
 use Rattle.cqf_port.proofs.Coming.{never_ready}
 use Rattle.cqf_port.proofs.next.next_ready.Goals as goal
@@ -25,7 +24,7 @@ events-preserved c =
       in_time = omega arith;
       none = λ s after soon. elim (cases_lt s c.events.t) [
         | inl before ↦ c.events.invariant.none s after before
-        | inr here ↦ none_stays_ready goes_by c.args.arrivals.now c.args.heads.now c.events.t c.quiet_until.result.0 (octet_takes_time c.args.rate) c.quiet_until.ensures.quiet c.in-None.ensures s here (omega arith)
+        | inr here ↦ none_stays_ready goes_by c.args.arrivals.now c.args.heads.now c.events.t c.quiet_until.result.0 (rate_positive c.args.rate) c.quiet_until.ensures.quiet c.in-None.ensures s here (omega arith)
       ];
     }
 

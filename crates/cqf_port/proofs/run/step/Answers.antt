@@ -1,8 +1,8 @@
-use Rattle.std.proofs.Common.{rules, ◌≡◌, ◌+◌, ◌≤◌, ◌<◌, List, subst, sym, arith}
+use Rattle.std.proofs.Common.{rules, ◌+◌, ◌≤◌, ◌<◌, List, subst, sym}
 use Rattle.cqf_model.specs.Port.{Transmission}
 use Rattle.cqf_port.specs.PortState.{rules_of}
 use Rattle.cqf_port.specs.Progress.{IsAbreast}
-use Rattle.cqf_port.proofs.Wire.{octet_takes_time}
+use Rattle.cqf_model.proofs.Links.{rate_positive}
 use Rattle.cqf_port.proofs.Steps.{abreast_start}
 use Rattle.cqf_port.proofs.Waiting.{steps_busy, steps_none, steps_start}
 use Rattle.cqf_port.proofs.run.step.Goals as goal
@@ -15,7 +15,7 @@ returns-then-lt-clause-ok c =
 
 -- no frame is ready
 pub returns-in-None-clause-ok : goal.returns-in-None-clause-ok
-returns-in-None-clause-ok c = steps_none (rules_of c.args.schedule.now c.args.rate) c.args.arrivals.now c.args.t.0 c.quiet_until.result.0 c.args.starts.now.items c.args.before (octet_takes_time c.args.rate) c.requires.taken c.requires.abreast c.quiet_until.ensures.later c.quiet_until.ensures.quiet c.in-None.ensures
+returns-in-None-clause-ok c = steps_none (rules_of c.args.schedule.now c.args.rate) c.args.arrivals.now c.args.t.0 c.quiet_until.result.0 c.args.starts.now.items c.args.before (rate_positive c.args.rate) c.requires.taken c.requires.abreast c.quiet_until.ensures.later c.quiet_until.ensures.quiet c.in-None.ensures
 
 -- the chosen frame starts
 pub returns-in_ok-push-in-Some-clause-ok : goal.returns-in_ok-push-in-Some-clause-ok
@@ -25,4 +25,4 @@ returns-in_ok-push-in-Some-clause-ok c =
     let free : c.args.before.idle_from.0 ≤ c.args.t.0 = search rules in
     let started = subst (λ (starts : List Transmission). IsAbreast goes_by c.args.arrivals.now (c.args.t.0 + 1) starts c.after_start-after.result) (sym c.in_ok-push-in-Some.ensures.items)
     (abreast_start goes_by c.args.arrivals.now c.args.t.0 c.args.starts.now.items place c.args.before c.after_start-after.result c.requires.taken c.requires.abreast free c.in-Some.ensures c.after_start-after.ensures) in
-    steps_start goes_by c.args.arrivals.now c.args.t.0 place c.args.starts.now.items _ c.args.before c.after_start-after.result (octet_takes_time c.args.rate) c.requires.taken c.requires.abreast free c.in-Some.ensures c.after_start-after.ensures started
+    steps_start goes_by c.args.arrivals.now c.args.t.0 place c.args.starts.now.items _ c.args.before c.after_start-after.result (rate_positive c.args.rate) c.requires.taken c.requires.abreast free c.in-Some.ensures c.after_start-after.ensures started

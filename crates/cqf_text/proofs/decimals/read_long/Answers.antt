@@ -1,22 +1,14 @@
-use Rattle.std.proofs.Common.{◌≡◌, ◌+◌, ◌&&◌, true, get_or, ap₂, ◌∙◌, arith, rules}
-use Rattle.std.specs.Char.{is_ascii_digit}
-use Rattle.std.proofs.lemmas.List.Folds.{list_all_more}
+use Rattle.std.proofs.Common.{◌+◌, get_or, arith, rules}
 use Rattle.std.proofs.lemmas.Int.Digits.{digits_value_more}
 use Rattle.std.proofs.lemmas.Str.{digit_value_digit}
-use Rattle.cqf_text.proofs.DecimalLemmas.{none_by_size}
+use Rattle.cqf_text.proofs.DecimalLemmas.{none_by_size, read_more}
 use Rattle.cqf_text.proofs.decimals.read_long.Goals as goal
 
 -- one more digit
 pub loop-byte-preserved : goal.loop-byte-preserved
 loop-byte-preserved c =
-    let bytes = c.args.bytes.now in
-    let place = c.loop-byte.byte-index in
-    let digit : is_ascii_digit (get_or bytes place 0) ≡ true = search rules in
-    let worth = digit_value_digit (get_or bytes place 0) (search rules) in
-    record {
-      digits = list_all_more is_ascii_digit bytes place 0 c.loop-byte-test.true ∙ ap₂ (λ a b. a && b) c.loop-byte.invariant.digits digit;
-      value = omega (arith, digits_value_more 10 bytes place c.loop-byte-test.true, worth, c.loop-byte.invariant.value, c.in-Some.ensures);
-    }
+    read_more c.args.bytes.now c.loop-byte.byte-index c.loop-byte.number _ c.loop-byte-test.true (search rules)
+    c.loop-byte.invariant (omega (arith, c.in-Some.ensures))
 
 -- 64 bits can't hold the digits so far
 pub returns-in-None : goal.returns-in-None

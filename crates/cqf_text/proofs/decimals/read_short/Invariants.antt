@@ -1,12 +1,6 @@
-use Rattle.std.proofs.Common.{◌≡◌, true, take}
-use Rattle.std.specs.Char.{is_ascii_digit}
-use Rattle.std.specs.List.{list_all}
-use Rattle.std.specs.Str.Parse.{digits_value}
+use Rattle.cqf_text.proofs.DecimalLemmas.{AreRead}
 use Rattle.cqf_text.proofs.decimals.read_short.Given as goal
 
 -- the bytes so far are digits, and write the number
 abbrev pub invariant-loop-byte : goal.invariant-loop-byte
-invariant-loop-byte l = record {
-  digits : list_all is_ascii_digit (take l.byte-index l.bytes) ≡ true;
-  value : l.number ≡ digits_value 10 (take l.byte-index l.bytes);
-}
+invariant-loop-byte l = AreRead l.bytes l.byte-index l.number
