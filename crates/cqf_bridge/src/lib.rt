@@ -13,7 +13,9 @@
 
 mod batch;
 mod bridge;
+mod checking;
 mod faults;
+mod gates;
 mod outgoing;
 mod sending;
 #[cfg(test)]
