@@ -2,7 +2,9 @@ mod Bridges
 mod Columns
 mod Coming
 mod Handing
+mod InOrder
 mod KeptGates
 mod MadeBatch
 mod Sends
 mod Taking
+mod Verdicts

@@ -16,7 +16,9 @@ mod bridge;
 mod checking;
 mod faults;
 mod gates;
+mod gathering;
 mod outgoing;
+mod policing;
 mod sending;
 #[cfg(test)]
 mod tests;
