@@ -5,6 +5,8 @@ mod Handing
 mod InOrder
 mod KeptGates
 mod MadeBatch
+mod RunCycle
 mod Sends
 mod Taking
+mod TakenCycle
 mod Verdicts

@@ -1,5 +1,5 @@
 -- The receive phase of a cycle, step by step.
-use Rattle.std.specs.Prelude.{ℕ, ◌≡◌, ◌+◌, ◌*◌, ◌≤◌, ◌<◌, ◌++◌, ◌==◌, Bool, true, not, List, [], ◌∷◌, Contains, Option, Some, None, if◌then◌else◌, length, map}
+use Rattle.std.specs.Prelude.{ℕ, ◌≡◌, ◌+◌, ◌*◌, ◌≤◌, ◌<◌, ◌++◌, ◌==◌, Bool, true, not, List, [], ◌∷◌, Contains, Option, Some, None, if◌then◌else◌, length, map, replicate}
 use Rattle.std.specs.List.{flat_map, list_any}
 use Rattle.cqf_model.specs.declared.frames.Dropped.{Dropped}
 use Rattle.cqf_model.specs.declared.frames.Offered.{Offered}
@@ -8,11 +8,13 @@ use Rattle.cqf_model.specs.declared.frames.Reason.TheVariants.{Octets}
 use Rattle.cqf_model.specs.declared.frames.Sent.{Sent}
 use Rattle.cqf_model.specs.declared.ports.Arrival.{Arrival}
 use Rattle.cqf_model.specs.declared.topology.Row.{Row}
-use Rattle.cqf_model.specs.Book.{drop_by}
+use Rattle.cqf_model.specs.Book.{drop_by, drops_in}
 use Rattle.cqf_model.specs.Domain.{Domain, cycle_of}
-use Rattle.cqf_model.specs.Network.{IsLoss, queued_by}
+use Rattle.cqf_model.specs.Network.{IsLoss, queued_by, queued_to}
+use Rattle.cqf_model.specs.Run.{Run}
 use Rattle.cqf_model.specs.Table.{goes_on, goes_to, row_of}
-use Rattle.cqf_model.specs.Traffic.{AtEdge as Offering, DroppedFor, ExceedsGate, Queued, Received, Relayed, Verdict, Way, is_queued_of, offer_received, sent_received, verdict_by}
+use Rattle.cqf_model.specs.Traffic.{AtEdge as Offering, DroppedFor, ExceedsGate, Policed, Queued, Received, Relayed, Verdict, Way, is_queued_of, offer_received, police_all, sent_received, verdict_by}
+use Rattle.cqf_laws_pages.specs.Gathered.{dropped_of}
 use Rattle.cqf_gates.specs.StreamGate.{lets_pass, taken_at}
 use Rattle.cqf_port.specs.PortState.{IsLate, IsOutOfOrder, PortState}
 use Rattle.cqf_bridge.specs.declared.faults.BridgeFault.{BridgeFault}
@@ -23,9 +25,9 @@ use Rattle.cqf_bridge.specs.declared.gathering.Came.TheVariants.{AtEdge, ByLink}
 use Rattle.cqf_bridge.specs.declared.gathering.Incoming.{Incoming}
 use Rattle.cqf_bridge.specs.Batch.{LinkBatch}
 use Rattle.cqf_bridge.specs.BridgeState.{end_of_cycle}
-use Rattle.cqf_bridge.specs.Gates.{AreKept, gate_in}
+use Rattle.cqf_bridge.specs.Gates.{AreKept, HasCounted, gate_in}
 use Rattle.cqf_bridge.specs.PortRecord.{PortRecord, rules_on, with_frames}
-use Rattle.cqf_bridge.specs.Receiving.{MayCome}
+use Rattle.cqf_bridge.specs.Receiving.{IsFirstOver, MayCome, port_queued, verdicts_in}
 
 -- a batch is of the cycle, and each of its frames may come by its link
 pub record IsBatchOf (d : Domain) (bridge cycle : ℕ) (rows : List Row) (batch : LinkBatch) : Type 0 where
@@ -128,3 +130,34 @@ IsStopBy verdict frame WrongCycle = ⊥
 IsStopBy verdict frame StrangeBatch = ⊥
 IsStopBy verdict frame (OverOctets over) = (verdict ≡ ExceedsGate) × (frame ≡ over)
 IsStopBy verdict frame Memory = Unit {0}
+
+-- what becomes of frames of a cycle at a bridge, by the rows of the cycle's table
+abbrev pub policed_by : Domain → List Row → ℕ → ℕ → List Received → List Policed
+policed_by d rows bridge cycle frames = police_all d (replicate (cycle + 1) rows) bridge [] frames
+
+-- the gates, the ports and the drops are what policing these frames of a cycle gives
+pub record HasPoliced (d : Domain) (rows : List Row) (bridge cycle : ℕ) (ports_before : List PortRecord) (drops_before : List Dropped)
+    (policed : List Policed) (gates : List KeptGate) (ports : List PortRecord) (drops : List Dropped) : Type 0 where
+  pub counted : (row : Row) → Contains rows row → HasCounted d.cycle_time cycle gates policed row
+  pub queued : ports ≡ map (λ (r : PortRecord). with_frames r (queued_to d r.link policed)) ports_before
+  pub dropped : drops ≡ drops_before ++ dropped_of cycle bridge policed
+  pub none_lost : (p : Policed) → Contains policed p → ¬ IsLoss p.verdict
+
+-- why the frames of a cycle aren't all taken: one is the first that exceeds its gate, or a growth was refused
+abbrev pub IsStopOf : List Policed → BridgeFault → Type 0
+IsStopOf policed Spent = ⊥
+IsStopOf policed WrongCycle = ⊥
+IsStopOf policed StrangeBatch = ⊥
+IsStopOf policed (OverOctets frame) = IsFirstOver policed frame
+IsStopOf policed Memory = Unit {0}
+
+-- all that comes in a cycle is taken: each port gets what goes on by its link, nothing is lost, and the drops come by frame
+pub record TakesCycle (run : Run) (bridge cycle : ℕ) (batches : List LinkBatch) (ports ports_after : List PortRecord) (drops : List Dropped) :
+    Type 0 where
+  pub queued : ports_after ≡ map (port_queued run (verdicts_in run bridge cycle batches)) ports
+  pub none_lost : (p : Policed) → Contains (verdicts_in run bridge cycle batches) p → ¬ IsLoss p.verdict
+  pub dropped : drops ≡ drops_in run.domain (length run.offers) (λ b. verdicts_in run b cycle batches) cycle bridge
+
+-- or it isn't
+abbrev pub stop_of_run : Run → ℕ → ℕ → List LinkBatch → BridgeFault → Type 0
+stop_of_run run bridge cycle batches fault = IsStopOf (verdicts_in run bridge cycle batches) fault

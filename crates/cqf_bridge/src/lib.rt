@@ -19,6 +19,7 @@ mod gates;
 mod gathering;
 mod outgoing;
 mod policing;
+mod receiving;
 mod sending;
 #[cfg(test)]
 mod tests;
