@@ -1,6 +1,12 @@
 mod Bridges
 mod Columns
+mod Coming
 mod Handing
+mod InOrder
+mod KeptGates
 mod MadeBatch
+mod RunCycle
 mod Sends
 mod Taking
+mod TakenCycle
+mod Verdicts

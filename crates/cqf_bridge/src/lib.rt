@@ -13,8 +13,13 @@
 
 mod batch;
 mod bridge;
+mod checking;
 mod faults;
+mod gates;
+mod gathering;
 mod outgoing;
+mod policing;
+mod receiving;
 mod sending;
 #[cfg(test)]
 mod tests;

@@ -43,7 +43,7 @@ fn take_background(port: &mut Outgoing, background: &[Backed]) -> Result<(), Mem
 }
 
 /// The end of a cycle.
-fn end_of(domain: &Domain, cycle: Cycle) -> Nanos
+pub(crate) fn end_of(domain: &Domain, cycle: Cycle) -> Nanos
     requires { cycle.0 < 100000 }
     ensures value { result.0 ≡ end_of_cycle domain.now cycle.0 }
     ensures early { result.0 < 1000001 * 10000000 }

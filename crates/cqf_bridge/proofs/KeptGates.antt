@@ -1,0 +1,139 @@
+-- Gates that are looked up by number, and what they count.
+use Rattle.std.proofs.Common.{◌≡◌, ◌≢◌, ◌+◌, ◌≤◌, ◌<◌, ℕ, zero, suc, Bool, true, false, List, [], ◌∷◌, ◌++◌, ◌∙◌, ◌⊎◌, inl, inr, sym, ap, refl, arith, length, map, find, get_or, position, nat_eq, Contains, Some, None, subst}
+use Rattle.std.specs.Prelude.{◌==◌, if◌then◌else◌, is_some, slice_set}
+use Rattle.std.specs.List.{list_any}
+use Rattle.std.proofs.lemmas.Bool.{cases_eq, cond-false, cond-true, eq-eqb, eqb-true, ne_eqb, true≢false}
+use Rattle.std.proofs.lemmas.List.Quantifiers.{position-Some}
+use Rattle.std.proofs.lemmas.List.{length-map}
+use Rattle.cqf_lists.proofs.Any.{list_any-map, none_member, position_any}
+use Rattle.cqf_lists.proofs.Members.{contains_cases, contains_here, contains_later, contains_none}
+use Rattle.cqf_model.specs.StreamGate.{stream_list}
+use Rattle.cqf_gates.specs.StreamGate.{Gate, fresh}
+use Rattle.cqf_bridge.specs.declared.gates.KeptGate.{KeptGate}
+use Rattle.cqf_bridge.specs.Gates.{gate_in, gate_or, with_gate}
+
+-- a test of two numbers goes either way round
+eqb_turned : (a b : ℕ) → (a == b) ≡ (b == a)
+eqb_turned a b = elim (cases_eq a b) [
+  | inl same ↦ eq-eqb a b same ∙ sym (eq-eqb b a (sym same))
+  | inr other ↦ ne_eqb a b other ∙ sym (ne_eqb b a (λ e. other (sym e)))
+]
+
+-- the gate of a number stands at this place, and another of the number takes its place there
+pub record FoundAt (number : ℕ) (gates : List KeptGate) (place : ℕ) (k : KeptGate) : Type 0 where
+  pub found : find (λ (g : KeptGate). g.number == number) gates ≡ Some k
+  pub of_number : k.number ≡ number
+  pub placed : (g : KeptGate) → g.number ≡ number → slice_set gates place g ≡ with_gate gates g
+  pub numbers : (g : KeptGate) → g.number ≡ number → map (λ (h : KeptGate). h.number) gates ≡ map (λ (h : KeptGate). h.number) (slice_set gates place g)
+
+-- the first place that has the number
+at_first : (number place : ℕ) (gates : List KeptGate) (k : KeptGate) → place < length gates → k ≡ get_or gates place k →
+    (nat_eq number (get_or (map (λ (g : KeptGate). g.number) gates) place 0)) ≡ true →
+    ((j : ℕ) → j < place → (nat_eq number (get_or (map (λ (g : KeptGate). g.number) gates) j 0)) ≡ false) → FoundAt number gates place k
+at_first number place [] k inside is here before = absurd (omega (arith, inside))
+at_first number zero (x ∷ gates) k inside is here before =
+    let same : number ≡ x.number = eqb-true number x.number here in
+    let test : (x.number == number) ≡ true = eq-eqb x.number number (sym same) in
+    record {
+      found = cond-true (x.number == number) (Some x) (find (λ (g : KeptGate). g.number == number) gates) test ∙ ap Some (sym is);
+      of_number = ap (λ (g : KeptGate). g.number) is ∙ sym same;
+      placed = λ g e. sym (cond-true (x.number == g.number) (g ∷ gates) (x ∷ with_gate gates g) (eq-eqb x.number g.number (sym same ∙ sym e)));
+      numbers = λ g e. ap (λ (n : ℕ). n ∷ map (λ (h : KeptGate). h.number) gates) (sym same ∙ sym e);
+    }
+at_first number (suc place) (x ∷ gates) k inside is here before =
+    let first : (number == x.number) ≡ false = before 0 (omega arith) in
+    let test : (x.number == number) ≡ false = eqb_turned x.number number ∙ first in
+    let rest = at_first number place gates k (omega (arith, inside)) is here (λ j less. before (suc j) (omega (arith, less))) in
+    record {
+      found = cond-false (x.number == number) (Some x) (find (λ (g : KeptGate). g.number == number) gates) test ∙ rest.found;
+      of_number = rest.of_number;
+      placed = λ g e.
+          ap (λ (gs : List KeptGate). x ∷ gs) (rest.placed g e)
+          ∙ sym (cond-false (x.number == g.number) (g ∷ gates) (x ∷ with_gate gates g) (ap (λ (n : ℕ). x.number == n) e ∙ test));
+      numbers = λ g e. ap (λ (ns : List ℕ). x.number ∷ ns) (rest.numbers g e);
+    }
+
+-- a number that is found among the numbers
+pub found_at : (number : ℕ) (gates : List KeptGate) (place : ℕ) (k : KeptGate) →
+    position (nat_eq number) (map (λ (g : KeptGate). g.number) gates) ≡ Some place → k ≡ get_or gates place k → FoundAt number gates place k
+found_at number gates place k is at =
+    let p = position-Some (nat_eq number) (map (λ (g : KeptGate). g.number) gates) place 0 is in
+    at_first number place gates k (omega (arith, p.0, length-map gates (λ (g : KeptGate). g.number))) at p.1 p.2
+
+-- a gate of a number that no other has stands behind the others
+behind_others : (number : ℕ) (gates : List KeptGate) → ((k : KeptGate) → Contains gates k → (k.number == number) ≡ false) →
+    (find (λ (g : KeptGate). g.number == number) gates ≡ None) × ((g : KeptGate) → g.number ≡ number → with_gate gates g ≡ gates ++ g ∷ [])
+behind_others number [] none = (refl, λ g e. refl)
+behind_others number (x ∷ gates) none =
+    let test = none x (contains_here x gates) in
+    let rest = behind_others number gates (λ k held. none k (contains_later x gates k held)) in (
+      cond-false (x.number == number) (Some x) (find (λ (g : KeptGate). g.number == number) gates) test ∙ rest.0,
+      λ g e.
+      cond-false (x.number == g.number) (g ∷ gates) (x ∷ with_gate gates g) (ap (λ (n : ℕ). x.number == n) e ∙ test)
+      ∙ ap (λ (gs : List KeptGate). x ∷ gs) (rest.1 g e),
+    )
+
+-- a number that isn't found among the numbers
+pub not_found : (number : ℕ) (gates : List KeptGate) → position (nat_eq number) (map (λ (g : KeptGate). g.number) gates) ≡ None →
+    (find (λ (g : KeptGate). g.number == number) gates ≡ None) × ((g : KeptGate) → g.number ≡ number → with_gate gates g ≡ gates ++ g ∷ [])
+not_found number gates is =
+    let none : list_any (λ (g : KeptGate). nat_eq number g.number) gates ≡ false =
+    sym (list_any-map (nat_eq number) (λ (g : KeptGate). g.number) gates)
+    ∙ sym (position_any (nat_eq number) (map (λ (g : KeptGate). g.number) gates)) ∙ ap is_some is in
+    behind_others number gates (λ k held. eqb_turned k.number number ∙ none_member (λ (g : KeptGate). nat_eq number g.number) gates k none held)
+
+-- a gate that is put in is the one of its number
+pub gate_put : (gates : List KeptGate) (g : KeptGate) → find (λ (k : KeptGate). k.number == g.number) (with_gate gates g) ≡ Some g
+gate_put [] g = cond-true (g.number == g.number) (Some g) None (eq-eqb g.number g.number refl)
+gate_put (x ∷ gates) g = elim (cases_eq x.number g.number) [
+  | inl same ↦
+      ap (find (λ (k : KeptGate). k.number == g.number)) (cond-true (x.number == g.number) (g ∷ gates) (x ∷ with_gate gates g) (eq-eqb x.number g.number same))
+      ∙ cond-true (g.number == g.number) (Some g) (find (λ (k : KeptGate). k.number == g.number) gates) (eq-eqb g.number g.number refl)
+  | inr other ↦
+      ap (find (λ (k : KeptGate). k.number == g.number)) (cond-false (x.number == g.number) (g ∷ gates) (x ∷ with_gate gates g) (ne_eqb x.number g.number other))
+      ∙ cond-false (x.number == g.number) (Some x) (find (λ (k : KeptGate). k.number == g.number) (with_gate gates g)) (ne_eqb x.number g.number other)
+      ∙ gate_put gates g
+]
+
+-- the gates of other numbers are as they were
+pub gate_beside : (gates : List KeptGate) (g : KeptGate) (number : ℕ) → g.number ≢ number →
+    find (λ (k : KeptGate). k.number == number) (with_gate gates g) ≡ find (λ (k : KeptGate). k.number == number) gates
+gate_beside [] g number apart = cond-false (g.number == number) (Some g) None (ne_eqb g.number number apart)
+gate_beside (x ∷ gates) g number apart = elim (cases_eq x.number g.number) [
+  | inl same ↦
+      ap (find (λ (k : KeptGate). k.number == number)) (cond-true (x.number == g.number) (g ∷ gates) (x ∷ with_gate gates g) (eq-eqb x.number g.number same))
+      ∙ cond-false (g.number == number) (Some g) (find (λ (k : KeptGate). k.number == number) gates) (ne_eqb g.number number apart)
+      ∙ sym (cond-false (x.number == number) (Some x) (find (λ (k : KeptGate). k.number == number) gates) (ne_eqb x.number number (λ e. apart (sym same ∙ e))))
+  | inr other ↦
+      ap (find (λ (k : KeptGate). k.number == number)) (cond-false (x.number == g.number) (g ∷ gates) (x ∷ with_gate gates g) (ne_eqb x.number g.number other))
+      ∙ ap (λ rest. if x.number == number then Some x else rest) (gate_beside gates g number apart)
+]
+
+-- what is kept then was kept, or is the gate
+pub kept_cases : (gates : List KeptGate) (g k : KeptGate) → Contains (with_gate gates g) k → Contains gates k ⊎ (g ≡ k)
+kept_cases [] g k held = elim (contains_cases g [] k held) [ | inl e ↦ inr e | inr never ↦ absurd (contains_none k never) ]
+kept_cases (x ∷ gates) g k held = elim (cases_eq x.number g.number) [
+  | inl same ↦
+      elim (contains_cases g gates k (subst (λ (gs : List KeptGate). Contains gs k) (cond-true (x.number == g.number) (g ∷ gates) (x ∷ with_gate gates g) (eq-eqb x.number g.number same)) held)) [
+        | inl e ↦ inr e
+        | inr old ↦ inl (contains_later x gates k old)
+      ]
+  | inr other ↦
+      elim (contains_cases x (with_gate gates g) k (subst (λ (gs : List KeptGate). Contains gs k) (cond-false (x.number == g.number) (g ∷ gates) (x ∷ with_gate gates g) (ne_eqb x.number g.number other)) held)) [
+        | inl e ↦ inl (subst (Contains (x ∷ gates)) e (contains_here x gates))
+        | inr later ↦ elim (kept_cases gates g k later) [
+          | inl old ↦ inl (contains_later x gates k old)
+          | inr e ↦ inr e
+        ]
+      ]
+]
+
+-- a gate that was made for a reservation is the one that it goes by
+pub own_gate : (cycle_time number reserved : ℕ) →
+    gate_or cycle_time reserved (Some (record { number = number; reserved = reserved; gate = fresh (stream_list cycle_time reserved) })) ≡ fresh (stream_list cycle_time reserved)
+own_gate cycle_time number reserved = same_either (reserved == reserved) (fresh (stream_list cycle_time reserved))
+  where
+    -- either way the same
+    same_either : (b : Bool) (g : Gate) → (if b then g else g) ≡ g
+    same_either true g = refl
+    same_either false g = refl

@@ -1,0 +1,324 @@
+-- Frames of a cycle that are taken one after the other.
+use Rattle.std.proofs.Common.{◌≡◌, ◌+◌, ◌*◌, ◌≤◌, ◌<◌, ℕ, suc, Bool, true, false, not, List, [], ◌∷◌, ◌++◌, ◌∙◌, ◌⊎◌, inl, inr, sym, ap, refl, arith, length, map, filter, find, flat_map, take, drop, get_or, Contains, Option, Some, None, subst, append-nil, append_assoc, ◌-◌, ◌/◌}
+use Rattle.std.specs.Prelude.{◌==◌, if◌then◌else◌, replicate, slice_get, slice_index_or, sum_by}
+use Rattle.std.specs.Option.{option_map_or}
+use Rattle.std.specs.List.Sorted.{IsNonDecreasingBy}
+use Rattle.std.proofs.Math.Seq.{take-append_seam}
+use Rattle.std.proofs.lemmas.Bool.{eq-eqb, ne_eqb}
+use Rattle.std.proofs.lemmas.List.{drop_more, get_or-replicate, length-take-le, map-append, take-append-drop, take_all, take_more}
+use Rattle.std.proofs.lemmas.List.Concat.{flat_map-append}
+use Rattle.std.proofs.lemmas.List.Elements.{Contains-append_cases, Contains-get_or, Contains-push, filter-append}
+use Rattle.std.proofs.lemmas.List.Sums.{sum_by-append}
+use Rattle.std.proofs.lemmas.Option.{get_or_from_slice_get, slice_get_within}
+use Rattle.std.proofs.lemmas.Simd.{map-map}
+use Rattle.cqf_lists.proofs.Made.{map_same}
+use Rattle.cqf_lists.proofs.Members.{contains_from_map, contains_from_take, contains_none, contains_one, find_member, place_of_member}
+use Rattle.cqf_lists.proofs.Places.{slice_get-take, slice_get_behind}
+use Rattle.cqf_units.proofs.Cycles.{cycle_below, cycle_from, cycle_upto}
+use Rattle.cqf_model.specs.declared.frames.Dropped.{Dropped}
+use Rattle.cqf_model.specs.declared.frames.Reason.TheVariants.{Octets, OtherBridge, Withdrawn}
+use Rattle.cqf_model.specs.declared.gates.StreamEntry.{StreamEntry}
+use Rattle.cqf_model.specs.declared.ports.Arrival.{Arrival}
+use Rattle.cqf_model.specs.declared.topology.Row.{Row}
+use Rattle.cqf_model.specs.Book.{drop_by}
+use Rattle.cqf_model.specs.Domain.{Domain, cycle_of, is_text}
+use Rattle.cqf_model.specs.Network.{IsLoss, QueuedFrame, arrivals_of, queued_by, queued_to}
+use Rattle.cqf_model.specs.StreamGate.{Call, octets_in, place_at, same_interval, stream_list, within}
+use Rattle.cqf_model.specs.Table.{begins_at, goes_on, is_live, row_named, row_of, table_of}
+use Rattle.cqf_model.specs.Traffic.{AtEdge, DroppedFor, ExceedsGate, LacksRow, Policed, Queued, Received, Relayed, Verdict, Way, calls_of, edge_verdict, inside_verdict, is_queued_of, police, police_all, verdict_by, within_gate}
+use Rattle.cqf_model.proofs.Coming.{queued_when}
+use Rattle.cqf_model.proofs.Policing.{police_more}
+use Rattle.cqf_gates.specs.StreamGate.{fresh, taken_at}
+use Rattle.cqf_laws_cycle.specs.Compiled.{GateCountsCycles}
+use Rattle.cqf_laws_pages.specs.Gathered.{dropped_of}
+use Rattle.cqf_bridge.specs.declared.faults.BridgeFault.{BridgeFault}
+use Rattle.cqf_bridge.specs.declared.faults.BridgeFault.TheVariants as fault
+use Rattle.cqf_bridge.specs.declared.gates.KeptGate.{KeptGate}
+use Rattle.cqf_bridge.specs.BridgeState.{end_of_cycle}
+use Rattle.cqf_bridge.specs.Gates.{AreKept, IsKept, gate_in, gate_or}
+use Rattle.cqf_bridge.specs.PortRecord.{PortRecord, with_frames}
+use Rattle.cqf_bridge.specs.Receiving.{IsFirstOver}
+use Rattle.cqf_bridge.specs.Taking.{AreReady, HasPoliced, IsStopBy, IsStopOf, IsWaiting, MayBeTaken, TakesFrame, passes_by, policed_by, taken_in, verdict_of, with_verdict}
+use Rattle.cqf_bridge.proofs.Taking.{frames_more, frames_none}
+use Rattle.cqf_bridge.proofs.Verdicts.{gate_entries}
+
+-- the table of the cycle, where each cycle has it
+pub table_held : (cycle : ℕ) (rows : List Row) → table_of (replicate (cycle + 1) rows) cycle ≡ rows
+table_held cycle rows = get_or-replicate (cycle + 1) cycle rows [] (omega arith)
+
+-- tests that agree on the table's rows give one verdict
+module _ (d : Domain) (rows : List Row) (bridge cycle : ℕ) (p q : Row → Bool) (agree : (row : Row) → Contains rows row → p row ≡ q row) where
+  at_edge : (found : Option Row) → ((row : Row) → found ≡ Some row → Contains rows row) → edge_verdict d bridge cycle p found ≡ edge_verdict d bridge cycle q found
+  at_edge None held = refl
+  at_edge (Some row) held =
+      let by : Bool → Verdict = λ b.
+      if not (is_live row cycle) then DroppedFor Withdrawn
+      else (if not (begins_at d row bridge) then DroppedFor OtherBridge
+      else (if not b then DroppedFor Octets
+      else Queued row)) in
+      ap by (agree row (held row refl))
+
+  inside : (m : ℕ) (found : Option Row) → ((row : Row) → found ≡ Some row → Contains rows row) → inside_verdict d bridge m p found ≡ inside_verdict d bridge m q found
+  inside m None held = refl
+  inside m (Some row) held =
+      let by : Bool → Verdict = λ b. if not (goes_on d row (Some m) bridge) then LacksRow else (if not b then ExceedsGate else Queued row) in
+      ap by (agree row (held row refl))
+
+  pub verdict_agrees : (way : Way) → verdict_by d rows bridge cycle p way ≡ verdict_by d rows bridge cycle q way
+  verdict_agrees (AtEdge name) = at_edge (row_named rows name) (λ row e. (find_member (λ (r : Row). is_text r.name name) rows row e).0)
+  verdict_agrees (Relayed m number) = inside m (row_of rows number) (λ row e. (find_member (λ (r : Row). r.no == number) rows row e).0)
+
+-- the calls of a stream, behind one more frame
+calls_more : (time reserved number t : ℕ) (policed : List Policed) (p : Policed) → same_interval (stream_list time reserved) p.received.at t ≡ true →
+    octets_in (stream_list time reserved) (calls_of number (policed ++ p ∷ [])) t
+    ≡ octets_in (stream_list time reserved) (calls_of number policed) t + (if is_queued_of number p.verdict then p.received.octets else 0)
+calls_more time reserved number t policed p same =
+    let call_of : Policed → Call = λ q. (q.received.at, q.received.octets) in
+    let test : Policed → Bool = λ q. is_queued_of number q.verdict in
+    let counted : Call → ℕ = λ call. if same_interval (stream_list time reserved) call.0 t then call.1 else 0 in
+    ap (λ (ps : List Policed). sum_by counted (map call_of ps)) (filter-append test policed (p ∷ []))
+    ∙ ap (sum_by counted) (map-append call_of (filter test policed) (filter test (p ∷ [])))
+    ∙ sum_by-append counted (map call_of (filter test policed)) (map call_of (filter test (p ∷ [])))
+    ∙ ap (λ (n : ℕ). sum_by counted (map call_of (filter test policed)) + n) (one (is_queued_of number p.verdict))
+  where
+    one : (b : Bool) →
+        sum_by (λ (call : Call). if same_interval (stream_list time reserved) call.0 t then call.1 else 0)
+        (map (λ (q : Policed). (q.received.at, q.received.octets)) (if b then p ∷ [] else []))
+        ≡ (if b then p.received.octets else 0)
+    one true = ap (λ (b : Bool). 0 + (if b then p.received.octets else 0)) same ∙ zero_plus p.received.octets
+      where
+        zero_plus : (n : ℕ) → 0 + n ≡ n
+        zero_plus n = omega arith
+    one false = refl
+
+-- a gate that has seen no frame has taken nothing
+fresh_takes_none : (b : Bool) (taken : ℕ) → taken ≡ 0 → (if b then taken else 0) ≡ 0
+fresh_takes_none true taken none = none
+fresh_takes_none false taken none = refl
+
+-- a gate that was called before the cycle has taken nothing of it
+none_of : (d : Domain) (cycle : ℕ) → GateCountsCycles → 0 < d.cycle_time → (reserved t : ℕ) → cycle_of d t ≡ cycle → (o : Option KeptGate) →
+    ((k : KeptGate) → o ≡ Some k → IsKept d.cycle_time (cycle * d.cycle_time) k) → taken_at (gate_or d.cycle_time reserved o) t ≡ 0
+none_of d cycle counts some reserved t in_cycle None each = fresh_takes_none (same_interval (stream_list d.cycle_time reserved) 0 t) 0 refl
+none_of d cycle counts some reserved t in_cycle (Some k) each =
+    let is = each k refl in
+    let before : k.gate.last / d.cycle_time < cycle = cycle_below d.cycle_time k.gate.last cycle is.sooner in
+    let apart : same_interval k.gate.entries k.gate.last t ≡ false =
+    ap (λ es. same_interval es k.gate.last t) is.entries ∙ counts d.cycle_time k.reserved k.gate.last t some
+    ∙ ne_eqb (cycle_of d k.gate.last) (cycle_of d t) (λ e. omega (arith, before, e, in_cycle)) in
+    either (k.reserved == reserved) (ap (λ (b : Bool). if b then k.gate.taken else 0) apart)
+  where
+    either : (b : Bool) → taken_at k.gate t ≡ 0 → taken_at (if b then k.gate else fresh (stream_list d.cycle_time reserved)) t ≡ 0
+    either true e = e
+    either false e = fresh_takes_none (same_interval (stream_list d.cycle_time reserved) 0 t) 0 refl
+
+-- nor has the gate that a stream goes by
+none_taken_yet : (d : Domain) (cycle : ℕ) → GateCountsCycles → 0 < d.cycle_time → (gs : List KeptGate) → AreKept d.cycle_time (cycle * d.cycle_time) gs →
+    (row : Row) (t : ℕ) → cycle_of d t ≡ cycle → taken_in d.cycle_time gs row t ≡ 0
+none_taken_yet d cycle counts some gs held row t in_cycle =
+    none_of d cycle counts some row.octets t in_cycle (find (λ (k : KeptGate). k.number == row.no) gs)
+    (λ k e. held k (find_member (λ (g : KeptGate). g.number == row.no) gs k e).0)
+
+module _ (d : Domain) (rows : List Row) (bridge cycle : ℕ) (ports_before : List PortRecord) (drops_before : List Dropped) where
+  -- what becomes of a frame, behind those before it
+  abbrev policed_next : List Policed → Received → Policed
+  policed_next policed x = police d (replicate (cycle + 1) rows) bridge policed x
+
+  module _ (counts : GateCountsCycles) (some : 0 < d.cycle_time) (policed : List Policed) (x : Received) (gates : List KeptGate) (ports : List PortRecord) (drops : List Dropped)
+      (may : MayBeTaken d bridge cycle rows x) (kept : AreKept d.cycle_time (x.at + 1) gates)
+      (h : HasPoliced d rows bridge cycle ports_before drops_before policed gates ports drops) where
+    -- the gates let pass what the frames before leave room for
+    gates_agree : (row : Row) → Contains rows row → passes_by d.cycle_time gates x row ≡ within_gate d policed row x
+    gates_agree row held = λ i.
+        option_map_or (λ (entry : StreamEntry). within entry.octet_max (h.counted row held x.at may.in_cycle i + x.octets))
+        (slice_get (gate_entries d.cycle_time (x.at + 1) gates row.no row.octets kept i)
+        (place_at (gate_entries d.cycle_time (x.at + 1) gates row.no row.octets kept i) x.at)) false
+
+    -- so the verdict is the one of the definitions
+    pub same_verdict : verdict_of d rows bridge cycle gates x ≡ (policed_next policed x).verdict
+    same_verdict =
+        verdict_agrees d rows bridge cycle (passes_by d.cycle_time gates x) (λ row. within_gate d policed row x) gates_agree x.way
+        ∙ ap (λ (rs : List Row). verdict_by d rs bridge cycle (λ row. within_gate d policed row x) x.way) (sym (table_held cycle rows))
+        ∙ ap (λ (c : ℕ). verdict_by d (table_of (replicate (cycle + 1) rows) c) bridge c (λ row. within_gate d policed row x) x.way) (sym may.in_cycle)
+
+    module _ (gates_after : List KeptGate) (ports_after : List PortRecord) (drops_after : List Dropped)
+        (takes : TakesFrame d rows bridge cycle x gates gates_after ports ports_after drops drops_after) where
+      -- a frame more is policed
+      pub policed_more : HasPoliced d rows bridge cycle ports_before drops_before (policed ++ policed_next policed x ∷ []) gates_after ports_after drops_after
+      policed_more =
+          let v = verdict_of d rows bridge cycle gates x in
+          let p = policed_next policed x in
+          record {
+            counted = λ row held t in_cycle.
+                takes.counted row t held in_cycle
+                ∙ (λ i. h.counted row held t in_cycle i + (if is_queued_of row.no (same_verdict i) then x.octets else 0))
+                ∙ sym (calls_more d.cycle_time row.octets row.no t policed p
+                (counts d.cycle_time row.octets x.at t some ∙ eq-eqb (cycle_of d x.at) (cycle_of d t) (may.in_cycle ∙ sym in_cycle)));
+            queued =
+                takes.queued
+                ∙ (λ i. map (with_verdict d x (same_verdict i)) (h.queued i))
+                ∙ map-map (with_verdict d x p.verdict) (λ (r : PortRecord). with_frames r (queued_to d r.link policed)) ports_before
+                ∙ map_same (λ (r : PortRecord). with_verdict d x p.verdict (with_frames r (queued_to d r.link policed)))
+                (λ (r : PortRecord). with_frames r (queued_to d r.link (policed ++ p ∷ []))) ports_before
+                (λ r held. frames_more r (queued_to d r.link policed) (queued_by d r.link x p.verdict)
+                ∙ ap (with_frames r) (ap (λ (fs : List QueuedFrame). queued_to d r.link policed ++ fs) (sym (append-nil (queued_by d r.link x p.verdict)))
+                ∙ sym (flat_map-append (λ (q : Policed). queued_by d r.link q.received q.verdict) policed (p ∷ []))));
+            dropped =
+                takes.dropped
+                ∙ (λ i. h.dropped i ++ drop_by cycle bridge x (same_verdict i))
+                ∙ append_assoc drops_before (dropped_of cycle bridge policed) (drop_by cycle bridge x p.verdict)
+                ∙ ap (λ (xs : List Dropped). drops_before ++ xs)
+                (ap (λ (xs : List Dropped). dropped_of cycle bridge policed ++ xs) (sym (append-nil (drop_by cycle bridge x p.verdict)))
+                ∙ sym (flat_map-append (λ (q : Policed). drop_by cycle bridge q.received q.verdict) policed (p ∷ [])));
+            none_lost = λ q held. elim (Contains-append_cases policed (p ∷ []) q held) [
+              | inl old ↦ h.none_lost q old
+              | inr new ↦ subst (λ (y : Policed). ¬ IsLoss y.verdict) (contains_one p q new) (subst (λ (u : Verdict). ¬ IsLoss u) same_verdict takes.not_lost)
+            ];
+          }
+
+  -- at first none is
+  pub none_policed : (gates : List KeptGate) (ports : List PortRecord) (drops : List Dropped) → AreKept d.cycle_time (cycle * d.cycle_time) gates → ports ≡ ports_before → drops ≡ drops_before →
+      GateCountsCycles → 0 < d.cycle_time → HasPoliced d rows bridge cycle ports_before drops_before [] gates ports drops
+  none_policed gates ports drops kept same_ports same_drops counts some = record {
+    counted = λ row held t in_cycle. none_taken_yet d cycle counts some gates kept row t in_cycle;
+    queued = same_ports ∙ no_queue ports_before;
+    dropped = same_drops ∙ sym (append-nil drops_before);
+    none_lost = λ p held. absurd (contains_none p held);
+  }
+    where
+      no_queue : (rs : List PortRecord) → rs ≡ map (λ (r : PortRecord). with_frames r (queued_to d r.link [])) rs
+      no_queue [] = refl
+      no_queue (r ∷ rs) = λ i. sym (frames_none r) i ∷ no_queue rs i
+
+-- what is ready by an instant is so by a later one
+pub ready_later : (d : Domain) (cycle u v : ℕ) (gates : List KeptGate) (ports : List PortRecord) → u ≤ v → AreReady d cycle u gates ports → AreReady d cycle v gates ports
+ready_later d cycle u v gates ports le h = record {
+  gates_before = λ k held. let is = h.gates_before k held in record { entries = is.entries; sooner = omega (arith, is.sooner, le) };
+  ports_before = λ r held. let is = h.ports_before r held in record {
+    rules = is.rules;
+    reached = is.reached;
+    sooner = λ a inside high. omega (arith, is.sooner a inside high, le);
+  };
+}
+
+-- and it is so again behind a frame
+pub ready_again : (d : Domain) (rows : List Row) (bridge cycle : ℕ) (x : Received) (gates gates_after : List KeptGate) (ports ports_after : List PortRecord)
+    (drops drops_after : List Dropped) → AreReady d cycle (x.at + 1) gates ports →
+    TakesFrame d rows bridge cycle x gates gates_after ports ports_after drops drops_after → AreReady d cycle (x.at + 1) gates_after ports_after
+ready_again d rows bridge cycle x gates gates_after ports ports_after drops drops_after h takes = record {
+  gates_before = takes.kept;
+  ports_before = λ r held.
+      let v = verdict_of d rows bridge cycle gates x in
+      let f = contains_from_map (with_verdict d x v) ports r (subst (λ (rs : List PortRecord). Contains rs r) takes.queued held) in
+      let is = h.ports_before f.0 f.1 in
+      subst (IsWaiting d cycle (x.at + 1)) f.2
+      (record {
+        rules = is.rules;
+        reached = is.reached;
+        sooner = λ a inside high. elim (Contains-append_cases f.0.port.arrivals (arrivals_of (queued_by d f.0.link x v)) a inside) [
+          | inl old ↦ is.sooner a old high
+          | inr new ↦
+              let g = contains_from_map (λ (q : QueuedFrame). q.arrival) (queued_by d f.0.link x v) a new in
+              omega (arith, queued_when d f.0.link x v g.0 g.1, ap (λ (b : Arrival). b.at.0) g.2)
+        ];
+      });
+}
+
+-- the first frames of a cycle are taken
+pub record IsTaking (d : Domain) (rows : List Row) (bridge cycle : ℕ) (ports_before : List PortRecord) (drops_before : List Dropped) (frames : List Received)
+    (count : ℕ) (gates : List KeptGate) (ports : List PortRecord) (drops : List Dropped) : Type 0 where
+  pub ready : (t : ℕ) → cycle * d.cycle_time ≤ t → ((y : Received) → Contains (take count frames) y → y.at ≤ t) → AreReady d cycle (t + 1) gates ports
+  pub policed : HasPoliced d rows bridge cycle ports_before drops_before (policed_by d rows bridge cycle (take count frames)) gates ports drops
+
+module _ (d : Domain) (rows : List Row) (bridge cycle : ℕ) (ports_before : List PortRecord) (drops_before : List Dropped) (frames : List Received)
+    (counts : GateCountsCycles) (some : 0 < d.cycle_time) where
+  -- at first none is
+  pub taking_none : (gates : List KeptGate) → AreReady d cycle (cycle * d.cycle_time) gates ports_before →
+      IsTaking d rows bridge cycle ports_before drops_before frames 0 gates ports_before drops_before
+  taking_none gates h = record {
+    ready = λ t from each. ready_later d cycle (cycle * d.cycle_time) (t + 1) gates ports_before (omega (arith, from)) h;
+    policed = none_policed d rows bridge cycle ports_before drops_before gates ports_before drops_before h.gates_before refl refl counts some;
+  }
+
+  module _ (may : (x : Received) → Contains frames x → MayBeTaken d bridge cycle rows x) (count : ℕ) (gates : List KeptGate) (ports : List PortRecord) (drops : List Dropped)
+      (h : IsTaking d rows bridge cycle ports_before drops_before frames count gates ports drops) where
+    module _ (ordered : IsNonDecreasingBy (λ (x : Received). x.at) frames) (inside : count < length frames) (x : Received) (is : x ≡ get_or frames count x) where
+      pub among : Contains frames x
+      among = subst (Contains frames) (sym is) (Contains-get_or frames count x inside)
+
+      -- the next comes no sooner than those before it
+      pub next_ready : AreReady d cycle (x.at + 1) gates ports
+      next_ready = h.ready x.at
+          (omega (arith, ap (λ (c : ℕ). c * d.cycle_time) (may x among).in_cycle, cycle_from d.cycle_time x.at))
+          (λ y held.
+          let p = place_of_member (take count frames) y held in
+          let less : p.0 < count = omega (arith, slice_get_within (take count frames) p.0 y p.1, length-take-le count frames (omega (arith, inside))) in
+          let there : get_or frames p.0 x ≡ y = get_or_from_slice_get frames p.0 y x (sym (slice_get-take frames count p.0 less) ∙ p.1) in
+          omega (arith, ordered p.0 count x (omega (arith, less)) inside, ap (λ (z : Received). z.at) there, ap (λ (z : Received). z.at) is))
+
+      front_more : take (count + 1) frames ≡ take count frames ++ x ∷ []
+      front_more = take_more frames count x inside ∙ ap (λ (z : Received). take count frames ++ z ∷ []) (sym is)
+
+      abbrev done : List Policed
+      done = policed_by d rows bridge cycle (take count frames)
+
+      -- the next is taken
+      pub taking_more : (gates_after : List KeptGate) (ports_after : List PortRecord) (drops_after : List Dropped) →
+          TakesFrame d rows bridge cycle x gates gates_after ports ports_after drops drops_after →
+          IsTaking d rows bridge cycle ports_before drops_before frames (count + 1) gates_after ports_after drops_after
+      taking_more gates_after ports_after drops_after takes = record {
+        ready = λ t from each.
+            let upto : x.at ≤ t = each x (subst (λ (ys : List Received). Contains ys x) (sym front_more) (Contains-push (take count frames) x)) in
+            ready_later d cycle (x.at + 1) (t + 1) gates_after ports_after (omega (arith, upto))
+            (ready_again d rows bridge cycle x gates gates_after ports ports_after drops drops_after next_ready takes);
+        policed =
+            subst (λ (ps : List Policed). HasPoliced d rows bridge cycle ports_before drops_before ps gates_after ports_after drops_after)
+            (sym (ap (policed_by d rows bridge cycle) front_more ∙ police_more d (replicate (cycle + 1) rows) bridge [] (take count frames) (x ∷ [])))
+            (policed_more d rows bridge cycle ports_before drops_before counts some done x gates ports drops (may x among) next_ready.gates_before h.policed
+            gates_after ports_after drops_after takes);
+      }
+
+      -- or nothing more is
+      pub taking_stops : (why : BridgeFault) → IsStopBy (verdict_of d rows bridge cycle gates x) x.frame why → IsStopOf (policed_by d rows bridge cycle frames) why
+      taking_stops fault.Spent stops = stops
+      taking_stops fault.WrongCycle stops = stops
+      taking_stops fault.StrangeBatch stops = stops
+      taking_stops (fault.OverOctets over) stops =
+          let p = police d (replicate (cycle + 1) rows) bridge done x in
+          let rest = police_all d (replicate (cycle + 1) rows) bridge (done ++ p ∷ []) (drop (count + 1) frames) in
+          let parts : policed_by d rows bridge cycle frames ≡ done ++ p ∷ rest =
+          ap (policed_by d rows bridge cycle) (sym (take-append-drop count frames) ∙ ap (λ (ys : List Received). take count frames ++ ys)
+          (drop_more frames count x inside ∙ ap (λ (z : Received). z ∷ drop (count + 1) frames) (sym is)))
+          ∙ police_more d (replicate (cycle + 1) rows) bridge [] (take count frames) (x ∷ drop (count + 1) frames) in
+          record {
+            place = length done;
+            over = p;
+            there = ap (λ (ps : List Policed). slice_get ps (length done)) parts ∙ slice_get_behind done p rest (length done) refl;
+            exceeds =
+                sym (same_verdict d rows bridge cycle ports_before drops_before counts some done x gates ports drops (may x among) next_ready.gates_before h.policed)
+                ∙ stops.0;
+            is_frame = stops.1;
+            first = λ q held exceeds.
+                h.policed.none_lost q
+                (subst (λ (ps : List Policed). Contains ps q) (ap (take (length done)) parts ∙ take-append_seam done (p ∷ rest)) held)
+                (subst IsLoss (sym exceeds) tt);
+          }
+      taking_stops fault.Memory stops = stops
+
+    -- in the end all are
+    pub taking_all : length frames ≤ count →
+        HasPoliced d rows bridge cycle ports_before drops_before (policed_by d rows bridge cycle frames) gates ports drops
+    taking_all past =
+        subst (λ (ys : List Received). HasPoliced d rows bridge cycle ports_before drops_before (policed_by d rows bridge cycle ys) gates ports drops)
+        (take_all count frames past) h.policed
+
+    -- and the gates were called before the cycle's end
+    pub kept_behind : AreKept d.cycle_time ((cycle + 1) * d.cycle_time) gates
+    kept_behind =
+        let end = (cycle + 1) * d.cycle_time in
+        let last : (end - 1) + 1 ≡ end = omega (arith, some) in
+        subst (λ (n : ℕ). AreKept d.cycle_time n gates) last
+        (h.ready (end - 1) (omega (arith, some))
+        (λ y held.
+        let upto = cycle_upto d.cycle_time y.at some in
+        omega (arith, upto, some, ap (λ (c : ℕ). c * d.cycle_time) (may y (contains_from_take frames count y held)).in_cycle))).gates_before

@@ -1,0 +1,386 @@
+-- What becomes of a frame at a bridge, and what its stream's gate counts.
+use Rattle.std.proofs.Common.{◌≡◌, ◌≢◌, ◌+◌, ◌-◌, ◌*◌, ◌≤◌, ◌<◌, ◌%◌, ◌⊎◌, ℕ, suc, Bool, true, false, not, List, [], ◌∷◌, ◌++◌, ◌∙◌, inl, inr, sym, ap, refl, arith, length, map, find, nat_lt, mod-lt, Contains, Option, Some, None, subst, append-nil, append_assoc, drop, get_or, set, take}
+use Rattle.std.specs.Prelude.{◌==◌, AllPairs, if◌then◌else◌, nat_le, slice_get}
+use Rattle.std.specs.List.{list_any}
+use Rattle.std.specs.Option.{option_and_then, option_map_or}
+use Rattle.std.proofs.lemmas.Bool.{cases_eq, cases_lt, cond-false, cond-true, eq-eqb, le-ltb, lt-ltb, ne_eqb, true≢false}
+use Rattle.std.proofs.Math.Seq.{get_or-append_seam, set-append_seam}
+use Rattle.std.proofs.lemmas.List.{drop_more, length-map, length-take-le, map-append, take_more}
+use Rattle.cqf_lists.proofs.Members.{contains_here, find_member}
+use Rattle.cqf_lists.proofs.Pairs.{one_of_pairs}
+use Rattle.cqf_model.specs.declared.frames.Dropped.{Dropped}
+use Rattle.cqf_model.specs.declared.frames.Reason.{Reason}
+use Rattle.cqf_model.specs.declared.frames.Reason.TheVariants.{Octets}
+use Rattle.cqf_model.specs.declared.gates.StreamEntry.{StreamEntry}
+use Rattle.cqf_model.specs.declared.ports.Arrival.{Arrival}
+use Rattle.cqf_model.specs.declared.topology.Row.{Row}
+use Rattle.cqf_model.specs.Book.{drop_by}
+use Rattle.cqf_model.specs.Domain.{Domain, cycle_of}
+use Rattle.cqf_model.specs.Network.{IsLoss, QueuedFrame, queued_by, queued_frame, queued_to}
+use Rattle.cqf_model.specs.GateList.{IsOpen}
+use Rattle.cqf_model.specs.Port.{PortRules}
+use Rattle.cqf_model.specs.StreamGate.{gate_class, place_at, place_in, same_interval, stream_list, within}
+use Rattle.cqf_model.specs.Table.{goes_on, goes_to, row_named, row_of}
+use Rattle.cqf_model.specs.Traffic.{AtEdge as Offering, DroppedFor, ExceedsGate, LacksRow, Queued, Received, Relayed, Verdict, came_by, edge_verdict, inside_verdict, is_queued_of, verdict_by}
+use Rattle.cqf_units.specs.Timing.{cycle_at}
+use Rattle.cqf_gates.specs.StreamGate.{Gate, gate_after, lets_pass, octet_max_at, taken_at, taken_behind}
+use Rattle.cqf_gates.specs.declared.streams.Passed.TheVariants.{Class, OverOctets}
+use Rattle.cqf_laws_cycle.specs.Compiled.{GateCountsCycles, GateGivesClass, given_class}
+use Rattle.cqf_laws_pages.specs.PortCycle.{QueuedFramesWait}
+use Rattle.cqf_admission.specs.Tables.{AreInOrder}
+use Rattle.cqf_port.specs.PortState.{IsLate, IsOutOfOrder}
+use Rattle.cqf_bridge.specs.declared.gates.KeptGate.{KeptGate}
+use Rattle.cqf_bridge.specs.BridgeState.{end_of_cycle}
+use Rattle.cqf_bridge.specs.Gates.{AreKept, IsKept, gate_in, gate_or, with_gate}
+use Rattle.cqf_bridge.specs.PortRecord.{PortRecord, rules_on, with_frames}
+use Rattle.cqf_bridge.specs.Taking.{AreReady, CanRecord, IsWaiting, PassesOn, TakesFrame, passes_by, queue_on, taken_in, verdict_if, verdict_of, verdict_unless, with_verdict}
+use Rattle.cqf_bridge.proofs.KeptGates.{gate_beside, gate_put, kept_cases}
+use Rattle.cqf_bridge.proofs.Taking.{frames_none, not_out_of_order}
+
+-- what a gate's word tells of it
+pub word_class : (b : Bool) (k m : ℕ) → Class k ≡ (if b then Class m else OverOctets) → (b ≡ true) × (k ≡ m)
+word_class true k m said = (refl, cc)
+word_class false k m said = absurd cc
+
+-- and that it lets nothing pass
+pub word_over : (b : Bool) (m : ℕ) → OverOctets ≡ (if b then Class m else OverOctets) → b ≡ false
+word_over true m said = absurd cc
+word_over false m said = refl
+
+-- a gate of kept ones goes by its reservation's list
+kept_entries : (time until reserved : ℕ) (o : Option KeptGate) → ((k : KeptGate) → o ≡ Some k → IsKept time until k) →
+    (gate_or time reserved o).entries ≡ stream_list time reserved
+kept_entries time until reserved None each = refl
+kept_entries time until reserved (Some k) each = elim (cases_eq k.reserved reserved) [
+  | inl same ↦
+      ap (λ (b : Bool). (if b then k.gate else (gate_or time reserved None)).entries) (eq-eqb k.reserved reserved same)
+      ∙ (each k refl).entries ∙ ap (stream_list time) same
+  | inr other ↦ ap (λ (b : Bool). (if b then k.gate else (gate_or time reserved None)).entries) (ne_eqb k.reserved reserved other)
+]
+
+-- and was called before the instant
+kept_last : (time until reserved : ℕ) (o : Option KeptGate) → 0 < until → ((k : KeptGate) → o ≡ Some k → IsKept time until k) →
+    (gate_or time reserved o).last < until
+kept_last time until reserved None some each = some
+kept_last time until reserved (Some k) some each = elim (cases_eq k.reserved reserved) [
+  | inl same ↦
+      subst (λ (b : Bool). (if b then k.gate else (gate_or time reserved None)).last < until) (sym (eq-eqb k.reserved reserved same)) (each k refl).sooner
+  | inr other ↦
+      subst (λ (b : Bool). (if b then k.gate else (gate_or time reserved None)).last < until) (sym (ne_eqb k.reserved reserved other)) some
+]
+
+-- the gate that a stream goes by has the list of its reservation
+pub gate_entries : (time until : ℕ) (gates : List KeptGate) (number reserved : ℕ) → AreKept time until gates →
+    (gate_in time gates number reserved).entries ≡ stream_list time reserved
+gate_entries time until gates number reserved kept =
+    kept_entries time until reserved (find (λ (k : KeptGate). k.number == number) gates)
+    (λ k e. kept k (find_member (λ (g : KeptGate). g.number == number) gates k e).0)
+
+-- and was called before
+pub gate_last : (time until : ℕ) (gates : List KeptGate) (number reserved : ℕ) → 0 < until → AreKept time until gates →
+    (gate_in time gates number reserved).last < until
+gate_last time until gates number reserved some kept =
+    kept_last time until reserved (find (λ (k : KeptGate). k.number == number) gates) some
+    (λ k e. kept k (find_member (λ (g : KeptGate). g.number == number) gates k e).0)
+
+-- of two entries one is in force
+in_two : (n reserved offset : ℕ) → offset < n + n → (place_in (stream_list n reserved) offset ≡ 0) ⊎ (place_in (stream_list n reserved) offset ≡ 1)
+in_two n reserved offset inside = elim (cases_lt offset n) [
+  | inl first ↦ inl (cond-true (nat_lt offset n) 0 (suc (if nat_lt (offset - n) n then 0 else 1)) (lt-ltb offset n first))
+  | inr second ↦ inr (
+      cond-false (nat_lt offset n) 0 (suc (if nat_lt (offset - n) n then 0 else 1)) (le-ltb offset n second)
+      ∙ ap suc (cond-true (nat_lt (offset - n) n) 0 1 (lt-ltb (offset - n) n (omega (arith, inside, second))))
+      )
+]
+
+module _ (n reserved t : ℕ) (some : 0 < n) where
+  place_two : (place_at (stream_list n reserved) t ≡ 0) ⊎ (place_at (stream_list n reserved) t ≡ 1)
+  place_two = in_two n reserved (t % (0 + n + n)) (omega (arith, mod-lt t {m = 0 + n + n} (omega (arith, some))))
+
+  -- the octet maximum of a reservation's gate is the reservation
+  max_of_reservation : octet_max_at (stream_list n reserved) t ≡ Some reserved
+  max_of_reservation = at_place (place_at (stream_list n reserved) t) place_two
+    where
+      by_place : ℕ → Option ℕ
+      by_place place = option_and_then (λ (entry : StreamEntry). entry.octet_max) (slice_get (stream_list n reserved) place)
+
+      at_place : (place : ℕ) → (place ≡ 0) ⊎ (place ≡ 1) → by_place place ≡ Some reserved
+      at_place place e = elim e [ | inl z ↦ ap by_place z | inr o ↦ ap by_place o ]
+
+  -- what it lets pass is within the reservation
+  within_reservation : (sum : ℕ) →
+      option_map_or (λ (entry : StreamEntry). within entry.octet_max sum) (slice_get (stream_list n reserved) (place_at (stream_list n reserved) t)) false ≡ nat_le sum reserved
+  within_reservation sum = at_place (place_at (stream_list n reserved) t) place_two
+    where
+      by_place : ℕ → Bool
+      by_place place = option_map_or (λ (entry : StreamEntry). within entry.octet_max sum) (slice_get (stream_list n reserved) place) false
+
+      at_place : (place : ℕ) → (place ≡ 0) ⊎ (place ≡ 1) → by_place place ≡ nat_le sum reserved
+      at_place place e = elim e [ | inl z ↦ ap by_place z | inr o ↦ ap by_place o ]
+
+-- what is added by a test
+added_if : (b : Bool) (taken octets : ℕ) → (if b then taken + octets else taken) ≡ taken + (if b then octets else 0)
+added_if true taken octets = refl
+added_if false taken octets = omega arith
+
+-- a gate counts a frame that it lets pass
+gate_counts : GateCountsCycles → (n reserved s octets t : ℕ) (gate : Gate) → 0 < n → gate.entries ≡ stream_list n reserved → cycle_at n s ≡ cycle_at n t →
+    taken_at (gate_after gate s octets) t ≡ taken_at gate t + (if lets_pass gate s octets then octets else 0)
+gate_counts counts n reserved s octets t gate some entries same =
+    let here : same_interval gate.entries s t ≡ true =
+    ap (λ es. same_interval es s t) entries ∙ counts n reserved s t some ∙ eq-eqb (cycle_at n s) (cycle_at n t) same in
+    let most : octet_max_at gate.entries s ≡ Some reserved = ap (λ es. octet_max_at es s) entries ∙ max_of_reservation n reserved s some in
+    let before : taken_at gate s ≡ taken_at gate t =
+    ap (λ (b : Bool). if b then gate.taken else 0)
+    (ap (λ es. same_interval es gate.last s) entries ∙ counts n reserved gate.last s some
+    ∙ ap (λ (c : ℕ). cycle_at n gate.last == c) same
+    ∙ sym (ap (λ es. same_interval es gate.last t) entries ∙ counts n reserved gate.last t some)) in
+    let passes : lets_pass gate s octets ≡ nat_le (taken_at gate s + octets) reserved =
+    ap (λ es. option_map_or (λ (entry : StreamEntry). within entry.octet_max (taken_at gate s + octets)) (slice_get es (place_at es s)) false) entries
+    ∙ within_reservation n reserved s some (taken_at gate s + octets) in
+    ap (λ (b : Bool). if b then taken_behind (octet_max_at gate.entries s) (taken_at gate s) octets else 0) here
+    ∙ ap (λ (o : Option ℕ). taken_behind o (taken_at gate s) octets) most
+    ∙ added_if (nat_le (taken_at gate s + octets) reserved) (taken_at gate s) octets
+    ∙ (λ i. before i + (if sym passes i then octets else 0))
+
+module _ (d : Domain) (cycle : ℕ) (x : Received) (row : Row) (gates gates_after : List KeptGate) (some : 0 < d.cycle_time)
+    (kept : AreKept d.cycle_time (x.at + 1) gates) (here : cycle_of d x.at ≡ cycle)
+    (after : gates_after ≡ with_gate gates (record {
+      number = row.no;
+      reserved = row.octets;
+      gate = gate_after (gate_in d.cycle_time gates row.no row.octets) x.at x.octets;
+    })) where
+  abbrev time : ℕ
+  time = d.cycle_time
+
+  -- the gate of the row, before and behind the call
+  abbrev gate : Gate
+  gate = gate_in time gates row.no row.octets
+
+  abbrev put : KeptGate
+  put = record { number = row.no; reserved = row.octets; gate = gate_after gate x.at x.octets }
+
+  -- the gates are kept again
+  pub kept_again : AreKept time (x.at + 1) gates_after
+  kept_again k held = elim (kept_cases gates put k (subst (λ (gs : List KeptGate). Contains gs k) after held)) [
+    | inl old ↦ kept k old
+    | inr e ↦
+        subst (IsKept time (x.at + 1)) e
+        (record { entries = gate_entries time (x.at + 1) gates row.no row.octets kept; sooner = omega arith })
+  ]
+
+  -- the gate that a number and a reservation go by then
+  own_after : gate_in time gates_after row.no row.octets ≡ gate_after gate x.at x.octets
+  own_after =
+      ap (λ (gs : List KeptGate). gate_in time gs row.no row.octets) after
+      ∙ ap (gate_or time row.octets) (gate_put gates put)
+      ∙ cond-true (row.octets == row.octets) (gate_after gate x.at x.octets) (gate_or time row.octets None) (eq-eqb row.octets row.octets refl)
+
+  module _ (counts : GateCountsCycles) (went : Bool) (decided : went ≡ passes_by d.cycle_time gates x row) where
+    -- what the row's own gate has counted
+    own_counted : (t : ℕ) → cycle_of d t ≡ cycle →
+        taken_at (gate_in time gates_after row.no row.octets) t ≡ taken_at gate t + (if is_queued_of row.no (verdict_if went row) then x.octets else 0)
+    own_counted t in_cycle =
+        ap (λ (g : Gate). taken_at g t) own_after
+        ∙ gate_counts counts time row.octets x.at x.octets t gate some (gate_entries time (x.at + 1) gates row.no row.octets kept) (here ∙ sym in_cycle)
+        ∙ ap (λ (b : Bool). taken_at gate t + (if b then x.octets else 0)) (sym decided ∙ sym (own went))
+      where
+        own : (b : Bool) → is_queued_of row.no (verdict_if b row) ≡ b
+        own true = eq-eqb row.no row.no refl
+        own false = refl
+
+    -- and that of another number
+    other_counted : (other : Row) (t : ℕ) → row.no ≢ other.no →
+        taken_in time gates_after other t ≡ taken_in time gates other t + (if is_queued_of other.no (verdict_if went row) then x.octets else 0)
+    other_counted other t apart =
+        ap (λ (gs : List KeptGate). taken_in time gs other t) after
+        ∙ ap (λ o. taken_at (gate_or time other.octets o) t) (gate_beside gates put other.no apart)
+        ∙ plus_none (taken_in time gates other t)
+        ∙ ap (λ (b : Bool). taken_in time gates other t + (if b then x.octets else 0)) (sym (none went))
+      where
+        plus_none : (n : ℕ) → n ≡ n + 0
+        plus_none n = omega arith
+
+        none : (b : Bool) → is_queued_of other.no (verdict_if b row) ≡ false
+        none true = ne_eqb row.no other.no apart
+        none false = refl
+
+    -- so the frame went by its gate
+    pub went_by_gate : (ports ports_after : List PortRecord) → ports_after ≡ map (with_verdict d x (verdict_if went row)) ports →
+        PassesOn d cycle x row gates gates_after ports ports_after went
+    went_by_gate ports ports_after queued = record {
+      decided = decided;
+      counted = λ other t same in_cycle. elim (cases_eq row.no other.no) [
+        | inl e ↦
+            subst (λ (n : ℕ). taken_at (gate_in time gates_after n other.octets) t ≡ taken_at (gate_in time gates n other.octets) t + (if is_queued_of n (verdict_if went row) then x.octets else 0)) e
+            (subst (λ (r : ℕ). taken_at (gate_in time gates_after row.no r) t ≡ taken_at (gate_in time gates row.no r) t + (if is_queued_of row.no (verdict_if went row) then x.octets else 0)) (same e)
+            (own_counted t in_cycle))
+        | inr apart ↦ other_counted other t apart
+      ];
+      kept = kept_again;
+      queued = queued;
+    }
+
+-- nothing is queued
+pub none_queued : (d : Domain) (x : Received) (row : Row) (ports : List PortRecord) → ports ≡ map (with_verdict d x (verdict_if false row)) ports
+none_queued d x row [] = refl
+none_queued d x row (r ∷ ports) = λ i. sym (frames_none r) i ∷ none_queued d x row ports i
+
+-- the class that a stream's frame gets is 6 or 7
+pub class_of_stream : GateGivesClass → (time reserved t : ℕ) → 0 < time →
+    (gate_class (stream_list time reserved) t ≡ 6) ⊎ (gate_class (stream_list time reserved) t ≡ 7)
+class_of_stream gives time reserved t some = either (cycle_at time t % 2 == 0) (gives time reserved t some)
+  where
+    either : (b : Bool) → gate_class (stream_list time reserved) t ≡ (if b then 6 else 7) →
+        (gate_class (stream_list time reserved) t ≡ 6) ⊎ (gate_class (stream_list time reserved) t ≡ 7)
+    either true e = inl e
+    either false e = inr e
+
+module _ (d : Domain) (cycle : ℕ) (x : Received) (row : Row) (gates : List KeptGate) (ports : List PortRecord) (short : d.guard < d.cycle_time) (gives : GateGivesClass)
+    (wait : QueuedFramesWait) (here : cycle_of d x.at ≡ cycle) (ready : AreReady d cycle (x.at + 1) gates ports) (arrival : Arrival)
+    (is : arrival ≡ (queued_frame d x row).arrival) where
+  -- a frame that passed may be recorded at each port by whose link it goes on
+  pub may_record : (r : PortRecord) → Contains ports r → list_any (λ next. next == r.link) (goes_to row (came_by x.way)) ≡ true → CanRecord r.port arrival
+  may_record r held goes = (
+    λ late.
+    let waiting = ready.ports_before r held in
+    let frame = queued_frame d x row in
+    let queued : Contains (queued_to d r.link (record { received = x; verdict = Queued row } ∷ [])) frame =
+    subst (λ (fs : List QueuedFrame). Contains fs frame)
+    (sym (append-nil (queued_by d r.link x (Queued row)) ∙ cond-true (list_any (λ next. next == r.link) (goes_to row (came_by x.way))) (frame ∷ []) [] goes))
+    (contains_here frame []) in
+    let from : x.at ≤ late.instant = omega (arith, late.from_first, ap (λ (a : Arrival). a.at.0) is) in
+    let before : late.instant < (cycle_of d x.at + 1) * d.cycle_time =
+    omega (arith, late.before_last, waiting.reached, ap (λ (c : ℕ). (c + 1) * d.cycle_time) here) in
+    wait d r.link late.instant (record { received = x; verdict = Queued row } ∷ []) frame short queued from before
+    (subst (λ rules. IsOpen rules frame.arrival.class late.instant) (ap (λ (rules : PortRules). rules.entries) waiting.rules)
+    (subst (λ (a : Arrival). IsOpen r.port.rules.entries a.class late.instant) is late.is_open)),
+    not_out_of_order r.port arrival (λ b inside same.
+    let high : 6 ≤ b.class = (elim (class_of_stream gives d.cycle_time row.octets x.at (omega (arith, short))) [
+      | inl six ↦ omega (arith, same, ap (λ (a : Arrival). a.class) is, six)
+      | inr seven ↦ omega (arith, same, ap (λ (a : Arrival). a.class) is, seven)
+    ]) in
+    omega (arith, (ready.ports_before r held).sooner b inside high, ap (λ (a : Arrival). a.at.0) is)),
+  )
+
+-- rows of one number in a table are one row
+pub one_row : (rows : List Row) (a b : Row) → AreInOrder rows → Contains rows a → Contains rows b → a.no ≡ b.no → a ≡ b
+one_row rows a b order of_a of_b same =
+    one_of_pairs (λ (p q : Row). p.no < q.no) rows a b order.numbers of_a of_b (λ less. omega (arith, less, same)) (λ less. omega (arith, less, same))
+
+-- a reason drops a frame
+pub drop_not_lost : (v : Verdict) (reason : Reason) → v ≡ DroppedFor reason → ¬ IsLoss v
+drop_not_lost v reason is lost = subst IsLoss is lost
+
+module _ (d : Domain) (rows : List Row) (bridge cycle : ℕ) (x : Received) (gates gates_after : List KeptGate) (ports ports_after : List PortRecord)
+    (drops drops_after : List Dropped) where
+  -- a frame that is dropped whatever its gate has left
+  pub takes_dropped : (reason : Reason) → verdict_of d rows bridge cycle gates x ≡ DroppedFor reason → AreKept d.cycle_time (x.at + 1) gates →
+      gates_after ≡ gates → ports_after ≡ ports → drops_after ≡ drops ++ drop_by cycle bridge x (DroppedFor reason) →
+      TakesFrame d rows bridge cycle x gates gates_after ports ports_after drops drops_after
+  takes_dropped reason is kept same_gates same_ports more = record {
+    counted = λ row t held in_cycle.
+        ap (λ (gs : List KeptGate). taken_in d.cycle_time gs row t) same_gates
+        ∙ plus_none (taken_in d.cycle_time gates row t)
+        ∙ ap (λ (v : Verdict). taken_in d.cycle_time gates row t + (if is_queued_of row.no v then x.octets else 0)) (sym is);
+    kept = subst (AreKept d.cycle_time (x.at + 1)) (sym same_gates) kept;
+    queued = same_ports ∙ no_queue ports ∙ ap (λ (v : Verdict). map (with_verdict d x v) ports) (sym is);
+    dropped = more ∙ ap (λ (v : Verdict). drops ++ drop_by cycle bridge x v) (sym is);
+    not_lost = drop_not_lost (verdict_of d rows bridge cycle gates x) reason is;
+  }
+    where
+      plus_none : (n : ℕ) → n ≡ n + 0
+      plus_none n = omega arith
+
+      no_queue : (rs : List PortRecord) → rs ≡ map (with_verdict d x (DroppedFor reason)) rs
+      no_queue [] = refl
+      no_queue (r ∷ rs) = λ i. sym (frames_none r) i ∷ no_queue rs i
+
+  module _ (row : Row) (order : AreInOrder rows) (of_table : Contains rows row) where
+    -- reservations of rows of one number
+    same_octets : (other : Row) → Contains rows other → row.no ≡ other.no → row.octets ≡ other.octets
+    same_octets other held same = ap (λ (r : Row). r.octets) (one_row rows row other order of_table held same)
+
+    -- one that goes on
+    pub takes_queued : verdict_of d rows bridge cycle gates x ≡ Queued row → PassesOn d cycle x row gates gates_after ports ports_after true →
+        drops_after ≡ drops → TakesFrame d rows bridge cycle x gates gates_after ports ports_after drops drops_after
+    takes_queued is p same = record {
+      counted = λ other t held in_cycle.
+          p.counted other t (same_octets other held) in_cycle
+          ∙ ap (λ (v : Verdict). taken_in d.cycle_time gates other t + (if is_queued_of other.no v then x.octets else 0)) (sym is);
+      kept = p.kept;
+      queued = p.queued ∙ ap (λ (v : Verdict). map (with_verdict d x v) ports) (sym is);
+      dropped = same ∙ sym (append-nil drops) ∙ ap (λ (v : Verdict). drops ++ drop_by cycle bridge x v) (sym is);
+      not_lost = λ lost. subst IsLoss is lost;
+    }
+
+    -- one at the edge that exceeds its gate
+    pub takes_over : verdict_of d rows bridge cycle gates x ≡ DroppedFor Octets → PassesOn d cycle x row gates gates_after ports ports_after false →
+        drops_after ≡ drops ++ drop_by cycle bridge x (DroppedFor Octets) → TakesFrame d rows bridge cycle x gates gates_after ports ports_after drops drops_after
+    takes_over is p more = record {
+      counted = λ other t held in_cycle.
+          p.counted other t (same_octets other held) in_cycle
+          ∙ ap (λ (v : Verdict). taken_in d.cycle_time gates other t + (if is_queued_of other.no v then x.octets else 0)) (sym is);
+      kept = p.kept;
+      queued = p.queued ∙ sym (none_queued d x row ports) ∙ no_queue ports ∙ ap (λ (v : Verdict). map (with_verdict d x v) ports) (sym is);
+      dropped = more ∙ ap (λ (v : Verdict). drops ++ drop_by cycle bridge x v) (sym is);
+      not_lost = drop_not_lost (verdict_of d rows bridge cycle gates x) Octets is;
+    }
+      where
+        no_queue : (rs : List PortRecord) → rs ≡ map (with_verdict d x (DroppedFor Octets)) rs
+        no_queue [] = refl
+        no_queue (r ∷ rs) = λ i. sym (frames_none r) i ∷ no_queue rs i
+
+-- the verdict on an offer, by the row of its name
+pub verdict_at_edge : (d : Domain) (rows : List Row) (bridge cycle : ℕ) (gates : List KeptGate) (x : Received) (name : List ℕ) (found : Option Row) →
+    x.way ≡ Offering name → found ≡ row_named rows name →
+    verdict_of d rows bridge cycle gates x ≡ edge_verdict d bridge cycle (passes_by d.cycle_time gates x) found
+verdict_at_edge d rows bridge cycle gates x name found came is =
+    ap (verdict_by d rows bridge cycle (passes_by d.cycle_time gates x)) came
+    ∙ ap (edge_verdict d bridge cycle (passes_by d.cycle_time gates x)) (sym is)
+
+-- and on a frame that came by a link, of a row that leads on
+pub verdict_inside : (d : Domain) (rows : List Row) (bridge cycle : ℕ) (gates : List KeptGate) (x : Received) (link stream : ℕ) (row : Row) →
+    x.way ≡ Relayed link stream → Some row ≡ row_of rows stream → goes_on d row (Some link) bridge ≡ true →
+    verdict_of d rows bridge cycle gates x ≡ verdict_if (passes_by d.cycle_time gates x row) row
+verdict_inside d rows bridge cycle gates x link stream row came is goes =
+    let passes = passes_by d.cycle_time gates x in
+    let rest : Verdict = if not (passes row) then ExceedsGate else Queued row in
+    ap (verdict_by d rows bridge cycle passes) came
+    ∙ ap (inside_verdict d bridge link passes) (sym is)
+    ∙ ap (λ (b : Bool). if not b then LacksRow else rest) goes
+    ∙ turned (passes row)
+  where
+    turned : (b : Bool) → (if not b then ExceedsGate else Queued row) ≡ verdict_if b row
+    turned true = refl
+    turned false = refl
+
+-- one row is found
+pub one_found : (a b : Row) → Some a ≡ Some b → a ≡ b
+one_found a b e = cc
+
+module _ (f : PortRecord → PortRecord) (before now : List PortRecord) (count : ℕ) (inside : count < length before)
+    (h : now ≡ map f (take count before) ++ drop count before) where
+  done_len : length (map f (take count before)) ≡ count
+  done_len = length-map (take count before) f ∙ length-take-le count before (omega (arith, inside))
+
+  seam : (r : PortRecord) → now ≡ map f (take count before) ++ get_or before count r ∷ drop (count + 1) before
+  seam r = h ∙ ap (λ (xs : List PortRecord). map f (take count before) ++ xs) (drop_more before count r inside)
+
+  -- the next is as it was
+  pub next_is : (r : PortRecord) → get_or now count r ≡ get_or before count r
+  next_is r =
+      ap (λ (xs : List PortRecord). get_or xs count r) (seam r)
+      ∙ ap (λ (n : ℕ). get_or (map f (take count before) ++ get_or before count r ∷ drop (count + 1) before) n r) (sym done_len)
+      ∙ get_or-append_seam (map f (take count before)) (get_or before count r) (drop (count + 1) before) r
+
+  -- and is done
+  pub next_done : (r after : PortRecord) → r ≡ get_or now count r → after ≡ f r → set now count after ≡ map f (take (count + 1) before) ++ drop (count + 1) before
+  next_done r after is done =
+      ap (λ (xs : List PortRecord). set xs count after) (seam r)
+      ∙ ap (λ (n : ℕ). set (map f (take count before) ++ get_or before count r ∷ drop (count + 1) before) n after) (sym done_len)
+      ∙ set-append_seam (map f (take count before)) (get_or before count r) (drop (count + 1) before) after
+      ∙ ap (λ (y : PortRecord). map f (take count before) ++ y ∷ drop (count + 1) before) (done ∙ ap f (is ∙ next_is r))
+      ∙ sym (append_assoc (map f (take count before)) (f (get_or before count r) ∷ []) (drop (count + 1) before))
+      ∙ ap (λ (xs : List PortRecord). xs ++ drop (count + 1) before)
+      (sym (map-append f (take count before) (get_or before count r ∷ [])) ∙ ap (map f) (sym (take_more before count r inside)))

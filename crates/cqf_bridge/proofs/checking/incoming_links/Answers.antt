@@ -1,0 +1,18 @@
+use Rattle.std.proofs.Common.{◌∷◌, [], ◌<◌, arith, length, ap, List, ℕ}
+use Rattle.std.specs.Prelude.{if◌then◌else◌}
+use Rattle.cqf_model.specs.Domain.{enters}
+use Rattle.cqf_bridge.proofs.Coming.{picked_length}
+use Rattle.cqf_bridge.proofs.checking.incoming_links.Goals as goal
+
+pub push-requires : goal.push-requires
+push-requires c =
+    let few : length c.loop-link.links.items < 64 =
+    omega (
+      arith,
+      ap (λ (ls : List ℕ). length ls) c.loop-link.invariant,
+      picked_length (λ k. enters c.args.domain.now k c.args.number) c.loop-link.link,
+      c.loop-link-test.true,
+      c.links-link-end.ensures,
+      c.cycle_time-time.ensures.accepted.few_links,
+    ) in
+    (omega arith, few)

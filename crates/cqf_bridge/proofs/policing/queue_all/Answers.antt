@@ -1,0 +1,22 @@
+use Rattle.std.proofs.Common.{◌≡◌, ◌∙◌, ◌<◌, arith, get_or, length, subst, sym, Contains}
+use Rattle.std.proofs.lemmas.List.Elements.{Contains-get_or}
+use Rattle.cqf_bridge.specs.Taking.{queue_on}
+use Rattle.cqf_bridge.proofs.Verdicts.{next_done, next_is}
+use Rattle.cqf_bridge.proofs.policing.queue_all.Goals as goal
+
+pub queue_one-requires-clause-taken : goal.queue_one-requires-clause-taken
+queue_one-requires-clause-taken c =
+    let before = c.args.ports.now.items in
+    let r = c.index_mut.result.now in
+    let inside : c.loop-place.place < length before = omega (arith, c.loop-place-test.true, c.len-place-end.ensures) in
+    let same : r ≡ get_or before c.loop-place.place r =
+    c.index_mut.ensures.value
+    ∙ next_is (queue_on c.args.row.now c.args.way c.args.arrival) before c.loop-place.ports.items c.loop-place.place inside c.loop-place.invariant r in
+    c.requires.taken r (subst (Contains before) (sym same) (Contains-get_or before c.loop-place.place r inside))
+
+pub loop-place-preserved : goal.loop-place-preserved
+loop-place-preserved c =
+    let before = c.args.ports.now.items in
+    next_done (queue_on c.args.row.now c.args.way c.args.arrival) before c.loop-place.ports.items c.loop-place.place
+    (omega (arith, c.loop-place-test.true, c.len-place-end.ensures)) c.loop-place.invariant c.index_mut.result.now c.queue_one.new.port
+    c.index_mut.ensures.value c.in_ok-queue_one.ensures

@@ -1,0 +1,9 @@
+use Rattle.std.specs.Prelude.{map, take}
+use Rattle.cqf_bridge.specs.Taking.{received_as}
+use Rattle.cqf_bridge.proofs.TakenCycle.{IsTaking}
+use Rattle.cqf_bridge.proofs.receiving.take_all.Given as goal
+
+-- the frames so far are taken
+abbrev pub invariant-loop-frame : goal.invariant-loop-frame
+invariant-loop-frame l =
+    IsTaking l.domain l.table.rows l.number l.cycle.0 l.fn.ports.items l.fn.drops.items (map received_as l.frames) l.frame-index l.gates l.ports.items l.drops.items

@@ -1,0 +1,163 @@
+-- The receive phase of a cycle, step by step.
+use Rattle.std.specs.Prelude.{ℕ, ◌≡◌, ◌+◌, ◌*◌, ◌≤◌, ◌<◌, ◌++◌, ◌==◌, Bool, true, not, List, [], ◌∷◌, Contains, Option, Some, None, if◌then◌else◌, length, map, replicate}
+use Rattle.std.specs.List.{flat_map, list_any}
+use Rattle.cqf_model.specs.declared.frames.Dropped.{Dropped}
+use Rattle.cqf_model.specs.declared.frames.Offered.{Offered}
+use Rattle.cqf_model.specs.declared.frames.Reason.{Reason}
+use Rattle.cqf_model.specs.declared.frames.Reason.TheVariants.{Octets}
+use Rattle.cqf_model.specs.declared.frames.Sent.{Sent}
+use Rattle.cqf_model.specs.declared.ports.Arrival.{Arrival}
+use Rattle.cqf_model.specs.declared.topology.Row.{Row}
+use Rattle.cqf_model.specs.Book.{drop_by, drops_in}
+use Rattle.cqf_model.specs.Domain.{Domain, cycle_of}
+use Rattle.cqf_model.specs.Network.{IsLoss, queued_by, queued_to}
+use Rattle.cqf_model.specs.Run.{Run}
+use Rattle.cqf_model.specs.Table.{goes_on, goes_to, row_of}
+use Rattle.cqf_model.specs.Traffic.{AtEdge as Offering, DroppedFor, ExceedsGate, Policed, Queued, Received, Relayed, Verdict, Way, is_queued_of, offer_received, police_all, sent_received, verdict_by}
+use Rattle.cqf_laws_pages.specs.Gathered.{dropped_of}
+use Rattle.cqf_gates.specs.StreamGate.{lets_pass, taken_at}
+use Rattle.cqf_port.specs.PortState.{IsLate, IsOutOfOrder, PortState}
+use Rattle.cqf_bridge.specs.declared.faults.BridgeFault.{BridgeFault}
+use Rattle.cqf_bridge.specs.declared.faults.BridgeFault.TheVariants.{Spent, WrongCycle, StrangeBatch, OverOctets, Memory}
+use Rattle.cqf_bridge.specs.declared.gates.KeptGate.{KeptGate}
+use Rattle.cqf_bridge.specs.declared.gathering.Came.{Came}
+use Rattle.cqf_bridge.specs.declared.gathering.Came.TheVariants.{AtEdge, ByLink}
+use Rattle.cqf_bridge.specs.declared.gathering.Incoming.{Incoming}
+use Rattle.cqf_bridge.specs.Batch.{LinkBatch}
+use Rattle.cqf_bridge.specs.BridgeState.{end_of_cycle}
+use Rattle.cqf_bridge.specs.Gates.{AreKept, HasCounted, gate_in}
+use Rattle.cqf_bridge.specs.PortRecord.{PortRecord, rules_on, with_frames}
+use Rattle.cqf_bridge.specs.Receiving.{IsFirstOver, MayCome, port_queued, verdicts_in}
+
+-- a batch is of the cycle, and each of its frames may come by its link
+pub record IsBatchOf (d : Domain) (bridge cycle : ℕ) (rows : List Row) (batch : LinkBatch) : Type 0 where
+  pub of_cycle : batch.cycle ≡ cycle
+  pub frames : (sent : Sent) → Contains batch.frames sent → MayCome d bridge cycle rows batch.link sent
+
+-- a frame that comes to a bridge, as the definitions have it
+abbrev pub way_of : Came → Way
+way_of (ByLink link stream) = Relayed link stream
+way_of (AtEdge name) = Offering name
+
+abbrev pub received_as : Incoming → Received
+received_as x = record { at = x.at.0; octets = x.octets; frame = x.frame; way = way_of x.came }
+
+-- a batch is of a link of the domain, and its frames start early enough for sums with their instants
+pub record CanGather (d : Domain) (b : LinkBatch) : Type 0 where
+  pub inside : b.link < length d.links
+  pub early : (sent : Sent) → Contains b.frames sent → sent.start.0 < 1000001 * 10000000
+
+-- the frames of batches, batch by batch, and then the offers
+abbrev pub gathered_by : Domain → List LinkBatch → List Offered → List Received
+gathered_by d batches offers = flat_map (λ (b : LinkBatch). map (sent_received d b.link) b.frames) batches ++ map offer_received offers
+
+-- the arrival may be recorded at the port
+abbrev pub CanRecord : PortState → Arrival → Type 0
+CanRecord p arrival = (¬ IsLate p arrival) × (¬ IsOutOfOrder p arrival)
+
+-- a port with an arrival of a row's stream, where the stream goes on by its link
+abbrev pub queue_on : Row → Option ℕ → Arrival → PortRecord → PortRecord
+queue_on row way arrival r =
+    with_frames r (if list_any (λ next. next == r.link) (goes_to row way) then record { arrival = arrival; stream = Some row.no } ∷ [] else [])
+
+-- a port has run to the end of a cycle, and has streams' frames of before an instant
+pub record IsWaiting (d : Domain) (cycle until : ℕ) (r : PortRecord) : Type 0 where
+  pub rules : r.port.rules ≡ rules_on d r.link
+  pub reached : r.port.reached ≡ end_of_cycle d cycle
+  pub sooner : (a : Arrival) → Contains r.port.arrivals a → 6 ≤ a.class → a.at.0 < until
+
+-- so has each port, and each gate was called before it
+pub record AreReady (d : Domain) (cycle until : ℕ) (gates : List KeptGate) (ports : List PortRecord) : Type 0 where
+  pub gates_before : AreKept d.cycle_time until gates
+  pub ports_before : (r : PortRecord) → Contains ports r → IsWaiting d cycle until r
+
+-- whether the gate that a row's stream goes by lets a frame pass
+abbrev pub passes_by : ℕ → List KeptGate → Received → Row → Bool
+passes_by cycle_time gates x row = lets_pass (gate_in cycle_time gates row.no row.octets) x.at x.octets
+
+-- the verdict on a frame by the gates
+abbrev pub verdict_of : Domain → List Row → ℕ → ℕ → List KeptGate → Received → Verdict
+verdict_of d rows bridge cycle gates x = verdict_by d rows bridge cycle (passes_by d.cycle_time gates x) x.way
+
+-- a port with what is queued to it by a verdict
+abbrev pub with_verdict : Domain → Received → Verdict → PortRecord → PortRecord
+with_verdict d x verdict r = with_frames r (queued_by d r.link x verdict)
+
+-- what the gate of a row's stream has counted in the cycle
+abbrev pub taken_in : ℕ → List KeptGate → Row → ℕ → ℕ
+taken_in cycle_time gates row t = taken_at (gate_in cycle_time gates row.no row.octets) t
+
+-- the verdict on a frame that a row's gate has let pass, or not, where it came by a link
+abbrev pub verdict_if : Bool → Row → Verdict
+verdict_if went row = if went then Queued row else ExceedsGate
+
+-- a frame goes by the gate of a row's stream, and where it passes is queued to the ports by whose links the stream goes on
+pub record PassesOn (d : Domain) (cycle : ℕ) (x : Received) (row : Row) (gates gates_after : List KeptGate) (ports ports_after : List PortRecord)
+    (went : Bool) : Type 0 where
+  pub decided : went ≡ passes_by d.cycle_time gates x row
+  pub counted : (other : Row) (t : ℕ) → (row.no ≡ other.no → row.octets ≡ other.octets) → cycle_of d t ≡ cycle →
+      taken_in d.cycle_time gates_after other t
+      ≡ taken_in d.cycle_time gates other t + (if is_queued_of other.no (verdict_if went row) then x.octets else 0)
+  pub kept : AreKept d.cycle_time (x.at + 1) gates_after
+  pub queued : ports_after ≡ map (with_verdict d x (verdict_if went row)) ports
+
+-- the verdict on an offer that names a row's stream, by a reason that doesn't hang on its gate
+abbrev pub verdict_unless : Option Reason → Bool → Row → Verdict
+verdict_unless (Some reason) passes row = DroppedFor reason
+verdict_unless None passes row = if not passes then DroppedFor Octets else Queued row
+
+-- a frame comes in the cycle, and where it came by a link its stream goes on from the bridge
+pub record MayBeTaken (d : Domain) (bridge cycle : ℕ) (rows : List Row) (x : Received) : Type 0 where
+  pub in_cycle : cycle_of d x.at ≡ cycle
+  pub leads_on : (link stream : ℕ) → x.way ≡ Relayed link stream →
+      (row : Row) × (row_of rows stream ≡ Some row) × (goes_on d row (Some link) bridge ≡ true)
+
+-- a frame is taken: the gates have counted it where it went on, the ports have it, and it is among the drops where it is dropped
+pub record TakesFrame (d : Domain) (rows : List Row) (bridge cycle : ℕ) (x : Received) (gates gates_after : List KeptGate)
+    (ports ports_after : List PortRecord) (drops drops_after : List Dropped) : Type 0 where
+  pub counted : (row : Row) (t : ℕ) → Contains rows row → cycle_of d t ≡ cycle →
+      taken_in d.cycle_time gates_after row t
+      ≡ taken_in d.cycle_time gates row t + (if is_queued_of row.no (verdict_of d rows bridge cycle gates x) then x.octets else 0)
+  pub kept : AreKept d.cycle_time (x.at + 1) gates_after
+  pub queued : ports_after ≡ map (with_verdict d x (verdict_of d rows bridge cycle gates x)) ports
+  pub dropped : drops_after ≡ drops ++ drop_by cycle bridge x (verdict_of d rows bridge cycle gates x)
+  pub not_lost : ¬ IsLoss (verdict_of d rows bridge cycle gates x)
+
+-- why frames aren't taken any more: the verdict on one is that it exceeds its gate, or a growth was refused
+abbrev pub IsStopBy : Verdict → ℕ → BridgeFault → Type 0
+IsStopBy verdict frame Spent = ⊥
+IsStopBy verdict frame WrongCycle = ⊥
+IsStopBy verdict frame StrangeBatch = ⊥
+IsStopBy verdict frame (OverOctets over) = (verdict ≡ ExceedsGate) × (frame ≡ over)
+IsStopBy verdict frame Memory = Unit {0}
+
+-- what becomes of frames of a cycle at a bridge, by the rows of the cycle's table
+abbrev pub policed_by : Domain → List Row → ℕ → ℕ → List Received → List Policed
+policed_by d rows bridge cycle frames = police_all d (replicate (cycle + 1) rows) bridge [] frames
+
+-- the gates, the ports and the drops are what policing these frames of a cycle gives
+pub record HasPoliced (d : Domain) (rows : List Row) (bridge cycle : ℕ) (ports_before : List PortRecord) (drops_before : List Dropped)
+    (policed : List Policed) (gates : List KeptGate) (ports : List PortRecord) (drops : List Dropped) : Type 0 where
+  pub counted : (row : Row) → Contains rows row → HasCounted d.cycle_time cycle gates policed row
+  pub queued : ports ≡ map (λ (r : PortRecord). with_frames r (queued_to d r.link policed)) ports_before
+  pub dropped : drops ≡ drops_before ++ dropped_of cycle bridge policed
+  pub none_lost : (p : Policed) → Contains policed p → ¬ IsLoss p.verdict
+
+-- why the frames of a cycle aren't all taken: one is the first that exceeds its gate, or a growth was refused
+abbrev pub IsStopOf : List Policed → BridgeFault → Type 0
+IsStopOf policed Spent = ⊥
+IsStopOf policed WrongCycle = ⊥
+IsStopOf policed StrangeBatch = ⊥
+IsStopOf policed (OverOctets frame) = IsFirstOver policed frame
+IsStopOf policed Memory = Unit {0}
+
+-- all that comes in a cycle is taken: each port gets what goes on by its link, nothing is lost, and the drops come by frame
+pub record TakesCycle (run : Run) (bridge cycle : ℕ) (batches : List LinkBatch) (ports ports_after : List PortRecord) (drops : List Dropped) :
+    Type 0 where
+  pub queued : ports_after ≡ map (port_queued run (verdicts_in run bridge cycle batches)) ports
+  pub none_lost : (p : Policed) → Contains (verdicts_in run bridge cycle batches) p → ¬ IsLoss p.verdict
+  pub dropped : drops ≡ drops_in run.domain (length run.offers) (λ b. verdicts_in run b cycle batches) cycle bridge
+
+-- or it isn't
+abbrev pub stop_of_run : Run → ℕ → ℕ → List LinkBatch → BridgeFault → Type 0
+stop_of_run run bridge cycle batches fault = IsStopOf (verdicts_in run bridge cycle batches) fault

@@ -1,0 +1,173 @@
+//! Whether batches are those of a bridge in a cycle. It takes no memory.
+ghost use Rattle.std.specs.Prelude.{◌≡◌, ◌*◌, ◌<◌, ◌==◌, ◌&&◌, false, length, map, true};
+ghost use Rattle.std.specs.List.{list_any};
+ghost use Rattle.cqf_model.specs.Domain.{cycle_of, enters, leaves};
+ghost use Rattle.cqf_model.specs.Table.{goes_on, goes_to};
+ghost use Rattle.cqf_model.specs.Traffic.{whole_at};
+ghost use Rattle.cqf_bridge.specs.Batch.{LinkBatch};
+ghost use Rattle.cqf_bridge.specs.Receiving.{AreBatchesOf, MayCome, links_into};
+ghost use Rattle.cqf_bridge.specs.Taking.{IsBatchOf};
+
+use crate::Batch;
+use crate::sending::end_of;
+use arrayvec::ArrayVec;
+use cqf_admission::Table;
+use cqf_model::{Node, Row, Sent};
+use cqf_topology::Domain;
+use cqf_units::{Cycle, Nanos, Octets};
+
+/// Whether a frame that came that way goes on by a link, and the link leaves the bridge.
+fn leads_on_by(domain: &Domain, row: &Row, way: Option<u8>, bridge: u8, link: u8) -> bool
+    requires { link < length domain.now.links }
+    ensures { result ≡ (leaves domain.now link bridge && list_any (λ next. next == link) (goes_to row.now way)) }
+{
+    domain.link(link).from == bridge && row.goes_on_by(way, link)
+}
+
+/// Whether a frame that came that way goes on from the bridge.
+pub(crate) fn leads_on(domain: &Domain, row: &Row, way: Option<u8>, bridge: u8) -> bool
+    ensures { result ≡ goes_on domain.now row.now way bridge }
+{
+    for link in 0..domain.links() {
+        if leads_on_by(domain, row, way, bridge, link) {
+            return true;
+        }
+    }
+    false
+}
+
+/// The instant at which a frame that a link sent is whole in the next node.
+pub(crate) fn whole_in(domain: &Domain, link: u8, sent: Sent) -> Nanos
+    requires inside { link < length domain.now.links }
+    requires early { sent.start.0 < 1000001 * 10000000 }
+    ensures { result.0 ≡ whole_at domain.now link sent }
+{
+    let by = domain.link(link);
+    let end = cqf_units::end_of(sent.start, Octets(sent.octets), by.rate);
+    Nanos(end.0 + u64::from(by.delay))
+}
+
+/// Whether a frame that a link sent is whole in the next node within the cycle.
+fn is_whole_within(domain: &Domain, cycle: Cycle, link: u8, sent: Sent) -> bool
+    requires inside { link < length domain.now.links }
+    requires early { cycle.0 < 100000 }
+    ensures { result ≡ (cycle_of domain.now (whole_at domain.now link sent) == cycle.0) }
+{
+    if sent.start.0 >= end_of(domain, cycle).0 {
+        return false;
+    }
+    whole_in(domain, link, sent).0 / domain.cycle_time().0 == u64::from(cycle.0)
+}
+
+/// Whether a frame may come to a bridge by a link in a cycle.
+fn may_come(
+    domain: &Domain,
+    number: u8,
+    cycle: Cycle,
+    table: &Table,
+    link: u8,
+    sent: Sent,
+) -> bool
+    requires inside { link < length domain.now.links }
+    requires early { cycle.0 < 100000 }
+    ensures yes { result ≡ true → MayCome domain.now number cycle.0 table.now.rows link sent }
+    ensures no { result ≡ false → ¬ MayCome domain.now number cycle.0 table.now.rows link sent }
+{
+    match table.row_of(sent.stream) {
+        Some(row) => {
+            let goes = leads_on(domain, row, Some(link), number);
+            goes && is_whole_within(domain, cycle, link, sent)
+        }
+        None => false,
+    }
+}
+
+/// Whether a batch is of the cycle, and each of its frames may come by its link.
+fn is_batch_of(
+    domain: &Domain,
+    number: u8,
+    cycle: Cycle,
+    table: &Table,
+    batch: &Batch,
+) -> bool
+    requires inside { batch.now.link < length domain.now.links }
+    requires early { cycle.0 < 100000 }
+    ensures yes { result ≡ true → IsBatchOf domain.now number cycle.0 table.now.rows batch.now }
+    ensures no { result ≡ false → ¬ IsBatchOf domain.now number cycle.0 table.now.rows batch.now }
+{
+    if batch.cycle() != cycle {
+        return false;
+    }
+    for place in 0..batch.len() {
+        if !may_come(domain, number, cycle, table, batch.link(), batch.get(place)) {
+            return false;
+        }
+    }
+    true
+}
+
+/// Whether a link ends in a bridge.
+fn ends_in(domain: &Domain, link: u8, bridge: u8) -> bool
+    requires { link < length domain.now.links }
+    ensures { result ≡ enters domain.now link bridge }
+{
+    match domain.link(link).to {
+        Node::Bridge(other) => other == bridge,
+        Node::Station(_) => false,
+    }
+}
+
+/// The links that end in a bridge, by number.
+fn incoming_links(domain: &Domain, number: u8) -> ArrayVec<u8, 64>
+    ensures { result.items ≡ links_into domain.now number }
+{
+    let mut links = ArrayVec::new();
+    let _time = domain.cycle_time();
+    for link in 0..domain.links() {
+        if ends_in(domain, link, number) {
+            links.push(link);
+        }
+    }
+    links
+}
+
+/// Whether batches are of these links, one for each, in this order.
+fn are_of_links(batches: &[Batch], links: &[u8]) -> bool
+    ensures yes { result ≡ true → map (λ (b : LinkBatch). b.link) batches.now ≡ links.now }
+    ensures no { result ≡ false → ¬ (map (λ (b : LinkBatch). b.link) batches.now ≡ links.now) }
+{
+    if batches.len() != links.len() {
+        return false;
+    }
+    for (place, batch) in batches.iter().enumerate() {
+        if batch.link() != links[place] {
+            return false;
+        }
+    }
+    true
+}
+
+/// Whether batches are those of a bridge in a cycle: one for each link that ends in it, by number, each of the cycle and of
+/// frames that may come.
+pub(crate) fn are_batches(
+    domain: &Domain,
+    number: u8,
+    cycle: Cycle,
+    table: &Table,
+    batches: &[Batch],
+) -> bool
+    requires early { cycle.0 < 100000 }
+    ensures yes { result ≡ true → AreBatchesOf domain.now number cycle.0 table.now.rows batches.now }
+    ensures no { result ≡ false → ¬ AreBatchesOf domain.now number cycle.0 table.now.rows batches.now }
+{
+    let links = incoming_links(domain, number);
+    if !are_of_links(batches, links.as_slice()) {
+        return false;
+    }
+    for batch in batches {
+        if !is_batch_of(domain, number, cycle, table, batch) {
+            return false;
+        }
+    }
+    true
+}

@@ -1,0 +1,117 @@
+//! The stream gates of a bridge.
+ghost use Rattle.std.specs.Prelude.{◌≡◌, ◌≤◌, IfOk, OnErr, OnOk, Some, []};
+ghost use Rattle.cqf_gates.specs.StreamGate.{fresh, gate_after, verdict_on};
+ghost use Rattle.cqf_model.specs.StreamGate.{stream_list};
+ghost use Rattle.cqf_bridge.specs.Gates.{gate_in, gate_or, with_gate};
+
+use cqf_compile::gate_of;
+use cqf_gates::{Passed, StreamGate};
+use cqf_model::Row;
+use cqf_topology::Domain;
+use cqf_units::{Memory, Nanos, Octets};
+use indexmap::IndexSet;
+use std::alloc::Global;
+use std::marker::Model;
+
+/// The gate of a stream, with the stream's number and the reservation that the gate was made for.
+#[derive(Debug, Drop)]
+pub(crate) struct KeptGate {
+    pub(crate) number: u32,
+    pub(crate) reserved: u32,
+    pub(crate) gate: StreamGate,
+}
+
+impl KeptGate {
+    /// A gate of a row's stream that has seen no frame.
+    fn new(domain: &Domain, row: &Row) -> KeptGate
+        ensures { result ≡ record {
+          number = row.now.no;
+          reserved = row.now.octets;
+          gate = fresh (stream_list domain.now.cycle_time row.now.octets);
+        } }
+    {
+        KeptGate {
+            number: row.no,
+            reserved: row.octets,
+            gate: StreamGate::new(gate_of(domain, row)),
+        }
+    }
+
+    /// Passes a frame, or not. A gate of another reservation begins anew first.
+    fn pass(&mut self, domain: &Domain, row: &Row, at: Nanos, octets: Octets) -> Passed
+        requires { (gate_or domain.now.cycle_time row.now.octets (Some self.old)).last ≤ at.0 }
+        ensures verdict { result ≡ verdict_on (gate_or domain.now.cycle_time row.now.octets (Some self.old)) at.0 octets.0 }
+        ensures after { self.new ≡ record {
+          number = self.old.number;
+          reserved = row.now.octets;
+          gate = gate_after (gate_or domain.now.cycle_time row.now.octets (Some self.old)) at.0 octets.0;
+        } }
+    {
+        if self.reserved != row.octets {
+            self.reserved = row.octets;
+            self.gate = StreamGate::new(gate_of(domain, row));
+        }
+        self.gate.pass(at, octets)
+    }
+}
+
+/// The gates of the streams of which a bridge has seen frames: one for each number, looked up by it.
+#[derive(Debug, Drop)]
+pub(crate) struct StreamGates {
+    numbers: IndexSet<u32>,
+    kept: Vec<KeptGate>,
+}
+
+impl Model for StreamGates {
+    ghost use Rattle.std.specs.Prelude.{◌≡◌, List, map};
+    ghost use Rattle.cqf_bridge.specs.declared.gates.KeptGate.{KeptGate as Kept};
+
+    ghost Value = { List Kept };
+
+    ghost view = { λ g. g.kept.items };
+
+    ghost invariant = { λ g. g.numbers.keys ≡ map (λ (k : Kept). k.number) g.kept.items };
+}
+
+impl StreamGates {
+    /// No gates.
+    pub(crate) fn new(alloc: Global) -> StreamGates
+        ensures { result ≡ [] }
+    {
+        StreamGates {
+            numbers: IndexSet::new(alloc),
+            kept: Vec::new(alloc),
+        }
+    }
+
+    /// Passes a frame of a row's stream by the stream's gate, or not: by the gate that is kept for the number and the
+    /// reservation, else by one that has seen no frame, which is kept from then on.
+    pub(crate) fn pass(
+        &mut self,
+        domain: &Domain,
+        row: &Row,
+        at: Nanos,
+        octets: Octets,
+    ) -> Result<Passed, Memory>
+        requires { (gate_in domain.now.cycle_time self.old row.now.no row.now.octets).last ≤ at.0 }
+        ensures verdict { IfOk result (λ passed. passed ≡ verdict_on (gate_in domain.now.cycle_time self.old row.now.no row.now.octets) at.0 octets.0) }
+        ensures after { OnOk result (self.new ≡ with_gate self.old (record {
+          number = row.now.no;
+          reserved = row.now.octets;
+          gate = gate_after (gate_in domain.now.cycle_time self.old row.now.no row.now.octets) at.0 octets.0;
+        })) }
+    {
+        match self.numbers.get_index_of(&row.no) {
+            Some(place) => Ok(self.kept[place].pass(domain, row, at, octets)),
+            None => {
+                self.numbers.reserve(1)?;
+                self.kept.reserve(1)?;
+                let mut gate = KeptGate::new(domain, row);
+                let passed = gate.pass(domain, row, at, octets);
+                self.numbers.insert(row.no).unwrap();
+                self.kept.push(gate).unwrap();
+                Ok(passed)
+            }
+        }
+    }
+}

@@ -1,0 +1,106 @@
+//! What comes to a bridge in a cycle, in the order in which it is taken.
+ghost use Rattle.std.specs.Prelude.{◌≡◌, ◌*◌, ◌<◌, ◌++◌, IfOk, OnOk, Contains, length, map};
+ghost use Rattle.cqf_model.specs.declared.frames.Sent.{Sent as ASent};
+ghost use Rattle.cqf_model.specs.Traffic.{Received, offer_received, sent_received};
+ghost use Rattle.cqf_laws_pages.specs.Gathered.{IsInOrderOf};
+ghost use Rattle.cqf_bridge.specs.Batch.{LinkBatch};
+ghost use Rattle.cqf_bridge.specs.Taking.{CanGather, gathered_by, received_as};
+
+use crate::Batch;
+use crate::checking::whole_in;
+use cqf_model::Offered;
+use cqf_topology::Domain;
+use cqf_units::{Memory, Name, Nanos};
+use std::alloc::Global;
+
+/// How a frame came to a bridge.
+#[derive(Drop)]
+pub(crate) enum Came {
+    /// By the link of this number, with the number of its stream.
+    ByLink(u8, u32),
+    /// At the edge, with the name of the stream that it claims.
+    AtEdge(Name),
+}
+
+/// A frame that comes to a bridge: when it is whole there, its size, its number, and how it came.
+#[derive(Drop)]
+pub(crate) struct Incoming {
+    pub(crate) at: Nanos,
+    pub(crate) octets: u32,
+    pub(crate) frame: u32,
+    pub(crate) came: Came,
+}
+
+/// Adds the frames of a batch, in order of start.
+fn gather_batch(domain: &Domain, batch: &Batch, frames: &mut Vec<Incoming>) -> Result<(), Memory>
+    requires { CanGather domain.now batch.now }
+    ensures { OnOk result (map received_as frames.new.items
+        ≡ map received_as frames.old.items ++ map (sent_received domain.now batch.now.link) batch.now.frames) }
+{
+    for place in 0..batch.len() {
+        let sent = batch.get(place);
+        frames.push(Incoming {
+            at: whole_in(domain, batch.link(), sent),
+            octets: sent.octets,
+            frame: sent.frame,
+            came: Came::ByLink(batch.link(), sent.stream),
+        })?;
+    }
+    Ok(())
+}
+
+/// A frame that is offered at the edge.
+fn offered_frame(offered: &Offered) -> Incoming
+    ensures { received_as result ≡ offer_received offered.now }
+{
+    Incoming {
+        at: offered.offer.at,
+        octets: offered.offer.octets,
+        frame: offered.frame,
+        came: Came::AtEdge(offered.offer.stream.copied()),
+    }
+}
+
+/// Adds offers, as they are listed.
+fn gather_offers(offers: &[Offered], frames: &mut Vec<Incoming>) -> Result<(), Memory>
+    ensures { OnOk result (map received_as frames.new.items ≡ map received_as frames.old.items ++ map offer_received offers.now) }
+{
+    for offered in offers {
+        frames.push(offered_frame(offered))?;
+    }
+    Ok(())
+}
+
+/// The frames of batches, batch by batch, and then the offers.
+fn gathered(
+    alloc: Global,
+    domain: &Domain,
+    batches: &[Batch],
+    offers: &[Offered],
+) -> Result<Vec<Incoming>, Memory>
+    requires { (b : LinkBatch) → Contains batches.now b → CanGather domain.now b }
+    ensures { IfOk result (λ frames. map received_as frames.items ≡ gathered_by domain.now batches.now offers.now) }
+{
+    let mut frames = Vec::new(alloc);
+    for batch in batches {
+        gather_batch(domain, batch, &mut frames)?;
+    }
+    gather_offers(offers, &mut frames)?;
+    Ok(frames)
+}
+
+/// The frames of batches and the offers in the order in which a bridge takes them: by instant, then by batch and place, the
+/// offers last.
+pub(crate) fn in_order(
+    alloc: Global,
+    domain: &Domain,
+    batches: &[Batch],
+    offers: &[Offered],
+) -> Result<Vec<Incoming>, Memory>
+    requires { (b : LinkBatch) → Contains batches.now b → CanGather domain.now b }
+    ensures { IfOk result (λ frames. IsInOrderOf (λ (x : Received). x.at) (gathered_by domain.now batches.now offers.now) (map received_as frames.items)) }
+{
+    let mut frames = gathered(alloc, domain, batches, offers)?;
+    frames.sort_by_key(|frame| frame.at.0)?;
+    Ok(frames)
+}
