@@ -69,8 +69,8 @@ behind_others number (x ∷ gates) none =
     let rest = behind_others number gates (λ k held. none k (contains_later x gates k held)) in (
       cond-false (x.number == number) (Some x) (find (λ (g : KeptGate). g.number == number) gates) test ∙ rest.0,
       λ g e.
-      cond-false (x.number == g.number) (g ∷ gates) (x ∷ with_gate gates g) (ap (λ (n : ℕ). x.number == n) e ∙ test)
-      ∙ ap (λ (gs : List KeptGate). x ∷ gs) (rest.1 g e),
+          cond-false (x.number == g.number) (g ∷ gates) (x ∷ with_gate gates g) (ap (λ (n : ℕ). x.number == n) e ∙ test)
+          ∙ ap (λ (gs : List KeptGate). x ∷ gs) (rest.1 g e),
     )
 
 -- a number that isn't found among the numbers
@@ -111,7 +111,7 @@ gate_beside (x ∷ gates) g number apart = elim (cases_eq x.number g.number) [
 
 -- what is kept then was kept, or is the gate
 pub kept_cases : (gates : List KeptGate) (g k : KeptGate) → Contains (with_gate gates g) k → Contains gates k ⊎ (g ≡ k)
-kept_cases [] g k held = elim (contains_cases g [] k held) [ | inl e ↦ inr e | inr never ↦ absurd (contains_none k never) ]
+kept_cases [] g k held = elim (contains_cases g [] k held) [ inl e ↦ inr e | inr never ↦ absurd (contains_none k never) ]
 kept_cases (x ∷ gates) g k held = elim (cases_eq x.number g.number) [
   | inl same ↦
       elim (contains_cases g gates k (subst (λ (gs : List KeptGate). Contains gs k) (cond-true (x.number == g.number) (g ∷ gates) (x ∷ with_gate gates g) (eq-eqb x.number g.number same)) held)) [

@@ -5,6 +5,7 @@ mod Handing
 mod InOrder
 mod KeptGates
 mod MadeBatch
+mod Receives
 mod RunCycle
 mod Sends
 mod Taking

@@ -105,7 +105,7 @@ module _ (n reserved t : ℕ) (some : 0 < n) where
       by_place place = option_and_then (λ (entry : StreamEntry). entry.octet_max) (slice_get (stream_list n reserved) place)
 
       at_place : (place : ℕ) → (place ≡ 0) ⊎ (place ≡ 1) → by_place place ≡ Some reserved
-      at_place place e = elim e [ | inl z ↦ ap by_place z | inr o ↦ ap by_place o ]
+      at_place place e = elim e [ inl z ↦ ap by_place z | inr o ↦ ap by_place o ]
 
   -- what it lets pass is within the reservation
   within_reservation : (sum : ℕ) →
@@ -116,7 +116,7 @@ module _ (n reserved t : ℕ) (some : 0 < n) where
       by_place place = option_map_or (λ (entry : StreamEntry). within entry.octet_max sum) (slice_get (stream_list n reserved) place) false
 
       at_place : (place : ℕ) → (place ≡ 0) ⊎ (place ≡ 1) → by_place place ≡ nat_le sum reserved
-      at_place place e = elim e [ | inl z ↦ ap by_place z | inr o ↦ ap by_place o ]
+      at_place place e = elim e [ inl z ↦ ap by_place z | inr o ↦ ap by_place o ]
 
 -- what is added by a test
 added_if : (b : Bool) (taken octets : ℕ) → (if b then taken + octets else taken) ≡ taken + (if b then octets else 0)
@@ -243,24 +243,24 @@ module _ (d : Domain) (cycle : ℕ) (x : Received) (row : Row) (gates : List Kep
   pub may_record : (r : PortRecord) → Contains ports r → list_any (λ next. next == r.link) (goes_to row (came_by x.way)) ≡ true → CanRecord r.port arrival
   may_record r held goes = (
     λ late.
-    let waiting = ready.ports_before r held in
-    let frame = queued_frame d x row in
-    let queued : Contains (queued_to d r.link (record { received = x; verdict = Queued row } ∷ [])) frame =
-    subst (λ (fs : List QueuedFrame). Contains fs frame)
-    (sym (append-nil (queued_by d r.link x (Queued row)) ∙ cond-true (list_any (λ next. next == r.link) (goes_to row (came_by x.way))) (frame ∷ []) [] goes))
-    (contains_here frame []) in
-    let from : x.at ≤ late.instant = omega (arith, late.from_first, ap (λ (a : Arrival). a.at.0) is) in
-    let before : late.instant < (cycle_of d x.at + 1) * d.cycle_time =
-    omega (arith, late.before_last, waiting.reached, ap (λ (c : ℕ). (c + 1) * d.cycle_time) here) in
-    wait d r.link late.instant (record { received = x; verdict = Queued row } ∷ []) frame short queued from before
-    (subst (λ rules. IsOpen rules frame.arrival.class late.instant) (ap (λ (rules : PortRules). rules.entries) waiting.rules)
-    (subst (λ (a : Arrival). IsOpen r.port.rules.entries a.class late.instant) is late.is_open)),
+        let waiting = ready.ports_before r held in
+        let frame = queued_frame d x row in
+        let queued : Contains (queued_to d r.link (record { received = x; verdict = Queued row } ∷ [])) frame =
+        subst (λ (fs : List QueuedFrame). Contains fs frame)
+        (sym (append-nil (queued_by d r.link x (Queued row)) ∙ cond-true (list_any (λ next. next == r.link) (goes_to row (came_by x.way))) (frame ∷ []) [] goes))
+        (contains_here frame []) in
+        let from : x.at ≤ late.instant = omega (arith, late.from_first, ap (λ (a : Arrival). a.at.0) is) in
+        let before : late.instant < (cycle_of d x.at + 1) * d.cycle_time =
+        omega (arith, late.before_last, waiting.reached, ap (λ (c : ℕ). (c + 1) * d.cycle_time) here) in
+        wait d r.link late.instant (record { received = x; verdict = Queued row } ∷ []) frame short queued from before
+        (subst (λ rules. IsOpen rules frame.arrival.class late.instant) (ap (λ (rules : PortRules). rules.entries) waiting.rules)
+        (subst (λ (a : Arrival). IsOpen r.port.rules.entries a.class late.instant) is late.is_open)),
     not_out_of_order r.port arrival (λ b inside same.
-    let high : 6 ≤ b.class = (elim (class_of_stream gives d.cycle_time row.octets x.at (omega (arith, short))) [
-      | inl six ↦ omega (arith, same, ap (λ (a : Arrival). a.class) is, six)
-      | inr seven ↦ omega (arith, same, ap (λ (a : Arrival). a.class) is, seven)
-    ]) in
-    omega (arith, (ready.ports_before r held).sooner b inside high, ap (λ (a : Arrival). a.at.0) is)),
+        let high : 6 ≤ b.class = (elim (class_of_stream gives d.cycle_time row.octets x.at (omega (arith, short))) [
+          | inl six ↦ omega (arith, same, ap (λ (a : Arrival). a.class) is, six)
+          | inr seven ↦ omega (arith, same, ap (λ (a : Arrival). a.class) is, seven)
+        ]) in
+        omega (arith, (ready.ports_before r held).sooner b inside high, ap (λ (a : Arrival). a.at.0) is)),
   )
 
 -- rows of one number in a table are one row

@@ -1,5 +1,5 @@
 -- The receive phase of a cycle, step by step.
-use Rattle.std.specs.Prelude.{ℕ, ◌≡◌, ◌+◌, ◌*◌, ◌≤◌, ◌<◌, ◌++◌, ◌==◌, Bool, true, not, List, [], ◌∷◌, Contains, Option, Some, None, if◌then◌else◌, length, map, replicate}
+use Rattle.std.specs.Prelude.{ℕ, ◌≡◌, ◌+◌, ◌*◌, ◌≤◌, ◌<◌, ◌++◌, ◌==◌, Bool, false, true, not, List, [], ◌∷◌, Contains, Option, Some, None, if◌then◌else◌, length, map, replicate}
 use Rattle.std.specs.List.{flat_map, list_any}
 use Rattle.cqf_model.specs.declared.frames.Dropped.{Dropped}
 use Rattle.cqf_model.specs.declared.frames.Offered.{Offered}
@@ -24,7 +24,7 @@ use Rattle.cqf_bridge.specs.declared.gathering.Came.{Came}
 use Rattle.cqf_bridge.specs.declared.gathering.Came.TheVariants.{AtEdge, ByLink}
 use Rattle.cqf_bridge.specs.declared.gathering.Incoming.{Incoming}
 use Rattle.cqf_bridge.specs.Batch.{LinkBatch}
-use Rattle.cqf_bridge.specs.BridgeState.{end_of_cycle}
+use Rattle.cqf_bridge.specs.BridgeState.{BridgeState, IsBridge, end_of_cycle}
 use Rattle.cqf_bridge.specs.Gates.{AreKept, HasCounted, gate_in}
 use Rattle.cqf_bridge.specs.PortRecord.{PortRecord, rules_on, with_frames}
 use Rattle.cqf_bridge.specs.Receiving.{IsFirstOver, MayCome, port_queued, verdicts_in}
@@ -161,3 +161,8 @@ pub record TakesCycle (run : Run) (bridge cycle : ℕ) (batches : List LinkBatch
 -- or it isn't
 abbrev pub stop_of_run : Run → ℕ → ℕ → List LinkBatch → BridgeFault → Type 0
 stop_of_run run bridge cycle batches fault = IsStopOf (verdicts_in run bridge cycle batches) fault
+
+-- a bridge, with the gates that it keeps: where it isn't spent, each was last called before the cycle that is received next
+pub record HasGates (b : BridgeState) (gates : List KeptGate) : Type 0 where
+  pub bridge : IsBridge b
+  pub gates_kept : b.spent ≡ false → AreKept b.domain.cycle_time (b.received * b.domain.cycle_time) gates

@@ -1,13 +1,19 @@
 //! A bridge, which goes on cycle by cycle.
 ghost use Rattle.std.specs.Prelude.{◌≡◌, ◌+◌, ◌<◌, IfErr, IfOk, OnErr, OnOk, false, length};
+ghost use Rattle.cqf_model.specs.Run.{Run};
 ghost use Rattle.cqf_bridge.specs.BridgeState.{AreBackedOf, IsNextToSend, SendsCycle, new_bridge};
 ghost use Rattle.cqf_bridge.specs.Faults.{IsSendFault};
+ghost use Rattle.cqf_bridge.specs.Receiving.{CanReceive, IsReceiveFault, IsRunOf, ReceivesCycle};
 
+use crate::checking::are_batches;
+use crate::gates::StreamGates;
 use crate::outgoing::Outgoing;
+use crate::receiving::receive_frames;
 use crate::sending::send_ports;
 use crate::{Batch, BridgeFault};
+use cqf_admission::Table;
 use cqf_compile::Plan;
-use cqf_model::{Backed, Started};
+use cqf_model::{Backed, Dropped, Offered, Started};
 use cqf_topology::Domain;
 use cqf_units::{Cycle, Memory};
 use std::alloc::Global;
@@ -25,12 +31,15 @@ pub struct Bridge {
     spent: bool,
     /// By number of link.
     ports: Vec<Outgoing>,
+    /// The gates of the streams of which frames came, kept from cycle to cycle.
+    gates: StreamGates,
     /// The background frames that started in the cycle last sent.
     background: Vec<Started>,
 }
 
 impl Model for Bridge {
-    ghost use Rattle.cqf_bridge.specs.BridgeState.{BridgeState, IsBridge};
+    ghost use Rattle.cqf_bridge.specs.BridgeState.{BridgeState};
+    ghost use Rattle.cqf_bridge.specs.Taking.{HasGates};
 
     ghost Value = { BridgeState };
 
@@ -44,7 +53,7 @@ impl Model for Bridge {
       background = b.background.items;
     } };
 
-    ghost invariant = { λ b. IsBridge (record {
+    ghost invariant = { λ b. HasGates (record {
       domain = b.domain;
       number = b.number;
       sent = b.sent;
@@ -52,7 +61,7 @@ impl Model for Bridge {
       spent = b.spent;
       ports = b.ports.items;
       background = b.background.items;
-    }) };
+    }) b.gates };
 }
 
 /// The ports of the links that leave a bridge, by number of link.
@@ -81,6 +90,7 @@ impl Bridge {
             received: 0,
             spent: false,
             ports: ports_from(alloc, plan, number)?,
+            gates: StreamGates::new(alloc),
             background: Vec::new(alloc),
         })
     }
@@ -133,6 +143,64 @@ impl Bridge {
                 batches.truncate(kept);
                 self.spent = true;
                 Err(BridgeFault::Memory)
+            }
+        }
+    }
+
+    /// Receives a cycle, the one that was sent last: what the batches bring and what is offered is taken in order of instant,
+    /// the links' frames first, by number of link, then the offers. What goes on waits at the ports by whose links its stream
+    /// goes on, with the class that the stream's gate gives it (IEEE 802.1Q, Annex T). The drops come by frame. The batches are
+    /// one for each link that ends in the bridge, by number of link, and the table is the cycle's. That the offers are those at
+    /// the bridge in the cycle, by instant, then place, and that the cycle is below 100,000, is for the caller to see to.
+    ///
+    /// `Spent` on a spent bridge, else `WrongCycle` for a cycle that isn't the one sent and not yet received, or a table of
+    /// another cycle, else `StrangeBatch` for other batches, or for a frame that the table and its link exclude or that isn't
+    /// whole here within the cycle; then nothing is changed. `OverOctets` for the first frame that came by a link and exceeds
+    /// what its stream's gate has left, and `Memory` where a growth is refused: the bridge is spent.
+    pub fn receive(
+        &mut self,
+        alloc: Global,
+        cycle: Cycle,
+        table: &Table,
+        batches: &[Batch],
+        offers: &[Offered],
+    ) -> Result<Vec<Dropped>, BridgeFault>
+        requires early { cycle.0 < 100000 }
+        requires offers { (run : Run) × IsRunOf self.old.domain self.old.number cycle.0 table.now.rows offers.now run }
+        ensures next { OnOk result (CanReceive self.old cycle.0 (record { table_cycle = table.now.cycle; rows = table.now.rows; batches = batches.now })) }
+        ensures receives { IfOk result (λ drops. (run : Run) → IsRunOf self.old.domain self.old.number cycle.0 table.now.rows offers.now run →
+            ReceivesCycle run self.old self.new cycle.0 batches.now drops.items) }
+        ensures fault { IfErr result (λ fault. (run : Run) → IsRunOf self.old.domain self.old.number cycle.0 table.now.rows offers.now run →
+            IsReceiveFault run self.old self.new cycle.0 (record { table_cycle = table.now.cycle; rows = table.now.rows; batches = batches.now }) fault) }
+    {
+        if self.spent {
+            return Err(BridgeFault::Spent);
+        }
+        if cycle.0 != self.received || self.sent == self.received || table.cycle().0 != cycle.0 {
+            return Err(BridgeFault::WrongCycle);
+        }
+        if !are_batches(&self.domain, self.number, cycle, table, batches) {
+            return Err(BridgeFault::StrangeBatch);
+        }
+        let received = receive_frames(
+            alloc,
+            &self.domain,
+            self.number,
+            cycle,
+            table,
+            batches,
+            offers,
+            &mut self.gates,
+            &mut self.ports,
+        );
+        match received {
+            Ok(drops) => {
+                self.received += 1;
+                Ok(drops)
+            }
+            Err(fault) => {
+                self.spent = true;
+                Err(fault)
             }
         }
     }

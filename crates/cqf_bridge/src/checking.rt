@@ -60,14 +60,7 @@ fn is_whole_within(domain: &Domain, cycle: Cycle, link: u8, sent: Sent) -> bool
 }
 
 /// Whether a frame may come to a bridge by a link in a cycle.
-fn may_come(
-    domain: &Domain,
-    number: u8,
-    cycle: Cycle,
-    table: &Table,
-    link: u8,
-    sent: Sent,
-) -> bool
+fn may_come(domain: &Domain, number: u8, cycle: Cycle, table: &Table, link: u8, sent: Sent) -> bool
     requires inside { link < length domain.now.links }
     requires early { cycle.0 < 100000 }
     ensures yes { result ≡ true → MayCome domain.now number cycle.0 table.now.rows link sent }
@@ -83,13 +76,7 @@ fn may_come(
 }
 
 /// Whether a batch is of the cycle, and each of its frames may come by its link.
-fn is_batch_of(
-    domain: &Domain,
-    number: u8,
-    cycle: Cycle,
-    table: &Table,
-    batch: &Batch,
-) -> bool
+fn is_batch_of(domain: &Domain, number: u8, cycle: Cycle, table: &Table, batch: &Batch) -> bool
     requires inside { batch.now.link < length domain.now.links }
     requires early { cycle.0 < 100000 }
     ensures yes { result ≡ true → IsBatchOf domain.now number cycle.0 table.now.rows batch.now }

@@ -43,9 +43,7 @@ fn take_all(
     gate_counts_cycles();
     let _time = domain.cycle_time();
     for frame in frames {
-        match take_frame(
-            domain, number, cycle, table, frame, gates, ports, drops,
-        ) {
+        match take_frame(domain, number, cycle, table, frame, gates, ports, drops) {
             Ok(()) => {}
             Err(fault) => return Err(fault),
         }

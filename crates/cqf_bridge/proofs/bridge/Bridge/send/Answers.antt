@@ -12,7 +12,7 @@ send_ports-sent-requires-clause-in_step c =
     let frames : AreBackedOf b.domain b.number c.args.cycle.0 c.args.background.now =
     subst (λ (x : BridgeState). AreBackedOf x.domain x.number c.args.cycle.0 c.args.background.now) (sym c.self.view_is) c.requires.frames in
     let next : IsNextToSend b c.args.cycle.0 = (c.if-cycle-self.false, c.if-self-2.false) in
-    ready_to_send b c.self.invariant c.if-self.false c.args.cycle.0 next c.args.background.now frames
+    ready_to_send b c.self.invariant.bridge c.if-self.false c.args.cycle.0 next c.args.background.now frames
 
 pub invariant_of-self : goal.invariant_of-self
 invariant_of-self c =
@@ -25,7 +25,10 @@ invariant_of-self c =
     c.args.batches.now.items c.send_ports-sent.new.batches.items [] c.send_ports-sent.new.started.items =
     subst (λ (xs : List Started). FirstSend b.domain c.args.cycle.0 c.args.background.now (length b.ports) b.ports c.send_ports-sent.new.ports.items
     c.args.batches.now.items c.send_ports-sent.new.batches.items xs c.send_ports-sent.new.started.items) c.new-started.ensures.items c.in-Ok.ensures.sends in
-    bridge_behind b c.self.invariant c.if-self.false c.args.cycle.0 next c.args.background.now frames _ _ _ _ sends
+    record {
+      bridge = bridge_behind b c.self.invariant.bridge c.if-self.false c.args.cycle.0 next c.args.background.now frames _ _ _ _ sends;
+      gates_kept = c.self.invariant.gates_kept;
+    }
 
 pub returns-in-Ok-clause-sends : goal.returns-in-Ok-clause-sends
 returns-in-Ok-clause-sends c =
@@ -40,4 +43,4 @@ returns-in-Ok-clause-sends c =
     c.args.batches.now.items c.send_ports-sent.new.batches.items xs c.send_ports-sent.new.started.items) c.new-started.ensures.items c.in-Ok.ensures.sends in
     let after : BridgeState = record b { sent = b.sent + 1; ports = c.send_ports-sent.new.ports.items; background = c.send_ports-sent.new.started.items } in
     subst (λ (x : BridgeState). SendsCycle x after c.args.cycle.0 c.args.background.now c.args.batches.now.items c.send_ports-sent.new.batches.items) c.self.view_is
-    (cycle_sent b c.self.invariant c.if-self.false c.args.cycle.0 next c.args.background.now frames _ _ _ _ sends)
+    (cycle_sent b c.self.invariant.bridge c.if-self.false c.args.cycle.0 next c.args.background.now frames _ _ _ _ sends)

@@ -1,0 +1,155 @@
+-- A bridge that receives a cycle.
+use Rattle.std.proofs.Common.{◌≡◌, ◌≢◌, ◌+◌, ◌*◌, ◌≤◌, ◌<◌, ℕ, Bool, true, false, List, [], ◌∷◌, ◌++◌, ◌∙◌, ◌⊎◌, inl, inr, sym, ap, refl, arith, length, map, flat_map, Contains, subst}
+use Rattle.std.proofs.lemmas.Bool.{true≢false}
+use Rattle.std.proofs.lemmas.List.Elements.{Contains-append_cases}
+use Rattle.std.proofs.lemmas.Simd.{map-map}
+use Rattle.cqf_lists.proofs.EachBelow.{contains_from_below}
+use Rattle.cqf_lists.proofs.Made.{map_same}
+use Rattle.cqf_lists.proofs.Members.{contains_from_flat, contains_from_map, contains_none}
+use Rattle.cqf_model.specs.declared.frames.Dropped.{Dropped}
+use Rattle.cqf_model.specs.declared.frames.Offered.{Offered}
+use Rattle.cqf_model.specs.declared.frames.Started.{Started}
+use Rattle.cqf_model.specs.declared.ports.Arrival.{Arrival}
+use Rattle.cqf_model.specs.declared.topology.Row.{Row}
+use Rattle.cqf_model.specs.Domain.{Domain}
+use Rattle.cqf_model.specs.Network.{QueuedFrame, arrivals_of, queued_by, queued_to}
+use Rattle.cqf_model.specs.Run.{Run}
+use Rattle.cqf_model.specs.Traffic.{Policed, received_at}
+use Rattle.cqf_model.proofs.Coming.{queued_when, received_when}
+use Rattle.cqf_model.proofs.Policing.{police_member}
+use Rattle.cqf_laws_pages.specs.BridgeCycle.{received_in}
+use Rattle.cqf_bridge.specs.declared.faults.BridgeFault.{BridgeFault}
+use Rattle.cqf_bridge.specs.declared.faults.BridgeFault.TheVariants as fault
+use Rattle.cqf_bridge.specs.declared.gates.KeptGate.{KeptGate}
+use Rattle.cqf_bridge.specs.Batch.{LinkBatch}
+use Rattle.cqf_bridge.specs.BridgeState.{BridgeState, IsBridge, IsInStep, IsSpentBy}
+use Rattle.cqf_bridge.specs.Gates.{AreKept}
+use Rattle.cqf_bridge.specs.PortRecord.{PortRecord}
+use Rattle.cqf_bridge.specs.Receiving.{AreBatchesOf, CanReceive, Handed, IsNextToReceive, IsReceiveFault, IsRunOf, ReceivesCycle, carried_by, port_queued, verdicts_in}
+use Rattle.cqf_bridge.specs.Taking.{AreReady, HasGates, IsStopOf, TakesCycle, stop_of_run}
+use Rattle.cqf_bridge.proofs.Bridges.{bridge_spent}
+
+-- what is queued in a cycle comes before its end
+queued_early : (run : Run) (bridge cycle : ℕ) (batches : List LinkBatch) (l : ℕ) (a : Arrival) →
+    Contains (arrivals_of (queued_to run.domain l (verdicts_in run bridge cycle batches))) a → a.at.0 < (cycle + 1) * run.domain.cycle_time
+queued_early run bridge cycle batches l a held =
+    let d = run.domain in
+    let policed = verdicts_in run bridge cycle batches in
+    let f = contains_from_map (λ (q : QueuedFrame). q.arrival) (queued_to d l policed) a held in
+    let g = contains_from_flat (λ (p : Policed). queued_by d l p.received p.verdict) policed f.0 f.1 in
+    let m = police_member d run.tables bridge [] (received_in run (carried_by batches) bridge cycle) g.0 g.1 in
+    let o = contains_from_below (λ offset. received_at run (carried_by batches) bridge (cycle * d.cycle_time + offset)) d.cycle_time g.0.received m in
+    omega (
+      arith,
+      received_when run (carried_by batches) bridge (cycle * d.cycle_time + o.0) g.0.received o.2,
+      o.1,
+      queued_when d l g.0.received g.0.verdict f.0 g.2,
+      ap (λ (b : Arrival). b.at.0) f.2,
+    )
+
+-- the cycle is the next to be received
+pub next_to_receive : (b : BridgeState) (cycle table_cycle : ℕ) → IsBridge b → cycle ≡ b.received → b.sent ≢ b.received → table_cycle ≡ cycle →
+    IsNextToReceive b cycle table_cycle
+next_to_receive b cycle table_cycle is first sent_more same =
+    (first, (elim is.turn [ inl none ↦ absurd (sent_more none) | inr one ↦ one ]), same)
+
+module _ (b : BridgeState) (gates : List KeptGate) (is : HasGates b gates) (fresh : b.spent ≡ false) (cycle table_cycle : ℕ)
+    (next : IsNextToReceive b cycle table_cycle) where
+  -- it is ready to receive the cycle
+  pub ready_to_receive : AreReady b.domain cycle (cycle * b.domain.cycle_time) gates b.ports
+  ready_to_receive = record {
+    gates_before = subst (λ (n : ℕ). AreKept b.domain.cycle_time (n * b.domain.cycle_time) gates) (sym next.0) (is.gates_kept fresh);
+    ports_before = λ r held.
+        let step = is.bridge.in_step fresh r held in
+        record {
+          rules = step.rules;
+          reached = step.reached ∙ ap (λ (n : ℕ). n * b.domain.cycle_time) (next.1 ∙ ap (λ (n : ℕ). n + 1) (sym next.0));
+          sooner = λ a inside high. omega (arith, step.of_streams a inside high, ap (λ (n : ℕ). n * b.domain.cycle_time) next.0);
+        };
+  }
+
+  module _ (rows : List Row) (offers : List Offered) (batches : List LinkBatch) (gates_after : List KeptGate) (ports : List PortRecord) (drops : List Dropped)
+      (kept : AreKept b.domain.cycle_time ((cycle + 1) * b.domain.cycle_time) gates_after) where
+    abbrev behind : BridgeState
+    behind = record {
+      domain = b.domain;
+      number = b.number;
+      sent = b.sent;
+      received = b.received + 1;
+      spent = b.spent;
+      ports = ports;
+      background = b.background;
+    }
+
+    module _ (run : Run) (of_run : IsRunOf b.domain b.number cycle rows offers run) (takes : TakesCycle run b.number cycle batches b.ports ports drops) where
+      -- a port with what was queued to it is in step
+      port_in_step : (r : PortRecord) → Contains b.ports r → IsInStep b.domain b.sent (b.received + 1) (port_queued run (verdicts_in run b.number cycle batches) r)
+      port_in_step r held =
+          let step = is.bridge.in_step fresh r held in
+          let time = b.domain.cycle_time in
+          let early : (a : Arrival) → Contains (arrivals_of (queued_to run.domain r.link (verdicts_in run b.number cycle batches))) a → a.at.0 < (b.received + 1) * time =
+          λ a new. omega (
+            arith,
+            queued_early run b.number cycle batches r.link a new,
+            ap (λ (x : Domain). (cycle + 1) * x.cycle_time) of_run.domain,
+            ap (λ (n : ℕ). (n + 1) * time) next.0,
+          ) in
+          record {
+            rules = step.rules;
+            reached = step.reached;
+            background = λ a inside low. elim (Contains-append_cases r.port.arrivals (arrivals_of (queued_to run.domain r.link (verdicts_in run b.number cycle batches))) a inside) [
+              | inl old ↦ step.background a old low
+              | inr new ↦ omega (arith, early a new, ap (λ (n : ℕ). n * time) next.1)
+            ];
+            of_streams = λ a inside high. elim (Contains-append_cases r.port.arrivals (arrivals_of (queued_to run.domain r.link (verdicts_in run b.number cycle batches))) a inside) [
+              | inl old ↦ omega (arith, step.of_streams a old high)
+              | inr new ↦ early a new
+            ];
+          }
+
+      -- the bridge is one again
+      pub bridge_received : HasGates behind gates_after
+      bridge_received = record {
+        bridge = record {
+          accepted = is.bridge.accepted;
+          inside = is.bridge.inside;
+          turn = inl next.1;
+          links = λ _.
+              ap (map (λ (r : PortRecord). r.link)) takes.queued
+              ∙ map-map (λ (r : PortRecord). r.link) (port_queued run (verdicts_in run b.number cycle batches)) b.ports
+              ∙ is.bridge.links fresh;
+          in_step = λ _ r held.
+              let f = contains_from_map (port_queued run (verdicts_in run b.number cycle batches)) b.ports r (subst (λ (rs : List PortRecord). Contains rs r) takes.queued held) in
+              subst (IsInStep b.domain b.sent (b.received + 1)) f.2 (port_in_step f.0 f.1);
+        };
+        gates_kept = λ _. subst (λ (n : ℕ). AreKept b.domain.cycle_time ((n + 1) * b.domain.cycle_time) gates_after) next.0 kept;
+      }
+
+      -- and has received the cycle
+      pub cycle_received : ReceivesCycle run b behind cycle batches drops
+      cycle_received = record {
+        bridge = λ i. record {
+          domain = b.domain;
+          number = b.number;
+          sent = b.sent;
+          received = b.received + 1;
+          spent = fresh i;
+          ports = takes.queued i;
+          background = b.background;
+        };
+        none_lost = takes.none_lost;
+        drops = takes.dropped;
+      }
+
+-- a spent bridge keeps what gates it will
+pub gates_spent : (b : BridgeState) (gates gates_after : List KeptGate) (ports : List PortRecord) → HasGates b gates → HasGates (record b { spent = true; ports = ports }) gates_after
+gates_spent b gates gates_after ports is = record { bridge = bridge_spent b ports is.bridge; gates_kept = λ never. absurd (true≢false never) }
+
+-- why a bridge stops
+pub stop_is_fault : (run : Run) (before after : BridgeState) (cycle : ℕ) (handed : Handed) (why : BridgeFault) → CanReceive before cycle handed →
+    IsSpentBy before after → stop_of_run run before.number cycle handed.batches why → IsReceiveFault run before after cycle handed why
+stop_is_fault run before after cycle handed fault.Spent can spent stop = absurd stop
+stop_is_fault run before after cycle handed fault.WrongCycle can spent stop = absurd stop
+stop_is_fault run before after cycle handed fault.StrangeBatch can spent stop = absurd stop
+stop_is_fault run before after cycle handed (fault.OverOctets frame) can spent stop = (can, stop, spent)
+stop_is_fault run before after cycle handed fault.Memory can spent stop = (can, spent)
