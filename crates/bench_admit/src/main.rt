@@ -105,20 +105,42 @@ fn rounds<R: Env + AllocGlobal>(rt: &R) -> io::Result<u32> {
     Ok(2)
 }
 
-fn main(rt: HostRuntime) -> io::Result<()> {
-    let alloc = rt.alloc();
-    let rounds = rounds(&rt)?;
-    let text = domain_text(alloc)?;
-    let Ok(domain) = Domain::read(alloc, text.as_bytes()) else {
-        return rt.println("the domain is refused");
-    };
-    let mut admission = Admission::new(alloc, &domain)?;
+/// Makes the calls of so many rounds. How many were accepted.
+fn run_rounds(alloc: Global, admission: &mut Admission, rounds: u32) -> Result<u32, AllocError> {
     let mut accepted = 0u32;
     for _round in 0..rounds {
-        accepted = accepted.saturating_add(admit_all(alloc, &mut admission)?);
-        accepted = accepted.saturating_add(withdraw_all(alloc, &mut admission)?);
-        seal_five(&mut admission);
+        let admitted = admit_all(alloc, admission)?;
+        let withdrawn = withdraw_all(alloc, admission)?;
+        accepted = accepted.saturating_add(admitted).saturating_add(withdrawn);
+        seal_five(admission);
     }
-    let calls = rounds.saturating_mul(2_000);
-    println!(rt; "{calls} calls, {accepted} accepted")
+    Ok(accepted)
+}
+
+/// How many calls of so many rounds over the domain are accepted.
+fn count_accepted(alloc: Global, domain: &Domain, rounds: u32) -> Result<u32, AllocError> {
+    let mut admission = Admission::new(alloc, domain)?;
+    let accepted = run_rounds(alloc, &mut admission, rounds);
+    drop(admission);
+    accepted
+}
+
+/// The same over the domain of a text, or none where that is refused.
+fn count_over(alloc: Global, text: &str, rounds: u32) -> Result<Option<u32>, AllocError> {
+    match Domain::read(alloc, text.as_bytes()) {
+        Ok(domain) => Ok(Some(count_accepted(alloc, &domain, rounds)?)),
+        Err(_) => Ok(None),
+    }
+}
+
+fn main(rt: HostRuntime) -> io::Result<()> {
+    let rounds = rounds(&rt)?;
+    let text = domain_text(rt.alloc())?;
+    match count_over(rt.alloc(), text.as_str(), rounds)? {
+        Some(accepted) => {
+            let calls = rounds.saturating_mul(2_000);
+            println!(rt; "{calls} calls, {accepted} accepted")
+        }
+        None => rt.println("the domain is refused"),
+    }
 }

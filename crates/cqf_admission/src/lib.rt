@@ -23,8 +23,6 @@ mod held;
 mod refusals;
 mod rows;
 mod table;
-#[cfg(test)]
-mod tests;
 mod trees;
 
 pub use admission::Admission;

@@ -21,6 +21,3 @@ pub use cqf_model::Page;
 pub use faults::PageFault;
 pub use pages::Pages;
 pub use totals::Totals;
-
-#[cfg(test)]
-mod tests;

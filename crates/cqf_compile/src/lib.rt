@@ -24,8 +24,6 @@
 mod config;
 mod gates;
 mod plan;
-#[cfg(test)]
-mod tests;
 
 pub use config::write_config;
 pub use gates::gate_of;

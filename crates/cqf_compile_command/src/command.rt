@@ -145,6 +145,3 @@ pub fn compile_output(alloc: Global, input: &[u8]) -> Result<Vec<u8>, Stop>
     let (domain, requests) = read_compile(alloc, input)?;
     config_of(alloc, &domain, requests.as_slice())
 }
-
-#[cfg(test)]
-mod tests;

@@ -19,8 +19,6 @@ mod heard;
 mod inputs;
 mod outputs;
 mod runs;
-#[cfg(test)]
-mod tests;
 mod told;
 
 pub use heard::Heard;

@@ -32,28 +32,3 @@ pub(crate) fn read_entry(line: &[u8]) -> Option<(u8, u32)>
     let interval = read_decimal(digits, 0, u64::from(u32::MAX))?;
     Some((16 * high + low, interval as u32))
 }
-
-#[cfg(test)]
-mod tests {
-    use super::*;
-
-    #[test]
-    fn an_entry_is_two_hexadecimal_digits_and_an_interval(rt: HostRuntime) {
-        assert_eq!(rt; read_entry(b"80 120000"), Some((0x80, 120_000)));
-        assert_eq!(rt; read_entry(b"c0 007"), Some((0xC0, 7)));
-        assert_eq!(rt; read_entry(b"fF 4294967295"), Some((0xFF, 4_294_967_295)));
-        assert_eq!(rt; read_entry(b"80 0"), Some((0x80, 0)));
-        for line in [
-            b"".as_slice(),
-            b"80".as_slice(),
-            b"80 ".as_slice(),
-            b"0G 5000".as_slice(),
-            b"8 5000".as_slice(),
-            b"80  5000".as_slice(),
-            b"80 5000\r".as_slice(),
-            b"80 4294967296".as_slice(),
-        ] {
-            assert_eq!(rt; read_entry(line), None);
-        }
-    }
-}

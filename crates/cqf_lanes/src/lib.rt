@@ -17,8 +17,6 @@
 mod choice;
 mod runs;
 mod sums;
-#[cfg(test)]
-mod tests;
 
 pub use choice::{eligible, eligible_plain, highest, highest_plain};
 pub use runs::{open_run, open_run_plain};

@@ -11,6 +11,3 @@ mod edge;
 
 pub use book::line_book;
 pub use domain::domain_of_line;
-
-#[cfg(test)]
-mod tests;

@@ -185,6 +185,3 @@ pub fn read_script(
     }
     Ok(calls)
 }
-
-#[cfg(test)]
-mod tests;

@@ -79,15 +79,3 @@ impl Stop {
         Stop::with_text(alloc, REFUSED, line_of_fault(alloc, part, fault))
     }
 }
-
-#[cfg(test)]
-mod tests {
-    use super::*;
-
-    #[test]
-    fn a_refusal_names_the_part_and_the_fault(rt: HostRuntime) {
-        let stop = Stop::refused(rt.alloc(), "list", &7);
-        assert_eq!(rt; stop.status, REFUSED);
-        assert!(rt; stop.text.as_slice() == b"cqf: list: 7\n".as_slice());
-    }
-}

@@ -76,38 +76,3 @@ pub fn read_decimal(bytes: &[u8], least: u64, most: u64) -> Option<u64>
         read_long(bytes, least, most)
     }
 }
-
-#[cfg(test)]
-mod tests {
-    use super::*;
-
-    #[test]
-    fn a_decimal_number_has_one_to_twenty_digits(rt: HostRuntime) {
-        assert_eq!(rt; read_decimal(b"0", 0, 9), Some(0));
-        assert_eq!(rt; read_decimal(b"007", 0, 9), Some(7));
-        assert_eq!(rt; read_decimal(b"00000000000000000042", 0, 99), Some(42));
-        assert_eq!(rt;
-            read_decimal(b"18446744073709551615", 0, u64::MAX),
-            Some(u64::MAX)
-        );
-        for bytes in [
-            b"".as_slice(),
-            b"000000000000000000042".as_slice(),
-            b"+5".as_slice(),
-            b" 5".as_slice(),
-            b"5\r".as_slice(),
-            b"\xff".as_slice(),
-            b"18446744073709551616".as_slice(),
-        ] {
-            assert!(rt; read_decimal(bytes, 0, u64::MAX).is_none());
-        }
-    }
-
-    #[test]
-    fn a_number_lies_in_its_range(rt: HostRuntime) {
-        assert_eq!(rt; read_decimal(b"64", 64, 1522), Some(64));
-        assert_eq!(rt; read_decimal(b"1522", 64, 1522), Some(1522));
-        assert_eq!(rt; read_decimal(b"63", 64, 1522), None);
-        assert_eq!(rt; read_decimal(b"1523", 64, 1522), None);
-    }
-}

@@ -37,29 +37,3 @@ pub fn split_line(text: &[u8]) -> Option<(&[u8], &[u8])>
     let rest = if end < text.len() { end + 1 } else { end };
     Some((&text[..end], &text[rest..]))
 }
-
-#[cfg(test)]
-mod tests {
-    use super::*;
-    use std::test::Fail;
-
-    #[test]
-    fn lines_end_at_line_feeds(rt: HostRuntime) -> Result<(), Fail> {
-        let (line, rest) = split_line(b"80 1000\n\n40 1000").ok_or("no first line")?;
-        assert!(rt; line == b"80 1000".as_slice());
-        let (line, rest) = split_line(rest).ok_or("no second line")?;
-        assert!(rt; line == b"".as_slice());
-        let (line, rest) = split_line(rest).ok_or("no third line")?;
-        assert!(rt; line == b"40 1000".as_slice());
-        assert!(rt; split_line(rest).is_none());
-        Ok(())
-    }
-
-    #[test]
-    fn an_empty_piece_behind_the_last_line_feed_is_no_line(rt: HostRuntime) -> Result<(), Fail> {
-        let (line, rest) = split_line(b"seal\n").ok_or("no line")?;
-        assert!(rt; line == b"seal".as_slice());
-        assert!(rt; split_line(rest).is_none());
-        Ok(())
-    }
-}

@@ -29,8 +29,6 @@ mod joined;
 mod laws;
 mod names;
 mod streams;
-#[cfg(test)]
-mod tests;
 
 pub use cqf_fields::{Key, TomlFault as StreamsFault};
 pub use cqf_model::{Link, Node};

@@ -43,30 +43,3 @@ pub fn cycle_of(t: Nanos, cycle_time: Nanos) -> Cycle
 {
     Cycle((t.0 / cycle_time.0) as u32)
 }
-
-#[cfg(test)]
-mod tests {
-    use super::*;
-
-    #[test]
-    fn reservations_cost_their_octets_and_the_gaps(rt: HostRuntime) {
-        for (reserved, octets) in [(64, 84), (1500, 1960), (11_440, 15_000), (60_000, 78_740)] {
-            assert_eq!(rt; cost(Octets(reserved)), Octets(octets), "for {reserved}");
-        }
-    }
-
-    #[test]
-    fn the_budget_is_the_cycle_without_the_guard(rt: HostRuntime) {
-        assert_eq!(rt;
-            budget(Nanos(125_000), Nanos(5000), Rate::Mb1000),
-            Octets(15_000)
-        );
-    }
-
-    #[test]
-    fn a_cycle_begins_at_its_first_instant(rt: HostRuntime) {
-        for (t, cycle) in [(0, 0), (124_999, 0), (125_000, 1)] {
-            assert_eq!(rt; cycle_of(Nanos(t), Nanos(125_000)), Cycle(cycle), "at {t}");
-        }
-    }
-}

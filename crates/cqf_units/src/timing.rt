@@ -61,28 +61,3 @@ pub fn idle_from(start: Nanos, frame: Octets, rate: Rate) -> Nanos
     let octets = u64::from(frame.0) + 20;
     Nanos(start.0 + octets * octet_time(rate))
 }
-
-#[cfg(test)]
-mod tests {
-    use super::*;
-
-    #[test]
-    fn an_octet_takes_800_80_or_8_nanoseconds(rt: HostRuntime) {
-        for (rate, nanoseconds) in [(Rate::Mb10, 800), (Rate::Mb100, 80), (Rate::Mb1000, 8)] {
-            assert_eq!(rt; octet_time(rate), nanoseconds);
-        }
-    }
-
-    #[test]
-    fn the_shortest_frame_takes_84_octets_of_the_wire(rt: HostRuntime) {
-        assert_eq!(rt; wire(Octets(64)), Octets(84));
-    }
-
-    #[test]
-    fn frames_end_and_the_port_idles_at_the_worked_instants(rt: HostRuntime) {
-        let shortest = Octets(64);
-        assert_eq!(rt; end_of(Nanos(10), shortest, Rate::Mb1000), Nanos(586));
-        assert_eq!(rt; idle_from(Nanos(10), shortest, Rate::Mb1000), Nanos(682));
-        assert_eq!(rt; end_of(Nanos(0), Octets(1522), Rate::Mb1000), Nanos(12_240));
-    }
-}

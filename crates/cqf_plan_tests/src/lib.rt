@@ -1,0 +1,13 @@
+//! Tests of domains, admission, scripts, compiled lists and pages, with values from outside. A crate that has tests is proved twice, so these stand in one of their own.
+#![tactic(auto)]
+
+#[cfg(test)]
+mod admission;
+#[cfg(test)]
+mod compiled;
+#[cfg(test)]
+mod pages;
+#[cfg(test)]
+mod scripts;
+#[cfg(test)]
+mod topology;

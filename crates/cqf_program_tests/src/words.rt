@@ -1,0 +1,88 @@
+//! Words read.
+use cqf_stop::{DONE, USAGE};
+use cqf_units::Rate;
+use cqf_words::{Job, read_words};
+use std::alloc::Global;
+
+const FIVE: Job = Job::Port {
+    until: 5,
+    rate: Rate::Mb1000,
+};
+
+const FIVE_SLOWLY: Job = Job::Port {
+    until: 5,
+    rate: Rate::Mb10,
+};
+
+const MOST_AT_THE_MIDDLE_RATE: Job = Job::Port {
+    until: 100_000_000,
+    rate: Rate::Mb100,
+};
+
+/// Words, the job that they mean, and the status that they end with where they mean none.
+const CASES: &[(&[&str], Option<Job>, u8)] = &[
+    (&["port", "--until", "5"], Some(FIVE), DONE),
+    (
+        &["port", "--rate", "10", "--until", "5"],
+        Some(FIVE_SLOWLY),
+        DONE,
+    ),
+    (
+        &["port", "--rate", "100", "--until", "100000000"],
+        Some(MOST_AT_THE_MIDDLE_RATE),
+        DONE,
+    ),
+    (
+        &["line", "--cycles", "100000"],
+        Some(Job::Line { cycles: 100_000 }),
+        DONE,
+    ),
+    (&["compile"], Some(Job::Compile), DONE),
+    (&["port", "--until", "0"], None, USAGE),
+    (&["port", "--until", "100000001"], None, USAGE),
+    (&["port", "--cycles", "5"], None, USAGE),
+    (&["port", "--until", "5", "--rate", "20"], None, USAGE),
+    (&["gate", "--until", "5"], None, USAGE),
+    (&[""], None, USAGE),
+    (&["--help"], None, DONE),
+];
+
+/// Whether the words mean this job, or end with this status.
+fn is_read(alloc: Global, words: &[&str], job: Option<Job>, status: u8) -> bool {
+    match read_words(alloc, words) {
+        Ok(found) => job == Some(found),
+        Err(stop) => job.is_none() && stop.status == status,
+    }
+}
+
+#[test]
+fn words_mean_a_job_or_are_misuse(rt: HostRuntime) {
+    for (words, job, status) in CASES {
+        assert!(rt; is_read(rt.alloc(), words, *job, *status));
+    }
+}
+
+/// Whether the help that the words ask for has this text in it.
+fn help_has(alloc: Global, words: &[&str], text: &str) -> bool {
+    match read_words(alloc, words) {
+        Ok(_) => false,
+        Err(stop) => match std::str::from_utf8(stop.text.as_slice()) {
+            Ok(help) => help.contains(text),
+            Err(_) => false,
+        },
+    }
+}
+
+/// Words that ask for help, and a text in it.
+const HELP: &[(&[&str], &str)] = &[
+    (&["--help"], "Usage: cqf <COMMAND>"),
+    (&["compile", "--help"], "Usage: cqf compile\n"),
+    (&["port", "--help"], "a gate list    80 120000\n"),
+];
+
+#[test]
+fn help_names_the_program_and_the_parts_of_its_input(rt: HostRuntime) {
+    for (words, text) in HELP {
+        assert!(rt; help_has(rt.alloc(), words, text));
+    }
+}
