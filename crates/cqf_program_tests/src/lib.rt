@@ -12,9 +12,13 @@ mod compile_command;
 #[cfg(test)]
 mod engines;
 #[cfg(test)]
+mod histories;
+#[cfg(test)]
 mod line_books;
 #[cfg(test)]
 mod line_command;
+#[cfg(test)]
+mod link_sums;
 #[cfg(test)]
 mod offers;
 #[cfg(test)]

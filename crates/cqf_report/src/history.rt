@@ -65,6 +65,3 @@ pub fn write_history(alloc: Global, entries: &[Entry]) -> Result<Vec<u8>, Memory
     }
     Ok(text)
 }
-
-#[cfg(test)]
-mod tests;

@@ -194,6 +194,3 @@ pub fn write_links(
     }
     written_text(writer)
 }
-
-#[cfg(test)]
-mod tests;

@@ -2,10 +2,14 @@
 ghost use Rattle.std.specs.Prelude.{IsTrue};
 ghost use Rattle.cqf_report.specs.LinkSums.{AreInOrder, IsBefore};
 
-use super::*;
 use cqf_fixtures::{line, one_link};
-use cqf_units::{Cycle, Nanos};
+use cqf_model::{Book, Started};
+use cqf_report::write_links;
+use cqf_topology::Domain;
+use cqf_units::{Cycle, Memory, Nanos};
+use std::alloc::Global;
 use std::process::Abort;
+use std::thread::Threads;
 
 /// A start by its cycle, link and octets. Its frame and its instant are in no sum.
 type Sending = (u32, u8, u32);

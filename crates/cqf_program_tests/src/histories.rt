@@ -1,9 +1,11 @@
 //! Histories beside their texts, which were written by hand.
 
-use super::*;
-use cqf_model::{Receipt, Refused};
+use cqf_admission::{Call, Entry};
+use cqf_model::{Receipt, Refused, Reply};
+use cqf_report::write_history;
 use cqf_topology::Request;
-use cqf_units::Cycle;
+use cqf_units::{Cycle, Memory};
+use std::alloc::Global;
 
 /// What is called for.
 #[derive(Clone, Copy)]

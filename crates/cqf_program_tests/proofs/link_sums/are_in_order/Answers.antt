@@ -2,8 +2,8 @@ use Rattle.std.proofs.Common.{List, refl, subst, arith}
 use Rattle.std.proofs.lemmas.List.{take_all}
 use Rattle.cqf_model.specs.declared.frames.Started.{Started}
 use Rattle.cqf_report.specs.LinkSums.{AreInOrder}
-use Rattle.cqf_report.proofs.LinkOrders.{in_order_more}
-use Rattle.cqf_report.proofs.links.tests.are_in_order.Goals as goal
+use Rattle.cqf_program_tests.proofs.LinkOrders.{in_order_more}
+use Rattle.cqf_program_tests.proofs.link_sums.are_in_order.Goals as goal
 
 pub loop-place-preserved : goal.loop-place-preserved
 loop-place-preserved c = (
