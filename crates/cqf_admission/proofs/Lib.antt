@@ -4,6 +4,7 @@ mod FaultLemmas
 mod NodeLemmas
 mod TreeLemmas
 mod ColumnLemmas
+mod SumLemmas
 mod TableLemmas
 mod GrantLemmas
 mod RunLemmas

@@ -1,9 +1,10 @@
 -- The rows of streams that are held, and the columns that are kept beside them.
-use Rattle.std.specs.Prelude.{ℕ, ◌≡◌, ◌≤◌, ◌^◌, List, [], ◌∷◌, if◌then◌else◌, nat_lt, bit_or, fold, length, map, Some, zero, suc}
+use Rattle.std.specs.Prelude.{ℕ, ◌≡◌, ◌≤◌, ◌^◌, List, [], ◌∷◌, if◌then◌else◌, nat_lt, ◌+◌, ◌<◌, bit_or, fold, length, map, slice_index_or, Some, zero, suc}
 use Rattle.cqf_units.specs.Timing.{cost_of}
 use Rattle.cqf_units.specs.declared.reservations.Cycle.{Cycle}
 use Rattle.cqf_model.specs.declared.topology.Row.{Row}
-use Rattle.cqf_model.specs.Table.{links_of}
+use Rattle.cqf_model.specs.Table.{link_cost, links_of}
+use Rattle.cqf_lanes.specs.Kernels.{has_bit, masked_total}
 
 -- the rows of held streams by number, and how many rows more have room
 pub record HeldRows : Type 0 where
@@ -33,3 +34,18 @@ pub record HaveColumns (names : List (List ℕ)) (rows : List Row) (costs masks 
   pub are_costs : costs ≡ map (λ (row : Row). cost_of row.octets) rows
   pub are_masks : masks ≡ map mask_of rows
   pub few : length rows ≤ 1024
+
+-- by link, what the rows cost of it
+pub record AreSums (rows : List Row) (sums : List ℕ) : Type 0 where
+  pub sixty_four : length sums ≡ 64
+  pub each : (l : ℕ) → l < 64 → slice_index_or sums l 0 ≡ link_cost rows l
+
+-- and what the columns say
+pub record AreTotals (costs masks sums : List ℕ) : Type 0 where
+  pub sixty_four : length sums ≡ 64
+  pub each : (l : ℕ) → l < 64 → slice_index_or sums l 0 ≡ masked_total l costs masks
+
+-- the columns say that much more of each link that a mask has
+abbrev pub AreMoreBy : List ℕ → ℕ → ℕ → List ℕ → List ℕ → Type 0
+AreMoreBy sums mask octets costs masks =
+    (l : ℕ) → l < 64 → masked_total l costs masks ≡ slice_index_or sums l 0 + (if has_bit mask l then octets else 0)

@@ -1,9 +1,10 @@
 //! The streams that are held, by number and by name, with their costs and their links in columns.
-ghost use Rattle.std.specs.Prelude.{◌≡◌, ◌<◌, ◌≤◌, ◌^◌, [], ◌∷◌, ◌++◌, length, filter, position, false, OnOk, IfOk};
+ghost use Rattle.std.specs.Prelude.{◌≡◌, ◌+◌, ◌<◌, ◌≤◌, ◌^◌, [], ◌∷◌, ◌++◌, length, filter, if◌then◌else◌, position, false, OnOk, IfOk};
 ghost use Rattle.std.specs.List.{list_any};
 ghost use Rattle.cqf_model.specs.Domain.{is_text};
 ghost use Rattle.cqf_model.specs.Table.{is_held, link_cost};
-ghost use Rattle.cqf_admission.specs.Rows.{ended_at};
+ghost use Rattle.cqf_admission.specs.Rows.{AreMoreBy, AreTotals, ended_at};
+ghost use Rattle.cqf_lanes.specs.Kernels.{has_bit, masked_total};
 
 use crate::rows::{copied_rows, mask_of_row};
 use cqf_lanes::masked_sum;
@@ -21,12 +22,14 @@ pub(crate) struct Held {
     rows: Vec<Row>,
     costs: Vec<u32>,
     masks: Vec<u64>,
+    /// By link, the sum of the costs of those that go by it.
+    sums: [u64; 64],
 }
 
 impl Model for Held {
     ghost use Rattle.std.specs.Prelude.{◌-◌, min, vec_len, vec_capacity};
     ghost use Rattle.indexmap.specs.IndexSet.{spare};
-    ghost use Rattle.cqf_admission.specs.Rows.{HaveColumns, HeldRows};
+    ghost use Rattle.cqf_admission.specs.Rows.{AreSums, HaveColumns, HeldRows};
 
     ghost Value = { HeldRows };
 
@@ -36,7 +39,52 @@ impl Model for Held {
           (min (vec_capacity h.costs - vec_len h.costs) (vec_capacity h.masks - vec_len h.masks));
     } };
 
-    ghost invariant = { λ h. HaveColumns h.names.keys h.rows.items h.costs.items h.masks.items };
+    ghost invariant = { λ h. HaveColumns h.names.keys h.rows.items h.costs.items h.masks.items × AreSums h.rows.items h.sums };
+}
+
+/// What a link's streams cost of it, where that is a sum and, if the mask has the link's bit, the octets.
+fn sum_with(sum: u64, mask: u64, octets: u32, costs: &[u32], masks: &[u64], link: u32) -> u64
+    requires side_by_side { length costs.now ≡ length masks.now }
+    requires few { length costs.now < 2 ^ 32 }
+    requires low { link < 64 }
+    requires more { masked_total link costs.now masks.now ≡ sum + (if has_bit mask link then octets else 0) }
+    ensures { result ≡ masked_total link costs.now masks.now }
+{
+    if mask & (1 << link) == 0 {
+        return sum;
+    }
+    match sum.checked_add(u64::from(octets)) {
+        Some(total) => total,
+        None => masked_sum(costs, masks, link),
+    }
+}
+
+/// By link, what the columns cost of it, where that is what it was and, if the mask has the link's bit, the octets.
+fn sums_with(sums: &[u64; 64], mask: u64, octets: u32, costs: &[u32], masks: &[u64]) -> [u64; 64]
+    requires side_by_side { length costs.now ≡ length masks.now }
+    requires few { length costs.now < 2 ^ 32 }
+    requires more { AreMoreBy sums.now mask octets costs.now masks.now }
+    ensures { AreTotals costs.now masks.now result }
+{
+    let mut after = [0; 64];
+    for link in 0..64u32 {
+        let place = link as usize;
+        after[place] = sum_with(sums[place], mask, octets, costs, masks, link);
+    }
+    after
+}
+
+/// By link, what the columns cost of it.
+fn sums_of(costs: &[u32], masks: &[u64]) -> [u64; 64]
+    requires side_by_side { length costs.now ≡ length masks.now }
+    requires few { length costs.now < 2 ^ 32 }
+    ensures { AreTotals costs.now masks.now result }
+{
+    let mut sums = [0; 64];
+    for link in 0..64u32 {
+        sums[link as usize] = masked_sum(costs, masks, link);
+    }
+    sums
 }
 
 impl Held {
@@ -44,11 +92,15 @@ impl Held {
     pub(crate) fn new(alloc: Global) -> Held
         ensures { result.rows ≡ [] }
     {
+        let costs = Vec::new(alloc);
+        let masks = Vec::new(alloc);
+        let sums = sums_of(costs.as_slice(), masks.as_slice());
         Held {
             names: IndexSet::new(alloc),
             rows: Vec::new(alloc),
-            costs: Vec::new(alloc),
-            masks: Vec::new(alloc),
+            costs,
+            masks,
+            sums,
         }
     }
 
@@ -73,11 +125,7 @@ impl Held {
         ensures { result ≡ link_cost self.now.rows link }
     {
         let rows = &self.rows;
-        masked_sum(
-            self.costs.as_slice(),
-            self.masks.as_slice(),
-            u32::from(link),
-        )
+        self.sums[usize::from(link)]
     }
 
     /// Makes room for a row more, unless memory runs out.
@@ -106,6 +154,13 @@ impl Held {
         self.rows.push(row).unwrap();
         self.costs.push(octets).unwrap();
         self.masks.push(mask).unwrap();
+        self.sums = sums_with(
+            &self.sums,
+            mask,
+            octets,
+            self.costs.as_slice(),
+            self.masks.as_slice(),
+        );
     }
 
     /// Ends the stream of the row at this place from a cycle on.
@@ -122,6 +177,7 @@ impl Held {
         ensures { self.new.rows ≡ filter (λ row. is_held row cycle.0) self.old.rows }
     {
         let mut place = self.rows.len();
+        let mut gone = false;
         while place > 0 {
             place -= 1;
             if !self.rows[place].is_held(cycle) {
@@ -129,7 +185,11 @@ impl Held {
                 let _ = self.names.shift_remove_index(place);
                 let _ = self.costs.remove(place);
                 let _ = self.masks.remove(place);
+                gone = true;
             }
+        }
+        if gone {
+            self.sums = sums_of(self.costs.as_slice(), self.masks.as_slice());
         }
     }
 
@@ -142,6 +202,7 @@ impl Held {
             rows: copied_rows(alloc, self.rows.as_slice())?,
             costs: Vec::from_slice(alloc, self.costs.as_slice())?,
             masks: Vec::from_slice(alloc, self.masks.as_slice())?,
+            sums: self.sums,
         })
     }
 }

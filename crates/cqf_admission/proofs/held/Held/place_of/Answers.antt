@@ -9,6 +9,6 @@ use Rattle.cqf_admission.proofs.held.Held.place_of.Goals as goal
 pub returns : goal.returns
 returns c =
     c.get_index_of.ensures.index
-    ∙ ap (position (pointwise nat_eq c.args.name.now)) c.self.invariant.are_names
+    ∙ ap (position (pointwise nat_eq c.args.name.now)) c.self.invariant.0.are_names
     ∙ place_of_name c.args.name.now c.self.inside.rows.items
     ∙ ap (λ (h : HeldRows). position (λ (row : Row). is_text row.name c.args.name.now) h.rows) c.self.view_is

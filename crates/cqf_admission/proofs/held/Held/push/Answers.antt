@@ -5,6 +5,7 @@ use Rattle.cqf_model.specs.declared.topology.Row.{Row}
 use Rattle.cqf_model.specs.Domain.{is_text}
 use Rattle.cqf_admission.specs.Rows.{HeldRows}
 use Rattle.cqf_admission.proofs.ColumnLemmas.{columns_pushed}
+use Rattle.cqf_admission.proofs.SumLemmas.{more_by, sums_from_totals}
 use Rattle.cqf_admission.proofs.HeldLemmas.{name_among}
 use Rattle.cqf_admission.proofs.held.Held.push.Goals as goal
 
@@ -20,10 +21,38 @@ invariant_of-self c =
     let named =
     keys
     ∙ (λ i. cond (list_any (pointwise nat_eq (c.copied.ensures i)) names) names (names ++ c.copied.ensures i ∷ []))
-    ∙ ap (λ (b : Bool). cond b names (names ++ name ∷ [])) (ap (list_any (pointwise nat_eq name)) c.self.invariant.are_names ∙ name_among name rows ∙ free) in
+    ∙ ap (λ (b : Bool). cond b names (names ++ name ∷ [])) (ap (list_any (pointwise nat_eq name)) c.self.invariant.0.are_names ∙ name_among name rows ∙ free) in
     let few : length rows < 1024 = omega (arith, c.requires.few, ap (λ (h : HeldRows). length h.rows) c.self.view_is) in
     let costs = rw c.unwrap-3.ensures at c.push-2.ensures.items in
     let masks = rw c.unwrap-4.ensures at c.push-3.ensures.items in
-    columns_pushed names rows c.self.inside.costs.items c.self.inside.masks.items c.args.row _ _ _ _ c.self.invariant few named items
+    let columns = columns_pushed names rows c.self.inside.costs.items c.self.inside.masks.items c.args.row _ _ _ _ c.self.invariant.0 few named items
     (costs ∙ ap (λ (n : ℕ). c.self.inside.costs.items ++ n ∷ []) c.cost-octets.ensures)
-    (masks ∙ ap (λ (n : ℕ). c.self.inside.masks.items ++ n ∷ []) c.mask_of_row-mask.ensures)
+    (masks ∙ ap (λ (n : ℕ). c.self.inside.masks.items ++ n ∷ []) c.mask_of_row-mask.ensures) in (
+      columns,
+      sums_from_totals _ _ _ _ c.sums_with-self-inside.result columns
+          (rw (c.as_slice.ensures.value, c.as_slice-2.ensures.value) at c.sums_with-self-inside.ensures),
+    )
+
+pub sums_with-self-inside-requires-clause-more : goal.sums_with-self-inside-requires-clause-more
+sums_with-self-inside-requires-clause-more c =
+    let names = c.self.inside.names.keys in
+    let rows = c.self.inside.rows.items in
+    let name = c.args.row.name in
+    let keys = rw c.unwrap.ensures at c.insert.ensures.keys in
+    let items = rw c.unwrap-2.ensures at c.push.ensures.items in
+    let free : list_any (λ (row : Row). is_text row.name name) rows ≡ false =
+    ap (λ (h : HeldRows). list_any (λ (row : Row). is_text row.name name) h.rows) c.self.view_is ∙ c.requires.free in
+    let named =
+    keys
+    ∙ (λ i. cond (list_any (pointwise nat_eq (c.copied.ensures i)) names) names (names ++ c.copied.ensures i ∷ []))
+    ∙ ap (λ (b : Bool). cond b names (names ++ name ∷ [])) (ap (list_any (pointwise nat_eq name)) c.self.invariant.0.are_names ∙ name_among name rows ∙ free) in
+    let few : length rows < 1024 = omega (arith, c.requires.few, ap (λ (h : HeldRows). length h.rows) c.self.view_is) in
+    let costs = rw c.unwrap-3.ensures at c.push-2.ensures.items in
+    let masks = rw c.unwrap-4.ensures at c.push-3.ensures.items in
+    let costs_are = costs ∙ ap (λ (n : ℕ). c.self.inside.costs.items ++ n ∷ []) c.cost-octets.ensures in
+    let masks_are = masks ∙ ap (λ (n : ℕ). c.self.inside.masks.items ++ n ∷ []) c.mask_of_row-mask.ensures in
+    let columns = columns_pushed names rows c.self.inside.costs.items c.self.inside.masks.items c.args.row _ _ _ _ c.self.invariant.0 few named items
+    costs_are masks_are in
+    rw (c.as_slice.ensures.value, c.as_slice-2.ensures.value)
+    (more_by _ rows _ _ _ c.self.inside.sums c.args.row c.mask_of_row-mask.result c.cost-octets.result.0 c.self.invariant.1 columns items
+    c.mask_of_row-mask.ensures c.cost-octets.ensures)
