@@ -87,7 +87,10 @@ fn costs_are_summed_where_the_mask_has_the_bit(rt: HostRuntime) {
 #[test]
 fn a_run_ends_where_the_class_is_closed(rt: HostRuntime) {
     assert_eq!(rt; open_run(&[0x80, 0xC0, 0x40], 7), 2);
-    assert_eq!(rt; open_run(&[0x80, 0x40, 0x80, 0x40], 7), 1);
+    let mut states = [0x80; 16];
+    states[1] = 0x40;
+    states[3] = 0x40;
+    assert_eq!(rt; open_run(&states, 7), 1);
 }
 
 #[test]

@@ -35,7 +35,6 @@ fn a_frame_waits_until_its_class_opens(rt: HostRuntime) -> Result<(), Fail> {
     assert_eq!(rt; port.now(), Nanos(0));
     port.offer(arrival(10, 6, 64))?;
     assert_eq!(rt; port.waiting(6), 1);
-    assert_eq!(rt; port.waiting(5), 0);
     port.advance(Nanos(125_000), &mut given)?;
     assert!(rt; given.is_empty());
     port.advance(Nanos(125_001), &mut given)?;
@@ -92,6 +91,7 @@ fn the_higher_class_goes_first(rt: HostRuntime) -> Result<(), Fail> {
     let mut given = Vec::new(rt.alloc());
     port.offer(arrival(425, 6, 64))?;
     port.offer(arrival(900, 7, 64))?;
+    assert_eq!(rt; port.waiting(6), 1);
     port.advance(Nanos(3000), &mut given)?;
     assert!(rt; given.as_slice() == [start(900, 7, 64), start(2000, 6, 64)].as_slice());
     Ok(())
