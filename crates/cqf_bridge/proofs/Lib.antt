@@ -6,6 +6,7 @@ mod InOrder
 mod KeptGates
 mod MadeBatch
 mod Receives
+mod Offering
 mod RunCycle
 mod Sends
 mod Taking
