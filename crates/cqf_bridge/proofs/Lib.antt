@@ -7,6 +7,7 @@ mod KeptGates
 mod MadeBatch
 mod Receives
 mod Offering
+mod OfferedRuns
 mod RunCycle
 mod Sends
 mod Taking

@@ -1,13 +1,15 @@
 //! What a caller of a bridge sees.
 
-ghost use Rattle.std.specs.Prelude.{◌<◌};
+ghost use Rattle.std.specs.Prelude.{◌≡◌, ◌<◌, true};
+ghost use Rattle.cqf_model.specs.Run.{AreOffers, IsOffer};
 
-use crate::{Batch, Bridge, BridgeFault};
+use crate::{Batch, Bridge, BridgeFault, Dropped, Offer, offers_of};
+use cqf_admission::{Admission, Table};
 use cqf_compile::{Plan, compile};
 use cqf_fixtures::line;
 use cqf_model::Sent;
-use cqf_topology::Domain;
-use cqf_units::{Cycle, Nanos};
+use cqf_topology::{Domain, Request};
+use cqf_units::{Cycle, Memory, Nanos};
 use std::alloc::{AllocError, Global};
 use std::test::Fail;
 
@@ -40,6 +42,150 @@ fn refuses(alloc: Global, bridge: &mut Bridge, cycle: Cycle, fault: BridgeFault)
     bridge.send(alloc, cycle, &[], &mut batches) == Err(fault) && batches.is_empty()
 }
 
+/// The admission of a domain's text.
+fn admission_of(alloc: Global, text: &str) -> Result<Admission, Fail> {
+    let domain = Domain::read(alloc, text.as_bytes())?;
+    Ok(Admission::new(alloc, &domain)?)
+}
+
+/// The nodes of a branch.
+fn branch(alloc: Global, nodes: &[&str]) -> Result<Vec<String>, Memory> {
+    let mut branch = Vec::new(alloc);
+    for node in nodes {
+        branch.push(String::from_str(alloc, node)?)?;
+    }
+    Ok(branch)
+}
+
+/// A request for the stream `x` over these branches.
+fn request_x(alloc: Global, octets: u32, branches: &[&[&str]]) -> Result<Request, Memory> {
+    let mut paths = Vec::new(alloc);
+    for nodes in branches {
+        paths.push(branch(alloc, nodes)?)?;
+    }
+    Ok(Request {
+        name: String::from_str(alloc, "x")?,
+        octets,
+        paths,
+    })
+}
+
+/// The line's one branch.
+const ONE_BRANCH: &[&[&str]] = &[&["a", "b", "c", "s"]];
+
+/// Admits the stream `x`.
+fn admit_x(
+    alloc: Global,
+    asked: &mut Admission,
+    octets: u32,
+    branches: &[&[&str]],
+) -> Result<(), Fail> {
+    let request = request_x(alloc, octets, branches)?;
+    asked.admit(0, &request)?;
+    Ok(())
+}
+
+/// The tables of two cycles, of an admission that holds `x` with so many octets, or no stream.
+fn two_tables(alloc: Global, octets: Option<u32>) -> Result<Vec<Table>, Fail> {
+    let mut asked = admission_of(alloc, line())?;
+    let tables = sealed_twice(alloc, &mut asked, octets);
+    drop(asked);
+    tables
+}
+
+/// The tables of two cycles, behind an admission of `x` with so many octets, if any.
+fn sealed_twice(
+    alloc: Global,
+    asked: &mut Admission,
+    octets: Option<u32>,
+) -> Result<Vec<Table>, Fail> {
+    if let Some(octets) = octets {
+        admit_x(alloc, asked, octets, ONE_BRANCH)?;
+    }
+    let mut tables = Vec::new(alloc);
+    tables.push(asked.seal(0)?)?;
+    tables.push(asked.seal(0)?)?;
+    Ok(tables)
+}
+
+/// Whether an offer may be handed to a run of the domain.
+fn is_offer(domain: &Domain, offer: &Offer) -> bool
+    ensures { result ≡ true → IsOffer domain.now offer.now }
+{
+    let here = offer.bridge < domain.bridges();
+    let fits = offer.octets >= 64 && offer.octets <= 1522;
+    let early = offer.at.0 < 1_000_000_000_000;
+    here && fits && early
+}
+
+/// Whether offers may be.
+fn are_offers(domain: &Domain, offers: &[Offer]) -> bool
+    ensures { result ≡ true → AreOffers domain.now offers.now }
+{
+    for offer in offers {
+        if !is_offer(domain, offer) {
+            return false;
+        }
+    }
+    true
+}
+
+/// Receives a cycle with the bridge's of these offers.
+fn receive(
+    alloc: Global,
+    bridge: &mut Bridge,
+    cycle: Cycle,
+    table: &Table,
+    batches: &[Batch],
+    offers: &[Offer],
+) -> Result<Vec<Dropped>, BridgeFault>
+    requires { cycle.0 < 100000 }
+{
+    if !are_offers(bridge.domain(), offers) || offers.len() > 1000 {
+        return Err(BridgeFault::Memory);
+    }
+    let own = match offers_of(alloc, bridge.domain(), offers, bridge.number(), cycle) {
+        Ok(own) => own,
+        Err(_) => return Err(BridgeFault::Memory),
+    };
+    bridge.receive(alloc, cycle, table, batches, own.as_slice())
+}
+
+/// Whether a bridge receives a cycle with these drops.
+fn receives(
+    alloc: Global,
+    bridge: &mut Bridge,
+    cycle: Cycle,
+    table: &Table,
+    batches: &[Batch],
+    offers: &[Offer],
+    drops: &[Dropped],
+) -> bool
+    requires { cycle.0 < 100000 }
+{
+    match receive(alloc, bridge, cycle, table, batches, offers) {
+        Ok(dropped) => dropped.as_slice() == drops,
+        Err(_) => false,
+    }
+}
+
+/// Whether a bridge refuses to receive a cycle for this cause.
+fn refuses_to_receive(
+    alloc: Global,
+    bridge: &mut Bridge,
+    cycle: Cycle,
+    table: &Table,
+    batches: &[Batch],
+    fault: BridgeFault,
+) -> bool
+    requires { cycle.0 < 100000 }
+{
+    match receive(alloc, bridge, cycle, table, batches, &[]) {
+        Ok(_) => false,
+        Err(cause) => cause == fault,
+    }
+}
+
 #[test]
 fn cycles_are_sent_in_turn(rt: HostRuntime) -> Result<(), Fail> {
     let plan = plan_of(rt.alloc(), line())?;
@@ -50,6 +196,30 @@ fn cycles_are_sent_in_turn(rt: HostRuntime) -> Result<(), Fail> {
     assert!(rt; refuses(rt.alloc(), &mut bridge, Cycle(0), BridgeFault::WrongCycle));
     assert!(rt; refuses(rt.alloc(), &mut bridge, Cycle(1), BridgeFault::WrongCycle));
     assert!(rt; bridge.background_starts().is_empty());
+    Ok(())
+}
+
+/// Whether a bridge that has sent cycle 0 wants a batch of link 0 to receive it, with a table that holds no stream.
+fn wants_its_batch(alloc: Global, bridge: &mut Bridge, tables: &[Table]) -> bool {
+    if tables.len() != 2 {
+        return false;
+    }
+    let strange = BridgeFault::StrangeBatch;
+    if !refuses_to_receive(alloc, bridge, Cycle(0), &tables[0], &[], strange) {
+        return false;
+    }
+    let empty = [Batch::new(alloc, 0, Cycle(0))];
+    receives(alloc, bridge, Cycle(0), &tables[0], &empty, &[], &[])
+}
+
+#[test]
+fn a_cycle_is_received_with_a_batch_of_each_link(rt: HostRuntime) -> Result<(), Fail> {
+    let plan = plan_of(rt.alloc(), line())?;
+    assert!(rt; plan.domain().bridges() == 3);
+    let tables = two_tables(rt.alloc(), None)?;
+    let mut bridge = Bridge::new(rt.alloc(), &plan, 1)?;
+    assert!(rt; sends_an_empty_batch(rt.alloc(), &mut bridge, Cycle(0), 1));
+    assert!(rt; wants_its_batch(rt.alloc(), &mut bridge, tables.as_slice()));
     Ok(())
 }
 
