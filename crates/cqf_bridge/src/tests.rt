@@ -1,6 +1,6 @@
 //! What a caller of a bridge sees.
 
-ghost use Rattle.std.specs.Prelude.{◌≡◌, ◌<◌, true};
+ghost use Rattle.std.specs.Prelude.{◌≡◌, ◌<◌, length, true};
 ghost use Rattle.cqf_model.specs.Run.{AreOffers, IsOffer};
 
 use crate::{Batch, Bridge, BridgeFault, Dropped, Offer, offers_of};
@@ -9,7 +9,7 @@ use cqf_compile::{Plan, compile};
 use cqf_fixtures::line;
 use cqf_model::Sent;
 use cqf_topology::{Domain, Request};
-use cqf_units::{Cycle, Memory, Nanos};
+use cqf_units::{Cycle, Memory, Name, Nanos};
 use std::alloc::{AllocError, Global};
 use std::test::Fail;
 
@@ -220,6 +220,97 @@ fn a_cycle_is_received_with_a_batch_of_each_link(rt: HostRuntime) -> Result<(), 
     let mut bridge = Bridge::new(rt.alloc(), &plan, 1)?;
     assert!(rt; sends_an_empty_batch(rt.alloc(), &mut bridge, Cycle(0), 1));
     assert!(rt; wants_its_batch(rt.alloc(), &mut bridge, tables.as_slice()));
+    Ok(())
+}
+
+/// An offer for the stream `x` at the first bridge at instant 0.
+fn offer_x(octets: u32) -> Option<Offer> {
+    let stream = Name::new(b"x")?;
+    Some(Offer {
+        at: Nanos(0),
+        bridge: 0,
+        stream,
+        octets,
+    })
+}
+
+/// Appends what a bridge sends in cycle 1, which has received cycle 0 with these offers and dropped none.
+fn sends_what_is_offered(
+    alloc: Global,
+    bridge: &mut Bridge,
+    table: &Table,
+    offers: &[Offer],
+    batches: &mut Vec<Batch>,
+) -> bool {
+    sends_an_empty_batch(alloc, bridge, Cycle(0), 0)
+        && receives(alloc, bridge, Cycle(0), table, &[], offers, &[])
+        && bridge.send(alloc, Cycle(1), &[], batches).is_ok()
+}
+
+/// Whether a bridge that has received cycle 0 refuses a cycle 1 whose frame has no row or exceeds its gate.
+fn is_spent_by(
+    alloc: Global,
+    bridge: &mut Bridge,
+    held: &[Table],
+    none: &[Table],
+    batches: &[Batch],
+) -> bool {
+    if held.len() != 2 || none.len() != 2 {
+        return false;
+    }
+    let empty = [Batch::new(alloc, 0, Cycle(0))];
+    let strange = BridgeFault::StrangeBatch;
+    let over = BridgeFault::OverOctets(1);
+    sends_an_empty_batch(alloc, bridge, Cycle(0), 1)
+        && receives(alloc, bridge, Cycle(0), &held[0], &empty, &[], &[])
+        && sends_an_empty_batch(alloc, bridge, Cycle(1), 1)
+        && refuses_to_receive(alloc, bridge, Cycle(1), &none[1], batches, strange)
+        && refuses_to_receive(alloc, bridge, Cycle(1), &held[1], batches, over)
+        && refuses(alloc, bridge, Cycle(2), BridgeFault::Spent)
+}
+
+/// The batch of link 0 in cycle 1, where 1,500 octets are reserved and offered.
+fn batch_of_1500(alloc: Global, plan: &Plan) -> Result<Vec<Batch>, Fail>
+    requires { 0 < length plan.now.bridges }
+{
+    let tables = two_tables(alloc, Some(1500))?;
+    let mut offers = Vec::new(alloc);
+    offers.push(offer_x(1500).ok_or("no offer")?)?;
+    let mut bridge = Bridge::new(alloc, plan, 0)?;
+    let mut batches = Vec::new(alloc);
+    let tables = tables.as_slice();
+    let sent = tables.len() == 2
+        && sends_what_is_offered(
+            alloc,
+            &mut bridge,
+            &tables[0],
+            offers.as_slice(),
+            &mut batches,
+        );
+    if sent {
+        Ok(batches)
+    } else {
+        Err("not sent".into())
+    }
+}
+
+#[test]
+fn a_frame_that_exceeds_its_gate_inside_spends_the_bridge(rt: HostRuntime) -> Result<(), Fail> {
+    let plan = plan_of(rt.alloc(), line())?;
+    assert!(rt; plan.domain().bridges() == 3);
+    let batches = batch_of_1500(rt.alloc(), &plan)?;
+    let held = two_tables(rt.alloc(), Some(64))?;
+    let none = two_tables(rt.alloc(), None)?;
+    let mut bridge = Bridge::new(rt.alloc(), &plan, 1)?;
+    assert!(rt;
+        is_spent_by(
+            rt.alloc(),
+            &mut bridge,
+            held.as_slice(),
+            none.as_slice(),
+            batches.as_slice()
+        )
+    );
     Ok(())
 }
 
