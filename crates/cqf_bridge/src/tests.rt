@@ -6,7 +6,7 @@ ghost use Rattle.cqf_model.specs.Run.{AreOffers, IsOffer};
 use crate::{Batch, Bridge, BridgeFault, Dropped, Offer, offers_of};
 use cqf_admission::{Admission, Table};
 use cqf_compile::{Plan, compile};
-use cqf_fixtures::line;
+use cqf_fixtures::{fork, line};
 use cqf_model::Sent;
 use cqf_topology::{Domain, Request};
 use cqf_units::{Cycle, Memory, Name, Nanos};
@@ -309,6 +309,105 @@ fn a_frame_that_exceeds_its_gate_inside_spends_the_bridge(rt: HostRuntime) -> Re
             held.as_slice(),
             none.as_slice(),
             batches.as_slice()
+        )
+    );
+    Ok(())
+}
+
+/// The tree's two branches.
+const TWO_BRANCHES: &[&[&str]] = &[&["a", "b", "c", "s"], &["a", "b", "t"]];
+
+/// The tables of two cycles, of an admission over the fork that holds `x` with 1,500 octets.
+fn tree_tables(alloc: Global) -> Result<Vec<Table>, Fail> {
+    let mut asked = admission_of(alloc, fork())?;
+    let tables = tree_sealed_twice(alloc, &mut asked);
+    drop(asked);
+    tables
+}
+
+/// The tables of two cycles, behind an admission of `x` over two branches.
+fn tree_sealed_twice(alloc: Global, asked: &mut Admission) -> Result<Vec<Table>, Fail> {
+    admit_x(alloc, asked, 1500, TWO_BRANCHES)?;
+    let mut tables = Vec::new(alloc);
+    tables.push(asked.seal(0)?)?;
+    tables.push(asked.seal(0)?)?;
+    Ok(tables)
+}
+
+/// Whether a bridge sends a cycle.
+fn sends(alloc: Global, bridge: &mut Bridge, cycle: Cycle) -> bool
+    requires { cycle.0 < 100000 }
+{
+    let mut batches = Vec::new(alloc);
+    bridge.send(alloc, cycle, &[], &mut batches).is_ok()
+}
+
+/// Whether a batch of a link has just the frame 1 of 64 octets, of stream 0, from this instant on.
+fn has_frame_1(batch: &Batch, link: u8, start: u64) -> bool {
+    if batch.len() != 1 || batch.link() != link {
+        return false;
+    }
+    batch.get(0)
+        == Sent {
+            start: Nanos(start),
+            frame: 1,
+            stream: 0,
+            octets: 64,
+        }
+}
+
+/// Whether a bridge sends, in cycle 2, the frame on two links at once.
+fn sends_on_both_links(alloc: Global, bridge: &mut Bridge) -> bool {
+    let mut batches = Vec::new(alloc);
+    let sent = bridge.send(alloc, Cycle(2), &[], &mut batches);
+    let given = batches.as_slice();
+    if given.len() != 2 || sent.is_err() {
+        return false;
+    }
+    has_frame_1(&given[0], 2, 250_000) && has_frame_1(&given[1], 3, 250_000)
+}
+
+/// Whether the frame that is offered goes on from the first bridge by link 1, and from the second by links 2 and 3.
+fn goes_on_by_both_links(
+    alloc: Global,
+    first: &mut Bridge,
+    second: &mut Bridge,
+    tables: &[Table],
+    offers: &[Offer],
+) -> bool {
+    if tables.len() != 2 {
+        return false;
+    }
+    let mut batches = Vec::new(alloc);
+    let empty = [Batch::new(alloc, 1, Cycle(0))];
+    let offered = sends(alloc, first, Cycle(0))
+        && receives(alloc, first, Cycle(0), &tables[0], &[], offers, &[])
+        && first.send(alloc, Cycle(1), &[], &mut batches).is_ok();
+    let given = batches.as_slice();
+    offered
+        && sends(alloc, second, Cycle(0))
+        && receives(alloc, second, Cycle(0), &tables[0], &empty, &[], &[])
+        && sends(alloc, second, Cycle(1))
+        && receives(alloc, second, Cycle(1), &tables[1], given, &[], &[])
+        && sends_on_both_links(alloc, second)
+}
+
+#[test]
+fn a_frame_of_a_tree_leaves_on_two_links(rt: HostRuntime) -> Result<(), Fail> {
+    let plan = plan_of(rt.alloc(), fork())?;
+    assert!(rt; plan.domain().bridges() == 3);
+    let tables = tree_tables(rt.alloc())?;
+    let mut offers = Vec::new(rt.alloc());
+    offers.push(offer_x(64).ok_or("no offer")?)?;
+    let mut first = Bridge::new(rt.alloc(), &plan, 0)?;
+    let mut second = Bridge::new(rt.alloc(), &plan, 1)?;
+    assert!(rt;
+        goes_on_by_both_links(
+            rt.alloc(),
+            &mut first,
+            &mut second,
+            tables.as_slice(),
+            offers.as_slice()
         )
     );
     Ok(())
