@@ -1,8 +1,8 @@
 -- Gates that are looked up by number, and what they count.
-use Rattle.std.proofs.Common.{◌≡◌, ◌≢◌, ◌+◌, ◌≤◌, ◌<◌, ℕ, zero, suc, Bool, true, false, List, [], ◌∷◌, ◌++◌, ◌∙◌, ◌⊎◌, inl, inr, sym, ap, refl, arith, length, map, find, get_or, position, nat_eq, Contains, Some, None, subst}
+use Rattle.std.proofs.Common.{◌≡◌, ◌≢◌, ◌<◌, ℕ, zero, suc, Bool, true, false, List, [], ◌∷◌, ◌++◌, ◌∙◌, ◌⊎◌, inl, inr, sym, ap, refl, arith, length, map, find, get_or, position, nat_eq, Contains, Some, None, subst}
 use Rattle.std.specs.Prelude.{◌==◌, if◌then◌else◌, is_some, slice_set}
 use Rattle.std.specs.List.{list_any}
-use Rattle.std.proofs.lemmas.Bool.{cases_eq, cond-false, cond-true, eq-eqb, eqb-true, ne_eqb, true≢false}
+use Rattle.std.proofs.lemmas.Bool.{cases_eq, cond-false, cond-true, eq-eqb, eqb-true, ne_eqb}
 use Rattle.std.proofs.lemmas.List.Quantifiers.{position-Some}
 use Rattle.std.proofs.lemmas.List.{length-map}
 use Rattle.cqf_lists.proofs.Any.{list_any-map, none_member, position_any}
@@ -10,7 +10,7 @@ use Rattle.cqf_lists.proofs.Members.{contains_cases, contains_here, contains_lat
 use Rattle.cqf_model.specs.StreamGate.{stream_list}
 use Rattle.cqf_gates.specs.StreamGate.{Gate, fresh}
 use Rattle.cqf_bridge.specs.declared.gates.KeptGate.{KeptGate}
-use Rattle.cqf_bridge.specs.Gates.{gate_in, gate_or, with_gate}
+use Rattle.cqf_bridge.specs.Gates.{gate_or, with_gate}
 
 -- a test of two numbers goes either way round
 eqb_turned : (a b : ℕ) → (a == b) ≡ (b == a)

@@ -6,6 +6,8 @@ mod InOrder
 mod KeptGates
 mod MadeBatch
 mod Receives
+mod Offering
+mod OfferedRuns
 mod RunCycle
 mod Sends
 mod Taking

@@ -1,14 +1,12 @@
 -- A bridge that receives a cycle.
-use Rattle.std.proofs.Common.{◌≡◌, ◌≢◌, ◌+◌, ◌*◌, ◌≤◌, ◌<◌, ℕ, Bool, true, false, List, [], ◌∷◌, ◌++◌, ◌∙◌, ◌⊎◌, inl, inr, sym, ap, refl, arith, length, map, flat_map, Contains, subst}
+use Rattle.std.proofs.Common.{◌≡◌, ◌≢◌, ◌+◌, ◌*◌, ◌<◌, ℕ, true, false, List, [], ◌∙◌, inl, inr, sym, ap, arith, map, Contains, subst}
 use Rattle.std.proofs.lemmas.Bool.{true≢false}
 use Rattle.std.proofs.lemmas.List.Elements.{Contains-append_cases}
 use Rattle.std.proofs.lemmas.Simd.{map-map}
 use Rattle.cqf_lists.proofs.EachBelow.{contains_from_below}
-use Rattle.cqf_lists.proofs.Made.{map_same}
-use Rattle.cqf_lists.proofs.Members.{contains_from_flat, contains_from_map, contains_none}
+use Rattle.cqf_lists.proofs.Members.{contains_from_flat, contains_from_map}
 use Rattle.cqf_model.specs.declared.frames.Dropped.{Dropped}
 use Rattle.cqf_model.specs.declared.frames.Offered.{Offered}
-use Rattle.cqf_model.specs.declared.frames.Started.{Started}
 use Rattle.cqf_model.specs.declared.ports.Arrival.{Arrival}
 use Rattle.cqf_model.specs.declared.topology.Row.{Row}
 use Rattle.cqf_model.specs.Domain.{Domain}
@@ -25,8 +23,8 @@ use Rattle.cqf_bridge.specs.Batch.{LinkBatch}
 use Rattle.cqf_bridge.specs.BridgeState.{BridgeState, IsBridge, IsInStep, IsSpentBy}
 use Rattle.cqf_bridge.specs.Gates.{AreKept}
 use Rattle.cqf_bridge.specs.PortRecord.{PortRecord}
-use Rattle.cqf_bridge.specs.Receiving.{AreBatchesOf, CanReceive, Handed, IsNextToReceive, IsReceiveFault, IsRunOf, ReceivesCycle, carried_by, port_queued, verdicts_in}
-use Rattle.cqf_bridge.specs.Taking.{AreReady, HasGates, IsStopOf, TakesCycle, stop_of_run}
+use Rattle.cqf_bridge.specs.Receiving.{CanReceive, Handed, IsNextToReceive, IsReceiveFault, IsRunOf, ReceivesCycle, carried_by, port_queued, verdicts_in}
+use Rattle.cqf_bridge.specs.Taking.{AreReady, HasGates, TakesCycle, stop_of_run}
 use Rattle.cqf_bridge.proofs.Bridges.{bridge_spent}
 
 -- what is queued in a cycle comes before its end

@@ -1,34 +1,33 @@
 -- What a cycle of a run brings to a bridge.
-use Rattle.std.proofs.Common.{◌≡◌, ◌+◌, ◌*◌, ◌≤◌, ◌<◌, ℕ, suc, Bool, true, false, List, [], ◌∷◌, ◌++◌, ◌∙◌, inl, inr, sym, ap, refl, arith, length, map, filter, flat_map, get_or, AllPairs, Contains, Option, Some, None, subst, append-nil, eq-eqb, eqb-true, mul-le-mul_right}
-use Rattle.std.specs.Prelude.{◌==◌, if◌then◌else◌, replicate, slice_get, zero}
+use Rattle.std.proofs.Common.{◌≡◌, ◌+◌, ◌*◌, ◌≤◌, ◌<◌, ℕ, suc, Bool, true, false, List, [], ◌∷◌, ◌++◌, ◌∙◌, inl, inr, sym, ap, refl, arith, length, map, filter, flat_map, get_or, AllPairs, Contains, Some, subst, eq-eqb, eqb-true, mul-le-mul_right}
+use Rattle.std.specs.Prelude.{◌==◌, if◌then◌else◌, replicate, zero}
 use Rattle.std.specs.List.Sorted.{IsNonDecreasingBy}
 use Rattle.std.proofs.lemmas.Bool.{and_parts, cases_Bool, cases_lt, cond-false, cond-true, ne_eqb, true≢false}
 use Rattle.std.proofs.lemmas.List.{map-append}
 use Rattle.std.proofs.lemmas.List.Concat.{flat_map-append}
-use Rattle.std.proofs.lemmas.List.Elements.{Contains-append_cases, Contains-append_left, Contains-append_right}
+use Rattle.std.proofs.lemmas.List.Elements.{Contains-append_cases}
 use Rattle.cqf_lists.specs.Lists.{each_below}
 use Rattle.cqf_lists.proofs.EachBelow.{contains_from_below, filter_none, same_below}
 use Rattle.cqf_lists.proofs.Keys.{by_key}
 use Rattle.cqf_lists.proofs.Made.{contains_if_there, flat_map_same}
-use Rattle.cqf_lists.proofs.Members.{contains_filter, contains_flat, contains_from_filter, contains_from_flat, contains_from_map, contains_map, contains_one}
+use Rattle.cqf_lists.proofs.Members.{contains_filter, contains_from_filter, contains_from_flat, contains_from_map, contains_one}
 use Rattle.cqf_lists.proofs.Pairs.{pairs_below, pairs_from_map, pairs_none, pairs_one}
 use Rattle.cqf_units.proofs.Cycles.{cycle_is, cycle_upto}
 use Rattle.cqf_model.specs.declared.frames.Dropped.{Dropped}
 use Rattle.cqf_model.specs.declared.frames.Offered.{Offered}
 use Rattle.cqf_model.specs.declared.frames.Sent.{Sent}
 use Rattle.cqf_model.specs.declared.topology.Row.{Row}
-use Rattle.cqf_model.specs.Book.{drops_in}
 use Rattle.cqf_model.specs.Domain.{Domain, cycle_of, delay_of, enters, octet_time_of}
 use Rattle.cqf_model.specs.Network.{queued_to}
 use Rattle.cqf_model.specs.Run.{Run}
 use Rattle.cqf_model.specs.Table.{goes_on, row_of, table_of}
-use Rattle.cqf_model.specs.Traffic.{AtEdge, Carried, Policed, Received, Relayed, Way, is_offered_at, numbered, offer_received, police_all, sent_received, whole_at}
+use Rattle.cqf_model.specs.Traffic.{AtEdge, Policed, Received, Relayed, is_offered_at, numbered, offer_received, police_all, sent_received, whole_at}
 use Rattle.cqf_model.proofs.Policing.{police_same}
 use Rattle.cqf_laws_pages.specs.BridgeCycle.{received_in}
 use Rattle.cqf_laws_pages.specs.Gathered.{AreWholeIn, DropsAreByFrame, FramesAreTakenInOrder, IsInOrderOf, dropped_of, gathered_in, offered_for}
 use Rattle.cqf_bridge.specs.Batch.{LinkBatch}
 use Rattle.cqf_bridge.specs.PortRecord.{PortRecord, with_frames}
-use Rattle.cqf_bridge.specs.Receiving.{AreBatchesOf, IsRunOf, MayCome, carried_by, links_into, verdicts_in}
+use Rattle.cqf_bridge.specs.Receiving.{AreBatchesOf, carried_by, verdicts_in}
 use Rattle.cqf_bridge.specs.Taking.{CanGather, HasPoliced, MayBeTaken, TakesCycle, gathered_by, policed_by}
 use Rattle.cqf_bridge.specs.declared.gates.KeptGate.{KeptGate}
 use Rattle.cqf_bridge.proofs.Coming.{batch_enters, enters_inside}

@@ -1,6 +1,6 @@
 -- Frames of a cycle that are taken one after the other.
-use Rattle.std.proofs.Common.{◌≡◌, ◌+◌, ◌*◌, ◌≤◌, ◌<◌, ℕ, suc, Bool, true, false, not, List, [], ◌∷◌, ◌++◌, ◌∙◌, ◌⊎◌, inl, inr, sym, ap, refl, arith, length, map, filter, find, flat_map, take, drop, get_or, Contains, Option, Some, None, subst, append-nil, append_assoc, ◌-◌, ◌/◌}
-use Rattle.std.specs.Prelude.{◌==◌, if◌then◌else◌, replicate, slice_get, slice_index_or, sum_by}
+use Rattle.std.proofs.Common.{◌≡◌, ◌+◌, ◌*◌, ◌≤◌, ◌<◌, ℕ, Bool, true, false, not, List, [], ◌∷◌, ◌++◌, ◌∙◌, inl, inr, sym, ap, refl, arith, length, map, filter, find, take, drop, get_or, Contains, Option, Some, None, subst, append-nil, append_assoc, ◌-◌, ◌/◌}
+use Rattle.std.specs.Prelude.{◌==◌, if◌then◌else◌, replicate, slice_get, sum_by}
 use Rattle.std.specs.Option.{option_map_or}
 use Rattle.std.specs.List.Sorted.{IsNonDecreasingBy}
 use Rattle.std.proofs.Math.Seq.{take-append_seam}
@@ -34,10 +34,8 @@ use Rattle.cqf_laws_pages.specs.Gathered.{dropped_of}
 use Rattle.cqf_bridge.specs.declared.faults.BridgeFault.{BridgeFault}
 use Rattle.cqf_bridge.specs.declared.faults.BridgeFault.TheVariants as fault
 use Rattle.cqf_bridge.specs.declared.gates.KeptGate.{KeptGate}
-use Rattle.cqf_bridge.specs.BridgeState.{end_of_cycle}
-use Rattle.cqf_bridge.specs.Gates.{AreKept, IsKept, gate_in, gate_or}
+use Rattle.cqf_bridge.specs.Gates.{AreKept, IsKept, gate_or}
 use Rattle.cqf_bridge.specs.PortRecord.{PortRecord, with_frames}
-use Rattle.cqf_bridge.specs.Receiving.{IsFirstOver}
 use Rattle.cqf_bridge.specs.Taking.{AreReady, HasPoliced, IsStopBy, IsStopOf, IsWaiting, MayBeTaken, TakesFrame, passes_by, policed_by, taken_in, verdict_of, with_verdict}
 use Rattle.cqf_bridge.proofs.Taking.{frames_more, frames_none}
 use Rattle.cqf_bridge.proofs.Verdicts.{gate_entries}

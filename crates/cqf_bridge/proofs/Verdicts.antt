@@ -1,9 +1,9 @@
 -- What becomes of a frame at a bridge, and what its stream's gate counts.
 use Rattle.std.proofs.Common.{◌≡◌, ◌≢◌, ◌+◌, ◌-◌, ◌*◌, ◌≤◌, ◌<◌, ◌%◌, ◌⊎◌, ℕ, suc, Bool, true, false, not, List, [], ◌∷◌, ◌++◌, ◌∙◌, inl, inr, sym, ap, refl, arith, length, map, find, nat_lt, mod-lt, Contains, Option, Some, None, subst, append-nil, append_assoc, drop, get_or, set, take}
-use Rattle.std.specs.Prelude.{◌==◌, AllPairs, if◌then◌else◌, nat_le, slice_get}
+use Rattle.std.specs.Prelude.{◌==◌, if◌then◌else◌, nat_le, slice_get}
 use Rattle.std.specs.List.{list_any}
 use Rattle.std.specs.Option.{option_and_then, option_map_or}
-use Rattle.std.proofs.lemmas.Bool.{cases_eq, cases_lt, cond-false, cond-true, eq-eqb, le-ltb, lt-ltb, ne_eqb, true≢false}
+use Rattle.std.proofs.lemmas.Bool.{cases_eq, cases_lt, cond-false, cond-true, eq-eqb, le-ltb, lt-ltb, ne_eqb}
 use Rattle.std.proofs.Math.Seq.{get_or-append_seam, set-append_seam}
 use Rattle.std.proofs.lemmas.List.{drop_more, length-map, length-take-le, map-append, take_more}
 use Rattle.cqf_lists.proofs.Members.{contains_here, find_member}
@@ -25,15 +25,13 @@ use Rattle.cqf_model.specs.Traffic.{AtEdge as Offering, DroppedFor, ExceedsGate,
 use Rattle.cqf_units.specs.Timing.{cycle_at}
 use Rattle.cqf_gates.specs.StreamGate.{Gate, gate_after, lets_pass, octet_max_at, taken_at, taken_behind}
 use Rattle.cqf_gates.specs.declared.streams.Passed.TheVariants.{Class, OverOctets}
-use Rattle.cqf_laws_cycle.specs.Compiled.{GateCountsCycles, GateGivesClass, given_class}
+use Rattle.cqf_laws_cycle.specs.Compiled.{GateCountsCycles, GateGivesClass}
 use Rattle.cqf_laws_pages.specs.PortCycle.{QueuedFramesWait}
 use Rattle.cqf_admission.specs.Tables.{AreInOrder}
-use Rattle.cqf_port.specs.PortState.{IsLate, IsOutOfOrder}
 use Rattle.cqf_bridge.specs.declared.gates.KeptGate.{KeptGate}
-use Rattle.cqf_bridge.specs.BridgeState.{end_of_cycle}
 use Rattle.cqf_bridge.specs.Gates.{AreKept, IsKept, gate_in, gate_or, with_gate}
-use Rattle.cqf_bridge.specs.PortRecord.{PortRecord, rules_on, with_frames}
-use Rattle.cqf_bridge.specs.Taking.{AreReady, CanRecord, IsWaiting, PassesOn, TakesFrame, passes_by, queue_on, taken_in, verdict_if, verdict_of, verdict_unless, with_verdict}
+use Rattle.cqf_bridge.specs.PortRecord.{PortRecord}
+use Rattle.cqf_bridge.specs.Taking.{AreReady, CanRecord, PassesOn, TakesFrame, passes_by, taken_in, verdict_if, verdict_of, with_verdict}
 use Rattle.cqf_bridge.proofs.KeptGates.{gate_beside, gate_put, kept_cases}
 use Rattle.cqf_bridge.proofs.Taking.{frames_none, not_out_of_order}
 

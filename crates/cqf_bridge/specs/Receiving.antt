@@ -1,5 +1,5 @@
 -- The receive phase of a cycle: what comes to a bridge in it, what becomes of it, and why a bridge refuses it (profile).
-use Rattle.std.specs.Prelude.{ℕ, ◌≡◌, ◌+◌, ◌==◌, List, [], ◌∷◌, if◌then◌else◌, false, true, length, map, slice_get, take, Contains, Option, Some}
+use Rattle.std.specs.Prelude.{ℕ, ◌≡◌, ◌+◌, ◌==◌, List, [], ◌∷◌, if◌then◌else◌, false, true, length, map, slice_get, take, Contains, Some}
 use Rattle.std.specs.List.{flat_map}
 use Rattle.cqf_lists.specs.Lists.{each_below}
 use Rattle.cqf_model.specs.declared.frames.Dropped.{Dropped}

@@ -95,6 +95,20 @@ impl Bridge {
         })
     }
 
+    /// The domain of the bridge.
+    pub fn domain(&self) -> &Domain
+        ensures { result.now ≡ self.now.domain }
+    {
+        &self.domain
+    }
+
+    /// The number of the bridge among the domain's.
+    pub fn number(&self) -> u8
+        ensures { result ≡ self.now.number }
+    {
+        self.number
+    }
+
     /// Sends a cycle, the next after those that were received: the ports run to the end of the cycle, and one batch for each
     /// link that leaves the bridge is appended, by number of link, empty ones too. Before they run they get the bridge's
     /// background frames of the cycle, in order of instant, then place; that these are they, and that the cycle is below

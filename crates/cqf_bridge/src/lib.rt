@@ -1,6 +1,7 @@
 //! A bridge, cycle by cycle (IEEE 802.1Q, Annex T): what it sends, and the types of what it takes in and gives out.
 //!
-//! - A [`Bridge`] has one port for each link that leaves it. [`Bridge::send`] runs them to the end of a cycle, and gives one
+//! - A [`Bridge`] has one port for each link that leaves it. [`Bridge::receive`] takes what comes in a cycle, of which
+//!   [`offers_of`] picks the offers. [`Bridge::send`] runs the ports to the end of a cycle, and gives one
 //!   [`Batch`] a link, of streams' frames, for the bridge or station at its end; the background frames that started are
 //!   [`Bridge::background_starts`]. In `specs/` it is its `BridgeState`: its domain and number, how far it is, and all that
 //!   was recorded at its ports. A [`BridgeFault`] says why it refuses a call.
@@ -17,6 +18,7 @@ mod checking;
 mod faults;
 mod gates;
 mod gathering;
+mod offers;
 mod outgoing;
 mod policing;
 mod receiving;
@@ -28,3 +30,4 @@ pub use batch::Batch;
 pub use bridge::Bridge;
 pub use cqf_model::{Book, Dropped, Offer, Offered, Reason, Sent, Started};
 pub use faults::BridgeFault;
+pub use offers::offers_of;

@@ -1,4 +1,4 @@
-use Rattle.std.proofs.Common.{◌∙◌, arith, sym, subst, Contains}
+use Rattle.std.proofs.Common.{◌∙◌, sym, subst, Contains}
 use Rattle.std.proofs.lemmas.List.Elements.{Contains-get_or}
 use Rattle.cqf_bridge.specs.Taking.{IsBatchOf}
 use Rattle.cqf_bridge.proofs.Coming.{are_batches_of, batch_enters, enters_inside, not_batches_of, one_more_place}

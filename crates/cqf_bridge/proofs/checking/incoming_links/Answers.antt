@@ -1,5 +1,4 @@
-use Rattle.std.proofs.Common.{◌∷◌, [], ◌<◌, arith, length, ap, List, ℕ}
-use Rattle.std.specs.Prelude.{if◌then◌else◌}
+use Rattle.std.proofs.Common.{◌<◌, arith, length, ap, List, ℕ}
 use Rattle.cqf_model.specs.Domain.{enters}
 use Rattle.cqf_bridge.proofs.Coming.{picked_length}
 use Rattle.cqf_bridge.proofs.checking.incoming_links.Goals as goal

@@ -1,8 +1,7 @@
-use Rattle.std.proofs.Common.{ℕ, ◌≡◌, ◌<◌, ◌∙◌, ◌∷◌, [], Some, ap, arith, get_or, length, map, slice_get, sym}
+use Rattle.std.proofs.Common.{ℕ, ◌≡◌, ◌∙◌, ap, arith, get_or, map, sym}
 use Rattle.std.proofs.lemmas.Option.{get_or_from_slice_get}
 use Rattle.cqf_lists.proofs.Members.{contains_at}
-use Rattle.cqf_model.specs.declared.frames.Sent.{Sent}
-use Rattle.cqf_model.specs.Traffic.{Received, Relayed, sent_received, whole_at}
+use Rattle.cqf_model.specs.Traffic.{Relayed, sent_received, whole_at}
 use Rattle.cqf_bridge.specs.Taking.{received_as}
 use Rattle.cqf_bridge.proofs.InOrder.{gathered_more}
 use Rattle.cqf_bridge.proofs.gathering.gather_batch.Goals as goal

@@ -1,14 +1,13 @@
-use Rattle.std.proofs.Common.{◌≡◌, ◌∙◌, ◌+◌, ◌<◌, ◌≤◌, ℕ, Option, Some, true, false, ap, arith, inl, inr, map, subst, sym, List, Contains}
-use Rattle.std.specs.Prelude.{◌==◌, ◌∷◌, [], if◌then◌else◌}
+use Rattle.std.proofs.Common.{◌∙◌, ◌+◌, ℕ, Option, true, false, ap, arith, inl, inr, map, sym}
+use Rattle.std.specs.Prelude.{◌==◌}
 use Rattle.std.specs.List.{list_any}
 use Rattle.cqf_model.specs.declared.ports.Arrival.{Arrival}
-use Rattle.cqf_model.specs.Network.{queued_frame}
 use Rattle.cqf_model.specs.StreamGate.{gate_class}
 use Rattle.cqf_model.specs.Table.{goes_to}
 use Rattle.cqf_gates.specs.StreamGate.{Gate, lets_pass}
 use Rattle.cqf_bridge.specs.Gates.{gate_in}
-use Rattle.cqf_bridge.specs.PortRecord.{PortRecord, with_frames}
-use Rattle.cqf_bridge.specs.Taking.{CanRecord, queue_on, received_as, verdict_if, with_verdict}
+use Rattle.cqf_bridge.specs.PortRecord.{PortRecord}
+use Rattle.cqf_bridge.specs.Taking.{queue_on, received_as}
 use Rattle.cqf_bridge.proofs.Verdicts.{class_of_stream, gate_entries, gate_last, may_record, none_queued, went_by_gate, word_class, word_over}
 use Rattle.cqf_bridge.proofs.policing.pass_on.Goals as goal
 

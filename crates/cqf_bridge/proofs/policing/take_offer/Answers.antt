@@ -1,10 +1,10 @@
-use Rattle.std.proofs.Common.{◌≡◌, ◌∙◌, Bool, None, Option, Some, true, false, ap, not, refl, sym}
-use Rattle.std.specs.Prelude.{◌==◌, if◌then◌else◌, option_copied}
+use Rattle.std.proofs.Common.{◌∙◌, Bool, None, Some, true, false, ap, not, refl, sym}
+use Rattle.std.specs.Prelude.{if◌then◌else◌, option_copied}
 use Rattle.std.proofs.lemmas.Result.{on_ok_weaker}
 use Rattle.cqf_lists.proofs.Members.{find_member}
 use Rattle.cqf_model.specs.declared.frames.Reason.TheVariants.{Octets, Unknown}
 use Rattle.cqf_model.specs.Domain.{is_text}
-use Rattle.cqf_model.specs.Traffic.{DroppedFor, Queued, Verdict}
+use Rattle.cqf_model.specs.Traffic.{DroppedFor, Queued}
 use Rattle.cqf_bridge.specs.Taking.{PassesOn, passes_by, received_as, verdict_unless}
 use Rattle.cqf_bridge.proofs.Verdicts.{takes_dropped, takes_over, takes_queued, verdict_at_edge}
 use Rattle.cqf_bridge.proofs.policing.take_offer.Goals as goal

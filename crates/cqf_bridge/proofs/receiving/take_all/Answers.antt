@@ -1,6 +1,5 @@
-use Rattle.std.proofs.Common.{◌≡◌, ◌∙◌, arith, get_or, length, map, sym, subst, ap}
+use Rattle.std.proofs.Common.{◌≡◌, ◌∙◌, arith, get_or, map, sym, ap}
 use Rattle.std.proofs.lemmas.List.{get_or-map, length-map}
-use Rattle.cqf_model.specs.Traffic.{Received}
 use Rattle.cqf_bridge.specs.Taking.{received_as}
 use Rattle.cqf_bridge.proofs.TakenCycle.{among, kept_behind, next_ready, taking_more, taking_none, taking_stops}
 use Rattle.cqf_bridge.proofs.receiving.take_all.Goals as goal

@@ -1,4 +1,4 @@
-use Rattle.std.specs.Prelude.{map, take}
+use Rattle.std.specs.Prelude.{map}
 use Rattle.cqf_bridge.specs.Taking.{received_as}
 use Rattle.cqf_bridge.proofs.TakenCycle.{IsTaking}
 use Rattle.cqf_bridge.proofs.receiving.take_all.Given as goal

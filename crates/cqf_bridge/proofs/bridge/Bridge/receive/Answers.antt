@@ -1,6 +1,6 @@
-use Rattle.std.proofs.Common.{◌≡◌, ◌+◌, ◌∙◌, ap, refl, subst, sym, true}
+use Rattle.std.proofs.Common.{◌+◌, ◌∙◌, refl, subst, sym, true}
 use Rattle.cqf_bridge.specs.BridgeState.{BridgeState}
-use Rattle.cqf_bridge.specs.Receiving.{AreBatchesOf, CanReceive, Handed, IsNextToReceive, IsReceiveFault, IsRunOf, ReceivesCycle}
+use Rattle.cqf_bridge.specs.Receiving.{CanReceive, Handed, IsReceiveFault, IsRunOf, ReceivesCycle}
 use Rattle.cqf_bridge.proofs.Receives.{bridge_received, cycle_received, next_to_receive, ready_to_receive, stop_is_fault}
 use Rattle.cqf_bridge.proofs.bridge.Bridge.receive.Goals as goal
 

@@ -1,5 +1,4 @@
-use Rattle.std.proofs.Common.{◌≡◌, ◌≤◌, ◌∙◌, ◌∷◌, ◌++◌, [], List, Some, None, ap, get_or, length, map, nat_eq, position, refl, sym, subst}
-use Rattle.std.specs.Option.{option_map_or}
+use Rattle.std.proofs.Common.{◌≤◌, ◌∙◌, ◌∷◌, ◌++◌, [], List, Some, ap, nat_eq, position, refl, sym, subst}
 use Rattle.cqf_gates.specs.StreamGate.{Gate, gate_after, verdict_on}
 use Rattle.cqf_bridge.specs.declared.gates.KeptGate.{KeptGate}
 use Rattle.cqf_bridge.specs.Gates.{gate_in, gate_or, with_gate}

@@ -1,0 +1,75 @@
+//! What is offered at a bridge in a cycle.
+ghost use Rattle.std.specs.Prelude.{◌≡◌, ◌+◌, ◌^◌, ◌<◌, ◌==◌, ◌&&◌, IfOk, filter, length};
+ghost use Rattle.cqf_model.specs.Domain.{cycle_of};
+ghost use Rattle.cqf_model.specs.Traffic.{numbered};
+ghost use Rattle.cqf_laws_pages.specs.Gathered.{is_offered_in, offered_for};
+
+use cqf_laws_pages::frames_are_taken_in_order;
+use cqf_model::{Offer, Offered};
+use cqf_topology::Domain;
+use cqf_units::{Cycle, Memory};
+use std::alloc::Global;
+
+/// Whether an offer is at the bridge in the cycle.
+fn is_offered(domain: &Domain, offer: &Offer, bridge: u8, cycle: Cycle) -> bool
+    ensures { result ≡ ((offer.now.bridge == bridge) && (cycle_of domain.now offer.now.at.0 == cycle.0)) }
+{
+    let here = offer.bridge == bridge;
+    let then = offer.at.0 / domain.cycle_time().0 == u64::from(cycle.0);
+    here && then
+}
+
+/// The offer at a place among all, once more, with its number.
+fn with_number(place: usize, offer: &Offer) -> Offered
+    requires { place + 1 < 2 ^ 32 }
+    ensures { result ≡ record { frame = place + 1; offer = offer.now } }
+{
+    Offered {
+        frame: (place + 1) as u32,
+        offer: Offer {
+            at: offer.at,
+            bridge: offer.bridge,
+            stream: offer.stream.copied(),
+            octets: offer.octets,
+        },
+    }
+}
+
+/// The offers at a bridge in a cycle, as they are listed.
+fn listed(
+    alloc: Global,
+    domain: &Domain,
+    offers: &[Offer],
+    bridge: u8,
+    cycle: Cycle,
+) -> Result<Vec<Offered>, Memory>
+    requires { length offers.now < 2 ^ 32 }
+    ensures { IfOk result (λ list. list.items ≡ filter (is_offered_in domain.now bridge cycle.0) (numbered offers.now)) }
+{
+    let mut list = Vec::new(alloc);
+    for (place, offer) in offers.iter().enumerate() {
+        if is_offered(domain, offer, bridge, cycle) {
+            list.push(with_number(place, offer))?;
+        }
+    }
+    Ok(list)
+}
+
+/// Of all offers of a run, those at a bridge in a cycle, each with its number, by instant, then place: what
+/// [`Bridge::receive`](crate::Bridge::receive) wants of them. `Memory` where a growth is refused.
+pub fn offers_of(
+    alloc: Global,
+    domain: &Domain,
+    offers: &[Offer],
+    bridge: u8,
+    cycle: Cycle,
+) -> Result<Vec<Offered>, Memory>
+    requires few { length offers.now < 2 ^ 32 }
+    ensures { IfOk result (λ list. list.items ≡ offered_for domain.now offers.now bridge cycle.0) }
+{
+    frames_are_taken_in_order();
+    let _time = domain.cycle_time();
+    let mut list = listed(alloc, domain, offers, bridge, cycle)?;
+    list.sort_by_key(|offered| offered.offer.at.0)?;
+    Ok(list)
+}
