@@ -413,6 +413,168 @@ fn a_frame_of_a_tree_leaves_on_two_links(rt: HostRuntime) -> Result<(), Fail> {
     Ok(())
 }
 
+/// The starts of the book of a run over six cycles, in which `x` is admitted before cycle 0 and withdrawn in cycle 1: cycle,
+/// link and octets.
+const STARTS_OF_BOOK: &[(u32, u8, u64)] = &[(1, 0, 64), (2, 1, 64), (3, 2, 64)];
+
+/// The offers of that run: instant and bridge.
+const OFFERS_OF_RUN: &[(u64, u8)] = &[(0, 0), (0, 1), (125_000, 0), (500_000, 0)];
+
+/// The sum of the octets that start on a link in a cycle, in the book.
+fn octets_in_book(cycle: Cycle, link: u8) -> u64 {
+    let mut sum: u64 = 0;
+    for start in STARTS_OF_BOOK {
+        if start.0 == cycle.0 && start.1 == link {
+            sum = sum.saturating_add(start.2);
+        }
+    }
+    sum
+}
+
+/// Whether these are the batches of the line's links in a cycle, each with the sum of its octets in the book.
+fn have_the_sums(batches: &[Batch], cycle: Cycle) -> bool {
+    if batches.len() != 3 {
+        return false;
+    }
+    for (place, batch) in batches.iter().enumerate() {
+        if usize::from(batch.link()) != place
+            || batch.octets() != octets_in_book(cycle, batch.link())
+        {
+            return false;
+        }
+    }
+    true
+}
+
+/// The offers of the run, each of 64 octets for the stream `x`.
+fn offers_of_run(alloc: Global) -> Result<Vec<Offer>, Fail> {
+    let mut offers = Vec::new(alloc);
+    for (at, bridge) in OFFERS_OF_RUN {
+        let offer = offer_x(64).ok_or("no offer")?;
+        offers.push(Offer {
+            at: Nanos(*at),
+            bridge: *bridge,
+            ..offer
+        })?;
+    }
+    Ok(offers)
+}
+
+/// Appends the tables of so many cycles.
+fn seal_cycles(asked: &mut Admission, cycles: u32, tables: &mut Vec<Table>) -> Result<(), Fail> {
+    for _cycle in 0..cycles {
+        tables.push(asked.seal(0)?)?;
+    }
+    Ok(())
+}
+
+/// The tables of the run.
+fn tables_of_run(alloc: Global, asked: &mut Admission) -> Result<Vec<Table>, Fail> {
+    let mut tables = Vec::new(alloc);
+    admit_x(alloc, asked, 1500, ONE_BRANCH)?;
+    seal_cycles(asked, 1, &mut tables)?;
+    asked.withdraw(0, "x")?;
+    seal_cycles(asked, 5, &mut tables)?;
+    Ok(tables)
+}
+
+/// The three bridges of the line.
+#[derive(Drop)]
+struct Bridges {
+    first: Bridge,
+    second: Bridge,
+    third: Bridge,
+}
+
+/// Whether the bridges go through a cycle, and each batch has the sum of its octets in the book.
+fn go_through(
+    alloc: Global,
+    bridges: &mut Bridges,
+    cycle: Cycle,
+    table: &Table,
+    offers: &[Offer],
+) -> bool
+    requires { cycle.0 < 100000 }
+{
+    let mut batches = Vec::new(alloc);
+    let sent = bridges.first.send(alloc, cycle, &[], &mut batches).is_ok()
+        && bridges.second.send(alloc, cycle, &[], &mut batches).is_ok()
+        && bridges.third.send(alloc, cycle, &[], &mut batches).is_ok();
+    let given = batches.as_slice();
+    if !sent || !have_the_sums(given, cycle) || given.len() != 3 {
+        return false;
+    }
+    receive(alloc, &mut bridges.first, cycle, table, &[], offers).is_ok()
+        && receive(
+            alloc,
+            &mut bridges.second,
+            cycle,
+            table,
+            &given[0..1],
+            offers,
+        )
+        .is_ok()
+        && receive(
+            alloc,
+            &mut bridges.third,
+            cycle,
+            table,
+            &given[1..2],
+            offers,
+        )
+        .is_ok()
+}
+
+/// Whether they go through the cycles of these tables.
+fn go_through_all(
+    alloc: Global,
+    bridges: &mut Bridges,
+    tables: &[Table],
+    offers: &[Offer],
+) -> bool {
+    if tables.len() != 6 {
+        return false;
+    }
+    for place in 0..6usize {
+        if !go_through(alloc, bridges, Cycle(place as u32), &tables[place], offers) {
+            return false;
+        }
+    }
+    true
+}
+
+/// The bridges of the line's plan.
+fn bridges_of(alloc: Global, plan: &Plan) -> Result<Bridges, Memory>
+    requires { length plan.now.bridges ≡ 3 }
+{
+    Ok(Bridges {
+        first: Bridge::new(alloc, plan, 0)?,
+        second: Bridge::new(alloc, plan, 1)?,
+        third: Bridge::new(alloc, plan, 2)?,
+    })
+}
+
+#[test]
+fn batch_sums(rt: HostRuntime) -> Result<(), Fail> {
+    let mut asked = admission_of(rt.alloc(), line())?;
+    let tables = tables_of_run(rt.alloc(), &mut asked);
+    drop(asked);
+    let tables = tables?;
+    let offers = offers_of_run(rt.alloc())?;
+    let plan = plan_of(rt.alloc(), line())?;
+    assert!(rt; plan.domain().bridges() == 3);
+    let mut bridges = bridges_of(rt.alloc(), &plan)?;
+    assert!(rt;
+        go_through_all(
+            rt.alloc(),
+            &mut bridges,
+            tables.as_slice(),
+            offers.as_slice()
+        )
+    );
+    Ok(())
+}
+
 /// Whether a batch of two frames has them, in order, and the sum of their octets.
 fn holds_two(alloc: Global) -> Result<bool, AllocError> {
     let sent = |start: u64, frame: u32, octets: u32| Sent {
