@@ -1,0 +1,13 @@
+//! The network on one thread.
+#![tactic(auto)]
+
+mod port;
+
+ghost use Rattle.cqf_laws_pages.specs.RunSteps.{RunBegins};
+
+/// Nothing yet.
+pub fn nothing()
+    ensures { RunBegins }
+{
+    cqf_laws_pages::run_goes_on();
+}
