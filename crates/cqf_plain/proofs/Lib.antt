@@ -1,2 +1,3 @@
+mod Instants
 mod Said
 mod Steps

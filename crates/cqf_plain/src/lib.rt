@@ -1,6 +1,7 @@
 //! The network on one thread.
 #![tactic(auto)]
 
+mod clock;
 mod port;
 
 ghost use Rattle.cqf_laws_pages.specs.RunSteps.{RunBegins};
