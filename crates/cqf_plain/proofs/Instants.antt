@@ -41,7 +41,7 @@ equal_itself a Equal h = refl
 equal_itself a Greater h = absurd (omega (arith, h))
 
 -- so does an instant with its link
-itself : (x : Due) → is_eq (by_instant x x) ≡ true
+pub itself : (x : Due) → is_eq (by_instant x x) ≡ true
 itself x = ap (λ (o : Ordering). is_eq (ordering_then o (nat_cmp x.1 x.1))) (equal_itself x.0 (nat_cmp x.0 x.0) (ranks x.0 x.0))
     ∙ ap is_eq (equal_itself x.1 (nat_cmp x.1 x.1) (ranks x.1 x.1))
 
@@ -105,6 +105,7 @@ pub earliest : (end : ℕ) (before after : BTreeSet Due) (first : Due) (r : Opti
 earliest end before after first None is_first early removal member least updates = _
 earliest end before after first (Some k) is_first early removal member least updates = record {
   early = subst (λ (x : Due). x.0 < end) (sym (first_taken before.keys after.keys k first removal is_first)) early;
+  first = is_first ∙ ap Some (sym (first_taken before.keys after.keys k first removal is_first));
   was_due = member;
   kept = leaves_others k before after updates;
   only = λ t link h. (let w = leaves_only k before after updates t link h in

@@ -1,3 +1,4 @@
 mod Instants
 mod Said
-mod Steps
+mod Watching
+mod OneCycle

@@ -1,11 +1,11 @@
 -- The instants at which ports start next, in order.
-use Rattle.std.specs.Prelude.{ℕ, ◌≡◌, ◌≢◌, ◌≤◌, ◌<◌, ◌⊎◌, List, Option, Some, IsTrue, length}
+use Rattle.std.specs.Prelude.{ℕ, ◌≡◌, ◌≢◌, ◌≤◌, ◌<◌, ◌⊎◌, List, Option, Some, IsTrue, MatchOption, length, slice_get}
 use Rattle.std.specs.BTreeSet.{BTreeSet, contains}
 use Rattle.std.specs.declared.cmp.Ordering.{Ordering}
 use Rattle.std.specs.Ordering.{nat_cmp, ordering_then}
 use Rattle.std.specs.Prelude.{slice_set}
 use Rattle.cqf_model.specs.Network.{QueuedFrame}
-use Rattle.cqf_plain.specs.Ports.{IsLegalUpTo, LinkPort, port_at, with_frame}
+use Rattle.cqf_plain.specs.Ports.{IsLegalUpTo, LinkPort, RunsOn, StartsNever, StartsNextAt, port_at, with_frame}
 
 -- an instant, and the link whose port is due then
 abbrev pub Due : Type 0
@@ -35,6 +35,7 @@ NoneDueBefore end due = (t link : ℕ) → IsDue due t link → end ≤ t
 -- the earliest is taken, which is before the end: the others are due still, each behind it
 pub record IsEarliest (end : ℕ) (before after : BTreeSet Due) (x : Due) : Type 0 where
   pub early : x.0 < end
+  pub first : slice_get before.keys 0 ≡ Some x
   pub was_due : IsDue before x.0 x.1
   pub kept : (t link : ℕ) → link ≢ x.1 → IsDue before t link → IsDue after t link
   pub only : (t link : ℕ) → IsDue after t link → IsDue before t link × ((x.0 < t) ⊎ ((x.0 ≡ t) × (x.1 < link)))
@@ -63,3 +64,23 @@ pub record AllRunTo (end : ℕ) (before after : List LinkPort) (due : BTreeSet D
 pub record IsQueued (link : ℕ) (frame : QueuedFrame) (before after : List LinkPort) (due : BTreeSet Due) : Type 0 where
   pub watched : AreWatched due after
   pub ports : after ≡ slice_set before link (with_frame (port_at before link) frame)
+
+-- a port is another from now on, and it is told when it starts next
+pub record IsSet (link : ℕ) (p : LinkPort) (before after : List LinkPort) (due due_after : BTreeSet Due) : Type 0 where
+  pub legal : IsLegalUpTo p.reached p
+  pub ports : after ≡ slice_set before link p
+  pub next : Option ℕ
+  pub told : IsTold link next due due_after
+  pub is_next : MatchOption next (StartsNever p) (StartsNextAt p)
+
+-- the port of a link runs to an instant
+pub record StartsOn (until link : ℕ) (before after : List LinkPort) (due due_after : BTreeSet Due) : Type 0 where
+  pub p : LinkPort
+  pub runs : RunsOn until (port_at before link) p
+  pub is_set : IsSet link p before after due due_after
+
+-- the port of a link gets a frame
+pub record GetsFrame (link : ℕ) (frame : QueuedFrame) (before after : List LinkPort) (due due_after : BTreeSet Due) : Type 0 where
+  pub p : LinkPort
+  pub is : p ≡ with_frame (port_at before link) frame
+  pub is_set : IsSet link p before after due due_after

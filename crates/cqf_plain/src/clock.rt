@@ -20,6 +20,7 @@ impl Clock {
     pub(crate) fn take_before(&mut self, end: Nanos) -> Option<(u64, u8)>
         ensures some { IfSome result (λ x. IsEarliest end.0 self.old.due self.new.due x) }
         ensures none { IfNone result (NoneDueBefore end.0 self.new.due) }
+        ensures unchanged { IfNone result (self.new.due ≡ self.old.due) }
         ensures told { self.new.told.items ≡ self.old.told.items }
     {
         let (instant, _) = *self.due.first()?;

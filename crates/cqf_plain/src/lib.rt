@@ -3,6 +3,7 @@
 
 mod clock;
 mod port;
+mod steps;
 
 ghost use Rattle.cqf_laws_pages.specs.RunSteps.{RunBegins};
 

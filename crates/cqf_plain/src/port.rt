@@ -3,7 +3,7 @@ ghost use Rattle.std.specs.Prelude.{◌≡◌, ◌+◌, ◌^◌, ◌<◌, ◌≤
 ghost use Rattle.cqf_model.specs.Network.{no_frame};
 ghost use Rattle.cqf_port.specs.PortState.{IsLate, IsOutOfOrder};
 ghost use Rattle.cqf_plain.specs.Frames.{queued_of};
-ghost use Rattle.cqf_plain.specs.Ports.{IsSaid, LinkPort, RunsOn, StartsNever, StartsNextAt, new_port, state_of, with_frame};
+ghost use Rattle.cqf_plain.specs.Ports.{IsLegalUpTo, IsSaid, LinkPort, RunsOn, StartsNever, StartsNextAt, new_port, state_of, with_frame};
 
 use cqf_compile::Plan;
 use cqf_model::{Arrival, Start};
@@ -88,8 +88,10 @@ impl EgressPort {
 
     /// The instant of the next start, if nothing more is queued, or `None` where none would come.
     pub(crate) fn next_start(&self) -> Option<Nanos>
-        ensures { MatchOption result (StartsNever self.now) (λ t. StartsNextAt self.now t.0) }
+        ensures next { MatchOption result (StartsNever self.now) (λ t. StartsNextAt self.now t.0) }
+        ensures legal { IsLegalUpTo self.now.reached self.now }
     {
+        let _now = self.port.now();
         self.port.next_start()
     }
 

@@ -7,8 +7,8 @@ use Rattle.cqf_plain.specs.Ports.{LinkPort, StartsNever, StartsNextAt}
 use Rattle.cqf_plain.proofs.port.EgressPort.next_start.Goals as goal
 
 -- the port's own answer, of what came to it
-pub returns : goal.returns
-returns c =
+pub returns-clause-next : goal.returns-clause-next
+returns-clause-next c =
     let o = c.self.inside in
     let same : o.port ≡ record { rules = o.port.rules; reached = o.port.reached; arrivals = arrivals_of (map queued_of o.queued.items); starts = o.port.starts } =
     λ i. record { rules = o.port.rules; reached = o.port.reached; arrivals = sym c.self.invariant i; starts = o.port.starts } in
