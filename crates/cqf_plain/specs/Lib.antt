@@ -1,3 +1,5 @@
+pub mod Faults
+pub mod Run
 pub mod Frames
 pub mod Ports
 pub mod Clock

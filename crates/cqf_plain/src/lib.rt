@@ -2,8 +2,11 @@
 #![tactic(auto)]
 
 mod clock;
+mod faults;
 mod port;
 mod steps;
+
+pub use faults::RunFault;
 
 ghost use Rattle.cqf_laws_pages.specs.RunSteps.{RunBegins};
 
