@@ -1,4 +1,5 @@
 mod Instants
 mod Said
 mod Watching
+mod Getting
 mod OneCycle

@@ -3,3 +3,4 @@ pub mod Run
 pub mod Frames
 pub mod Ports
 pub mod Clock
+pub mod Backing

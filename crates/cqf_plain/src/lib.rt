@@ -1,6 +1,7 @@
 //! The network on one thread.
 #![tactic(auto)]
 
+mod backing;
 mod clock;
 mod faults;
 mod port;
