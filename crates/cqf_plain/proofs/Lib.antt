@@ -2,4 +2,5 @@ mod Instants
 mod Said
 mod Watching
 mod Getting
+mod Transmitting
 mod OneCycle

@@ -4,3 +4,4 @@ pub mod Frames
 pub mod Ports
 pub mod Clock
 pub mod Backing
+pub mod Sending

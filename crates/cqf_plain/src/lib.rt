@@ -6,6 +6,7 @@ mod clock;
 mod faults;
 mod port;
 mod steps;
+mod transmit;
 
 pub use faults::RunFault;
 
