@@ -3,4 +3,5 @@ mod Said
 mod Watching
 mod Getting
 mod Transmitting
+mod Arranged
 mod OneCycle

@@ -9,21 +9,31 @@ use Rattle.cqf_model.specs.declared.ports.Arrival.{Arrival}
 use Rattle.cqf_model.specs.declared.ports.Start.{Start}
 use Rattle.cqf_model.specs.Domain.{Domain, IsAccepted, bridge_of, cycle_of, octet_time_of}
 use Rattle.cqf_model.specs.GateList.{IsOpen}
-use Rattle.cqf_model.specs.Network.{IsLegalNetwork, Network, QueuedFrame, Sends, arrivals_of, backed_in, backed_of, comes_before, compiled_lists, no_frame, queued_in, queued_to, sent_of}
+use Rattle.cqf_model.specs.Network.{IsLegalNetwork, Network, QueuedFrame, Sends, arrivals_of, backed_at, backed_in, comes_in, numbered_background, backed_of, comes_before, compiled_lists, no_frame, queued_in, queued_to, sent_of}
 use Rattle.cqf_model.specs.Port.{AreLegal, PortRules, Transmission}
 use Rattle.cqf_model.specs.Run.{Run}
 use Rattle.cqf_model.specs.Traffic.{Carried, Policed}
 use Rattle.cqf_model.proofs.Sending.{backed_same, sent_same}
 use Rattle.std.proofs.Common.{eqb-true}
+use Rattle.std.proofs.Math.Nat.{mul-le-mul_right}
+use Rattle.std.proofs.lemmas.List.Elements.{Contains-append_cases}
+use Rattle.cqf_lists.proofs.EachBelow.{contains_from_below}
+use Rattle.cqf_lists.proofs.Pairs.{pairs_none}
+use Rattle.cqf_units.proofs.Cycles.{cycle_upto}
+use Rattle.cqf_model.specs.declared.frames.Backed.{Backed}
+use Rattle.cqf_model.proofs.Coming.{backed_when}
+use Rattle.cqf_laws_pages.specs.Gathered.{BackgroundStandsInOrder, IsInOrderOf, PortsGetTheirBackground}
+use Rattle.cqf_plain.specs.Sending.{AreReady, IsCut, SendCycle, at_of, between}
+use Rattle.cqf_plain.proofs.Arranged.{cycles_background}
 use Rattle.std.specs.Prelude.{◌==◌}
-use Rattle.cqf_lists.proofs.Members.{contains_from_filter, contains_from_map}
+use Rattle.cqf_lists.proofs.Members.{contains_from_filter, contains_from_map, contains_none}
 use Rattle.cqf_model.specs.Network.{queued_before}
 use Rattle.cqf_model.proofs.Links.{octet_positive}
 use Rattle.cqf_laws_network.specs.NetworkLaws.{IsShorter}
 use Rattle.cqf_laws_pages.specs.BridgeCycle.{policed_of}
 use Rattle.cqf_laws_pages.specs.PortCycle.{ClosedArrivalsChangeNothing, PortGoesOn, QueuedFramesWait, QueuedInItsCycle, waits_in}
 use Rattle.cqf_laws_pages.specs.RunSteps.{KeepsItsCycles, LongerRunKeepsItsCycles, RunGoesOn, SendsOneMore}
-use Rattle.cqf_plain.specs.Ports.{HaveRun, HaveSent, HaveTaken, IsLegalUpTo, IsPortOf, LinkPort, StandAt, backed_by, backs_of, carried_by, network_of, no_port, port_at, rules_on, sents_of}
+use Rattle.cqf_plain.specs.Ports.{HaveRun, HaveSent, HaveTaken, IsLegalUpTo, IsPortOf, LinkPort, StandAt, backed_by, backs_of, carried_by, network_of, new_port, no_port, port_at, rules_on, sents_of}
 
 -- frames that came later change nothing of what was sent
 pub sents_stay : (rules : PortRules) (end : ℕ) (queued more : List QueuedFrame) (starts : List Transmission) →
@@ -182,3 +192,65 @@ module _ (run : Run) (cycle : ℕ) (before sent : List LinkPort) (laws : StepLaw
       };
       came = taken_queued;
     }
+
+-- what comes to a port before a cycle comes before its beginning
+pub comes_sooner : (run : Run) (carried : Carried) (l cycles : ℕ) (q : QueuedFrame) → 0 < run.domain.cycle_time →
+    Contains (comes_before run carried l cycles) q → q.arrival.at.0 < cycles * run.domain.cycle_time
+comes_sooner run carried l cycles q some h =
+    let d = run.domain in
+    let at = q.arrival.at.0 in
+    let c = contains_from_below (comes_in run carried l) cycles q h in
+    let last : (c.0 + 1) * d.cycle_time ≤ cycles * d.cycle_time = mul-le-mul_right d.cycle_time (omega (arith, c.1)) in
+    elim (Contains-append_cases (backed_in d run.background l c.0) (queued_in run carried l c.0) q c.2) [
+      | inl back ↦
+          let k = contains_from_below (λ offset. backed_at run.background l (c.0 * d.cycle_time + offset)) d.cycle_time q back in
+          omega (arith, backed_when run.background l (c.0 * d.cycle_time + k.0) q k.2, k.1, last)
+      | inr queue ↦
+          let here = λ (x : QueuedFrame). cycle_of d x.arrival.at.0 == c.0 in
+          let is : cycle_of d at ≡ c.0 = eqb-true (cycle_of d at) c.0 (contains_from_filter here (queued_before run carried l ((c.0 + 1) * d.cycle_time)) q queue).1 in
+          omega (arith, cycle_upto d.cycle_time at some, ap (λ (n : ℕ). n * d.cycle_time) is, last)
+    ]
+
+-- so the ports are ready for the cycle at which they stand
+pub stand_ready : (run : Run) (cycle : ℕ) (ports : List LinkPort) → 0 < run.domain.cycle_time → StandAt run cycle ports → AreReady run.domain cycle ports
+stand_ready run cycle ports some stand = record {
+  ran = stand.ran;
+  sooner = λ l q inside h. comes_sooner run (carried_by ports) l cycle q some (subst (λ (qs : List QueuedFrame). Contains qs q) (stand.came l inside) h);
+}
+
+-- and when they send the background frames between two cuts, they send the cycle
+pub sends_of_run : BackgroundStandsInOrder → PortsGetTheirBackground → (run : Run) (cycle from to : ℕ) (frames : List Backed) (before after : List LinkPort) →
+    0 < run.domain.cycle_time → IsInOrderOf at_of (numbered_background run.background) frames →
+    IsCut (cycle * run.domain.cycle_time) frames from → IsCut ((cycle + 1) * run.domain.cycle_time) frames to → from ≤ to →
+    SendCycle run.domain cycle (between frames from to) before after → HaveSent run cycle before after
+sends_of_run stands ports run cycle from to frames before after some arranged first last order sends = record {
+  ran = sends.ran;
+  came = λ l inside. sends.came l inside ∙ ap (λ (qs : List QueuedFrame). (port_at before l).queued ++ qs)
+      (cycles_background run.domain run.background frames cycle from to l some inside first last order stands ports arranged);
+}
+
+-- nothing came, and nothing is sent up to instant 0
+nothing_legal : (rules : PortRules) (end : ℕ) → end ≡ 0 → AreLegal rules [] end []
+nothing_legal rules end none = record {
+  in_order = pairs_none (λ (a b : Transmission). a.1 < b.1);
+  before_end = λ place s h. absurd (contains_none (place, s) h);
+  once = λ place s t h k. absurd (contains_none (place, s) h);
+  idle = λ place s h. absurd (contains_none (place, s) h);
+  first = λ place s h. absurd (contains_none (place, s) h);
+  eligible = λ place s h. absurd (contains_none (place, s) h);
+  strict_priority = λ place s other h. absurd (contains_none (place, s) h);
+  work_conserving = λ t other soon. absurd (omega (arith, soon, none));
+}
+
+-- new ports stand at the beginning
+pub stand_first : (run : Run) (ports : List LinkPort) → length ports ≡ length run.domain.links →
+    ((l : ℕ) → l < length run.domain.links → port_at ports l ≡ new_port run.domain l) → StandAt run 0 ports
+stand_first run ports one_each new = record {
+  ran = record {
+    one_each = one_each;
+    own = λ l inside. record { of_link = ap (λ (p : LinkPort). p.link) (new l inside); by_rules = ap (λ (p : LinkPort). p.rules) (new l inside) };
+    legal = λ l inside. subst (IsLegalUpTo (0 * run.domain.cycle_time)) (sym (new l inside)) (nothing_legal (rules_on run.domain l) (0 * run.domain.cycle_time) (omega arith));
+    no_further = λ l inside. omega (arith, ap (λ (p : LinkPort). p.reached) (new l inside));
+  };
+  came = λ l inside. ap (λ (p : LinkPort). p.queued) (new l inside);
+}
