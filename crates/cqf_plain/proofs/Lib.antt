@@ -1,7 +1,10 @@
+mod InOrder
+mod Numbering
 mod Instants
 mod Said
 mod Watching
 mod Getting
 mod Transmitting
 mod Arranged
+mod Tellings
 mod OneCycle

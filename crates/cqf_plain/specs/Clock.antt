@@ -46,6 +46,11 @@ pub record IsTold (link : ℕ) (next : Option ℕ) (before after : BTreeSet Due)
   pub kept : (t other : ℕ) → other ≢ link → IsDue before t other → IsDue after t other
   pub only : (t other : ℕ) → IsDue after t other → IsDue before t other ⊎ ((other ≡ link) × (next ≡ Some t))
 
+-- a clock of so many links, of which none is due
+pub record IsFresh (links : ℕ) (due : BTreeSet Due) (told : List (Option ℕ)) : Type 0 where
+  pub none : (t link : ℕ) → ¬ IsDue due t link
+  pub one_each : length told ≡ links
+
 -- a port has run to an end, of which it starts nothing more before
 pub record RunsTo (end : ℕ) (before after : LinkPort) : Type 0 where
   pub same_link : after.link ≡ before.link

@@ -5,3 +5,4 @@ pub mod Ports
 pub mod Clock
 pub mod Backing
 pub mod Sending
+pub mod Telling

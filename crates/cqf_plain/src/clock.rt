@@ -1,7 +1,7 @@
 //! The instants at which the ports start next, in order.
-ghost use Rattle.std.specs.Prelude.{◌≡◌, ◌<◌, IfSome, IfNone, OnOk, length};
+ghost use Rattle.std.specs.Prelude.{◌≡◌, ◌<◌, IfOk, IfSome, IfNone, OnOk, length};
 ghost use Rattle.std.specs.Option.{option_map};
-ghost use Rattle.cqf_plain.specs.Clock.{IsEarliest, IsTold, NoneDueBefore};
+ghost use Rattle.cqf_plain.specs.Clock.{IsEarliest, IsFresh, IsTold, NoneDueBefore};
 
 use cqf_units::{Memory, Nanos};
 use std::alloc::Global;
@@ -16,6 +16,16 @@ pub(crate) struct Clock {
 }
 
 impl Clock {
+    /// A clock for so many links, of which none is due.
+    pub(crate) fn new(alloc: Global, links: usize) -> Result<Clock, Memory>
+        ensures { IfOk result (λ clock. IsFresh links clock.due clock.told.items) }
+    {
+        Ok(Clock {
+            due: BTreeSet::new(alloc),
+            told: Vec::from_elem(alloc, None, links)?,
+        })
+    }
+
     /// Takes the earliest that is before an end, or `None` where none is.
     pub(crate) fn take_before(&mut self, end: Nanos) -> Option<(u64, u8)>
         ensures some { IfSome result (λ x. IsEarliest end.0 self.old.due self.new.due x) }

@@ -2,6 +2,7 @@
 #![tactic(auto)]
 
 mod backing;
+mod book;
 mod clock;
 mod faults;
 mod port;
