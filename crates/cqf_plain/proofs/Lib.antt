@@ -7,4 +7,6 @@ mod Getting
 mod Transmitting
 mod Arranged
 mod Tellings
+mod BookOrders
 mod OneCycle
+mod Finishing
