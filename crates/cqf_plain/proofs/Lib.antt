@@ -9,4 +9,6 @@ mod Arranged
 mod Tellings
 mod BookOrders
 mod OneCycle
+mod DropOrders
+mod Waiting
 mod Finishing
