@@ -1,22 +1,24 @@
 -- Ports that are watched stay so while each runs.
-use Rattle.std.proofs.Common.{◌≡◌, ◌≢◌, ℕ, ◌+◌, ◌-◌, ◌*◌, ◌≤◌, ◌<◌, ◌⊎◌, ◌++◌, ◌||◌, append-nil, Bool, true, false, List, [], ◌∷◌, Option, Some, None, MatchOption, sym, refl, ap, ◌∙◌, inl, inr, arith, subst, length, Contains, map}
+use Rattle.std.proofs.Common.{◌≡◌, ◌≢◌, ℕ, ◌+◌, ◌-◌, ◌*◌, ◌≤◌, ◌<◌, ◌⊎◌, ◌++◌, ◌||◌, append-nil, Bool, true, false, List, [], ◌∷◌, Option, Some, None, MatchOption, sym, refl, ap, ◌∙◌, inl, inr, arith, subst, length, length-append, Contains, map}
 use Rattle.std.specs.Prelude.{filter, nat_lt, slice_get, slice_set, IsTrue, slice_index_or}
 use Rattle.std.specs.Option.{option_map, option_map_or}
 use Rattle.cqf_units.specs.declared.timing.Nanos.{Nanos}
 use Rattle.std.specs.List.{list_any}
 use Rattle.std.specs.BTreeSet.{BTreeSet, contains}
 use Rattle.std.specs.Ordering.{is_eq}
-use Rattle.std.proofs.lemmas.Bool.{cases_eq, le-ltb, lt-ltb}
-use Rattle.std.proofs.lemmas.List.{get_or-set_other, get_or-set_same, length-set}
+use Rattle.std.proofs.lemmas.Bool.{cases_eq, cases_lt, le-ltb, lt-ltb}
+use Rattle.std.proofs.lemmas.List.{get_or_append_left, get_or_push, get_or-set_other, get_or-set_same, length-set}
 use Rattle.std.proofs.lemmas.List.Elements.{filter-append}
 use Rattle.std.proofs.lemmas.Option.{none-some, same_Some}
 use Rattle.cqf_lists.proofs.EachBelow.{filter_each, filter_none}
-use Rattle.cqf_lists.proofs.Members.{contains_one}
+use Rattle.cqf_lists.proofs.Members.{contains_none, contains_one}
+use Rattle.cqf_lists.proofs.Pairs.{pairs_none}
+use Rattle.cqf_model.specs.Domain.{Domain}
 use Rattle.cqf_model.specs.Network.{QueuedFrame, arrivals_of}
-use Rattle.cqf_model.specs.Port.{AreLegal, Transmission}
+use Rattle.cqf_model.specs.Port.{AreLegal, PortRules, Transmission}
 use Rattle.cqf_laws_port.specs.PortLaws.{LegalPartIsLegal}
-use Rattle.cqf_plain.specs.Clock.{AllRunTo, AreWatched, Due, GetsFrame, IsDue, IsEarliest, IsQueued, IsSet, IsTold, IsWatched, NoneDueBefore, RunsTo, StartsOn, by_instant}
-use Rattle.cqf_plain.specs.Ports.{IsLegalUpTo, LinkPort, RunsOn, StartsNever, StartsNextAt, no_port, port_at, with_frame}
+use Rattle.cqf_plain.specs.Clock.{AllRunTo, AreWatched, Due, GetsFrame, IsDue, IsEarliest, IsFresh, IsQueued, IsSet, IsTold, IsWatched, NoneDueBefore, RunsTo, StartsOn, by_instant}
+use Rattle.cqf_plain.specs.Ports.{AreNew, IsLegalUpTo, LinkPort, RunsOn, StartsNever, StartsNextAt, new_port, no_port, port_at, rules_on, with_frame}
 use Rattle.cqf_plain.proofs.Instants.{itself}
 
 -- up to an instant that isn't after its next start a port starts nothing more
@@ -184,4 +186,43 @@ pub one_queued : LegalPartIsLegal → (link : ℕ) (frame : QueuedFrame) (before
 one_queued part link frame before after due due_after watched inside gets = record {
   watched = watched_again part link gets.p before after due due_after gets.is_set inside watched.inside (λ l below other. watched.each l below);
   ports = gets.is_set.ports ∙ ap (slice_set before link) gets.is;
+}
+
+-- new ports are watched by a clock on which none is due
+pub new_watched : (d : Domain) (ports : List LinkPort) (due : BTreeSet Due) (told : List (Option ℕ)) → AreNew d ports → IsFresh (length ports) due told →
+    AreWatched due ports
+new_watched d ports due told new fresh = record {
+  inside = λ t link h. absurd (fresh.none t link h);
+  each = λ link below end from none. subst (IsLegalUpTo end) (sym (new.each link (omega (arith, below, new.one_each)))) (nothing_starts (rules_on d link) end);
+}
+  where
+    -- where nothing came nothing starts
+    nothing_starts : (rules : PortRules) (end : ℕ) → AreLegal rules [] end []
+    nothing_starts rules end = record {
+      in_order = pairs_none (λ (a b : Transmission). a.1 < b.1);
+      before_end = λ place s h. absurd (contains_none (place, s) h);
+      once = λ place s t h k. absurd (contains_none (place, s) h);
+      idle = λ place s h. absurd (contains_none (place, s) h);
+      first = λ place s h. absurd (contains_none (place, s) h);
+      eligible = λ place s h. absurd (contains_none (place, s) h);
+      strict_priority = λ place s other h. absurd (contains_none (place, s) h);
+      work_conserving = λ t other soon idle first eligible. absurd (omega (arith, first.waits.inside));
+    }
+
+-- the ports of the first links are new
+pub record FirstAreNew (d : Domain) (count : ℕ) (ports : List LinkPort) : Type 0 where
+  pub as_many : length ports ≡ count
+  pub each_new : (l : ℕ) → l < count → port_at ports l ≡ new_port d l
+
+-- one more is
+pub one_new : (d : Domain) (count : ℕ) (ports after : List LinkPort) (p : LinkPort) → FirstAreNew d count ports → p ≡ new_port d count → after ≡ ports ++ p ∷ [] →
+    FirstAreNew d (count + 1) after
+one_new d count ports after p first is more = record {
+  as_many = omega (arith, ap (λ (ps : List LinkPort). length ps) more, length-append ports (p ∷ []), first.as_many);
+  each_new = λ l below. ap (λ (ps : List LinkPort). port_at ps l) more ∙ (elim (cases_lt l count) [
+    | inl before ↦ get_or_append_left ports (p ∷ []) no_port l (omega (arith, before, first.as_many)) ∙ first.each_new l before
+    | inr at ↦
+        let here : count ≡ l = omega (arith, at, below) in
+        get_or_push ports p no_port l (omega (arith, first.as_many, here)) ∙ is ∙ ap (new_port d) here
+  ]);
 }

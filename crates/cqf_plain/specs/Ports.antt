@@ -49,6 +49,11 @@ no_port = record { link = 0; rules = record { entries = []; octet_time = 0 }; re
 abbrev pub port_at : List LinkPort → ℕ → LinkPort
 port_at ports link = slice_index_or ports link no_port
 
+-- the ports of all links of a domain, to which nothing came
+pub record AreNew (d : Domain) (ports : List LinkPort) : Type 0 where
+  pub one_each : length ports ≡ length d.links
+  pub each : (l : ℕ) → l < length d.links → port_at ports l ≡ new_port d l
+
 -- the network of the ports: what each link carries
 abbrev pub carried_by : List LinkPort → Carried
 carried_by ports link = sents_of (port_at ports link)

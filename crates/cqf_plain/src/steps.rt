@@ -3,12 +3,14 @@ ghost use Rattle.std.specs.Prelude.{◌≡◌, ◌+◌, ◌^◌, ◌<◌, ◌≤
 ghost use Rattle.cqf_port.specs.PortState.{IsLate, IsOutOfOrder};
 ghost use Rattle.cqf_plain.specs.Clock.{AllRunTo, AreWatched, GetsFrame, IsQueued, StartsOn};
 ghost use Rattle.cqf_plain.specs.Frames.{queued_of};
-ghost use Rattle.cqf_plain.specs.Ports.{port_at, state_of};
+ghost use Rattle.cqf_plain.specs.Ports.{AreNew, port_at, state_of};
 
 use crate::clock::Clock;
 use crate::port::{EgressPort, Queued};
+use cqf_compile::Plan;
 use cqf_laws_port::legal_part_is_legal;
 use cqf_units::{Memory, Nanos};
+use std::alloc::Global;
 
 /// The port of a link runs to an instant.
 fn start_next(
@@ -92,4 +94,15 @@ pub(crate) fn queue_frame(
     legal_part_is_legal();
     put_frame(ports, clock, link, frame)?;
     Ok(())
+}
+
+/// The ports of all links of a plan, by number, to which nothing came.
+pub(crate) fn new_ports(alloc: Global, plan: &Plan) -> Result<Vec<EgressPort>, Memory>
+    ensures { IfOk result (λ ports. AreNew plan.now ports.items) }
+{
+    let mut ports = Vec::new(alloc);
+    for link in 0..plan.domain().links() {
+        ports.push(EgressPort::new(alloc, plan, link))?;
+    }
+    Ok(ports)
 }
