@@ -9,18 +9,9 @@ use Rattle.cqf_model.specs.Network.{Network}
 use Rattle.cqf_model.specs.Run.{Run}
 use Rattle.cqf_model.specs.Traffic.{Carried, Policed, policed_before}
 use Rattle.cqf_laws_pages.specs.BridgeCycle.{DropsAreOfTheCycle, policed_of}
+use Rattle.cqf_plain.specs.Cycle.{drops_at, drops_before}
 use Rattle.cqf_plain.specs.Ports.{HaveSent, HaveTaken, LinkPort, StandAt, carried_by, network_of}
 use Rattle.cqf_plain.proofs.OneCycle.{StepLaws, same_network, sent_keeps}
-
--- the drops of the cycles before one, by what the links carry
-abbrev pub drops_before : Run → ℕ → Carried → List Dropped
-drops_before run cycle carried =
-    drops_of run.domain cycle (length run.offers) (λ bridge. policed_before run carried bridge (cycle * run.domain.cycle_time))
-
--- the drops of a cycle, by bridge
-abbrev pub drops_at : Run → ℕ → Carried → List Dropped
-drops_at run cycle carried =
-    each_below (drops_in run.domain (length run.offers) (λ bridge. policed_of run carried bridge cycle) cycle) (length run.domain.bridges)
 
 -- the drops before a cycle are, cycle by cycle, those of each
 drops_by_cycle : DropsAreOfTheCycle → (run : Run) (cycles : ℕ) (carried : Carried) →

@@ -12,6 +12,7 @@ use Rattle.cqf_model.specs.Traffic.{Carried, Policed, policed_before}
 use Rattle.cqf_laws_network.specs.NetworkLaws.{IsShorter, LegalNetworkExists, LegalNetworkIsUnique}
 use Rattle.cqf_laws_pages.specs.BridgeCycle.{BridgeGoesOn, policed_of}
 use Rattle.cqf_laws_pages.specs.RunSteps.{KeepsItsCycles, LongerRunKeepsItsCycles, LossesAreOfCycles, RunIsItsCycles}
+use Rattle.cqf_plain.specs.Cycle.{NoneLost, NoneLostIn}
 use Rattle.cqf_plain.specs.Ports.{HaveRun, HaveSent, HaveTaken, LinkPort, StandAt, carried_by, network_of, port_at}
 use Rattle.cqf_plain.specs.Run.{IsNetworkOf, LosesInside, LosesNothing}
 use Rattle.cqf_plain.specs.Telling.{AreOf, TellsBook}
@@ -37,14 +38,6 @@ book_of_ports run cycles ports starts background drops stand tells dropped = rec
   are_background = tells.are_background;
   are_drops = dropped;
 }
-
--- nothing was lost inside before a cycle
-abbrev pub NoneLost : Run → ℕ → List LinkPort → Type 0
-NoneLost run cycle ports = (bridge : ℕ) (policed : Policed) → ¬ IsLost run (carried_by ports) cycle bridge policed
-
--- nothing of what comes to the bridges in a cycle is lost
-abbrev pub NoneLostIn : Run → ℕ → List LinkPort → Type 0
-NoneLostIn run cycle sent = (bridge : ℕ) (policed : Policed) → Contains (policed_of run (carried_by sent) bridge cycle) policed → ¬ IsLoss policed.verdict
 
 -- the laws about losses
 pub record LossLaws : Type 0 where

@@ -12,3 +12,4 @@ mod OneCycle
 mod DropOrders
 mod Waiting
 mod Finishing
+mod WholeRun

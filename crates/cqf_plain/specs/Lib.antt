@@ -6,3 +6,4 @@ pub mod Clock
 pub mod Backing
 pub mod Sending
 pub mod Telling
+pub mod Cycle
