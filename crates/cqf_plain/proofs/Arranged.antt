@@ -1,20 +1,18 @@
 -- The background frames of a run in order of instant: those between two cuts are those of a cycle.
-use Rattle.std.proofs.Common.{◌≡◌, ℕ, ◌+◌, ◌-◌, ◌*◌, ◌≤◌, ◌<◌, ◌++◌, ◌==◌, ◌&&◌, Bool, true, false, List, [], ◌∷◌, Contains, sym, refl, ap, ◌∙◌, inl, inr, arith, subst, length, map, filter, take, drop, take-append-drop}
-use Rattle.std.specs.List.{enumerate_from}
-use Rattle.std.specs.List.Sorted.{IsNonDecreasingBy}
-use Rattle.std.proofs.lemmas.Bool.{and_parts, eq-eqb, ne_eqb}
+use Rattle.std.proofs.Common.{◌≡◌, ℕ, ◌+◌, ◌-◌, ◌*◌, ◌≤◌, ◌<◌, ◌++◌, ◌==◌, ◌&&◌, Bool, true, false, List, [], Contains, sym, refl, ap, ◌∙◌, arith, subst, length, map, filter, take, drop, take-append-drop}
+use Rattle.std.proofs.lemmas.Bool.{eq-eqb, ne_eqb}
 use Rattle.std.proofs.Common.{eqb-true}
 use Rattle.std.proofs.lemmas.List.{append-nil, drop-drop, drop-take}
 use Rattle.std.proofs.lemmas.List.Elements.{Contains-append_right, filter-append}
 use Rattle.std.proofs.lemmas.List.Kept.{IsNonDecreasingBy-filter}
-use Rattle.cqf_lists.proofs.EachBelow.{contains_from_below, filter_none, filter_twice}
+use Rattle.cqf_lists.proofs.EachBelow.{filter_none, filter_twice}
 use Rattle.cqf_lists.proofs.Filters.{filter_alike, filter_weaker}
 use Rattle.cqf_lists.proofs.Members.{contains_from_take}
 use Rattle.cqf_units.proofs.Cycles.{cycle_from, cycle_is, cycle_upto}
 use Rattle.cqf_model.specs.declared.frames.Backed.{Backed}
 use Rattle.cqf_model.specs.declared.frames.Background.{Background}
 use Rattle.cqf_model.specs.Domain.{Domain, bridge_of, cycle_of, leaves}
-use Rattle.cqf_model.specs.Network.{QueuedFrame, backed_frame, backed_in, numbered_background}
+use Rattle.cqf_model.specs.Network.{backed_frame, backed_in, numbered_background}
 use Rattle.cqf_model.proofs.Links.{leaves_its_bridge}
 use Rattle.cqf_laws_pages.specs.Gathered.{BackgroundStandsInOrder, IsInOrderOf, PortsGetTheirBackground, backed_for, is_backed_in, is_for_link}
 use Rattle.cqf_plain.specs.Backing.{backed_on}

@@ -1,6 +1,6 @@
 -- What the ports have started, in the order of a book.
-use Rattle.std.proofs.Common.{◌≡◌, ℕ, ◌+◌, ◌*◌, ◌<◌, ◌≤◌, ◌++◌, ◌==◌, List, [], ◌∷◌, Contains, sym, refl, ap, ◌∙◌, arith, subst, length, map, filter, get_or, eqb-true}
-use Rattle.std.specs.Prelude.{suc, slice_index_or}
+use Rattle.std.proofs.Common.{◌≡◌, ℕ, ◌+◌, ◌*◌, ◌<◌, ◌++◌, ◌==◌, List, [], sym, refl, ap, ◌∙◌, arith, subst, length, map, filter, eqb-true}
+use Rattle.std.specs.Prelude.{suc}
 use Rattle.std.specs.List.{All, flat_map}
 use Rattle.std.specs.List.Sorted.{IsNonDecreasingBy, IsPermutation, IsStableByKey}
 use Rattle.std.specs.Ordering.{nat_cmp}
@@ -10,7 +10,6 @@ use Rattle.cqf_lists.proofs.Filters.{filter-map}
 use Rattle.cqf_lists.proofs.Made.{map_same}
 use Rattle.cqf_lists.proofs.Members.{all_from_members, contains_from_filter, contains_from_flat, contains_from_map}
 use Rattle.cqf_lists.proofs.Sorted.{sorted_by_key}
-use Rattle.cqf_units.specs.Timing.{cycle_at}
 use Rattle.cqf_units.proofs.Cycles.{cycle_below}
 use Rattle.cqf_model.specs.declared.frames.Sent.{Sent}
 use Rattle.cqf_model.specs.declared.frames.Started.{Started}
@@ -18,7 +17,6 @@ use Rattle.cqf_model.specs.declared.ports.Start.{Start}
 use Rattle.cqf_model.specs.Book.{background_in, background_of, started, started_backed, starts_in, starts_of}
 use Rattle.cqf_model.specs.Domain.{Domain, cycle_of}
 use Rattle.cqf_model.specs.Network.{backed_of, sent_of}
-use Rattle.cqf_model.specs.Port.{Transmission}
 use Rattle.cqf_model.proofs.Sending.{backed_of_when, sent_of_when}
 use Rattle.cqf_plain.specs.Ports.{LinkPort, backed_by, carried_by, port_at}
 use Rattle.cqf_plain.specs.Telling.{AreOf, TellsAll, TellsBook, TellsPort, told, told_backed}

@@ -1,5 +1,5 @@
 -- The drops of a run, cycle by cycle.
-use Rattle.std.proofs.Common.{◌≡◌, ℕ, ◌+◌, ◌*◌, ◌<◌, ◌≤◌, ◌++◌, List, Contains, sym, refl, ap, ◌∙◌, arith, subst, length}
+use Rattle.std.proofs.Common.{◌≡◌, ℕ, ◌+◌, ◌*◌, ◌<◌, ◌++◌, List, sym, ap, ◌∙◌, arith, length}
 use Rattle.std.specs.Prelude.{suc}
 use Rattle.cqf_lists.specs.Lists.{each_below}
 use Rattle.cqf_lists.proofs.EachBelow.{same_below}
@@ -7,10 +7,10 @@ use Rattle.cqf_model.specs.declared.frames.Dropped.{Dropped}
 use Rattle.cqf_model.specs.Book.{drops_in, drops_of}
 use Rattle.cqf_model.specs.Network.{Network}
 use Rattle.cqf_model.specs.Run.{Run}
-use Rattle.cqf_model.specs.Traffic.{Carried, Policed, policed_before}
+use Rattle.cqf_model.specs.Traffic.{Carried, policed_before}
 use Rattle.cqf_laws_pages.specs.BridgeCycle.{DropsAreOfTheCycle, policed_of}
 use Rattle.cqf_plain.specs.Cycle.{drops_at, drops_before}
-use Rattle.cqf_plain.specs.Ports.{HaveSent, HaveTaken, LinkPort, StandAt, carried_by, network_of}
+use Rattle.cqf_plain.specs.Ports.{HaveSent, HaveTaken, LinkPort, StandAt, carried_by}
 use Rattle.cqf_plain.proofs.OneCycle.{StepLaws, same_network, sent_keeps}
 
 -- the drops before a cycle are, cycle by cycle, those of each

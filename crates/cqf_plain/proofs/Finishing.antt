@@ -1,20 +1,20 @@
 -- What stands at the end of a run: the book of its legal network, which loses nothing inside.
-use Rattle.std.proofs.Common.{◌≡◌, ℕ, ◌+◌, ◌*◌, ◌<◌, ◌≤◌, ◌++◌, List, Contains, sym, refl, ap, ◌∙◌, inl, inr, arith, subst, length}
+use Rattle.std.proofs.Common.{◌≡◌, ℕ, ◌+◌, ◌*◌, ◌<◌, List, Contains, sym, refl, inl, inr, arith, subst, length}
 use Rattle.std.proofs.lemmas.List.Elements.{Contains-append_cases}
 use Rattle.cqf_lists.proofs.EachBelow.{contains_from_below}
 use Rattle.cqf_lists.proofs.Members.{contains_none}
 use Rattle.cqf_model.specs.declared.frames.Dropped.{Dropped}
 use Rattle.cqf_model.specs.declared.frames.Started.{Started}
-use Rattle.cqf_model.specs.Book.{Contents, IsBook, drops_of}
-use Rattle.cqf_model.specs.Network.{IsLegalNetwork, IsLoss, IsLost, Network, compiled_lists}
+use Rattle.cqf_model.specs.Book.{IsBook, drops_of}
+use Rattle.cqf_model.specs.Network.{IsLoss, IsLost, Network, compiled_lists}
 use Rattle.cqf_model.specs.Run.{Run}
-use Rattle.cqf_model.specs.Traffic.{Carried, Policed, policed_before}
+use Rattle.cqf_model.specs.Traffic.{Policed, policed_before}
 use Rattle.cqf_laws_network.specs.NetworkLaws.{IsShorter, LegalNetworkExists, LegalNetworkIsUnique}
 use Rattle.cqf_laws_pages.specs.BridgeCycle.{BridgeGoesOn, policed_of}
-use Rattle.cqf_laws_pages.specs.RunSteps.{KeepsItsCycles, LongerRunKeepsItsCycles, LossesAreOfCycles, RunIsItsCycles}
+use Rattle.cqf_laws_pages.specs.RunSteps.{KeepsItsCycles, LossesAreOfCycles, RunIsItsCycles}
 use Rattle.cqf_plain.specs.Cycle.{NoneLost, NoneLostIn}
-use Rattle.cqf_plain.specs.Ports.{HaveRun, HaveSent, HaveTaken, LinkPort, StandAt, carried_by, network_of, port_at}
-use Rattle.cqf_plain.specs.Run.{IsNetworkOf, LosesInside, LosesNothing}
+use Rattle.cqf_plain.specs.Ports.{HaveSent, HaveTaken, LinkPort, StandAt, carried_by, network_of}
+use Rattle.cqf_plain.specs.Run.{LosesInside, LosesNothing}
 use Rattle.cqf_plain.specs.Telling.{AreOf, TellsBook}
 use Rattle.cqf_plain.proofs.OneCycle.{StepLaws, same_network, sent_keeps, sent_legal, stand_legal}
 
@@ -29,7 +29,7 @@ stand_of run cycles ports stand = record {
 pub book_of_ports : (run : Run) (cycles : ℕ) (ports : List LinkPort) (starts background : List Started) (drops : List Dropped) → StandAt run cycles ports →
     TellsBook run.domain cycles ports starts background →
     drops ≡ drops_of run.domain cycles (length run.offers)
-        (λ bridge. policed_before run (carried_by ports) bridge (cycles * run.domain.cycle_time)) →
+    (λ bridge. policed_before run (carried_by ports) bridge (cycles * run.domain.cycle_time)) →
     IsBook run (compiled_lists run.domain) cycles (record { starts = starts; background = background; drops = drops })
 book_of_ports run cycles ports starts background drops stand tells dropped = record {
   net = network_of ports;
@@ -58,10 +58,10 @@ module _ (run : Run) (cycle : ℕ) (before sent after : List LinkPort) (laws : S
       elim (Contains-append_cases (policed_before run (carried_by sent) bridge (cycle * run.domain.cycle_time))
       (policed_of run (carried_by sent) bridge cycle) policed parts) [
         | inl old ↦ none bridge policed (record {
-            came = subst (λ (ps : List Policed). Contains ps policed)
-                ((sent_keeps run cycle before sent laws short stand sends).takes bridge cycle (omega arith)) old;
-            lost = lost.lost;
-          })
+          came = subst (λ (ps : List Policed). Contains ps policed)
+              ((sent_keeps run cycle before sent laws short stand sends).takes bridge cycle (omega arith)) old;
+          lost = lost.lost;
+        })
         | inr new ↦ none_in bridge policed new lost.lost
       ]
 

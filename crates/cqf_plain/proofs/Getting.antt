@@ -1,6 +1,5 @@
 -- Background frames come to their ports one after the other.
-use Rattle.std.proofs.Common.{◌≡◌, ◌≢◌, ℕ, ◌+◌, ◌^◌, ◌≤◌, ◌<◌, ◌++◌, List, [], ◌∷◌, AllPairs, Contains, sym, refl, ap, ◌∙◌, inl, inr, arith, subst, length, map, filter, take, drop, get_or, append_assoc, append-nil}
-use Rattle.std.specs.Prelude.{slice_set}
+use Rattle.std.proofs.Common.{◌≡◌, ℕ, ◌+◌, ◌^◌, ◌≤◌, ◌<◌, ◌++◌, List, [], ◌∷◌, AllPairs, Contains, sym, refl, ap, ◌∙◌, inl, inr, arith, subst, length, map, filter, take, drop, get_or, append_assoc, append-nil}
 use Rattle.std.specs.BTreeSet.{BTreeSet}
 use Rattle.std.proofs.lemmas.Bool.{cases_eq, cond-false, cond-true, eq-eqb, ne_eqb}
 use Rattle.std.proofs.lemmas.List.{drop_more, get_or-set_other, get_or-set_same, length-set, map-append, take-append-drop, take_all, take_more}
@@ -13,7 +12,7 @@ use Rattle.cqf_model.specs.Network.{QueuedFrame, arrivals_of, backed_frame}
 use Rattle.cqf_model.specs.Port.{no_arrival}
 use Rattle.cqf_laws_pages.specs.Gathered.{is_for_link}
 use Rattle.cqf_port.specs.PortState.{IsLate, IsOutOfOrder}
-use Rattle.cqf_plain.specs.Backing.{AllGet, Gets, MayCome, MayGet, backed_on}
+use Rattle.cqf_plain.specs.Backing.{AllGet, MayCome, backed_on}
 use Rattle.cqf_plain.specs.Clock.{AreWatched, Due, IsQueued}
 use Rattle.cqf_plain.specs.declared.port.Queued.{Queued}
 use Rattle.cqf_plain.specs.Frames.{queued_of}

@@ -1,18 +1,16 @@
 -- A run goes on cycle by cycle on its ports.
-use Rattle.std.proofs.Common.{◌≡◌, ℕ, ◌+◌, ◌*◌, ◌<◌, ◌≤◌, List, [], length, sym, refl, ap, ◌∙◌, inl, inr, arith, subst, Contains, ◌++◌, get_or, map}
+use Rattle.std.proofs.Common.{◌≡◌, ℕ, ◌+◌, ◌*◌, ◌<◌, ◌≤◌, List, [], length, sym, refl, ap, ◌∙◌, inl, inr, arith, subst, Contains, ◌++◌}
 use Rattle.std.specs.Prelude.{slice_index_or}
 use Rattle.std.specs.List.{flat_map}
 use Rattle.std.proofs.lemmas.Bool.{cases_lt}
 use Rattle.std.proofs.lemmas.List.{get_or_append_left, get_or_past, length-map, map-append}
-use Rattle.cqf_model.specs.declared.frames.Sent.{Sent}
 use Rattle.cqf_model.specs.declared.ports.Arrival.{Arrival}
-use Rattle.cqf_model.specs.declared.ports.Start.{Start}
-use Rattle.cqf_model.specs.Domain.{Domain, IsAccepted, bridge_of, cycle_of, octet_time_of}
+use Rattle.cqf_model.specs.Domain.{bridge_of, cycle_of}
 use Rattle.cqf_model.specs.GateList.{IsOpen}
 use Rattle.cqf_model.specs.Network.{IsLegalNetwork, Network, QueuedFrame, Sends, arrivals_of, backed_at, backed_in, comes_in, numbered_background, backed_of, comes_before, compiled_lists, no_frame, queued_in, queued_to, sent_of}
 use Rattle.cqf_model.specs.Port.{AreLegal, PortRules, Transmission}
 use Rattle.cqf_model.specs.Run.{Run}
-use Rattle.cqf_model.specs.Traffic.{Carried, Policed}
+use Rattle.cqf_model.specs.Traffic.{Carried}
 use Rattle.cqf_model.proofs.Sending.{backed_same, sent_same}
 use Rattle.std.proofs.Common.{eqb-true}
 use Rattle.std.proofs.Math.Nat.{mul-le-mul_right}
@@ -33,7 +31,7 @@ use Rattle.cqf_laws_network.specs.NetworkLaws.{IsShorter}
 use Rattle.cqf_laws_pages.specs.BridgeCycle.{policed_of}
 use Rattle.cqf_laws_pages.specs.PortCycle.{ClosedArrivalsChangeNothing, PortGoesOn, QueuedFramesWait, QueuedInItsCycle, waits_in}
 use Rattle.cqf_laws_pages.specs.RunSteps.{KeepsItsCycles, LongerRunKeepsItsCycles, RunGoesOn, SendsOneMore}
-use Rattle.cqf_plain.specs.Ports.{HaveRun, HaveSent, HaveTaken, IsLegalUpTo, IsPortOf, LinkPort, StandAt, backed_by, backs_of, carried_by, network_of, new_port, no_port, port_at, rules_on, sents_of}
+use Rattle.cqf_plain.specs.Ports.{HaveRun, HaveSent, HaveTaken, IsLegalUpTo, LinkPort, StandAt, backed_by, backs_of, carried_by, network_of, new_port, no_port, port_at, rules_on, sents_of}
 
 -- frames that came later change nothing of what was sent
 pub sents_stay : (rules : PortRules) (end : ℕ) (queued more : List QueuedFrame) (starts : List Transmission) →

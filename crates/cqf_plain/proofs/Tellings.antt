@@ -1,19 +1,15 @@
 -- The starts of a port are told one after the other.
-use Rattle.std.proofs.Common.{◌≡◌, ℕ, ◌+◌, ◌^◌, ◌≤◌, ◌<◌, ◌++◌, List, [], ◌∷◌, Contains, sym, refl, ap, ◌∙◌, arith, subst, length, map, take, get_or, append_assoc, append-nil}
-use Rattle.std.specs.Prelude.{slice_index_or}
+use Rattle.std.proofs.Common.{◌≡◌, ℕ, ◌+◌, ◌^◌, ◌≤◌, ◌<◌, ◌++◌, List, [], ◌∷◌, sym, ap, ◌∙◌, subst, length, map, take, get_or, append_assoc, append-nil}
 use Rattle.std.specs.List.{flat_map}
 use Rattle.std.proofs.lemmas.List.{map-append, take_all, take_more}
 use Rattle.std.proofs.lemmas.List.Concat.{flat_map-append}
 use Rattle.std.proofs.lemmas.List.Elements.{Contains-get_or}
 use Rattle.cqf_units.specs.Timing.{cycle_at}
-use Rattle.cqf_model.specs.declared.frames.Sent.{Sent}
 use Rattle.cqf_model.specs.declared.frames.Started.{Started}
-use Rattle.cqf_model.specs.declared.ports.Start.{Start}
-use Rattle.cqf_model.specs.Network.{QueuedFrame, backed_by, backed_of, no_frame, sent_by, sent_of}
+use Rattle.cqf_model.specs.Network.{backed_by, backed_of, sent_by, sent_of}
 use Rattle.cqf_model.specs.Port.{Transmission}
 use Rattle.cqf_plain.specs.declared.port.Queued.{Queued}
-use Rattle.cqf_plain.specs.Frames.{queued_of}
-use Rattle.cqf_plain.specs.Ports.{IsSaid, LinkPort, backs_of, sents_of}
+use Rattle.cqf_plain.specs.Ports.{IsSaid, LinkPort}
 use Rattle.cqf_plain.specs.Telling.{AreNumberable, TellsOne, TellsPort, told, told_backed}
 
 -- of a list that is made of each member, the next part

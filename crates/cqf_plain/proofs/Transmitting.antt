@@ -1,18 +1,17 @@
 -- The ports send a cycle: its background frames are those up to the next cut, and all run to its end.
-use Rattle.std.proofs.Common.{◌≡◌, ◌≢◌, ℕ, ◌+◌, ◌-◌, ◌*◌, ◌^◌, ◌≤◌, ◌<◌, ◌++◌, List, [], ◌∷◌, AllPairs, Contains, sym, refl, ap, ◌∙◌, inl, inr, arith, subst, length, map, filter, take, drop, get_or, length-append, take-append-drop}
+use Rattle.std.proofs.Common.{◌≡◌, ℕ, ◌+◌, ◌-◌, ◌*◌, ◌≤◌, ◌<◌, ◌++◌, List, [], ◌∷◌, AllPairs, Contains, sym, ap, ◌∙◌, inl, inr, arith, subst, length, take, drop, get_or, length-append, take-append-drop}
 use Rattle.std.specs.BTreeSet.{BTreeSet}
 use Rattle.std.specs.List.Sorted.{IsNonDecreasingBy}
 use Rattle.std.proofs.lemmas.List.{get_or_append_left, get_or-drop, length-drop, take_more}
 use Rattle.std.proofs.lemmas.Option.{get_or_from_slice_get, slice_get_within}
 use Rattle.std.proofs.lemmas.List.Elements.{Contains-append_cases, Contains-append_right}
-use Rattle.cqf_lists.proofs.Members.{place_of_member, contains_from_take, contains_here, contains_none, contains_one}
+use Rattle.cqf_lists.proofs.Members.{place_of_member, contains_from_take, contains_one}
 use Rattle.cqf_lists.proofs.Pairs.{pairs_second}
 use Rattle.cqf_model.specs.declared.frames.Backed.{Backed}
 use Rattle.cqf_model.specs.Domain.{Domain}
-use Rattle.cqf_model.specs.Network.{QueuedFrame}
-use Rattle.cqf_plain.specs.Backing.{AllGet, MayCome, MayGet, backed_on}
-use Rattle.cqf_plain.specs.Clock.{AllRunTo, AreWatched, Due, RunsTo}
-use Rattle.cqf_plain.specs.Ports.{HaveRun, IsPortOf, LinkPort, port_at, rules_on}
+use Rattle.cqf_plain.specs.Backing.{AllGet, MayCome}
+use Rattle.cqf_plain.specs.Clock.{AllRunTo, Due}
+use Rattle.cqf_plain.specs.Ports.{LinkPort, port_at}
 use Rattle.cqf_plain.specs.Sending.{AreArranged, AreReady, IsCut, SendCycle, at_of, between}
 
 -- the frames before a place are before an instant
@@ -29,9 +28,9 @@ one_sooner end frames from place d h inside early = record {
   inside = omega (arith, inside);
   sooner = λ x c. elim (Contains-append_cases (take place frames) (get_or frames place d ∷ []) x
       (subst (λ (xs : List Backed). Contains xs x) (take_more frames place d inside) c)) [
-    | inl old ↦ h.sooner x old
-    | inr new ↦ subst (λ (y : Backed). at_of y < end) (contains_one (get_or frames place d) x new) early
-  ];
+        | inl old ↦ h.sooner x old
+        | inr new ↦ subst (λ (y : Backed). at_of y < end) (contains_one (get_or frames place d) x new) early
+      ];
 }
 
 -- pairs of a front
@@ -110,5 +109,8 @@ cycle_sent d cycle frames before mid after due due_after ready get run = record 
 pub not_past : (d : Domain) (cycle : ℕ) (frames : List Backed) (before mid : List LinkPort) (due : BTreeSet Due) → AreReady d cycle before →
     AllGet frames before mid due → (l : ℕ) → l < length mid → (port_at mid l).reached ≤ (cycle + 1) * d.cycle_time
 not_past d cycle frames before mid due ready get l below =
-    omega (arith, (get.each l (omega (arith, below, get.one_each))).same_reached,
-    ready.ran.no_further l (omega (arith, below, get.one_each, ready.ran.one_each)))
+    omega (
+      arith,
+      (get.each l (omega (arith, below, get.one_each))).same_reached,
+      ready.ran.no_further l (omega (arith, below, get.one_each, ready.ran.one_each)),
+    )

@@ -1,16 +1,16 @@
 -- A stream's frame of a cycle may be queued to a port that has sent the cycle.
-use Rattle.std.proofs.Common.{◌≡◌, ℕ, ◌+◌, ◌*◌, ◌<◌, ◌≤◌, ◌++◌, List, Contains, sym, refl, ap, ◌∙◌, inl, inr, arith, subst, length, get_or}
+use Rattle.std.proofs.Common.{◌≡◌, ℕ, ◌+◌, ◌*◌, ◌<◌, ◌≤◌, ◌++◌, List, Contains, ap, ◌∙◌, inl, inr, arith, subst, get_or}
 use Rattle.std.proofs.lemmas.List.Elements.{Contains-append_cases, Contains-get_or}
 use Rattle.cqf_lists.proofs.Members.{contains_from_map}
 use Rattle.cqf_model.specs.declared.ports.Arrival.{Arrival}
 use Rattle.cqf_model.specs.Domain.{Domain, cycle_of}
 use Rattle.cqf_model.specs.GateList.{IsOpen}
-use Rattle.cqf_model.specs.Network.{QueuedFrame, arrivals_of, compiled_lists, queued_to}
+use Rattle.cqf_model.specs.Network.{QueuedFrame, arrivals_of, queued_to}
 use Rattle.cqf_model.specs.Port.{PortRules, no_arrival}
 use Rattle.cqf_model.specs.Traffic.{Policed}
 use Rattle.cqf_laws_pages.specs.PortCycle.{QueuedFramesWait}
 use Rattle.cqf_port.specs.PortState.{IsLate, IsOutOfOrder}
-use Rattle.cqf_plain.specs.Ports.{IsPortOf, LinkPort, rules_on, state_of}
+use Rattle.cqf_plain.specs.Ports.{IsPortOf, LinkPort, state_of}
 
 -- no port has opened its class since it came, so it isn't late
 pub stream_in_time : QueuedFramesWait → (d : Domain) (l cycle : ℕ) (p : LinkPort) (policed : List Policed) (q : QueuedFrame) →

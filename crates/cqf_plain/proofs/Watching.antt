@@ -1,10 +1,10 @@
 -- Ports that are watched stay so while each runs.
-use Rattle.std.proofs.Common.{◌≡◌, ◌≢◌, ℕ, ◌+◌, ◌-◌, ◌*◌, ◌≤◌, ◌<◌, ◌⊎◌, ◌++◌, ◌||◌, append-nil, Bool, true, false, List, [], ◌∷◌, Option, Some, None, MatchOption, sym, refl, ap, ◌∙◌, inl, inr, arith, subst, length, length-append, Contains, map}
-use Rattle.std.specs.Prelude.{filter, nat_lt, slice_get, slice_set, IsTrue, slice_index_or}
+use Rattle.std.proofs.Common.{◌≡◌, ◌≢◌, ℕ, ◌+◌, ◌-◌, ◌*◌, ◌≤◌, ◌<◌, ◌⊎◌, ◌++◌, ◌||◌, append-nil, Bool, true, List, [], ◌∷◌, Option, Some, None, MatchOption, sym, refl, ap, ◌∙◌, inl, inr, arith, subst, length, length-append}
+use Rattle.std.specs.Prelude.{filter, nat_lt, slice_get, slice_set}
 use Rattle.std.specs.Option.{option_map, option_map_or}
 use Rattle.cqf_units.specs.declared.timing.Nanos.{Nanos}
 use Rattle.std.specs.List.{list_any}
-use Rattle.std.specs.BTreeSet.{BTreeSet, contains}
+use Rattle.std.specs.BTreeSet.{BTreeSet}
 use Rattle.std.specs.Ordering.{is_eq}
 use Rattle.std.proofs.lemmas.Bool.{cases_eq, cases_lt, le-ltb, lt-ltb}
 use Rattle.std.proofs.lemmas.List.{get_or_append_left, get_or_push, get_or-set_other, get_or-set_same, length-set}
@@ -17,8 +17,8 @@ use Rattle.cqf_model.specs.Domain.{Domain}
 use Rattle.cqf_model.specs.Network.{QueuedFrame, arrivals_of}
 use Rattle.cqf_model.specs.Port.{AreLegal, PortRules, Transmission}
 use Rattle.cqf_laws_port.specs.PortLaws.{LegalPartIsLegal}
-use Rattle.cqf_plain.specs.Clock.{AllRunTo, AreWatched, Due, GetsFrame, IsDue, IsEarliest, IsFresh, IsQueued, IsSet, IsTold, IsWatched, NoneDueBefore, RunsTo, StartsOn, by_instant}
-use Rattle.cqf_plain.specs.Ports.{AreNew, IsLegalUpTo, LinkPort, RunsOn, StartsNever, StartsNextAt, new_port, no_port, port_at, rules_on, with_frame}
+use Rattle.cqf_plain.specs.Clock.{AllRunTo, AreWatched, Due, GetsFrame, IsDue, IsEarliest, IsFresh, IsQueued, IsSet, IsWatched, NoneDueBefore, StartsOn, by_instant}
+use Rattle.cqf_plain.specs.Ports.{AreNew, IsLegalUpTo, LinkPort, StartsNever, StartsNextAt, new_port, no_port, port_at, rules_on}
 use Rattle.cqf_plain.proofs.Instants.{itself}
 
 -- up to an instant that isn't after its next start a port starts nothing more
@@ -29,7 +29,7 @@ legal_until_next part p end t legal from upto next =
     let same : filter test (p.starts ++ last) ≡ p.starts =
     filter-append test p.starts last
     ∙ (λ i. filter_each test p.starts (λ x h. lt-ltb x.1 end (omega (arith, from, legal.before_end x.0 x.1 h))) i
-        ++ filter_none test last (λ x h. ap (λ (y : Transmission). nat_lt y.1 end) (sym (contains_one (next.place, t) x h)) ∙ le-ltb t end upto) i)
+    ++ filter_none test last (λ x h. ap (λ (y : Transmission). nat_lt y.1 end) (sym (contains_one (next.place, t) x h)) ∙ le-ltb t end upto) i)
     ∙ append-nil p.starts in
     subst (λ (xs : List Transmission). AreLegal p.rules (arrivals_of p.queued) end xs) same
     (part p.rules (arrivals_of p.queued) end (t + 1) (p.starts ++ last) (omega (arith, upto)) next.legal)

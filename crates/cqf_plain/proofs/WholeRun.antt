@@ -1,25 +1,20 @@
 -- A run from its beginning to its book.
-use Rattle.std.proofs.Common.{◌≡◌, ℕ, ◌+◌, ◌*◌, ◌<◌, ◌≤◌, ◌++◌, List, [], All, Contains, sym, refl, ap, ◌∙◌, arith, subst, length, map, Option}
+use Rattle.std.proofs.Common.{ℕ, ◌+◌, ◌*◌, ◌<◌, ◌≤◌, ◌++◌, List, [], sym, refl, ap, ◌∙◌, arith, length, Option}
 use Rattle.std.specs.BTreeSet.{BTreeSet}
-use Rattle.std.specs.List.{enumerate_from}
-use Rattle.std.proofs.Common.{eq-eqb}
-use Rattle.std.specs.Prelude.{◌==◌, filter}
-use Rattle.cqf_lists.proofs.Members.{contains_filter, contains_from_filter, contains_from_map, contains_none}
+use Rattle.cqf_lists.proofs.Members.{contains_none}
 use Rattle.cqf_model.specs.declared.frames.Backed.{Backed}
-use Rattle.cqf_model.specs.declared.frames.Background.{Background}
 use Rattle.cqf_model.specs.declared.frames.Dropped.{Dropped}
 use Rattle.cqf_model.specs.declared.frames.Started.{Started}
 use Rattle.cqf_model.specs.Book.{Contents}
-use Rattle.cqf_model.specs.Network.{numbered_background}
-use Rattle.cqf_model.specs.Run.{AreBackground, Run}
+use Rattle.cqf_model.specs.Run.{Run}
 use Rattle.cqf_laws_network.specs.NetworkLaws.{BookIsUnique}
 use Rattle.cqf_laws_pages.specs.BridgeCycle.{DropsAreOfTheCycle}
-use Rattle.cqf_laws_pages.specs.Gathered.{BackgroundStandsInOrder, IsInOrderOf, PortsGetTheirBackground}
-use Rattle.cqf_plain.specs.Clock.{AreWatched, Due, IsFresh}
+use Rattle.cqf_laws_pages.specs.Gathered.{BackgroundStandsInOrder, PortsGetTheirBackground}
+use Rattle.cqf_plain.specs.Clock.{Due, IsFresh}
 use Rattle.cqf_plain.specs.Cycle.{IsAt, IsRunOf, TakesCycle, drops_at}
-use Rattle.cqf_plain.specs.Ports.{AreNew, HaveSent, LinkPort, StandAt, carried_by}
+use Rattle.cqf_plain.specs.Ports.{AreNew, HaveSent, LinkPort, carried_by}
 use Rattle.cqf_plain.specs.Run.{IsBookOfRun}
-use Rattle.cqf_plain.specs.Sending.{IsCut, SendCycle, at_of, between}
+use Rattle.cqf_plain.specs.Sending.{IsCut, SendCycle, between}
 use Rattle.cqf_plain.specs.Telling.{TellsBook}
 use Rattle.cqf_plain.proofs.DropOrders.{drops_on}
 use Rattle.cqf_plain.proofs.Finishing.{LossLaws, book_of_ports, loses_nothing, none_lost_first, none_lost_on}

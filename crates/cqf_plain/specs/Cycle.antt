@@ -1,5 +1,5 @@
 -- A run, cycle by cycle.
-use Rattle.std.specs.Prelude.{ℕ, ◌≡◌, ◌+◌, ◌*◌, ◌≤◌, ◌<◌, ◌++◌, Contains, List, length}
+use Rattle.std.specs.Prelude.{ℕ, ◌≡◌, ◌*◌, ◌++◌, Contains, List, length}
 use Rattle.std.specs.BTreeSet.{BTreeSet}
 use Rattle.cqf_lists.specs.Lists.{each_below}
 use Rattle.cqf_model.specs.declared.frames.Backed.{Backed}
@@ -12,8 +12,8 @@ use Rattle.cqf_model.specs.Traffic.{Carried, Policed, policed_before}
 use Rattle.cqf_laws_pages.specs.BridgeCycle.{policed_of}
 use Rattle.cqf_laws_pages.specs.Gathered.{IsInOrderOf}
 use Rattle.cqf_plain.specs.Clock.{AreWatched, Due}
-use Rattle.cqf_plain.specs.Ports.{HaveSent, HaveTaken, LinkPort, StandAt, carried_by}
-use Rattle.cqf_plain.specs.Sending.{AreArranged, IsCut, at_of}
+use Rattle.cqf_plain.specs.Ports.{HaveTaken, LinkPort, StandAt, carried_by}
+use Rattle.cqf_plain.specs.Sending.{IsCut, at_of}
 
 -- a run over an accepted domain, with its background frames in order of instant
 pub record IsRunOf (run : Run) (frames : List Backed) : Type 0 where

@@ -1,4 +1,9 @@
-//! The network on one thread.
+//! The network on one thread: all ports on one clock, in order of time.
+//!
+//! Each cycle has two phases (IEEE 802.1Q, Annex T). First the ports send it (`transmit`): they get its background frames
+//! (`backing`), and then the port whose next start is the earliest starts, again and again, up to the cycle's end (`steps`,
+//! `clock`). Then the bridges take what came to them. At the end the book is what the ports have started (`book`), and the
+//! offers that were dropped.
 #![tactic(auto)]
 
 mod backing;
@@ -8,14 +13,3 @@ mod faults;
 mod port;
 mod steps;
 mod transmit;
-
-pub use faults::RunFault;
-
-ghost use Rattle.cqf_laws_pages.specs.RunSteps.{RunBegins};
-
-/// Nothing yet.
-pub fn nothing()
-    ensures { RunBegins }
-{
-    cqf_laws_pages::run_goes_on();
-}

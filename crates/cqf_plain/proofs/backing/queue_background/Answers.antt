@@ -36,7 +36,7 @@ queue_frame-requires-clause-in_order c =
 pub loop-frame-preserved : goal.loop-frame-preserved
 loop-frame-preserved c = record {
   come = come_of c.args.frames.now c.args.ports.now.items c.requires.frames c.loop-frame.frame-index _ _ c.loop-frame-test.true refl
-    c.loop-frame.ports.items c.loop-frame.clock.due c.loop-frame.invariant.come c.as_queued.result c.as_queued.ensures
+      c.loop-frame.ports.items c.loop-frame.clock.due c.loop-frame.invariant.come c.as_queued.result c.as_queued.ensures
       c.queue_frame.new.ports.items c.queue_frame.new.clock.due c.in_ok-queue_frame.ensures.queued;
   told = c.queue_frame.ensures.told ∙ c.loop-frame.invariant.told;
 }

@@ -1,4 +1,4 @@
-use Rattle.std.proofs.Common.{subst, length, ◌<◌, ℕ}
+use Rattle.std.proofs.Common.{subst, ◌<◌, ℕ}
 use Rattle.cqf_plain.proofs.Tellings.{said_fits}
 use Rattle.cqf_plain.proofs.book.tell_port.Goals as goal
 

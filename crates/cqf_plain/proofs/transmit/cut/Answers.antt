@@ -1,4 +1,3 @@
-use Rattle.std.proofs.Common.{arith}
 use Rattle.cqf_plain.proofs.Transmitting.{cut_there, one_sooner}
 use Rattle.cqf_plain.proofs.transmit.cut.Goals as goal
 

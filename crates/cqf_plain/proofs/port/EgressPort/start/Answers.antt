@@ -1,4 +1,4 @@
-use Rattle.std.proofs.Common.{◌≡◌, ◌∙◌, ◌<◌, List, ap, length, subst, sym}
+use Rattle.std.proofs.Common.{◌∙◌, ◌<◌, List, ap, length, subst, sym}
 use Rattle.std.specs.Prelude.{slice_index_or}
 use Rattle.cqf_model.specs.Port.{Transmission}
 use Rattle.cqf_plain.specs.declared.port.Queued.{Queued}
