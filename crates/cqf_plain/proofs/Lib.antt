@@ -11,5 +11,6 @@ mod BookOrders
 mod OneCycle
 mod DropOrders
 mod Waiting
+mod Batches
 mod Finishing
 mod WholeRun

@@ -9,6 +9,7 @@ use Rattle.cqf_lists.proofs.Members.{place_of_member, contains_from_take, contai
 use Rattle.cqf_lists.proofs.Pairs.{pairs_second}
 use Rattle.cqf_model.specs.declared.frames.Backed.{Backed}
 use Rattle.cqf_model.specs.Domain.{Domain}
+use Rattle.cqf_model.specs.Port.{Transmission}
 use Rattle.cqf_plain.specs.Backing.{AllGet, MayCome}
 use Rattle.cqf_plain.specs.Clock.{AllRunTo, Due}
 use Rattle.cqf_plain.specs.Ports.{LinkPort, port_at}
@@ -95,6 +96,8 @@ cycle_sent d cycle frames before mid after due due_after ready get run = record 
     no_further = λ l below. (run.each l (in_mid l below)).no_further;
   };
   came = λ l below. (run.each l (in_mid l below)).same_queued ∙ (get.each l (in_before l below)).came;
+  starts_on = λ l below. (let r = run.each l (in_mid l below) in
+      (r.made, r.starts_on ∙ ap (λ (xs : List Transmission). xs ++ r.made) (get.each l (in_before l below)).same_starts));
 }
   where
     -- the link has a port

@@ -1,5 +1,5 @@
 -- Ports that are watched stay so while each runs.
-use Rattle.std.proofs.Common.{◌≡◌, ◌≢◌, ℕ, ◌+◌, ◌-◌, ◌*◌, ◌≤◌, ◌<◌, ◌⊎◌, ◌++◌, ◌||◌, append-nil, Bool, true, List, [], ◌∷◌, Option, Some, None, MatchOption, sym, refl, ap, ◌∙◌, inl, inr, arith, subst, length, length-append}
+use Rattle.std.proofs.Common.{◌≡◌, ◌≢◌, ℕ, ◌+◌, ◌-◌, ◌*◌, ◌≤◌, ◌<◌, ◌⊎◌, ◌++◌, ◌||◌, append-nil, append_assoc, Bool, true, List, [], ◌∷◌, Option, Some, None, MatchOption, sym, refl, ap, ◌∙◌, inl, inr, arith, subst, length, length-append}
 use Rattle.std.specs.Prelude.{filter, nat_lt, slice_get, slice_set}
 use Rattle.std.specs.Option.{option_map, option_map_or}
 use Rattle.cqf_units.specs.declared.timing.Nanos.{Nanos}
@@ -80,6 +80,8 @@ pub record IsAhead (end : ℕ) (before now : LinkPort) : Type 0 where
   pub same_link : now.link ≡ before.link
   pub same_rules : now.rules ≡ before.rules
   pub same_queued : now.queued ≡ before.queued
+  pub made : List Transmission
+  pub starts_on : now.starts ≡ before.starts ++ made
   pub no_further : now.reached ≤ end
 
 -- some ports have run on, and all are watched
@@ -94,7 +96,7 @@ pub none_ran : (end : ℕ) (before : List LinkPort) (due : BTreeSet Due) → Are
 none_ran end before due watched from = record {
   watched = watched;
   one_each = refl;
-  each = λ link below. record { same_link = refl; same_rules = refl; same_queued = refl; no_further = from link below };
+  each = λ link below. record { same_link = refl; same_rules = refl; same_queued = refl; made = []; starts_on = sym (append-nil (port_at before link).starts); no_further = from link below };
 }
 
 -- the next one runs
@@ -116,6 +118,9 @@ one_ran part end before now after due rest due_after x running first starts =
               same_link = starts.runs.same_link ∙ ap (λ (q : LinkPort). q.link) e ∙ a.same_link;
               same_rules = starts.runs.same_rules ∙ ap (λ (q : LinkPort). q.rules) e ∙ a.same_rules;
               same_queued = starts.runs.same_queued ∙ ap (λ (q : LinkPort). q.queued) e ∙ a.same_queued;
+              made = a.made ++ starts.runs.made;
+              starts_on = starts.runs.starts_on ∙ ap (λ (q : LinkPort). q.starts ++ starts.runs.made) e
+                  ∙ ap (λ (xs : List Transmission). xs ++ starts.runs.made) a.starts_on ∙ append_assoc (port_at before l).starts a.made starts.runs.made;
               no_further = elim starts.runs.most [
                 | inl upto ↦ omega (arith, upto, first.early)
                 | inr stayed ↦ omega (arith, stayed, ap (λ (q : LinkPort). q.reached) e, a.no_further)
@@ -135,6 +140,8 @@ all_ran end before now due running none = record {
         same_link = a.same_link;
         same_rules = a.same_rules;
         same_queued = a.same_queued;
+        made = a.made;
+        starts_on = a.starts_on;
         legal = running.watched.each link (omega (arith, below, running.one_each)) end a.no_further (λ t h. none t link h);
         no_further = a.no_further;
       });

@@ -1,10 +1,11 @@
 -- The instants at which ports start next, in order.
-use Rattle.std.specs.Prelude.{ℕ, ◌≡◌, ◌≢◌, ◌≤◌, ◌<◌, ◌⊎◌, List, Option, Some, IsTrue, MatchOption, length, slice_get}
+use Rattle.std.specs.Prelude.{ℕ, ◌≡◌, ◌≢◌, ◌≤◌, ◌<◌, ◌⊎◌, List, Option, Some, IsTrue, MatchOption, length, slice_get, ◌++◌}
 use Rattle.std.specs.BTreeSet.{BTreeSet, contains}
 use Rattle.std.specs.declared.cmp.Ordering.{Ordering}
 use Rattle.std.specs.Ordering.{nat_cmp, ordering_then}
 use Rattle.std.specs.Prelude.{slice_set}
 use Rattle.cqf_model.specs.Network.{QueuedFrame}
+use Rattle.cqf_model.specs.Port.{Transmission}
 use Rattle.cqf_plain.specs.Ports.{IsLegalUpTo, LinkPort, RunsOn, StartsNever, StartsNextAt, port_at, with_frame}
 
 -- an instant, and the link whose port is due then
@@ -56,6 +57,8 @@ pub record RunsTo (end : ℕ) (before after : LinkPort) : Type 0 where
   pub same_link : after.link ≡ before.link
   pub same_rules : after.rules ≡ before.rules
   pub same_queued : after.queued ≡ before.queued
+  pub made : List Transmission
+  pub starts_on : after.starts ≡ before.starts ++ made
   pub legal : IsLegalUpTo end after
   pub no_further : after.reached ≤ end
 

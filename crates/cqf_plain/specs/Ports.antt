@@ -118,6 +118,8 @@ pub record RunsOn (until : ℕ) (before after : LinkPort) : Type 0 where
   pub same_link : after.link ≡ before.link
   pub same_rules : after.rules ≡ before.rules
   pub same_queued : after.queued ≡ before.queued
+  pub made : List Transmission
+  pub starts_on : after.starts ≡ before.starts ++ made
   pub legal : IsLegalUpTo after.reached after
   pub least : until ≤ after.reached
   pub most : (after.reached ≤ until) ⊎ (after.reached ≤ before.reached)

@@ -5,6 +5,7 @@ use Rattle.cqf_model.specs.declared.frames.Backed.{Backed}
 use Rattle.cqf_model.specs.Domain.{Domain}
 use Rattle.cqf_model.specs.Network.{QueuedFrame}
 use Rattle.cqf_model.specs.Run.{IsBackground}
+use Rattle.cqf_model.specs.Port.{Transmission}
 use Rattle.cqf_plain.specs.Backing.{backed_on}
 use Rattle.cqf_plain.specs.Ports.{HaveRun, LinkPort, port_at}
 
@@ -36,3 +37,4 @@ pub record AreReady (d : Domain) (cycle : ℕ) (ports : List LinkPort) : Type 0 
 pub record SendCycle (d : Domain) (cycle : ℕ) (frames : List Backed) (before after : List LinkPort) : Type 0 where
   pub ran : HaveRun d ((cycle + 1) * d.cycle_time) after
   pub came : (l : ℕ) → l < length d.links → (port_at after l).queued ≡ (port_at before l).queued ++ backed_on l frames
+  pub starts_on : (l : ℕ) → l < length d.links → (made : List Transmission) × ((port_at after l).starts ≡ (port_at before l).starts ++ made)

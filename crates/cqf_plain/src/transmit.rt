@@ -54,6 +54,7 @@ pub(crate) fn send_cycle(
     requires from { IsCut (cycle * domain.now.cycle_time) frames.now from }
     ensures told { length clock.new.told.items ≡ length clock.old.told.items }
     ensures watched { OnOk result (AreWatched clock.new.due ports.new.items) }
+    ensures behind { IfOk result (λ to. from ≤ to) }
     ensures cut { IfOk result (λ to. IsCut ((cycle + 1) * domain.now.cycle_time) frames.now to) }
     ensures sends { IfOk result (λ to. SendCycle domain.now cycle (between frames.now from to) ports.old.items ports.new.items) }
 {
