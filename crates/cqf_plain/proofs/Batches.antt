@@ -1,15 +1,15 @@
 -- What a port starts in a cycle is what its link sends in it.
-use Rattle.std.proofs.Common.{◌≡◌, ℕ, ◌+◌, ◌-◌, ◌*◌, ◌<◌, ◌≤◌, ◌++◌, true, false, List, [], ◌∷◌, Contains, sym, refl, ap, ◌∙◌, inl, inr, arith, subst, length, length-append, map, filter, get_or, append-nil, get_or-append-add}
-use Rattle.std.specs.Prelude.{nat_lt, slice_index_or}
+use Rattle.std.proofs.Common.{◌≡◌, ℕ, ◌+◌, ◌-◌, ◌*◌, ◌<◌, ◌≤◌, ◌++◌, List, [], Contains, sym, ap, ◌∙◌, inl, inr, arith, subst, length, length-append, filter, get_or, append-nil, get_or-append-add}
+use Rattle.std.specs.Prelude.{nat_lt}
 use Rattle.std.specs.List.{flat_map}
 use Rattle.std.proofs.lemmas.Bool.{cases_lt, lt-ltb}
 use Rattle.std.proofs.lemmas.List.{append_cancel_left, get_or_append_left, map-append}
-use Rattle.std.proofs.lemmas.List.Elements.{Contains-append_cases, Contains-get_or, filter-append}
+use Rattle.std.proofs.lemmas.List.Elements.{Contains-get_or, filter-append}
 use Rattle.cqf_lists.proofs.EachBelow.{filter_each}
 use Rattle.cqf_lists.proofs.Members.{contains_filter, contains_from_map, contains_none}
 use Rattle.cqf_model.specs.declared.ports.Arrival.{Arrival}
 use Rattle.cqf_model.specs.Network.{QueuedFrame, arrivals_of}
-use Rattle.cqf_model.specs.Port.{AreLegal, PortRules, Transmission, instant_of, no_arrival}
+use Rattle.cqf_model.specs.Port.{AreLegal, PortRules, Transmission, no_arrival}
 use Rattle.cqf_model.specs.Book.{batch}
 use Rattle.cqf_model.specs.Domain.{IsAccepted}
 use Rattle.cqf_model.specs.Network.{backed_in, sent_of}
@@ -19,7 +19,7 @@ use Rattle.cqf_laws_pages.specs.BridgeCycle.{IsCompiledNetwork}
 use Rattle.cqf_laws_pages.specs.PortCycle.{PortStartsTheBatch, StartsInCycle, waits_in}
 use Rattle.cqf_plain.specs.Ports.{HaveSent, LinkPort, StandAt, carried_by, network_of, port_at, rules_on}
 use Rattle.cqf_plain.proofs.OneCycle.{StepLaws, sent_legal, sent_queued}
-use Rattle.cqf_laws_port.specs.PortLaws.{HasAllBefore, OnlyThePastCounts, starts_before}
+use Rattle.cqf_laws_port.specs.PortLaws.{HasAllBefore, OnlyThePastCounts}
 
 -- what comes from an instant on changes nothing of what comes before it
 all_before : (earlier : ℕ) (xs ys : List Arrival) → HasAllBefore earlier xs (xs ++ ys)
@@ -38,9 +38,11 @@ none_more earlier xs ys late place inside early = elim (cases_lt place (length x
     get_or_past_front : (xs ys : List Arrival) (place : ℕ) → length xs ≤ place → place < length (xs ++ ys) →
         (y : Arrival) × Contains ys y × (y ≡ get_or (xs ++ ys) place no_arrival)
     get_or_past_front xs ys place past inside =
-        let k = place - length xs in
-        (get_or ys k no_arrival, Contains-get_or ys k no_arrival (omega (arith, past, inside, length-append xs ys)),
-        sym (ap (λ (n : ℕ). get_or (xs ++ ys) n no_arrival) (omega (arith, past)) ∙ get_or-append-add xs ys k no_arrival))
+        let k = place - length xs in (
+          get_or ys k no_arrival,
+          Contains-get_or ys k no_arrival (omega (arith, past, inside, length-append xs ys)),
+          sym (ap (λ (n : ℕ). get_or (xs ++ ys) n no_arrival) (omega (arith, past)) ∙ get_or-append-add xs ys k no_arrival),
+        )
 
 -- where the starts of a port go on, and what came meanwhile comes from an instant on, up to which it had run, the further
 -- starts are from then on
