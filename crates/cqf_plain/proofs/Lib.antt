@@ -12,5 +12,6 @@ mod OneCycle
 mod DropOrders
 mod Waiting
 mod Batches
+mod Since
 mod Finishing
 mod WholeRun

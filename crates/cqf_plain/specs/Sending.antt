@@ -3,7 +3,9 @@ use Rattle.std.specs.Prelude.{ℕ, ◌≡◌, ◌-◌, ◌+◌, ◌*◌, ◌≤�
 use Rattle.std.specs.List.Sorted.{IsNonDecreasingBy}
 use Rattle.cqf_model.specs.declared.frames.Backed.{Backed}
 use Rattle.cqf_model.specs.Domain.{Domain}
-use Rattle.cqf_model.specs.Network.{QueuedFrame}
+use Rattle.cqf_model.specs.Network.{QueuedFrame, sent_of}
+use Rattle.cqf_model.specs.declared.frames.Sent.{Sent}
+use Rattle.std.specs.List.{flat_map}
 use Rattle.cqf_model.specs.Run.{IsBackground}
 use Rattle.cqf_model.specs.Port.{Transmission}
 use Rattle.cqf_plain.specs.Backing.{backed_on}
@@ -38,3 +40,7 @@ pub record SendCycle (d : Domain) (cycle : ℕ) (frames : List Backed) (before a
   pub ran : HaveRun d ((cycle + 1) * d.cycle_time) after
   pub came : (l : ℕ) → l < length d.links → (port_at after l).queued ≡ (port_at before l).queued ++ backed_on l frames
   pub starts_on : (l : ℕ) → l < length d.links → (made : List Transmission) × ((port_at after l).starts ≡ (port_at before l).starts ++ made)
+
+-- the streams' frames that a port sent by its starts from a place on
+abbrev pub sent_from : LinkPort → ℕ → List Sent
+sent_from p from = flat_map (sent_of p.queued) (drop from p.starts)

@@ -11,5 +11,6 @@ mod book;
 mod clock;
 mod faults;
 mod port;
+mod relay;
 mod steps;
 mod transmit;
