@@ -55,6 +55,7 @@ cycle_in x = x.cycle.0
 pub of_cycle : ℕ → Started
 of_cycle n = record { cycle = record { 0 = n }; link = 0; frame = 0; octets = 0; start = record { 0 = 0 } }
 
+-- which is its cycle
 pub of_cycles : (n : ℕ) → cycle_in (of_cycle n) ≡ n
 unfolding of_cycle
 of_cycles n = refl

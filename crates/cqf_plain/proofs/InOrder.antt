@@ -41,6 +41,7 @@ module _ {X : Type 0} (key : X → ℕ) (probe : ℕ → X) (probes : (t : ℕ) 
 pub at_instant : ℕ → Backed
 at_instant t = record { frame = 0; background = record { at = record { 0 = t }; link = 0; class = 0; octets = 0 } }
 
+-- which is its instant
 pub at_instants : (t : ℕ) → at_of (at_instant t) ≡ t
 unfolding at_instant
 at_instants t = refl

@@ -37,7 +37,8 @@ NoneLost run cycle ports = (bridge : ℕ) (policed : Policed) → ¬ IsLost run 
 
 -- nothing of what comes to the bridges in a cycle is lost
 abbrev pub NoneLostIn : Run → ℕ → List LinkPort → Type 0
-NoneLostIn run cycle sent = (bridge : ℕ) (policed : Policed) → Contains (policed_of run (carried_by sent) bridge cycle) policed → ¬ IsLoss policed.verdict
+NoneLostIn run cycle sent = (bridge : ℕ) (policed : Policed) →
+    Contains (policed_of run (carried_by sent) bridge cycle) policed → ¬ IsLoss policed.verdict
 
 -- the run is at the beginning of a cycle: its ports stand at it and are watched, the background frames of the cycles before
 -- have come, and what was dropped is listed; nothing was lost
