@@ -4,6 +4,7 @@ mod Instants
 mod Said
 mod Watching
 mod Getting
+mod GoingOn
 mod Transmitting
 mod Arranged
 mod Tellings

@@ -4,6 +4,7 @@ pub mod Frames
 pub mod Ports
 pub mod Clock
 pub mod Backing
+pub mod Passing
 pub mod Sending
 pub mod Telling
 pub mod Cycle

@@ -10,6 +10,7 @@ mod backing;
 mod book;
 mod clock;
 mod faults;
+mod passing;
 mod port;
 mod relay;
 mod steps;
