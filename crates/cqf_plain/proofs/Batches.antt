@@ -1,10 +1,11 @@
 -- What a port starts in a cycle is what its link sends in it.
-use Rattle.std.proofs.Common.{◌≡◌, ℕ, ◌+◌, ◌-◌, ◌*◌, ◌<◌, ◌≤◌, ◌++◌, List, [], Contains, sym, ap, ◌∙◌, inl, inr, arith, subst, length, length-append, filter, get_or, append-nil, get_or-append-add}
+use Rattle.std.proofs.Common.{◌≡◌, ℕ, ◌+◌, ◌-◌, ◌*◌, ◌<◌, ◌≤◌, ◌++◌, List, [], Contains, sym, ap, ◌∙◌, inl, inr, arith, subst, length, length-append, filter, get_or, append-nil, get_or-append-add, drop}
 use Rattle.std.specs.Prelude.{nat_lt}
 use Rattle.std.specs.List.{flat_map}
 use Rattle.std.proofs.lemmas.Bool.{cases_lt, lt-ltb}
 use Rattle.std.proofs.lemmas.List.{append_cancel_left, get_or_append_left, map-append}
 use Rattle.std.proofs.lemmas.List.Elements.{Contains-get_or, filter-append}
+use Rattle.std.proofs.Math.Seq.{drop-append_seam}
 use Rattle.cqf_lists.proofs.EachBelow.{filter_each}
 use Rattle.cqf_lists.proofs.Members.{contains_filter, contains_from_map, contains_none}
 use Rattle.cqf_model.specs.declared.ports.Arrival.{Arrival}
@@ -18,6 +19,7 @@ use Rattle.cqf_model.proofs.Coming.{backed_in_late}
 use Rattle.cqf_laws_pages.specs.BridgeCycle.{IsCompiledNetwork}
 use Rattle.cqf_laws_pages.specs.PortCycle.{PortStartsTheBatch, StartsInCycle, waits_in}
 use Rattle.cqf_plain.specs.Ports.{HaveSent, LinkPort, StandAt, carried_by, network_of, port_at, rules_on}
+use Rattle.cqf_plain.specs.Sending.{sent_from}
 use Rattle.cqf_plain.proofs.OneCycle.{StepLaws, sent_legal, sent_queued}
 use Rattle.cqf_laws_port.specs.PortLaws.{HasAllBefore, OnlyThePastCounts}
 
@@ -98,3 +100,13 @@ module _ (run : Run) (cycle : ℕ) (before sent : List LinkPort) (laws : StepLaw
       } in
       (starts_batch run (cycle + 1) cycle l (network_of sent) p.starts made compiled (omega arith) inside in_cycle).batch_made
       ∙ ap (λ (qs : List QueuedFrame). flat_map (sent_of qs) made) (sym waits)
+
+  -- so what its port has sent since the cycle began is
+  pub batch_is_sent : OnlyThePastCounts → PortStartsTheBatch → (l from : ℕ) (made : List Transmission) → l < length run.domain.links →
+      from ≡ length (port_at before l).starts → (port_at sent l).starts ≡ (port_at before l).starts ++ made →
+      sent_from (port_at sent l) from ≡ batch run.domain (carried_by sent) l cycle
+  batch_is_sent past starts_batch l from made inside is on =
+      let queued = (port_at sent l).queued in
+      (λ i. flat_map (sent_of queued) (drop (is i) (on i)))
+      ∙ ap (flat_map (sent_of queued)) (drop-append_seam (port_at before l).starts made)
+      ∙ sym (batch_is_made past starts_batch l made inside on)

@@ -5,6 +5,7 @@ mod Said
 mod Watching
 mod Getting
 mod GoingOn
+mod PassedFrames
 mod Transmitting
 mod Arranged
 mod Tellings

@@ -1,5 +1,5 @@
 -- The ports send a cycle.
-use Rattle.std.specs.Prelude.{ℕ, ◌≡◌, ◌-◌, ◌+◌, ◌*◌, ◌≤◌, ◌<◌, ◌++◌, Contains, List, drop, length, take}
+use Rattle.std.specs.Prelude.{ℕ, ◌≡◌, ◌-◌, ◌+◌, ◌*◌, ◌≤◌, ◌<◌, ◌++◌, Contains, List, drop, length, map, take}
 use Rattle.std.specs.List.Sorted.{IsNonDecreasingBy}
 use Rattle.cqf_model.specs.declared.frames.Backed.{Backed}
 use Rattle.cqf_model.specs.Domain.{Domain}
@@ -44,3 +44,7 @@ pub record SendCycle (d : Domain) (cycle : ℕ) (frames : List Backed) (before a
 -- the streams' frames that a port sent by its starts from a place on
 abbrev pub sent_from : LinkPort → ℕ → List Sent
 sent_from p from = flat_map (sent_of p.queued) (drop from p.starts)
+
+-- how many frames each port has started, by link
+abbrev pub AreCounted : List LinkPort → List ℕ → Type 0
+AreCounted ports counts = counts ≡ map (λ (p : LinkPort). length p.starts) ports

@@ -1,7 +1,7 @@
 //! What a port has sent since a cycle began.
 ghost use Rattle.std.specs.Prelude.{◌≡◌, ◌≤◌, ◌++◌, IfOk, OnOk, length};
 ghost use Rattle.cqf_model.specs.Network.{sent_by};
-ghost use Rattle.cqf_plain.specs.Sending.{sent_from};
+ghost use Rattle.cqf_plain.specs.Sending.{AreCounted, sent_from};
 
 use crate::port::{EgressPort, Queued};
 use cqf_model::Sent;
@@ -34,4 +34,15 @@ pub(crate) fn sent_since(alloc: Global, port: &EgressPort, from: usize) -> Resul
         add_sent(frame, start, &mut sents)?;
     }
     Ok(sents)
+}
+
+/// How many frames each port has started, by link.
+pub(crate) fn counted(alloc: Global, ports: &[EgressPort]) -> Result<Vec<usize>, Memory>
+    ensures { IfOk result (λ counts. AreCounted ports.now counts.items) }
+{
+    let mut counts = Vec::with_capacity(alloc, ports.len())?;
+    for port in ports {
+        counts.push(port.count())?;
+    }
+    Ok(counts)
 }
