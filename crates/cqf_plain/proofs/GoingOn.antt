@@ -1,10 +1,14 @@
 -- Frames that pass the bridges come to their ports one after the other.
 use Rattle.std.proofs.Common.{◌≡◌, ◌==◌, ℕ, ◌+◌, ◌^◌, ◌≤◌, ◌<◌, ◌++◌, List, [], ◌∷◌, AllPairs, Contains, sym, refl, ap, ◌∙◌, inl, inr, arith, subst, length, map, filter, take, drop, get_or, append_assoc, append-nil}
 use Rattle.std.specs.BTreeSet.{BTreeSet}
+use Rattle.std.specs.Prelude.{Bool, false, true, Option, Some, if◌then◌else◌, ◌≢◌}
+use Rattle.cqf_lists.proofs.Made.{contains_if}
+use Rattle.cqf_model.specs.declared.topology.Row.{Row}
+use Rattle.cqf_model.specs.Domain.{Domain}
 use Rattle.std.proofs.lemmas.Bool.{cases_eq, cond-false, cond-true, eq-eqb, eqb-true, ne_eqb}
 use Rattle.std.proofs.lemmas.List.{drop_more, get_or-set_other, get_or-set_same, length-set, map-append, take-append-drop, take_all, take_more}
 use Rattle.std.proofs.lemmas.List.Elements.{Contains-append_cases, Contains-get_or, filter-append}
-use Rattle.cqf_lists.proofs.Members.{contains_from_filter, contains_from_map, contains_here}
+use Rattle.cqf_lists.proofs.Members.{contains_from_filter, contains_from_map, contains_here, contains_one}
 use Rattle.cqf_lists.proofs.Pairs.{pairs_across}
 use Rattle.cqf_model.specs.declared.ports.Arrival.{Arrival}
 use Rattle.cqf_model.specs.Network.{QueuedFrame, arrivals_of}
@@ -13,7 +17,7 @@ use Rattle.cqf_port.specs.PortState.{IsLate, IsOutOfOrder, WasOpen}
 use Rattle.cqf_plain.specs.Clock.{AreWatched, Due, IsQueued}
 use Rattle.cqf_plain.specs.declared.passing.Passed.{Passed}
 use Rattle.cqf_plain.specs.Frames.{queued_of}
-use Rattle.cqf_plain.specs.Passing.{AllWait, ComesNoLater, MayWait, passed_on}
+use Rattle.cqf_plain.specs.Passing.{AllWait, ComesNoLater, GoesOn, MayWait, goes_by, is_onward, passed_on}
 use Rattle.cqf_plain.specs.Ports.{LinkPort, no_port, port_at, state_of, with_frame}
 
 -- an arrival of which nothing of its class came later isn't out of order
@@ -133,3 +137,60 @@ module _ (frames : List Passed) (before : List LinkPort) (may : MayWait frames b
 pub all_wait : (frames : List Passed) (before now : List LinkPort) (due : BTreeSet Due) (count : ℕ) → length frames ≤ count →
     AllWait (take count frames) before now due → AllWait frames before now due
 all_wait frames before now due count past = subst (λ (xs : List Passed). AllWait xs before now due) (take_all count frames past)
+
+-- at first it stands for no link
+pub none_goes : (d : Domain) (bridge : ℕ) (row : Row) (way : Option ℕ) (arrival : Arrival) (before : List Passed) → GoesOn d bridge row way arrival 0 before before
+none_goes d bridge row way arrival before = record { each = λ l below. absurd (omega (arith, below)); later = λ l above. refl; inside = λ x h. inl h }
+
+module _ (d : Domain) (bridge : ℕ) (row : Row) (way : Option ℕ) (arrival : Arrival) (k : ℕ) where
+  -- what goes on by a link is for that link
+  own_link : (b : Bool) →
+      passed_on k (if b then record { link = k; frame = record { arrival = arrival; stream = Some row.no } } ∷ [] else [])
+      ≡ (if b then record { arrival = arrival; stream = Some row.no } ∷ [] else [])
+  own_link true =
+      let x : Passed = record { link = k; frame = record { arrival = arrival; stream = Some row.no } } in
+      ap (map (λ (y : Passed). queued_of y.frame)) (cond-true (k == k) (x ∷ []) [] (eq-eqb k k refl))
+  own_link false = refl
+
+  -- and for no other
+  other_link : (b : Bool) (l : ℕ) → k ≢ l → passed_on l (if b then record { link = k; frame = record { arrival = arrival; stream = Some row.no } } ∷ [] else []) ≡ []
+  other_link true l other =
+      let x : Passed = record { link = k; frame = record { arrival = arrival; stream = Some row.no } } in
+      ap (map (λ (y : Passed). queued_of y.frame)) (cond-false (k == l) (x ∷ []) [] (ne_eqb k l other))
+  other_link false l other = refl
+
+  -- each is of the link
+  of_link : (b : Bool) (x : Passed) → Contains (if b then record { link = k; frame = record { arrival = arrival; stream = Some row.no } } ∷ [] else []) x → k ≡ x.link
+  of_link b x h = ap (λ (y : Passed). y.link) (contains_one (record { link = k; frame = record { arrival = arrival; stream = Some row.no } }) x (contains_if b _ x h))
+
+  module _ (before now after : List Passed) (on : GoesOn d bridge row way arrival k before now) (more : after ≡ now ++ goes_by d bridge row way arrival k) where
+    -- of what stands then, that of a link
+    parted : (l : ℕ) → passed_on l after ≡ passed_on l now ++ passed_on l (goes_by d bridge row way arrival k)
+    parted l =
+        ap (passed_on l) more
+        ∙ ap (map (λ (y : Passed). queued_of y.frame)) (filter-append (λ (y : Passed). y.link == l) now (goes_by d bridge row way arrival k))
+        ∙ map-append (λ (y : Passed). queued_of y.frame) (filter (λ (y : Passed). y.link == l) now) (filter (λ (y : Passed). y.link == l) (goes_by d bridge row way arrival k))
+
+    -- that of another link stays
+    stays : (l : ℕ) → k ≢ l → passed_on l after ≡ passed_on l now
+    stays l other = parted l ∙ ap (λ (qs : List QueuedFrame). passed_on l now ++ qs) (other_link (is_onward d bridge row way k) l other) ∙ append-nil (passed_on l now)
+
+    -- so it stands for one link more
+    pub next_goes : GoesOn d bridge row way arrival (k + 1) before after
+    next_goes = record {
+      each = λ l below. elim (cases_eq l k) [
+        | inl same ↦
+            subst (λ (n : ℕ). passed_on n after ≡ passed_on n before ++ (if is_onward d bridge row way n then record { arrival = arrival; stream = Some row.no } ∷ [] else []))
+            (sym same)
+            (parted k ∙ (λ i. on.later k (omega arith) i ++ own_link (is_onward d bridge row way k) i))
+        | inr other ↦ stays l (λ e. other (sym e)) ∙ on.each l (omega (arith, below, other))
+      ];
+      later = λ l above. stays l (λ e. omega (arith, above, e)) ∙ on.later l (omega (arith, above));
+      inside = λ x h. elim (Contains-append_cases now (goes_by d bridge row way arrival k) x (subst (λ (xs : List Passed). Contains xs x) more h)) [
+        | inl old ↦ elim (on.inside x old) [
+          | inl first ↦ inl first
+          | inr below ↦ inr (omega (arith, below))
+        ]
+        | inr new ↦ inr (omega (arith, of_link (is_onward d bridge row way k) x new))
+      ];
+    }

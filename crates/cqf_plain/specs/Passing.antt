@@ -1,9 +1,13 @@
 -- The frames that pass the bridges in a cycle come to their ports.
-use Rattle.std.specs.Prelude.{ℕ, ◌≡◌, ◌==◌, ◌^◌, ◌≤◌, ◌<◌, AllPairs, Contains, List, filter, length, map}
+use Rattle.std.specs.Prelude.{ℕ, ◌≡◌, ◌==◌, ◌^◌, ◌≤◌, ◌<◌, ◌++◌, ◌&&◌, ◌⊎◌, AllPairs, Bool, Contains, List, [], ◌∷◌, Option, Some, filter, if◌then◌else◌, length, map}
 use Rattle.std.specs.BTreeSet.{BTreeSet}
-use Rattle.cqf_model.specs.Domain.{bridge_of}
+use Rattle.std.specs.List.{list_any}
+use Rattle.cqf_model.specs.declared.ports.Arrival.{Arrival}
+use Rattle.cqf_model.specs.declared.topology.Row.{Row}
+use Rattle.cqf_model.specs.Domain.{Domain, bridge_of, leaves}
 use Rattle.cqf_model.specs.Network.{QueuedFrame, queued_to}
 use Rattle.cqf_model.specs.Run.{Run}
+use Rattle.cqf_model.specs.Table.{goes_to}
 use Rattle.cqf_laws_pages.specs.BridgeCycle.{policed_of}
 use Rattle.cqf_port.specs.PortState.{IsLate}
 use Rattle.cqf_plain.specs.Backing.{Gets}
@@ -42,3 +46,21 @@ pub record ArePassedIn (run : Run) (cycle : ℕ) (sent : List LinkPort) (frames 
   pub inside : (x : Passed) → Contains frames x → x.link < length run.domain.links
   pub each : (l : ℕ) → l < length run.domain.links →
       passed_on l frames ≡ queued_to run.domain l (policed_of run (carried_by sent) (bridge_of run.domain l) cycle)
+
+-- whether a link leaves a bridge, and a row's stream goes on by it there
+abbrev pub is_onward : Domain → ℕ → Row → Option ℕ → ℕ → Bool
+is_onward d bridge row way link = leaves d link bridge && list_any (λ next. next == link) (goes_to row way)
+
+-- a frame as it goes on by a link, where it does
+abbrev pub goes_by : Domain → ℕ → Row → Option ℕ → Arrival → ℕ → List Passed
+goes_by d bridge row way arrival link =
+    if is_onward d bridge row way link
+    then record { link = link; frame = record { arrival = arrival; stream = Some row.no } } ∷ []
+    else []
+
+-- a frame of a row's stream stands behind those that have passed, once for each link below a number by which it goes on
+pub record GoesOn (d : Domain) (bridge : ℕ) (row : Row) (way : Option ℕ) (arrival : Arrival) (upto : ℕ) (before after : List Passed) : Type 0 where
+  pub each : (l : ℕ) → l < upto → passed_on l after
+      ≡ passed_on l before ++ (if is_onward d bridge row way l then record { arrival = arrival; stream = Some row.no } ∷ [] else [])
+  pub later : (l : ℕ) → upto ≤ l → passed_on l after ≡ passed_on l before
+  pub inside : (x : Passed) → Contains after x → Contains before x ⊎ (x.link < upto)

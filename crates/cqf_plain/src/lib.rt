@@ -14,4 +14,5 @@ mod passing;
 mod port;
 mod relay;
 mod steps;
+mod tables;
 mod transmit;
