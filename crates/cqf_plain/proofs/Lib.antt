@@ -6,6 +6,7 @@ mod Watching
 mod Getting
 mod GoingOn
 mod PassedFrames
+mod Bridging
 mod Transmitting
 mod Arranged
 mod Tellings

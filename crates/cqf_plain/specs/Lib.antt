@@ -5,6 +5,7 @@ pub mod Ports
 pub mod Clock
 pub mod Backing
 pub mod Passing
+pub mod Bridging
 pub mod Sending
 pub mod Telling
 pub mod Cycle
