@@ -18,3 +18,4 @@ mod Batches
 mod Since
 mod Finishing
 mod WholeRun
+mod RunReady

@@ -126,7 +126,7 @@ module _ (run : Run) (carried : Carried) (bridge cycle l : ℕ) where
       class_by gives d l w.0.received w.0.verdict q some w.2
 
 -- numbered frames are those that were listed
-listed : {X : Type 0} (n : ℕ) (xs : List X) (y : ℕ × X) → Contains (enumerate_from n xs) y → Contains xs y.1
+pub listed : {X : Type 0} (n : ℕ) (xs : List X) (y : ℕ × X) → Contains (enumerate_from n xs) y → Contains xs y.1
 listed n [] y h = absurd (contains_none y h)
 listed {X} n (x ∷ xs) y h = elim (contains_cases (n, x) (enumerate_from (n + 1) xs) y h) [
   | inl e ↦ subst (Contains (x ∷ xs)) (ap (λ (z : ℕ × X). z.1) e) (contains_here x xs)
