@@ -7,6 +7,7 @@ mod Getting
 mod GoingOn
 mod PassedFrames
 mod Bridging
+mod Elsewhere
 mod Transmitting
 mod Arranged
 mod Tellings
