@@ -1,0 +1,11 @@
+use Rattle.std.proofs.Common.{◌-◌, length}
+use Rattle.cqf_plain.proofs.Transmitting.{AreSooner}
+use Rattle.cqf_plain.proofs.transmit.cut.Given as goal
+
+-- those before the place are before the instant
+abbrev pub invariant-loop-place : goal.invariant-loop-place
+invariant-loop-place l = AreSooner l.end.0 l.frames l.fn.from l.place
+
+-- the frames from the place on
+abbrev pub decreases-loop-place : goal.decreases-loop-place
+decreases-loop-place l = length l.frames - l.place

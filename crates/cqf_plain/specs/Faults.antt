@@ -1,0 +1,10 @@
+-- Why a run gives no book (profile).
+use Rattle.std.specs.Prelude.{ℕ, ◌++◌, List, codes, decimal}
+use Rattle.cqf_plain.specs.declared.faults.RunFault.{RunFault}
+use Rattle.cqf_plain.specs.declared.faults.RunFault.TheVariants.{WrongTables, Inside, Memory}
+
+-- the text of a fault: its name, and the frame's number
+abbrev pub text_of_fault : RunFault → List ℕ
+text_of_fault WrongTables = codes "WrongTables"
+text_of_fault (Inside frame) = codes "Inside " ++ decimal frame
+text_of_fault Memory = codes "Memory"

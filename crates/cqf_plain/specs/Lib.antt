@@ -1,0 +1,11 @@
+pub mod Faults
+pub mod Run
+pub mod Frames
+pub mod Ports
+pub mod Clock
+pub mod Backing
+pub mod Passing
+pub mod Bridging
+pub mod Sending
+pub mod Telling
+pub mod Cycle

@@ -1,0 +1,66 @@
+-- The frames that pass the bridges in a cycle come to their ports.
+use Rattle.std.specs.Prelude.{ℕ, ◌≡◌, ◌==◌, ◌^◌, ◌≤◌, ◌<◌, ◌++◌, ◌&&◌, ◌⊎◌, AllPairs, Bool, Contains, List, [], ◌∷◌, Option, Some, filter, if◌then◌else◌, length, map}
+use Rattle.std.specs.BTreeSet.{BTreeSet}
+use Rattle.std.specs.List.{list_any}
+use Rattle.cqf_model.specs.declared.ports.Arrival.{Arrival}
+use Rattle.cqf_model.specs.declared.topology.Row.{Row}
+use Rattle.cqf_model.specs.Domain.{Domain, bridge_of, leaves}
+use Rattle.cqf_model.specs.Network.{QueuedFrame, queued_to}
+use Rattle.cqf_model.specs.Run.{Run}
+use Rattle.cqf_model.specs.Table.{goes_to}
+use Rattle.cqf_laws_pages.specs.BridgeCycle.{policed_of}
+use Rattle.cqf_port.specs.PortState.{IsLate}
+use Rattle.cqf_plain.specs.Backing.{Gets}
+use Rattle.cqf_plain.specs.Clock.{AreWatched, Due}
+use Rattle.cqf_plain.specs.declared.passing.Passed.{Passed}
+use Rattle.cqf_plain.specs.Frames.{queued_of}
+use Rattle.cqf_plain.specs.Ports.{LinkPort, carried_by, port_at, state_of}
+
+-- what of some frames goes on by a link
+abbrev pub passed_on : ℕ → List Passed → List QueuedFrame
+passed_on link frames = map (λ (x : Passed). queued_of x.frame) (filter (λ (x : Passed). x.link == link) frames)
+
+-- of two frames that go on by one link, the one before comes no later
+abbrev pub ComesNoLater : Passed → Passed → Type 0
+ComesNoLater a b = a.link ≡ b.link → a.frame.arrival.at.0 ≤ b.frame.arrival.at.0
+
+-- frames may wait at the ports of their links: each is early enough, of a class, not late, and nothing of its class that is
+-- there came later
+pub record MayWait (frames : List Passed) (ports : List LinkPort) : Type 0 where
+  pub inside : (x : Passed) → Contains frames x → x.link < length ports
+  pub classes : (x : Passed) → Contains frames x → x.frame.arrival.class < 8
+  pub early : (x : Passed) → Contains frames x → x.frame.arrival.at.0 < 2 ^ 62
+  pub in_time : (x : Passed) → Contains frames x → ¬ IsLate (state_of (port_at ports x.link)) x.frame.arrival
+  pub none_later : (x : Passed) (q : QueuedFrame) → Contains frames x → Contains (port_at ports x.link).queued q →
+      q.arrival.class ≡ x.frame.arrival.class → q.arrival.at.0 ≤ x.frame.arrival.at.0
+  pub in_order : AllPairs ComesNoLater frames
+
+-- each port got those of its link
+pub record AllWait (frames : List Passed) (before after : List LinkPort) (due : BTreeSet Due) : Type 0 where
+  pub watched : AreWatched due after
+  pub one_each : length after ≡ length before
+  pub each : (l : ℕ) → l < length before → Gets (passed_on l frames) (port_at before l) (port_at after l)
+
+-- they are the frames that pass the bridges in a cycle of a run, for each link those of its bridge
+pub record ArePassedIn (run : Run) (cycle : ℕ) (sent : List LinkPort) (frames : List Passed) : Type 0 where
+  pub inside : (x : Passed) → Contains frames x → x.link < length run.domain.links
+  pub each : (l : ℕ) → l < length run.domain.links →
+      passed_on l frames ≡ queued_to run.domain l (policed_of run (carried_by sent) (bridge_of run.domain l) cycle)
+
+-- whether a link leaves a bridge, and a row's stream goes on by it there
+abbrev pub is_onward : Domain → ℕ → Row → Option ℕ → ℕ → Bool
+is_onward d bridge row way link = leaves d link bridge && list_any (λ next. next == link) (goes_to row way)
+
+-- a frame as it goes on by a link, where it does
+abbrev pub goes_by : Domain → ℕ → Row → Option ℕ → Arrival → ℕ → List Passed
+goes_by d bridge row way arrival link =
+    if is_onward d bridge row way link
+    then record { link = link; frame = record { arrival = arrival; stream = Some row.no } } ∷ []
+    else []
+
+-- a frame of a row's stream stands behind those that have passed, once for each link below a number by which it goes on
+pub record GoesOn (d : Domain) (bridge : ℕ) (row : Row) (way : Option ℕ) (arrival : Arrival) (upto : ℕ) (before after : List Passed) : Type 0 where
+  pub each : (l : ℕ) → l < upto → passed_on l after
+      ≡ passed_on l before ++ (if is_onward d bridge row way l then record { arrival = arrival; stream = Some row.no } ∷ [] else [])
+  pub later : (l : ℕ) → upto ≤ l → passed_on l after ≡ passed_on l before
+  pub inside : (x : Passed) → Contains after x → Contains before x ⊎ (x.link < upto)

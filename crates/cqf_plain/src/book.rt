@@ -1,0 +1,97 @@
+//! What the ports have started, as a book has it.
+ghost use Rattle.std.specs.Prelude.{◌≡◌, ◌^◌, ◌<◌, ◌≤◌, ℕ, [], IfOk, OnOk, length};
+ghost use Rattle.cqf_model.specs.Domain.{Domain};
+ghost use Rattle.cqf_plain.specs.Ports.{port_at};
+ghost use Rattle.cqf_units.specs.Timing.{cycle_at};
+ghost use Rattle.cqf_plain.specs.Telling.{AreNumberable, AreOf, TellsAll, TellsBook, TellsOne, TellsPort};
+
+use crate::port::{EgressPort, Queued};
+use cqf_model::Started;
+use cqf_units::{Memory, Nanos, cycle_of};
+use std::alloc::Global;
+
+/// Puts a start behind what is listed: a stream's frame to the starts, and a background frame to the background list.
+fn tell_one(
+    frame: Queued,
+    start: Nanos,
+    link: u8,
+    cycle_time: Nanos,
+    starts: &mut Vec<Started>,
+    background: &mut Vec<Started>,
+) -> Result<(), Memory>
+    requires lasting { 0 < cycle_time.0 }
+    requires fits { cycle_at cycle_time.0 start.0 < 2 ^ 32 }
+    ensures { OnOk result (TellsOne cycle_time.0 link start.0 frame starts.old.items starts.new.items background.old.items background.new.items) }
+{
+    let started = Started {
+        cycle: cycle_of(start, cycle_time),
+        link,
+        frame: frame.arrival.frame,
+        octets: frame.arrival.octets,
+        start,
+    };
+    match frame.stream {
+        Some(_) => starts.push(started)?,
+        None => background.push(started)?,
+    }
+    Ok(())
+}
+
+/// Puts all that a port has started behind what is listed.
+fn tell_port(
+    port: &EgressPort,
+    link: u8,
+    cycle_time: Nanos,
+    starts: &mut Vec<Started>,
+    background: &mut Vec<Started>,
+) -> Result<(), Memory>
+    requires lasting { 0 < cycle_time.0 }
+    requires fits { AreNumberable cycle_time.0 port.now }
+    ensures { OnOk result (TellsPort cycle_time.0 link port.now starts.old.items starts.new.items background.old.items background.new.items) }
+{
+    for place in 0..port.count() {
+        let (frame, start) = port.start(place);
+        tell_one(frame, start, link, cycle_time, starts, background)?;
+    }
+    Ok(())
+}
+
+/// Puts all that the ports have started into two lists, by link: the starts of streams' frames, and of background frames.
+fn tell_all(
+    ports: &[EgressPort],
+    cycle_time: Nanos,
+    starts: &mut Vec<Started>,
+    background: &mut Vec<Started>,
+) -> Result<(), Memory>
+    requires lasting { 0 < cycle_time.0 }
+    requires few { length ports.now ≤ 64 }
+    requires fits { (l : ℕ) → l < length ports.now → AreNumberable cycle_time.0 (port_at ports.now l) }
+    requires none { starts.old.items ≡ [] }
+    requires no_background { background.old.items ≡ [] }
+    ensures { OnOk result (TellsAll cycle_time.0 ports.now (length ports.now) starts.new.items background.new.items) }
+{
+    for place in 0..ports.len() {
+        tell_port(&ports[place], place as u8, cycle_time, starts, background)?;
+    }
+    Ok(())
+}
+
+/// The starts of streams' frames, and of background frames, each by cycle, then link, then instant.
+pub(crate) fn told_starts(
+    alloc: Global,
+    ports: &[EgressPort],
+    cycle_time: Nanos,
+) -> Result<(Vec<Started>, Vec<Started>), Memory>
+    requires lasting { 0 < cycle_time.0 }
+    requires few { length ports.now ≤ 64 }
+    requires fits { (l : ℕ) → l < length ports.now → AreNumberable cycle_time.0 (port_at ports.now l) }
+    ensures { IfOk result (λ lists. (d : Domain) (cycles : ℕ) → d.cycle_time ≡ cycle_time.0 → AreOf d cycles ports.now
+        → TellsBook d cycles ports.now lists.0.items lists.1.items) }
+{
+    let mut starts = Vec::new(alloc);
+    let mut background = Vec::new(alloc);
+    tell_all(ports, cycle_time, &mut starts, &mut background)?;
+    starts.sort_by_key(|start| start.cycle.0)?;
+    background.sort_by_key(|start| start.cycle.0)?;
+    Ok((starts, background))
+}

@@ -1,0 +1,21 @@
+//! Whether tables are those of a run.
+ghost use Rattle.std.specs.Prelude.{◌≡◌, false, true};
+ghost use Rattle.cqf_plain.specs.Run.{AreNumbered};
+
+use cqf_admission::Table;
+
+/// Whether there is one table for each cycle, numbered from 0.
+pub(crate) fn are_numbered(tables: &[Table], cycles: u32) -> bool
+    ensures yes { result ≡ true → AreNumbered cycles tables.now }
+    ensures no { result ≡ false → ¬ AreNumbered cycles tables.now }
+{
+    if tables.len() != cycles as usize {
+        return false;
+    }
+    for place in 0..tables.len() {
+        if tables[place].cycle().0 as usize != place {
+            return false;
+        }
+    }
+    true
+}
