@@ -1,11 +1,10 @@
 -- Frames that are gathered, and brought into order.
-use Rattle.std.proofs.Common.{◌≡◌, ◌+◌, ◌<◌, ◌==◌, ◌&&◌, ℕ, true, false, not, List, [], ◌∷◌, ◌++◌, ◌∙◌, inl, inr, sym, ap, refl, arith, length, map, take, get_or, nat_lt, append_assoc}
-use Rattle.std.specs.List.Sorted.{IsNonDecreasingBy, IsStableByKey, ties}
-use Rattle.std.specs.Ordering.{is_lt, nat_cmp}
-use Rattle.std.proofs.lemmas.Bool.{cases_order, eq-eqb, le-ltb, lt-ltb, ne_eqb}
+use Rattle.std.proofs.Common.{◌≡◌, ◌+◌, ◌<◌, ◌==◌, ℕ, List, [], ◌∷◌, ◌++◌, ◌∙◌, sym, ap, refl, arith, length, map, take, get_or, append_assoc}
+use Rattle.std.specs.List.Sorted.{IsNonDecreasingBy, IsStableByKey}
+use Rattle.std.specs.Ordering.{nat_cmp}
 use Rattle.std.proofs.lemmas.List.{get_or-map, length-map, map-append, take_more}
-use Rattle.std.proofs.lemmas.List.Elements.{filter_agree}
 use Rattle.cqf_lists.proofs.Filters.{filter-map}
+use Rattle.cqf_lists.proofs.Sorted.{stable_at}
 use Rattle.cqf_model.specs.declared.frames.Dropped.{Dropped}
 use Rattle.cqf_model.specs.declared.frames.Reason.TheVariants.{Unknown}
 use Rattle.cqf_model.specs.Traffic.{Received}
@@ -14,33 +13,12 @@ use Rattle.cqf_bridge.specs.declared.gathering.Came.TheVariants.{ByLink}
 use Rattle.cqf_bridge.specs.declared.gathering.Incoming.{Incoming}
 use Rattle.cqf_bridge.specs.Taking.{received_as}
 
--- neither number is below the other just where they are equal
-ties_equal : (a b : ℕ) → (not (is_lt (nat_cmp a b)) && not (is_lt (nat_cmp b a))) ≡ (b == a)
-ties_equal a b = elim (cases_order a b) [
-  | inl same ↦
-      let ab : nat_lt a b ≡ false = le-ltb a b (omega arith) in
-      let ba : nat_lt b a ≡ false = le-ltb b a (omega arith) in
-      rw (ab, ba, eq-eqb a b same, eq-eqb b a (sym same)) refl
-  | inr other ↦ elim other [
-    | inl lt ↦
-        let ab : nat_lt a b ≡ true = lt-ltb a b lt in
-        rw (ab, ne_eqb b a (λ e. omega (arith, e, lt))) refl
-    | inr gt ↦
-        let ab : nat_lt a b ≡ false = le-ltb a b (omega arith) in
-        let ba : nat_lt b a ≡ true = lt-ltb b a gt in
-        rw (ab, ba, ne_eqb a b (λ e. omega (arith, e, gt)), ne_eqb b a (λ e. omega (arith, e, gt))) refl
-  ]
-]
-
 module _ {X : Type 0} (key : X → ℕ) (probe : ℕ → X) (probes : (t : ℕ) → key (probe t) ≡ t) where
   -- a stable sort by a key brings into order
   pub brought_in_order : (xs ys : List X) → IsNonDecreasingBy key ys → IsStableByKey key nat_cmp xs ys → IsInOrderOf key xs ys
   brought_in_order xs ys up stable = record {
     in_order = up;
-    stable = λ t.
-        let tied = ties (λ (x y : X). is_lt (nat_cmp (key x) (key y))) (probe t) in
-        let same : (x : X) → tied x ≡ (key x == t) = λ x. ties_equal (key (probe t)) (key x) ∙ ap (λ n. key x == n) (probes t) in
-        sym (filter_agree tied (λ x. key x == t) same ys) ∙ stable (probe t) ∙ filter_agree tied (λ x. key x == t) same xs;
+    stable = λ t. stable_at key probe probes xs ys t stable;
   }
 
 -- what is in order is so as what it is mapped to

@@ -30,7 +30,7 @@ ties_equal a b = elim (cases_order a b) [
 
 module _ {X : Type 0} (key : X → ℕ) (probe : ℕ → X) (probes : (t : ℕ) → key (probe t) ≡ t) where
   -- a stable sort keeps the elements of each key as they were
-  stable_at : (xs ys : List X) (t : ℕ) → IsStableByKey key nat_cmp xs ys → filter (λ x. key x == t) ys ≡ filter (λ x. key x == t) xs
+  pub stable_at : (xs ys : List X) (t : ℕ) → IsStableByKey key nat_cmp xs ys → filter (λ x. key x == t) ys ≡ filter (λ x. key x == t) xs
   stable_at xs ys t stable =
       let tied = ties (λ (x y : X). is_lt (nat_cmp (key x) (key y))) (probe t) in
       let same : (x : X) → tied x ≡ (key x == t) = λ x. ties_equal (key (probe t)) (key x) ∙ ap (λ n. key x == n) (probes t) in
