@@ -22,4 +22,6 @@ mod Since
 mod Finishing
 mod WholeRun
 mod Taking
+mod QuietCycle
+mod GoingThrough
 mod RunReady

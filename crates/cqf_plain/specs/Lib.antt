@@ -13,4 +13,5 @@ pub mod Telling
 pub mod Cycle
 pub mod Laws
 pub mod Edge
+pub mod Quiet
 pub mod Going

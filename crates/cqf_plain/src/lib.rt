@@ -10,6 +10,7 @@ mod at_bridge;
 mod backing;
 mod book;
 mod clock;
+mod course;
 mod cycle;
 mod edge;
 mod faults;
