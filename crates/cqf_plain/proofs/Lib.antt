@@ -24,4 +24,5 @@ mod WholeRun
 mod Taking
 mod QuietCycle
 mod GoingThrough
+mod Ending
 mod RunReady

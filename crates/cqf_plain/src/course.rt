@@ -1,9 +1,9 @@
 //! A run, cycle by cycle.
-ghost use Rattle.std.specs.Prelude.{◌≡◌, ◌+◌, ◌*◌, ◌<◌, ◌≤◌, ℕ, true, IfErr, OnOk, length};
+ghost use Rattle.std.specs.Prelude.{◌≡◌, ◌+◌, ◌*◌, ◌<◌, ◌≤◌, ℕ, true, IfErr, IfOk, OnOk, length};
 ghost use Rattle.std.specs.List.Sorted.{IsNonDecreasingBy};
 ghost use Rattle.cqf_model.specs.Run.{Run};
 ghost use Rattle.cqf_plain.specs.Edge.{offered_when};
-ghost use Rattle.cqf_plain.specs.Going.{IsNext, IsNow, IsStopOf};
+ghost use Rattle.cqf_plain.specs.Going.{GoesByAll, IsNew, IsNext, IsNow, IsStopOf};
 ghost use Rattle.cqf_plain.specs.Quiet.{IsQuiet};
 ghost use Rattle.cqf_plain.specs.Sending.{IsCut, at_of};
 
@@ -14,11 +14,13 @@ use crate::edge::cut_offers;
 use crate::laws::run_laws;
 use crate::port::EgressPort;
 use crate::relay::counted;
+use crate::steps::new_ports;
 use crate::transmit::{cut, send_cycle, start_of};
 use cqf_admission::Table;
+use cqf_compile::Plan;
 use cqf_model::{Backed, Dropped, Offered};
 use cqf_topology::Domain;
-use cqf_units::Nanos;
+use cqf_units::{Memory, Nanos};
 use std::alloc::Global;
 
 /// A run as a cycle begins.
@@ -31,6 +33,22 @@ pub(crate) struct Course {
     pub(crate) next_frame: usize,
     /// The place of the first offer of the cycle or a later one.
     pub(crate) next_offer: usize,
+}
+
+/// A run over a plan that hasn't begun.
+pub(crate) fn new_course(alloc: Global, plan: &Plan) -> Result<Course, Memory>
+    ensures { IfOk result (λ course. IsNew plan.now course.next_frame course.next_offer
+        course.ports.items course.clock.due course.clock.told.items course.drops.items) }
+{
+    let ports = new_ports(alloc, plan)?;
+    let clock = Clock::new(alloc, ports.len())?;
+    Ok(Course {
+        ports,
+        clock,
+        drops: Vec::new(alloc),
+        next_frame: 0,
+        next_offer: 0,
+    })
 }
 
 /// Whether nothing happens up to a cycle's end but what is offered: no port starts, and no background frame comes.
@@ -138,4 +156,42 @@ pub(crate) fn go_on(
         return Ok(());
     }
     go_through(alloc, domain, table, frames, offers, to, cycle, course)
+}
+
+/// The run goes on by all cycles, each by its table.
+pub(crate) fn go_all(
+    alloc: Global,
+    domain: &Domain,
+    tables: &[Table],
+    frames: &[Backed],
+    offers: &[Offered],
+    course: &mut Course,
+) -> Result<(), RunFault>
+    requires short { length tables.now ≤ 100000 }
+    requires told { length course.old.clock.told.items ≡ length course.old.ports.items }
+    requires part { (run : Run) × GoesByAll domain.now tables.now frames.now offers.now run
+        × IsNow run 0 frames.now course.old.next_frame offers.now course.old.next_offer course.old.ports.items course.old.clock.due course.old.drops.items }
+    ensures goes { OnOk result ((run : Run) → GoesByAll domain.now tables.now frames.now offers.now run →
+        IsNow run 0 frames.now course.old.next_frame offers.now course.old.next_offer course.old.ports.items course.old.clock.due course.old.drops.items →
+        IsNow run (length tables.now) frames.now course.new.next_frame offers.now course.new.next_offer
+        course.new.ports.items course.new.clock.due course.new.drops.items) }
+    ensures stops { IfErr result (λ fault. (run : Run) → GoesByAll domain.now tables.now frames.now offers.now run →
+        IsNow run 0 frames.now course.old.next_frame offers.now course.old.next_offer course.old.ports.items course.old.clock.due course.old.drops.items →
+        IsStopOf run fault) }
+{
+    for place in 0..tables.len() {
+        match go_on(
+            alloc,
+            domain,
+            &tables[place],
+            frames,
+            offers,
+            place as u32,
+            course,
+        ) {
+            Ok(()) => {}
+            Err(fault) => return Err(fault),
+        }
+    }
+    Ok(())
 }
