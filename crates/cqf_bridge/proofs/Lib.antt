@@ -1,3 +1,4 @@
+mod Behind
 mod Bridges
 mod Columns
 mod Coming
