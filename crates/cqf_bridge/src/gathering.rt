@@ -84,8 +84,8 @@ fn gather_batch(domain: &Domain, batch: &Batch, frames: &mut Vec<Incoming>) -> R
     Ok(())
 }
 
-/// Adds offers, as they are listed.
-fn gather_offers(offers: &[Offered], frames: &mut Vec<Incoming>) -> Result<(), Memory>
+/// Puts offers behind other frames, as they are listed. `Memory` where a growth is refused.
+pub fn gather_offers(offers: &[Offered], frames: &mut Vec<Incoming>) -> Result<(), Memory>
     ensures { OnOk result (map received_as frames.new.items ≡ map received_as frames.old.items ++ map offer_received offers.now) }
 {
     for offered in offers {

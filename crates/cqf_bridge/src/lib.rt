@@ -6,7 +6,8 @@
 //!   [`Bridge::background_starts`]. In `specs/` it is its `BridgeState`: its domain and number, how far it is, and all that
 //!   was recorded at its ports. A [`BridgeFault`] says why it refuses a call.
 //! - [`police`] says what becomes of a frame that comes to a bridge, for those that have ports of their own: each
-//!   [`Incoming`] frame of a cycle, brought in order ([`bring_in_order`]), has its [`Outcome`] by the [`StreamGates`].
+//!   [`Incoming`] frame of a cycle, by one of the [`incoming_links`] or at the edge ([`gather_offers`]) and brought into order
+//!   ([`bring_in_order`]), has its [`Outcome`] by the [`StreamGates`].
 //! - [`Offer`] is a frame that is offered at the edge, and [`Offered`] is an offer with its number.
 //! - [`Sent`] is a frame that a link carries.
 //! - [`Started`] is a transmission and [`Dropped`] a dropped offer, with its [`Reason`]; a [`Book`] has all of a run.
@@ -31,9 +32,10 @@ mod tests;
 
 pub use batch::Batch;
 pub use bridge::Bridge;
+pub use checking::incoming_links;
 pub use cqf_model::{Book, Dropped, Offer, Offered, Reason, Sent, Started};
 pub use faults::BridgeFault;
 pub use gates::StreamGates;
-pub use gathering::{Came, Incoming, bring_in_order};
+pub use gathering::{Came, Incoming, bring_in_order, gather_offers};
 pub use offers::offers_of;
 pub use policing::{Outcome, police};
