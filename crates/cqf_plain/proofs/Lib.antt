@@ -19,6 +19,9 @@ mod DropOrders
 mod Waiting
 mod Batches
 mod Since
+mod Gathering
+mod FramesTaken
+mod OneBridge
 mod Finishing
 mod WholeRun
 mod Taking

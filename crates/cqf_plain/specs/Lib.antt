@@ -15,3 +15,5 @@ pub mod Laws
 pub mod Edge
 pub mod Quiet
 pub mod Going
+pub mod Incoming
+pub mod TakingFrames
