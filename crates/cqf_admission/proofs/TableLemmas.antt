@@ -1,9 +1,15 @@
 -- The row of a name and of a number is the one that there is.
-use Rattle.std.proofs.Common.{◌≡◌, ◌≢◌, ℕ, ◌<◌, Bool, true, cond, List, Some, [], ◌∷◌, ◌==◌, length, ap, ◌∙◌, sym, arith, inl, inr}
-use Rattle.std.specs.Prelude.{AllPairs, Contains, find}
-use Rattle.std.proofs.lemmas.Bool.{both_ways, cases_Bool, eq-eqb, eqb-true}
-use Rattle.std.proofs.lemmas.List.Elements.{All-map}
-use Rattle.cqf_lists.proofs.Members.{contains_cases, contains_none, find_member}
+use Rattle.std.proofs.Common.{◌≡◌, ◌≢◌, ℕ, ◌<◌, Bool, true, cond, List, Option, Some, None, Result, Ok, Err, [], ◌∷◌, ◌==◌, get_or, length, ap, refl, subst, ◌∙◌, sym, arith, inl, inr}
+use Rattle.std.specs.declared.cmp.Ordering.TheVariants.{Equal, Greater, Less}
+use Rattle.std.specs.List.Sorted.{IsBinarySearchResult, IsNonDecreasingBy, IsSearchInRange}
+use Rattle.std.specs.Ordering.{nat_cmp, ordering_index}
+use Rattle.std.specs.Prelude.{AllPairs, Contains, MatchResult, find}
+use Rattle.std.proofs.lemmas.Bool.{both_ways, cases_Bool, cases_lt, eq-eqb, eqb-true}
+use Rattle.std.proofs.lemmas.Bool.Decides.{nat_tests}
+use Rattle.std.proofs.lemmas.Cmp.{ranked}
+use Rattle.std.proofs.lemmas.List.Elements.{All-map, Contains-get_or}
+use Rattle.std.proofs.lemmas.Option.{get_or_from_slice_get, slice_get_within}
+use Rattle.cqf_lists.proofs.Members.{contains_cases, contains_none, find_member, place_of_member}
 use Rattle.cqf_lists.proofs.Pairs.{pairs_head, pairs_tail}
 use Rattle.cqf_model.proofs.Texts.{is_text_itself, is_text_same}
 use Rattle.cqf_model.specs.declared.topology.Hop.{Hop}
@@ -45,6 +51,43 @@ the_row_of rows number order row = (
       find_only (λ (r : Row). r.no == number) (λ (a b : Row). a.no < b.no)
       (λ a b t u less. absurd (omega (arith, less, eqb-true a.no number t, eqb-true b.no number u))) rows row order.numbers w.0 (eq-eqb row.no number w.1),
 )
+
+module _ (rows : List Row) (number : ℕ) (order : AreInOrder rows) where
+  -- rows by number compare with a number in that order, as a search asks
+  numbers_rise : IsNonDecreasingBy (λ (row : Row). ordering_index (nat_cmp row.no number)) rows
+  numbers_rise i j d le below = elim (cases_lt i j) [
+    | inl less ↦ (let up : (get_or rows i d).no < (get_or rows j d).no = order.numbers i j d less below in grind (arith, nat_tests))
+    | inr same ↦
+        let e : i ≡ j = omega (arith, le, same) in
+        omega (arith, ap (λ (k : ℕ). ordering_index (nat_cmp (get_or rows k d).no number)) e)
+  ]
+
+  -- what a search by number finds is the row of the number, and where it finds none there is none
+  pub searched : (r : Result ℕ ℕ) → IsSearchInRange r (length rows) → IsBinarySearchResult (λ (row : Row). nat_cmp row.no number) rows r →
+      MatchResult r (λ i. (row : Row) → row ≡ get_or rows i row → Some row ≡ row_of rows number) (λ i. None ≡ row_of rows number)
+  searched (Ok i) inside equal = λ row is.
+      let held : Contains rows row = subst (Contains rows) (sym is) (Contains-get_or rows i row inside) in
+      let same : (get_or rows i row).no ≡ number = ranked (get_or rows i row).no number Equal (sym (equal row)) in
+      sym ((the_row_of rows number order row).1 (held, ap (λ (r : Row). r.no) is ∙ same))
+  searched (Err i) inside parted = none (row_of rows number) refl
+    where
+      -- a row of the number stands neither before the place nor behind it
+      none : (found : Option Row) → row_of rows number ≡ found → None ≡ row_of rows number
+      none None e = sym e
+      none (Some row) e =
+          let w = (the_row_of rows number order row).0 e in
+          let p = place_of_member rows row w.0 in
+          let there : get_or rows p.0 row ≡ row = get_or_from_slice_get rows p.0 row row p.1 in
+          let is : (get_or rows p.0 row).no ≡ number = ap (λ (r : Row). r.no) there ∙ w.1 in
+          absurd (elim (cases_lt p.0 i) [
+            | inl before ↦
+                let less : (get_or rows p.0 row).no < number = ranked (get_or rows p.0 row).no number Less (sym ((parted numbers_rise).0 p.0 row (omega arith) before)) in
+                omega (arith, less, is)
+            | inr behind ↦
+                let more : number < (get_or rows p.0 row).no =
+                ranked (get_or rows p.0 row).no number Greater (sym ((parted numbers_rise).1 p.0 row behind (slice_get_within rows p.0 row p.1))) in
+                omega (arith, more, is)
+          ])
 
 -- trees of the domain go along its links
 pub trees_go_along_links : (d : Domain) (rows : List Row) → AreTrees d rows → AreAlongLinks d rows

@@ -87,11 +87,15 @@ fn row_with_name<'a>(rows: &'a [Row], name: &Name) -> Option<&'a Row>
     rows.iter().find(|row| has_name(row, name))
 }
 
-/// The first of some rows whose stream has the number.
+/// Of rows that stand by number the one whose stream has the number.
 fn row_with_number(rows: &[Row], no: u32) -> Option<&Row>
+    requires { AreInOrder rows.now }
     ensures { option_copied result ≡ row_of rows.now no }
 {
-    rows.iter().find(|row| row.no == no)
+    match rows.binary_search_by_key(&no, |row| row.no) {
+        Ok(place) => Some(&rows[place]),
+        Err(_) => None,
+    }
 }
 
 /// Whether the row's stream has the name.

@@ -2,7 +2,7 @@
 ghost use Rattle.std.specs.Prelude.{◌≡◌, ◌*◌, ◌<◌, ◌==◌, ◌&&◌, false, length, map, true};
 ghost use Rattle.std.specs.List.{list_any};
 ghost use Rattle.cqf_model.specs.Domain.{cycle_of, enters, leaves};
-ghost use Rattle.cqf_model.specs.Table.{goes_on, goes_to};
+ghost use Rattle.cqf_model.specs.Table.{goes_on, same_way};
 ghost use Rattle.cqf_model.specs.Traffic.{whole_at};
 ghost use Rattle.cqf_bridge.specs.Batch.{LinkBatch};
 ghost use Rattle.cqf_bridge.specs.Receiving.{AreBatchesOf, MayCome, links_into};
@@ -12,28 +12,34 @@ use crate::Batch;
 use crate::sending::end_of;
 use arrayvec::ArrayVec;
 use cqf_admission::Table;
-use cqf_model::{Node, Row, Sent};
+use cqf_model::{Hop, Node, Row, Sent};
 use cqf_topology::Domain;
 use cqf_units::{Cycle, Nanos, Octets};
 
-/// Whether a frame that came that way goes on by a link, and the link leaves the bridge.
-fn leads_on_by(domain: &Domain, row: &Row, way: Option<u8>, bridge: u8, link: u8) -> bool
-    requires { link < length domain.now.links }
-    ensures { result ≡ (leaves domain.now link bridge && list_any (λ next. next == link) (goes_to row.now way)) }
+/// Whether a frame goes on by a hop from the way that it came, and the hop's link leaves the bridge.
+pub fn leads_by(domain: &Domain, hop: &Hop, way: Option<u8>, bridge: u8) -> bool
+    ensures { result ≡ (same_way hop.now.from way && leaves domain.now hop.now.link bridge) }
 {
-    domain.link(link).from == bridge && row.goes_on_by(way, link)
+    let same = match (hop.from, way) {
+        (None, None) => true,
+        (Some(link), Some(other)) => link == other,
+        _ => false,
+    };
+    same && hop.link < domain.links() && domain.link(hop.link).from == bridge
+}
+
+/// Whether a frame that came that way goes on by some of these hops from the bridge.
+fn lead_on(domain: &Domain, hops: &[Hop], way: Option<u8>, bridge: u8) -> bool
+    ensures { result ≡ list_any (λ hop. same_way hop.from way && leaves domain.now hop.link bridge) hops.now }
+{
+    hops.iter().any(|hop| leads_by(domain, hop, way, bridge))
 }
 
 /// Whether a frame that came that way goes on from the bridge.
 pub(crate) fn leads_on(domain: &Domain, row: &Row, way: Option<u8>, bridge: u8) -> bool
     ensures { result ≡ goes_on domain.now row.now way bridge }
 {
-    for link in 0..domain.links() {
-        if leads_on_by(domain, row, way, bridge, link) {
-            return true;
-        }
-    }
-    false
+    lead_on(domain, row.tree.as_slice(), way, bridge)
 }
 
 /// The instant at which a frame that a link sent is whole in the next node.

@@ -32,7 +32,7 @@ mod tests;
 
 pub use batch::Batch;
 pub use bridge::Bridge;
-pub use checking::incoming_links;
+pub use checking::{incoming_links, leads_by};
 pub use cqf_model::{Book, Dropped, Offer, Offered, Reason, Sent, Started};
 pub use faults::BridgeFault;
 pub use gates::StreamGates;

@@ -46,7 +46,7 @@ module _ (d : Domain) (bridge : ℕ) (before : List Passed) where
         ∙ ap (λ (qs : List QueuedFrame). queued_to d l policed ++ qs) (append-nil (queued_by d l x v))
 
     -- one that its gate lets pass goes on by its links
-    pub next_passes : (row : Row) → GoesOn d bridge row (came_by x.way) (queued_frame d x row).arrival (length d.links) now after →
+    pub next_passes : (row : Row) → GoesOn d bridge row (came_by x.way) (queued_frame d x row).arrival now after →
         PassesAt d bridge (policed ++ record { received = x; verdict = Queued row } ∷ []) before after
     next_passes row on = record {
       own = λ l below here.
@@ -54,13 +54,13 @@ module _ (d : Domain) (bridge : ℕ) (before : List Passed) where
           let leads : is_onward d bridge row (came_by x.way) l ≡ goes =
           ap (λ (b : Bool). b && goes) (subst (λ (n : ℕ). leaves d l n ≡ true) here (leaves_its_bridge d l below)) in
           let part : passed_on l after ≡ passed_on l now ++ queued_by d l x (Queued row) =
-          on.each l below ∙ ap (λ (b : Bool). passed_on l now ++ (if b then queued_frame d x row ∷ [] else [])) leads in
+          on.each l ∙ ap (λ (b : Bool). passed_on l now ++ (if b then queued_frame d x row ∷ [] else [])) leads in
           part ∙ ap (λ (qs : List QueuedFrame). qs ++ queued_by d l x (Queued row)) (so_far.own l below here)
           ∙ append_assoc (passed_on l before) (queued_to d l policed) (queued_by d l x (Queued row))
           ∙ ap (λ (qs : List QueuedFrame). passed_on l before ++ qs) (sym (queued_more l (Queued row)));
       others = λ l below other.
           let goes = list_any (λ next. next == l) (goes_to row (came_by x.way)) in
-          on.each l below
+          on.each l
           ∙ ap (λ (b : Bool). passed_on l now ++ (if b && goes then queued_frame d x row ∷ [] else [])) (leaves_no_other d l bridge other)
           ∙ append-nil (passed_on l now) ∙ so_far.others l below other;
       inside = λ y h. elim (on.inside y h) [

@@ -1,11 +1,17 @@
 -- Frames that pass the bridges come to their ports one after the other.
 use Rattle.std.proofs.Common.{◌≡◌, ◌==◌, ℕ, ◌+◌, ◌^◌, ◌≤◌, ◌<◌, ◌++◌, List, [], ◌∷◌, AllPairs, Contains, sym, refl, ap, ◌∙◌, inl, inr, arith, subst, length, map, filter, take, drop, get_or, append_assoc, append-nil}
 use Rattle.std.specs.BTreeSet.{BTreeSet}
-use Rattle.std.specs.Prelude.{Bool, false, true, Option, Some, if◌then◌else◌, ◌≢◌}
-use Rattle.cqf_lists.proofs.Made.{contains_if}
+use Rattle.std.specs.Prelude.{Bool, false, true, not, Option, Some, if◌then◌else◌, ◌&&◌, ◌||◌}
+use Rattle.std.specs.List.{list_any}
+use Rattle.std.proofs.lemmas.List.Folds.{list_any-append}
+use Rattle.cqf_lists.proofs.Any.{list_any-filter, list_any-map}
+use Rattle.cqf_model.specs.declared.topology.Hop.{Hop}
+use Rattle.cqf_model.specs.Table.{same_way}
+use Rattle.cqf_bridge.proofs.Coming.{leaves_inside}
+use Rattle.cqf_lists.proofs.Made.{contains_if_there}
 use Rattle.cqf_model.specs.declared.topology.Row.{Row}
-use Rattle.cqf_model.specs.Domain.{Domain}
-use Rattle.std.proofs.lemmas.Bool.{cases_eq, cond-false, cond-true, eq-eqb, eqb-true, ne_eqb}
+use Rattle.cqf_model.specs.Domain.{Domain, leaves}
+use Rattle.std.proofs.lemmas.Bool.{and_parts, cases_eq, cond-false, cond-true, eq-eqb, eqb-true, ne_eqb}
 use Rattle.std.proofs.lemmas.List.{drop_more, get_or-set_other, get_or-set_same, length-set, map-append, take-append-drop, take_all, take_more}
 use Rattle.std.proofs.lemmas.List.Elements.{Contains-append_cases, Contains-get_or, filter-append}
 use Rattle.cqf_lists.proofs.Members.{contains_from_filter, contains_from_map, contains_here, contains_one}
@@ -17,7 +23,7 @@ use Rattle.cqf_port.specs.PortState.{IsLate, IsOutOfOrder, WasOpen}
 use Rattle.cqf_plain.specs.Clock.{AreWatched, Due, IsQueued}
 use Rattle.cqf_plain.specs.declared.passing.Passed.{Passed}
 use Rattle.cqf_plain.specs.Frames.{queued_of}
-use Rattle.cqf_plain.specs.Passing.{AllWait, ComesNoLater, GoesOn, MayWait, goes_by, is_onward, passed_on}
+use Rattle.cqf_plain.specs.Passing.{AllWait, ComesNoLater, GoesFirst, GoesOn, MayWait, goes_by, goes_within, is_hop_on, passed_on}
 use Rattle.cqf_plain.specs.Ports.{LinkPort, no_port, port_at, state_of, with_frame}
 
 -- an arrival of which nothing of its class came later isn't out of order
@@ -138,59 +144,161 @@ pub all_wait : (frames : List Passed) (before now : List LinkPort) (due : BTreeS
     AllWait (take count frames) before now due → AllWait frames before now due
 all_wait frames before now due count past = subst (λ (xs : List Passed). AllWait xs before now due) (take_all count frames past)
 
--- at first it stands for no link
-pub none_goes : (d : Domain) (bridge : ℕ) (row : Row) (way : Option ℕ) (arrival : Arrival) (before : List Passed) → GoesOn d bridge row way arrival 0 before before
-none_goes d bridge row way arrival before = record { each = λ l below. absurd (omega (arith, below)); later = λ l above. refl; inside = λ x h. inl h }
+module _ (d : Domain) (bridge : ℕ) (way : Option ℕ) (number : ℕ) (arrival : Arrival) where
+  -- a frame, and the same on a link
+  abbrev frame : QueuedFrame
+  frame = record { arrival = arrival; stream = Some number }
 
-module _ (d : Domain) (bridge : ℕ) (row : Row) (way : Option ℕ) (arrival : Arrival) (k : ℕ) where
+  abbrev by_link : ℕ → Passed
+  by_link link = record { link = link; frame = record { arrival = arrival; stream = Some number } }
+
+  -- at first it stands for no hop
+  pub none_goes : (before : List Passed) → GoesFirst d bridge [] way number arrival before before
+  none_goes before = record { each = λ l. sym (append-nil (passed_on l before)); inside = λ x h. inl h }
+
   -- what goes on by a link is for that link
-  own_link : (b : Bool) →
-      passed_on k (if b then record { link = k; frame = record { arrival = arrival; stream = Some row.no } } ∷ [] else [])
-      ≡ (if b then record { arrival = arrival; stream = Some row.no } ∷ [] else [])
-  own_link true =
-      let x : Passed = record { link = k; frame = record { arrival = arrival; stream = Some row.no } } in
-      ap (map (λ (y : Passed). queued_of y.frame)) (cond-true (k == k) (x ∷ []) [] (eq-eqb k k refl))
-  own_link false = refl
+  for_link : (link l : ℕ) (b : Bool) → passed_on l (if b then by_link link ∷ [] else []) ≡ (if b && (link == l) then frame ∷ [] else [])
+  for_link link l false = refl
+  for_link link l true = either (link == l)
+    where
+      -- whether it is that link or not
+      either : (e : Bool) → map (λ (y : Passed). queued_of y.frame) (if e then by_link link ∷ [] else []) ≡ (if e then frame ∷ [] else [])
+      either true = refl
+      either false = refl
 
-  -- and for no other
-  other_link : (b : Bool) (l : ℕ) → k ≢ l → passed_on l (if b then record { link = k; frame = record { arrival = arrival; stream = Some row.no } } ∷ [] else []) ≡ []
-  other_link true l other =
-      let x : Passed = record { link = k; frame = record { arrival = arrival; stream = Some row.no } } in
-      ap (map (λ (y : Passed). queued_of y.frame)) (cond-false (k == l) (x ∷ []) [] (ne_eqb k l other))
-  other_link false l other = refl
+  -- with one hop more it stands once at most
+  joins_same : (a h : Bool) → (if a then frame ∷ [] else []) ++ (if (h && not a) && true then frame ∷ [] else [])
+      ≡ (if a || ((h && true) || false) then frame ∷ [] else [])
+  joins_same true true = refl
+  joins_same true false = refl
+  joins_same false true = refl
+  joins_same false false = refl
 
-  -- each is of the link
-  of_link : (b : Bool) (x : Passed) → Contains (if b then record { link = k; frame = record { arrival = arrival; stream = Some row.no } } ∷ [] else []) x → k ≡ x.link
-  of_link b x h = ap (λ (y : Passed). y.link) (contains_one (record { link = k; frame = record { arrival = arrival; stream = Some row.no } }) x (contains_if b _ x h))
+  joins_other : (a h g : Bool) → (if a then frame ∷ [] else []) ++ (if (h && not g) && false then frame ∷ [] else [])
+      ≡ (if a || ((h && false) || false) then frame ∷ [] else [])
+  joins_other true true true = refl
+  joins_other true true false = refl
+  joins_other true false g = refl
+  joins_other false true true = refl
+  joins_other false true false = refl
+  joins_other false false g = refl
 
-  module _ (before now after : List Passed) (on : GoesOn d bridge row way arrival k before now) (more : after ≡ now ++ goes_by d bridge row way arrival k) where
-    -- of what stands then, that of a link
-    parted : (l : ℕ) → passed_on l after ≡ passed_on l now ++ passed_on l (goes_by d bridge row way arrival k)
-    parted l =
-        ap (passed_on l) more
-        ∙ ap (map (λ (y : Passed). queued_of y.frame)) (filter-append (λ (y : Passed). y.link == l) now (goes_by d bridge row way arrival k))
-        ∙ map-append (λ (y : Passed). queued_of y.frame) (filter (λ (y : Passed). y.link == l) now) (filter (λ (y : Passed). y.link == l) (goes_by d bridge row way arrival k))
+  -- each that goes on by a hop goes by a link of the domain
+  hop_inside : (earlier : List Hop) (hop : Hop) (x : Passed) → Contains (goes_by d bridge earlier hop way number arrival) x → x.link < length d.links
+  hop_inside earlier hop x held =
+      let t = contains_if_there (is_hop_on d bridge way hop && not (goes_within d bridge earlier way hop.link)) (by_link hop.link ∷ []) x held in
+      let on = (and_parts (is_hop_on d bridge way hop) (not (goes_within d bridge earlier way hop.link)) t.0).0 in
+      let leads = (and_parts (same_way hop.from way) (leaves d hop.link bridge) on).1 in
+      omega (arith, leaves_inside d hop.link bridge leads, ap (λ (y : Passed). y.link) (contains_one (by_link hop.link) x t.1))
 
-    -- that of another link stays
-    stays : (l : ℕ) → k ≢ l → passed_on l after ≡ passed_on l now
-    stays l other = parted l ∙ ap (λ (qs : List QueuedFrame). passed_on l now ++ qs) (other_link (is_onward d bridge row way k) l other) ∙ append-nil (passed_on l now)
+  module _ (hops : List Hop) (k : ℕ) where
+    module _ (hop d0 : Hop) (inside : k < length hops) (is : hop ≡ get_or hops k d0) (before now after : List Passed)
+        (so_far : GoesFirst d bridge (take k hops) way number arrival before now) (more : after ≡ now ++ goes_by d bridge (take k hops) hop way number arrival) where
+      -- of what stands then, that of a link
+      parted : (l : ℕ) → passed_on l after ≡ passed_on l now ++ passed_on l (goes_by d bridge (take k hops) hop way number arrival)
+      parted l =
+          let own = goes_by d bridge (take k hops) hop way number arrival in
+          ap (passed_on l) more
+          ∙ ap (map (λ (y : Passed). queued_of y.frame)) (filter-append (λ (y : Passed). y.link == l) now own)
+          ∙ map-append (λ (y : Passed). queued_of y.frame) (filter (λ (y : Passed). y.link == l) now) (filter (λ (y : Passed). y.link == l) own)
 
-    -- so it stands for one link more
-    pub next_goes : GoesOn d bridge row way arrival (k + 1) before after
-    next_goes = record {
-      each = λ l below. elim (cases_eq l k) [
-        | inl same ↦
-            subst (λ (n : ℕ). passed_on n after ≡ passed_on n before ++ (if is_onward d bridge row way n then record { arrival = arrival; stream = Some row.no } ∷ [] else []))
-            (sym same)
-            (parted k ∙ (λ i. on.later k (omega arith) i ++ own_link (is_onward d bridge row way k) i))
-        | inr other ↦ stays l (λ e. other (sym e)) ∙ on.each l (omega (arith, below, other))
-      ];
-      later = λ l above. stays l (λ e. omega (arith, above, e)) ∙ on.later l (omega (arith, above));
-      inside = λ x h. elim (Contains-append_cases now (goes_by d bridge row way arrival k) x (subst (λ (xs : List Passed). Contains xs x) more h)) [
-        | inl old ↦ elim (on.inside x old) [
-          | inl first ↦ inl first
-          | inr below ↦ inr (omega (arith, below))
-        ]
-        | inr new ↦ inr (omega (arith, of_link (is_onward d bridge row way k) x new))
-      ];
-    }
+      -- whether it goes on by the first hops and the next
+      within_more : (l : ℕ) → goes_within d bridge (take (k + 1) hops) way l
+          ≡ (goes_within d bridge (take k hops) way l || ((is_hop_on d bridge way hop && (hop.link == l)) || false))
+      within_more l =
+          ap (λ (hs : List Hop). goes_within d bridge hs way l)
+          (take_more hops k d0 inside ∙ ap (λ (h : Hop). take k hops ++ h ∷ []) (sym is))
+          ∙ list_any-append (λ (h : Hop). is_hop_on d bridge way h && (h.link == l)) (take k hops) (hop ∷ [])
+
+      -- so with the next
+      on_link : (l : ℕ) →
+          (if goes_within d bridge (take k hops) way l then frame ∷ [] else []) ++ passed_on l (goes_by d bridge (take k hops) hop way number arrival)
+          ≡ (if goes_within d bridge (take (k + 1) hops) way l then frame ∷ [] else [])
+      on_link l =
+          let a = goes_within d bridge (take k hops) way l in
+          let h = is_hop_on d bridge way hop in
+          let g = goes_within d bridge (take k hops) way hop.link in
+          let first : List QueuedFrame = if a then frame ∷ [] else [] in
+          ap (λ (qs : List QueuedFrame). first ++ qs) (for_link hop.link l (h && not g))
+          ∙ elim (cases_eq hop.link l) [
+            | inl same ↦
+                (λ i. first ++ (if (h && not (goes_within d bridge (take k hops) way (same i))) && eq-eqb hop.link l same i then frame ∷ [] else []))
+                ∙ joins_same a h
+                ∙ ap (λ (b : Bool). if a || ((h && b) || false) then frame ∷ [] else []) (sym (eq-eqb hop.link l same))
+            | inr other ↦
+                ap (λ (b : Bool). first ++ (if (h && not g) && b then frame ∷ [] else [])) (ne_eqb hop.link l other)
+                ∙ joins_other a h g
+                ∙ ap (λ (b : Bool). if a || ((h && b) || false) then frame ∷ [] else []) (sym (ne_eqb hop.link l other))
+          ]
+          ∙ ap (λ (b : Bool). if b then frame ∷ [] else []) (sym (within_more l))
+
+      -- it stands for one hop more
+      pub next_goes : GoesFirst d bridge (take (k + 1) hops) way number arrival before after
+      next_goes = record {
+        each = λ l.
+            let own = passed_on l (goes_by d bridge (take k hops) hop way number arrival) in
+            let first : List QueuedFrame = if goes_within d bridge (take k hops) way l then frame ∷ [] else [] in
+            parted l ∙ ap (λ (qs : List QueuedFrame). qs ++ own) (so_far.each l)
+            ∙ append_assoc (passed_on l before) first own
+            ∙ ap (λ (qs : List QueuedFrame). passed_on l before ++ qs) (on_link l);
+        inside = λ x h. elim (Contains-append_cases now (goes_by d bridge (take k hops) hop way number arrival) x (subst (λ (xs : List Passed). Contains xs x) more h)) [
+          | inl old ↦ so_far.inside x old
+          | inr new ↦ inr (hop_inside (take k hops) hop x new)
+        ];
+      }
+
+    -- and in the end for all
+    pub all_go : length hops ≤ k → (before now : List Passed) → GoesFirst d bridge (take k hops) way number arrival before now →
+        GoesFirst d bridge hops way number arrival before now
+    all_go past before now first = subst (λ (hs : List Hop). GoesFirst d bridge hs way number arrival before now) (take_all k hops past) first
+
+-- whether a frame goes on by a link of the bridge, hop by hop
+hops_onward : (d : Domain) (bridge : ℕ) (way : Option ℕ) (l : ℕ) (hops : List Hop) →
+    goes_within d bridge hops way l ≡ (leaves d l bridge && list_any (λ (hop : Hop). same_way hop.from way && (hop.link == l)) hops)
+hops_onward d bridge way l [] = none (leaves d l bridge)
+  where
+    -- either way not
+    none : (b : Bool) → false ≡ (b && false)
+    none true = refl
+    none false = refl
+hops_onward d bridge way l (hop ∷ hops) = elim (cases_eq hop.link l) [
+  | inl same ↦
+      (λ i. ((same_way hop.from way && leaves d (same i) bridge) && eq-eqb hop.link l same i) || hops_onward d bridge way l hops i)
+      ∙ joins (same_way hop.from way) (leaves d l bridge) (list_any (λ (h : Hop). same_way h.from way && (h.link == l)) hops)
+      ∙ ap (λ (b : Bool). leaves d l bridge && ((same_way hop.from way && b) || list_any (λ (h : Hop). same_way h.from way && (h.link == l)) hops))
+      (sym (eq-eqb hop.link l same))
+  | inr other ↦
+      (λ i. ((same_way hop.from way && leaves d hop.link bridge) && ne_eqb hop.link l other i) || hops_onward d bridge way l hops i)
+      ∙ parts (same_way hop.from way) (leaves d hop.link bridge) (leaves d l bridge) (list_any (λ (h : Hop). same_way h.from way && (h.link == l)) hops)
+      ∙ ap (λ (b : Bool). leaves d l bridge && ((same_way hop.from way && b) || list_any (λ (h : Hop). same_way h.from way && (h.link == l)) hops))
+      (sym (ne_eqb hop.link l other))
+]
+  where
+    -- a hop of the link
+    joins : (s b rest : Bool) → (((s && b) && true) || (b && rest)) ≡ (b && ((s && true) || rest))
+    joins true true rest = refl
+    joins true false rest = refl
+    joins false true rest = refl
+    joins false false rest = refl
+
+    -- a hop of another
+    parts : (s a b rest : Bool) → (((s && a) && false) || (b && rest)) ≡ (b && ((s && false) || rest))
+    parts true true b rest = refl
+    parts true false b rest = refl
+    parts false a b rest = refl
+
+-- so a frame that stands for the hops of its row goes on as its stream does
+pub goes_on_so : (d : Domain) (bridge : ℕ) (row : Row) (way : Option ℕ) (arrival : Arrival) (hops : List Hop) → hops ≡ row.tree.items →
+    (before after : List Passed) → GoesFirst d bridge hops way row.no arrival before after → GoesOn d bridge row way arrival before after
+goes_on_so d bridge row way arrival hops are before after first = record {
+  each = λ l.
+      let queued : Bool → List QueuedFrame = λ b. if b then record { arrival = arrival; stream = Some row.no } ∷ [] else [] in
+      first.each l
+      ∙ ap (λ (b : Bool). passed_on l before ++ queued b)
+      (ap (λ (hs : List Hop). goes_within d bridge hs way l) are
+      ∙ hops_onward d bridge way l row.tree.items
+      ∙ ap (λ (b : Bool). leaves d l bridge && b)
+      (sym (list_any-filter (λ (hop : Hop). hop.link == l) (λ (hop : Hop). same_way hop.from way) row.tree.items)
+      ∙ sym (list_any-map (λ k. k == l) (λ (hop : Hop). hop.link) (filter (λ (hop : Hop). same_way hop.from way) row.tree.items))));
+  inside = first.inside;
+}

@@ -1,13 +1,14 @@
 -- The frames that pass the bridges in a cycle come to their ports.
-use Rattle.std.specs.Prelude.{ℕ, ◌≡◌, ◌==◌, ◌^◌, ◌≤◌, ◌<◌, ◌++◌, ◌&&◌, ◌⊎◌, AllPairs, Bool, Contains, List, [], ◌∷◌, Option, Some, filter, if◌then◌else◌, length, map}
+use Rattle.std.specs.Prelude.{ℕ, ◌≡◌, ◌==◌, ◌^◌, ◌≤◌, ◌<◌, ◌++◌, ◌&&◌, ◌⊎◌, not, AllPairs, Bool, Contains, List, [], ◌∷◌, Option, Some, filter, if◌then◌else◌, length, map}
 use Rattle.std.specs.BTreeSet.{BTreeSet}
 use Rattle.std.specs.List.{list_any}
 use Rattle.cqf_model.specs.declared.ports.Arrival.{Arrival}
+use Rattle.cqf_model.specs.declared.topology.Hop.{Hop}
 use Rattle.cqf_model.specs.declared.topology.Row.{Row}
 use Rattle.cqf_model.specs.Domain.{Domain, bridge_of, leaves}
 use Rattle.cqf_model.specs.Network.{QueuedFrame, queued_to}
 use Rattle.cqf_model.specs.Run.{Run}
-use Rattle.cqf_model.specs.Table.{goes_to}
+use Rattle.cqf_model.specs.Table.{goes_to, same_way}
 use Rattle.cqf_laws_pages.specs.BridgeCycle.{policed_of}
 use Rattle.cqf_port.specs.PortState.{IsLate}
 use Rattle.cqf_plain.specs.Backing.{Gets}
@@ -51,16 +52,29 @@ pub record ArePassedIn (run : Run) (cycle : ℕ) (sent : List LinkPort) (frames 
 abbrev pub is_onward : Domain → ℕ → Row → Option ℕ → ℕ → Bool
 is_onward d bridge row way link = leaves d link bridge && list_any (λ next. next == link) (goes_to row way)
 
--- a frame as it goes on by a link, where it does
-abbrev pub goes_by : Domain → ℕ → Row → Option ℕ → Arrival → ℕ → List Passed
-goes_by d bridge row way arrival link =
-    if is_onward d bridge row way link
-    then record { link = link; frame = record { arrival = arrival; stream = Some row.no } } ∷ []
+-- a frame of a row's stream stands behind those that have passed, once for each link of the bridge by which it goes on
+pub record GoesOn (d : Domain) (bridge : ℕ) (row : Row) (way : Option ℕ) (arrival : Arrival) (before after : List Passed) : Type 0 where
+  pub each : (l : ℕ) → passed_on l after
+      ≡ passed_on l before ++ (if is_onward d bridge row way l then record { arrival = arrival; stream = Some row.no } ∷ [] else [])
+  pub inside : (x : Passed) → Contains after x → Contains before x ⊎ (x.link < length d.links)
+
+-- whether a frame goes on by a hop from the way that it came, and the hop's link leaves the bridge
+abbrev pub is_hop_on : Domain → ℕ → Option ℕ → Hop → Bool
+is_hop_on d bridge way hop = same_way hop.from way && leaves d hop.link bridge
+
+-- whether it does by one of some hops, on a link
+abbrev pub goes_within : Domain → ℕ → List Hop → Option ℕ → ℕ → Bool
+goes_within d bridge hops way link = list_any (λ (hop : Hop). is_hop_on d bridge way hop && (hop.link == link)) hops
+
+-- a frame as it goes on by a hop, where it does and no earlier hop is by the same link
+abbrev pub goes_by : Domain → ℕ → List Hop → Hop → Option ℕ → ℕ → Arrival → List Passed
+goes_by d bridge earlier hop way stream arrival =
+    if is_hop_on d bridge way hop && not (goes_within d bridge earlier way hop.link)
+    then record { link = hop.link; frame = record { arrival = arrival; stream = Some stream } } ∷ []
     else []
 
--- a frame of a row's stream stands behind those that have passed, once for each link below a number by which it goes on
-pub record GoesOn (d : Domain) (bridge : ℕ) (row : Row) (way : Option ℕ) (arrival : Arrival) (upto : ℕ) (before after : List Passed) : Type 0 where
-  pub each : (l : ℕ) → l < upto → passed_on l after
-      ≡ passed_on l before ++ (if is_onward d bridge row way l then record { arrival = arrival; stream = Some row.no } ∷ [] else [])
-  pub later : (l : ℕ) → upto ≤ l → passed_on l after ≡ passed_on l before
-  pub inside : (x : Passed) → Contains after x → Contains before x ⊎ (x.link < upto)
+-- a frame stands behind those that have passed, once for each link of some hops by which it goes on
+pub record GoesFirst (d : Domain) (bridge : ℕ) (hops : List Hop) (way : Option ℕ) (number : ℕ) (arrival : Arrival) (before after : List Passed) : Type 0 where
+  pub each : (l : ℕ) → passed_on l after
+      ≡ passed_on l before ++ (if goes_within d bridge hops way l then record { arrival = arrival; stream = Some number } ∷ [] else [])
+  pub inside : (x : Passed) → Contains after x → Contains before x ⊎ (x.link < length d.links)

@@ -1,5 +1,5 @@
 -- A bridge takes the frames of a cycle, one after the other.
-use Rattle.std.specs.Prelude.{ℕ, ◌≡◌, ◌+◌, ◌≤◌, ◌++◌, [], ◌∷◌, Contains, List, length, take}
+use Rattle.std.specs.Prelude.{ℕ, ◌≡◌, ◌+◌, ◌≤◌, ◌++◌, [], ◌∷◌, Contains, List, take}
 use Rattle.cqf_model.specs.declared.frames.Dropped.{Dropped}
 use Rattle.cqf_model.specs.declared.topology.Row.{Row}
 use Rattle.cqf_model.specs.Book.{drop_by}
@@ -19,7 +19,7 @@ use Rattle.cqf_plain.specs.Passing.{GoesOn}
 -- a frame with this verdict stands behind those that have passed, once for each link by which it goes on; where it doesn't go on
 -- nothing more stands there
 abbrev pub GoesBy : Domain → ℕ → Received → Verdict → List Passed → List Passed → Type 0
-GoesBy d bridge x (Queued row) before after = GoesOn d bridge row (came_by x.way) (queued_frame d x row).arrival (length d.links) before after
+GoesBy d bridge x (Queued row) before after = GoesOn d bridge row (came_by x.way) (queued_frame d x row).arrival before after
 GoesBy d bridge x (DroppedFor reason) before after = after ≡ before
 GoesBy d bridge x LacksRow before after = after ≡ before
 GoesBy d bridge x ExceedsGate before after = after ≡ before

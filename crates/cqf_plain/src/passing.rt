@@ -1,12 +1,13 @@
 //! The streams' frames that pass their gates at the bridges come to the ports by whose links they go on.
-ghost use Rattle.std.specs.Prelude.{◌≡◌, ◌<◌, ◌++◌, OnOk, length};
+ghost use Rattle.std.specs.Prelude.{◌≡◌, ◌++◌, OnOk, length};
 ghost use Rattle.cqf_plain.specs.Clock.{AreWatched};
-ghost use Rattle.cqf_plain.specs.Passing.{AllWait, GoesOn, MayWait, goes_by};
+ghost use Rattle.cqf_plain.specs.Passing.{AllWait, GoesFirst, GoesOn, MayWait, goes_by, goes_within};
 
 use crate::clock::Clock;
 use crate::port::{EgressPort, Queued};
 use crate::steps::queue_frame;
-use cqf_model::{Arrival, Row};
+use cqf_bridge::leads_by;
+use cqf_model::{Arrival, Hop, Row};
 use cqf_topology::Domain;
 use cqf_units::Memory;
 
@@ -17,27 +18,61 @@ pub(crate) struct Passed {
     pub(crate) frame: Queued,
 }
 
-/// Puts a frame behind those that have passed, where the link leaves the bridge and its stream goes on by it.
+/// Whether a frame that came that way goes on from a bridge by one of some hops, on a link.
+fn goes_before(domain: &Domain, number: u8, hops: &[Hop], way: Option<u8>, link: u8) -> bool
+    ensures { result ≡ goes_within domain.now number hops.now way link }
+{
+    hops.iter().any(|hop| leads_by(domain, hop, way, number) && hop.link == link)
+}
+
+/// Puts a frame behind those that have passed, where it goes on by a hop, and none of the earlier hops is by the same link.
 fn pass_by(
     domain: &Domain,
     number: u8,
-    row: &Row,
+    earlier: &[Hop],
+    hop: &Hop,
     way: Option<u8>,
+    no: u32,
     arrival: Arrival,
-    link: u8,
     passed: &mut Vec<Passed>,
 ) -> Result<(), Memory>
-    requires { link < length domain.now.links }
-    ensures { OnOk result (passed.new.items ≡ passed.old.items ++ goes_by domain.now number row.now way arrival link) }
+    ensures { OnOk result (passed.new.items ≡ passed.old.items ++ goes_by domain.now number earlier.now hop.now way no arrival) }
 {
-    if domain.link(link).from == number && row.goes_on_by(way, link) {
+    if leads_by(domain, hop, way, number) && !goes_before(domain, number, earlier, way, hop.link) {
         passed.push(Passed {
-            link,
+            link: hop.link,
             frame: Queued {
                 arrival,
-                stream: Some(row.no),
+                stream: Some(no),
             },
         })?;
+    }
+    Ok(())
+}
+
+/// Puts a frame behind those that have passed, once for each link of some hops by which it goes on.
+fn pass_by_hops(
+    domain: &Domain,
+    number: u8,
+    hops: &[Hop],
+    way: Option<u8>,
+    no: u32,
+    arrival: Arrival,
+    passed: &mut Vec<Passed>,
+) -> Result<(), Memory>
+    ensures { OnOk result (GoesFirst domain.now number hops.now way no arrival passed.old.items passed.new.items) }
+{
+    for (place, hop) in hops.iter().enumerate() {
+        pass_by(
+            domain,
+            number,
+            &hops[..place],
+            hop,
+            way,
+            no,
+            arrival,
+            passed,
+        )?;
     }
     Ok(())
 }
@@ -51,11 +86,17 @@ pub(crate) fn pass_on(
     arrival: Arrival,
     passed: &mut Vec<Passed>,
 ) -> Result<(), Memory>
-    ensures { OnOk result (GoesOn domain.now number row.now way arrival (length domain.now.links) passed.old.items passed.new.items) }
+    ensures { OnOk result (GoesOn domain.now number row.now way arrival passed.old.items passed.new.items) }
 {
-    for link in 0..domain.links() {
-        pass_by(domain, number, row, way, arrival, link, passed)?;
-    }
+    pass_by_hops(
+        domain,
+        number,
+        row.tree.as_slice(),
+        way,
+        row.no,
+        arrival,
+        passed,
+    )?;
     Ok(())
 }
 

@@ -1,12 +1,16 @@
-use Rattle.std.proofs.Common.{◌∙◌, arith, sym}
-use Rattle.cqf_bridge.proofs.Coming.{goes_on_by_link, goes_on_by_none}
+use Rattle.std.proofs.Common.{◌∙◌, ◌&&◌, List, ap, sym, filter}
+use Rattle.std.specs.List.{list_any}
+use Rattle.cqf_lists.proofs.Any.{list_any-filter, list_any-map}
+use Rattle.cqf_model.specs.declared.topology.Hop.{Hop}
+use Rattle.cqf_model.specs.Domain.{leaves}
+use Rattle.cqf_model.specs.Table.{same_way}
 use Rattle.cqf_bridge.proofs.checking.leads_on.Goals as goal
-
-pub returns-then-leads_on_by : goal.returns-then-leads_on_by
-returns-then-leads_on_by c =
-    sym (goes_on_by_link c.args.domain.now c.args.row.now c.args.way c.args.bridge c.loop-link.link (sym c.leads_on_by.ensures ∙ c.if-leads_on_by.true))
 
 pub returns : goal.returns
 returns c =
-    sym (goes_on_by_none c.args.domain.now c.args.row.now c.args.way c.args.bridge
-    (λ k inside. c.loop-link.invariant k (omega (arith, inside, c.links-link-end.ensures, c.loop-link-test.false))))
+    let d = c.args.domain.now in
+    let hops = c.args.row.now.tree.items in
+    c.lead_on.ensures
+    ∙ ap (λ (xs : List Hop). list_any (λ (hop : Hop). same_way hop.from c.args.way && leaves d hop.link c.args.bridge) xs) c.as_slice.ensures.value
+    ∙ sym (list_any-filter (λ (hop : Hop). leaves d hop.link c.args.bridge) (λ (hop : Hop). same_way hop.from c.args.way) hops)
+    ∙ sym (list_any-map (λ k. leaves d k c.args.bridge) (λ (hop : Hop). hop.link) (filter (λ (hop : Hop). same_way hop.from c.args.way) hops))
