@@ -1,0 +1,9 @@
+mod Counts
+mod Giving
+mod Entering
+mod Sealing
+mod Inboxes
+mod Taking
+mod Cutting
+mod Stepping
+mod Coming
