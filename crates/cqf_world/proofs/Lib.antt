@@ -7,3 +7,4 @@ mod Taking
 mod Cutting
 mod Stepping
 mod Coming
+mod Posting

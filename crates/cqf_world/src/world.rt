@@ -4,7 +4,7 @@ ghost use Rattle.cqf_admission.specs.Admission.{recorded_of};
 ghost use Rattle.cqf_model.specs.Domain.{enters};
 ghost use Rattle.cqf_model.specs.History.{seals};
 ghost use Rattle.cqf_world.specs.World.{ArePagesOfTheBook};
-ghost use Rattle.cqf_world.specs.Events.{Answers, Happens, MayBeGiven, MayStep, MayTake};
+ghost use Rattle.cqf_world.specs.Events.{Answers, Happens, MayBeGiven, MayPost, MayStep, MayTake};
 
 use crate::calling::{ask, close_cycle};
 use crate::events::{Applied, Event};
@@ -239,5 +239,22 @@ impl World<'_> {
                 Err(refused)
             }
         }
+    }
+
+    /// Whether a bridge may receive its cycle, and post its page.
+    fn may_post(&self, bridge: u8) -> bool
+        requires { self.now.stopped ≡ false }
+        ensures yes { result ≡ true → MayPost self.now bridge }
+        ensures no { result ≡ false → ¬ MayPost self.now bridge }
+    {
+        let place = usize::from(bridge);
+        if place >= self.stations.len() {
+            return false;
+        }
+        let station = &self.stations[place];
+        if station.sent == station.posted {
+            return false;
+        }
+        station.taken.as_slice().len() == station.incoming
     }
 }
