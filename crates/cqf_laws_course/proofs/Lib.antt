@@ -1,0 +1,2 @@
+pub mod LinkNumbers
+mod Going

@@ -1,0 +1,165 @@
+-- A bridge is given a table.
+use Rattle.std.proofs.Common.{◌≡◌, ℕ, ◌+◌, ◌<◌, List, length, map, get_or, set, sym, ap, ◌∙◌, arith, refl, inl, inr, subst}
+use Rattle.std.specs.Prelude.{false}
+use Rattle.std.proofs.lemmas.Bool.{cases_eq}
+use Rattle.std.proofs.lemmas.List.{get_or-set_other, get_or-set_same, length-set, map-set, set-get_or}
+use Rattle.cqf_model.specs.Domain.{bridge_of}
+use Rattle.cqf_model.specs.History.{seals}
+use Rattle.cqf_admission.specs.Tables.{CycleTable}
+use Rattle.cqf_world.specs.declared.parts.Line.{Line}
+use Rattle.cqf_world.specs.declared.parts.Station.{Station}
+use Rattle.cqf_world.specs.Events.{MayBeGiven}
+use Rattle.cqf_world.specs.Parts.{IsLine, IsRunning, IsStation, IsWorld, given_of, links_taken, sent_of}
+use Rattle.cqf_world.specs.World.{WorldState, cycle_of_bridge, sealed_run}
+use Rattle.cqf_world.proofs.Counts.{count_at, given_counts}
+
+-- a station with one more table
+abbrev pub with_table : Station → Station
+with_table s = record {
+  bridge = s.bridge;
+  agenda = s.agenda;
+  incoming = s.incoming;
+  given = s.posted + 1;
+  sent = s.sent;
+  posted = s.posted;
+  starts = s.starts;
+  taken = s.taken;
+}
+
+-- a world with such a station
+abbrev pub world_given : WorldState → List Station → ℕ → Station → WorldState
+world_given w stations bridge s = record {
+  domain = w.domain;
+  offers = w.offers;
+  background = w.background;
+  cycles = w.cycles;
+  entries = w.entries;
+  pages = w.pages;
+  given = map given_of (set stations bridge (with_table s));
+  sent = map sent_of (set stations bridge (with_table s));
+  taken = w.taken;
+  stopped = w.stopped;
+}
+
+module _ (w : WorldState) (tables : List CycleTable) (stations : List Station) (lines : List Line) (is : IsRunning w tables stations lines) where
+  -- a bridge may be given a table where its counts say so
+  pub may_be_given : (bridge : ℕ) (s : Station) → bridge < length stations → s ≡ get_or stations bridge s → s.given ≡ s.posted → s.posted < w.cycles →
+      s.posted < length tables → MayBeGiven w bridge
+  may_be_given bridge s inside there lacks of_run closed =
+      let st = subst (IsStation (sealed_run w) (seals w.entries) is.net bridge (cycle_of_bridge w bridge) (links_taken w bridge)) (sym there)
+      (is.station bridge s inside) in
+      record {
+        inside = omega (arith, inside, is.all_stations);
+        of_run = omega (arith, of_run, st.in_cycle);
+        lacks = count_at given_of w.given stations bridge s is.given_are inside ∙ ap given_of (sym there) ∙ lacks ∙ st.in_cycle;
+        sealed = omega (arith, closed, st.in_cycle, is.all_tables);
+      }
+
+  -- and its counts say so where it may be
+  pub counts_given : (bridge : ℕ) (s : Station) → bridge < length stations → s ≡ get_or stations bridge s → MayBeGiven w bridge →
+      (s.given ≡ s.posted) × (s.posted < w.cycles) × (s.posted < length tables)
+  counts_given bridge s inside there may =
+      let st = subst (IsStation (sealed_run w) (seals w.entries) is.net bridge (cycle_of_bridge w bridge) (links_taken w bridge)) (sym there)
+      (is.station bridge s inside) in (
+        ap given_of there ∙ sym (count_at given_of w.given stations bridge s is.given_are inside) ∙ may.lacks ∙ sym st.in_cycle,
+        omega (arith, may.of_run, st.in_cycle),
+        omega (arith, may.sealed, st.in_cycle, is.all_tables),
+      )
+
+  -- nothing else changes
+  pub sent_stays : (bridge : ℕ) (s : Station) → s ≡ get_or stations bridge s → map sent_of (set stations bridge (with_table s)) ≡ w.sent
+  sent_stays bridge s there =
+      map-set sent_of stations bridge (with_table s)
+      ∙ sym (map-set sent_of stations bridge s)
+      ∙ ap (λ (x : Station). map sent_of (set stations bridge x)) there
+      ∙ ap (map sent_of) (set-get_or stations bridge s)
+      ∙ sym is.sent_are
+
+  -- the world goes on so
+  pub goes_on_given : (bridge : ℕ) (s : Station) → bridge < length stations → s ≡ get_or stations bridge s → MayBeGiven w bridge →
+      IsRunning (world_given w stations bridge s) tables (set stations bridge (with_table s)) lines
+  goes_on_given bridge s inside there may =
+      let same = sent_stays bridge s there in
+      record {
+        net = is.net;
+        compiled = is.compiled;
+        within_run = is.within_run;
+        all_tables = is.all_tables;
+        table = is.table;
+        all_stations = length-set stations bridge (with_table s) ∙ is.all_stations;
+        given_are = refl;
+        sent_are = refl;
+        station = λ other d in_stations. elim (cases_eq other bridge) [
+          | inl e ↦
+              let st = subst (IsStation (sealed_run w) (seals w.entries) is.net bridge (cycle_of_bridge w bridge) (links_taken w bridge)) (sym there)
+              (is.station bridge s inside) in
+              let c = counts_given bridge s inside there may in
+              subst (λ (k : ℕ). IsStation (sealed_run w) (seals w.entries) is.net k (cycle_of_bridge w k) (links_taken w k) (get_or (set stations bridge (with_table s)) k d))
+              (sym e)
+              (subst (IsStation (sealed_run w) (seals w.entries) is.net bridge (cycle_of_bridge w bridge) (links_taken w bridge))
+              (sym (get_or-set_same stations bridge (with_table s) d inside))
+              (record {
+                in_cycle = st.in_cycle;
+                not_behind = st.not_behind;
+                with_table = omega (arith, st.with_table, c.0);
+                not_ahead = omega arith;
+                closed = omega (arith, c.2, is.all_tables);
+                number = st.number;
+                received = st.received;
+                follows = st.follows;
+                has_sent = st.has_sent;
+                starts = st.starts;
+                taken = st.taken;
+                incoming = st.incoming;
+                agenda = st.agenda;
+              }))
+          | inr differ ↦
+              subst (IsStation (sealed_run w) (seals w.entries) is.net other (cycle_of_bridge w other) (links_taken w other))
+              (sym (get_or-set_other stations bridge other (with_table s) d differ))
+              (is.station other d (omega (arith, in_stations, length-set stations bridge (with_table s))))
+        ];
+        all_lines = is.all_lines;
+        taken_are = is.taken_are;
+        line = λ link to x ends. subst (λ (sent : List ℕ). IsLine w.domain is.net link (cycle_of_bridge w to) (get_or sent to 0)
+            (get_or sent (bridge_of w.domain link) 0) (get_or lines link x)) (sym same) (is.line link to x ends);
+      }
+
+module _ (w : WorldState) (tables : List CycleTable) (stations : List Station) (lines : List Line) (bridge place : ℕ) (s : Station) (old : WorldState)
+    (same : w ≡ old) (world : IsWorld w tables stations lines) (old_goes_on : old.stopped ≡ false) (old_may : MayBeGiven old bridge)
+    (at : place ≡ bridge) (there : s ≡ get_or stations place s) where
+  goes_on : w.stopped ≡ false
+  goes_on = subst (λ (v : WorldState). v.stopped ≡ false) (sym same) old_goes_on
+
+  may : MayBeGiven w bridge
+  may = subst (λ (v : WorldState). MayBeGiven v bridge) (sym same) old_may
+
+  is : IsRunning w tables stations lines
+  is = world.running goes_on
+
+  inside : bridge < length stations
+  inside = omega (arith, may.inside, is.all_stations)
+
+  here : s ≡ get_or stations bridge s
+  here = there ∙ ap (λ (k : ℕ). get_or stations k s) at
+
+  -- so the world stays one with a table given
+  pub given_world : IsWorld (world_given w stations bridge s) tables (set stations bridge (with_table s)) lines
+  given_world = record {
+    given = given_counts w _ _ w.taken w.stopped world.given;
+    pages = world.pages;
+    sealed = world.sealed;
+    running = λ still. goes_on_given w tables stations lines is bridge s inside here may;
+  }
+
+  -- and it is the same world but for what was given
+  pub given_alone : world_given w stations bridge s ≡ record old { given = set old.given bridge (cycle_of_bridge old bridge + 1) }
+  given_alone =
+      let st = subst (IsStation (sealed_run w) (seals w.entries) is.net bridge (cycle_of_bridge w bridge) (links_taken w bridge)) (sym here)
+      (is.station bridge s inside) in
+      let now_given : map given_of (set stations bridge (with_table s)) ≡ set w.given bridge (cycle_of_bridge w bridge + 1) =
+      map-set given_of stations bridge (with_table s)
+      ∙ ap (λ (n : ℕ). set (map given_of stations) bridge (n + 1)) st.in_cycle
+      ∙ ap (λ (ns : List ℕ). set ns bridge (cycle_of_bridge w bridge + 1)) (sym is.given_are) in
+      let still_sent = sent_stays w tables stations lines is bridge s here in
+      subst (λ (v : WorldState). world_given w stations bridge s ≡ record v { given = set v.given bridge (cycle_of_bridge v bridge + 1) }) same
+      (λ i. record w { given = now_given i; sent = still_sent i })

@@ -1,0 +1,10 @@
+mod Counts
+mod Giving
+mod Entering
+mod Sealing
+mod Inboxes
+mod Taking
+mod Cutting
+mod Stepping
+mod Coming
+mod Posting

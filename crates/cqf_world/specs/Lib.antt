@@ -1,0 +1,4 @@
+pub mod Agenda
+pub mod Events
+pub mod Parts
+pub mod World

@@ -1,0 +1,143 @@
+-- What a world holds, and how it follows the network of the history so far.
+use Rattle.std.specs.Prelude.{ℕ, ◌≡◌, ◌+◌, ◌-◌, ◌≤◌, ◌<◌, ◌++◌, ◌==◌, ◌∷◌, [], List}
+use Rattle.std.specs.Prelude.{false, filter, length, map, nat_lt, slice_index_or, true}
+use Rattle.std.specs.List.{flat_map, insert}
+use Rattle.cqf_lists.specs.Lists.{each_below}
+use Rattle.cqf_model.specs.Domain.{Domain, IsAccepted, bridge_of, enters}
+use Rattle.cqf_model.specs.declared.history.Reply.TheVariants.{Sealed}
+use Rattle.cqf_model.specs.History.{IsLegalHistory, Seals, seals, table_at}
+use Rattle.cqf_laws_history.specs.StateLaws.{with_entry}
+use Rattle.cqf_admission.specs.Admission.{Administration}
+use Rattle.cqf_model.specs.Network.{Network}
+use Rattle.cqf_model.specs.Run.{AreBackground, AreOffers, Run}
+use Rattle.cqf_laws_pages.specs.BridgeCycle.{IsCompiledNetwork}
+use Rattle.cqf_admission.specs.Tables.{CycleTable}
+use Rattle.cqf_book.specs.Pages.{ArePosted}
+use Rattle.cqf_bridge.specs.Batch.{LinkBatch}
+use Rattle.cqf_bridge.specs.BridgeState.{SendsCycle}
+use Rattle.cqf_bridge.specs.Receiving.{links_into}
+use Rattle.cqf_laws_bridge.specs.Cycles.{starts_of_batch}
+use Rattle.cqf_laws_bridge.specs.Follows.{FollowsTheNetwork, HasSentOfTheNetwork, batch_of, batches_from}
+use Rattle.cqf_world.specs.declared.parts.Line.{Line}
+use Rattle.cqf_world.specs.declared.parts.Station.{Station}
+use Rattle.cqf_world.specs.Agenda.{IsAgendaOf, background_at}
+use Rattle.cqf_world.specs.World.{ArePagesOfTheBook, WorldState, cycle_of_bridge, sealed_run, sent_by, taken_from}
+
+-- what a world was given: an accepted domain, a legal history, offers and background frames of the domain, and pages of its bridges
+pub record IsGiven (w : WorldState) : Type 0 where
+  pub accepted : IsAccepted w.domain
+  pub legal : IsLegalHistory w.domain w.entries
+  pub offers : AreOffers w.domain w.offers
+  pub background : AreBackground w.domain w.background
+  pub few_cycles : w.cycles ≤ 100000
+  pub of_bridges : w.pages.bridges ≡ length w.domain.bridges
+  pub of_cycles : w.pages.cycles ≡ w.cycles
+  pub in_order : ArePosted w.pages
+
+-- the links that end in a bridge of which it has taken the batch of its cycle, by number
+abbrev pub links_taken : WorldState → ℕ → List ℕ
+links_taken w bridge = filter (λ l. nat_lt (cycle_of_bridge w bridge) (taken_from w l)) (links_into w.domain bridge)
+
+-- a bridge with what it was given, in one of its cycles: it may have the cycle's table, and may have sent the cycle with the table. It
+-- follows the network, and halfway has sent as it does, and keeps what it sent for its page; and it has taken the network's batches
+pub record IsStation (run : Run) (sealed : ℕ) (net : Network) (bridge cycle : ℕ) (links : List ℕ) (s : Station) : Type 0 where
+  pub in_cycle : s.posted ≡ cycle
+  pub not_behind : s.posted ≤ s.sent
+  pub with_table : s.sent ≤ s.given
+  pub not_ahead : s.given ≤ s.posted + 1
+  pub closed : s.given ≤ sealed
+  pub number : s.bridge.number ≡ bridge
+  pub received : s.bridge.received ≡ s.posted
+  pub follows : s.sent ≡ s.posted → FollowsTheNetwork run net s.bridge
+  pub has_sent : s.sent ≡ s.posted + 1 → HasSentOfTheNetwork run net s.bridge
+  pub starts : s.sent ≡ s.posted + 1 → s.starts.items ≡ flat_map starts_of_batch (batches_from run.domain net.carried bridge s.posted)
+  pub taken : s.taken.items ≡ map (batch_of run.domain net.carried s.posted) links
+  pub incoming : s.incoming ≡ length (links_into run.domain bridge)
+  pub agenda : IsAgendaOf run.domain run.offers run.background bridge s.agenda
+
+-- the batches of a link under way: the network's of so many cycles from one on
+abbrev pub under_way : Domain → Network → ℕ → ℕ → ℕ → List LinkBatch
+under_way d net link from count = each_below (λ k. batch_of d net.carried (from + k) link ∷ []) count
+
+-- a link that ends in a bridge which is in a cycle and has sent so many: the bridge has taken the batches of the cycles before its own,
+-- and of its own maybe; those that the bridge which the link leaves has sent, and that weren't taken, are under way
+pub record IsLine (d : Domain) (net : Network) (link cycle sent sent_from : ℕ) (x : Line) : Type 0 where
+  pub at_least : cycle ≤ x.taken
+  pub at_most : x.taken ≤ sent
+  pub not_more : x.taken ≤ sent_from
+  pub waiting : x.waiting.items ≡ under_way d net link x.taken (sent_from - x.taken)
+
+-- the counts of a station and of a line
+abbrev pub given_of : Station → ℕ
+given_of s = s.given
+
+abbrev pub sent_of : Station → ℕ
+sent_of s = s.sent
+
+abbrev pub taken_of : Line → ℕ
+taken_of x = x.taken
+
+-- a world that goes on
+pub record IsRunning (w : WorldState) (tables : List CycleTable) (stations : List Station) (lines : List Line) : Type 0 where
+  pub net : Network
+  pub compiled : IsCompiledNetwork (sealed_run w) (seals w.entries) net
+  pub within_run : seals w.entries ≤ w.cycles
+  pub all_tables : length tables ≡ seals w.entries
+  pub table : (cycle : ℕ) (x : CycleTable) → cycle < length tables →
+      ((slice_index_or tables cycle x).cycle ≡ cycle) × ((slice_index_or tables cycle x).rows ≡ table_at w.domain w.entries cycle)
+  pub all_stations : length stations ≡ length w.domain.bridges
+  pub given_are : w.given ≡ map given_of stations
+  pub sent_are : w.sent ≡ map sent_of stations
+  pub station : (bridge : ℕ) (s : Station) → bridge < length stations →
+      IsStation (sealed_run w) (seals w.entries) net bridge (cycle_of_bridge w bridge) (links_taken w bridge) (slice_index_or stations bridge s)
+  pub all_lines : length lines ≡ length w.domain.links
+  pub taken_are : w.taken ≡ map taken_of lines
+  pub line : (link bridge : ℕ) (x : Line) → enters w.domain link bridge ≡ true →
+      IsLine w.domain net link (cycle_of_bridge w bridge) (sent_by w bridge) (sent_by w (bridge_of w.domain link)) (slice_index_or lines link x)
+
+-- what a world keeps: its pages are those of the book, and, as long as no growth was refused, what it holds follows the network
+pub record IsWorld (w : WorldState) (tables : List CycleTable) (stations : List Station) (lines : List Line) : Type 0 where
+  pub given : IsGiven w
+  pub pages : ArePagesOfTheBook w
+  pub sealed : (bridge : ℕ) → cycle_of_bridge w bridge ≤ seals w.entries
+  pub running : w.stopped ≡ false → IsRunning w tables stations lines
+
+-- a cycle is closed: the Seal is entered, and the cycle's table goes behind the others
+pub record ClosesCycle (old new : Administration) (seat : ℕ) (before after : List CycleTable) : Type 0 where
+  pub domain : new.domain ≡ old.domain
+  pub entries : new.entries ≡ with_entry old.entries seat Seals Sealed
+  pub table : CycleTable
+  pub of_cycle : table.cycle ≡ seals old.entries
+  pub rows : table.rows ≡ table_at old.domain new.entries (seals old.entries)
+  pub behind : after ≡ before ++ table ∷ []
+
+-- the oldest batch under way on a link goes to the bridge, where it stands by number of link
+pub record Moves (line line_after : Line) (station station_after : Station) : Type 0 where
+  pub batch : LinkBatch
+  pub popped : line.waiting.items ≡ batch ∷ line_after.waiting.items
+  pub counted : line_after.taken ≡ line.taken + 1
+  pub same : station_after ≡ record station { taken = station_after.taken }
+  pub put : station_after.taken.items
+      ≡ insert station.taken.items (length (filter (λ (b : LinkBatch). nat_lt b.link batch.link) station.taken.items)) batch
+
+-- a bridge sends its cycle, with its background frames of the cycle, and keeps the starts of its batches' frames
+pub record SendsItsCycle (before after : Station) (batches : List LinkBatch) : Type 0 where
+  pub sends : SendsCycle before.bridge after.bridge before.posted (background_at before.agenda before.posted) [] batches
+  pub starts : after.starts.items ≡ flat_map starts_of_batch batches
+  pub same : after ≡ record before { bridge = after.bridge; starts = after.starts }
+
+-- batches come onto the links that end in bridges, each behind those that are under way
+pub record AreComing (d : Domain) (batches : List LinkBatch) (before after : List Line) : Type 0 where
+  pub as_many : length after ≡ length before
+  pub counts : map taken_of after ≡ map taken_of before
+  pub behind : (link bridge : ℕ) (x : Line) → enters d link bridge ≡ true →
+      (slice_index_or after link x).waiting.items
+      ≡ (slice_index_or before link x).waiting.items ++ filter (λ (b : LinkBatch). b.link == link) batches
+
+-- a bridge sends its cycle, and its batches come onto the links
+pub record SendsOut (d : Domain) (before after : Station) (lines lines_after : List Line) : Type 0 where
+  pub between : Station
+  pub batches : List LinkBatch
+  pub sends : SendsItsCycle before between batches
+  pub coming : AreComing d batches lines lines_after
+  pub counted : after ≡ record between { sent = before.posted + 1 }

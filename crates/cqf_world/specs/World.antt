@@ -1,0 +1,52 @@
+-- A core in which all that happens in a network under administration happens as single events, in any order (profile).
+use Rattle.std.specs.Prelude.{ℕ, ◌≡◌, List, Bool, Some, slice_index_or}
+use Rattle.cqf_model.specs.declared.frames.Background.{Background}
+use Rattle.cqf_model.specs.declared.frames.Offer.{Offer}
+use Rattle.cqf_model.specs.declared.frames.Page.{Page}
+use Rattle.cqf_model.specs.Book.{Contents, page_of}
+use Rattle.cqf_model.specs.Domain.{Domain}
+use Rattle.cqf_model.specs.History.{Recorded, seals}
+use Rattle.cqf_model.specs.HistoryBook.{IsBookOfHistory, run_of_history}
+use Rattle.cqf_model.specs.Run.{Run}
+use Rattle.cqf_book.specs.Pages.{Posted, page_at, page_count}
+
+-- what a world is to its callers: the domain, what is offered, and for how many cycles it runs; the history so far and the pages
+-- posted so far; how many tables each bridge was given and how many cycles it has sent, how many batches were taken from each link; and
+-- whether a growth was refused
+pub record WorldState : Type 0 where
+  pub domain : Domain
+  pub offers : List Offer
+  pub background : List Background
+  pub cycles : ℕ
+  pub entries : List Recorded
+  pub pages : Posted
+  pub given : List ℕ
+  pub sent : List ℕ
+  pub taken : List ℕ
+  pub stopped : Bool
+
+-- a bridge's cycle is the number of pages that it has posted
+abbrev pub cycle_of_bridge : WorldState → ℕ → ℕ
+cycle_of_bridge w bridge = page_count w.pages bridge
+
+abbrev pub given_to : WorldState → ℕ → ℕ
+given_to w bridge = slice_index_or w.given bridge 0
+
+abbrev pub sent_by : WorldState → ℕ → ℕ
+sent_by w bridge = slice_index_or w.sent bridge 0
+
+abbrev pub taken_from : WorldState → ℕ → ℕ
+taken_from w link = slice_index_or w.taken link 0
+
+-- the run of the cycles that are sealed so far
+abbrev pub sealed_run : WorldState → Run
+sealed_run w = run_of_history w.domain w.entries w.offers w.background (seals w.entries)
+
+-- a page as a book has it
+abbrev pub contents_of_page : Page → Contents
+contents_of_page page = record { starts = page.starts.items; background = page.background.items; drops = page.drops.items }
+
+-- each page that was posted is that page of the one-thread book of the history over the Seals made
+abbrev pub ArePagesOfTheBook : WorldState → Type 0
+ArePagesOfTheBook w = (bridge cycle : ℕ) (page : Page) (book : Contents) → page_at w.pages bridge cycle ≡ Some page →
+    IsBookOfHistory w.domain w.entries w.offers w.background (seals w.entries) book → contents_of_page page ≡ page_of w.domain bridge cycle book

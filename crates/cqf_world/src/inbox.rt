@@ -1,0 +1,75 @@
+//! The batches that a bridge has taken, and where a link ends.
+ghost use Rattle.std.specs.Prelude.{◌≡◌, ◌<◌, ◌≤◌, IfNone, IfSome, OnErr, OnOk, ℕ, false, filter, length, nat_lt, true};
+ghost use Rattle.std.specs.List.{insert};
+ghost use Rattle.cqf_model.specs.Domain.{enters};
+ghost use Rattle.cqf_bridge.specs.Batch.{LinkBatch};
+ghost use Rattle.cqf_world.specs.Parts.{Moves};
+
+use crate::parts::{Line, Station};
+use cqf_bridge::Batch;
+use cqf_model::Node;
+use cqf_topology::Domain;
+use cqf_units::Memory;
+
+/// The bridge in which a link ends, where the domain has the link and it does end in one.
+pub(crate) fn bridge_at_end(domain: &Domain, link: u8) -> Option<u8>
+    ensures some { IfSome result (λ bridge. (enters domain.now link bridge ≡ true) × (bridge < length domain.now.bridges)) }
+    ensures none { IfNone result ((bridge : ℕ) → enters domain.now link bridge ≡ false) }
+{
+    let _accepted = domain.cycle_time();
+    if link >= domain.links() {
+        return None;
+    }
+    match domain.link(link).to {
+        Node::Bridge(bridge) => Some(bridge),
+        Node::Station(_) => None,
+    }
+}
+
+/// How many of the batches are of links before one.
+fn place_of(taken: &[Batch], link: u8) -> usize
+    ensures value { result ≡ length (filter (λ (x : LinkBatch). nat_lt x.link link) taken.now) }
+    ensures within { result ≤ length taken.now }
+{
+    let mut place = 0;
+    for other in taken {
+        if other.link() < link {
+            place += 1;
+        }
+    }
+    place
+}
+
+/// Puts a batch among those that were taken, by number of link.
+pub(crate) fn put_in(taken: &mut Vec<Batch>, batch: Batch) -> Result<(), Memory>
+    ensures { OnOk result (taken.new.items
+        ≡ insert taken.old.items (length (filter (λ (x : LinkBatch). nat_lt x.link batch.link) taken.old.items)) batch) }
+{
+    let place = place_of(taken.as_slice(), batch.link());
+    taken.insert(place, batch)?;
+    Ok(())
+}
+
+/// Whether no batch is under way on a link.
+pub(crate) fn is_quiet(line: &Line) -> bool
+    ensures yes { result ≡ true → length line.now.waiting.items ≡ 0 }
+    ensures no { result ≡ false → 0 < length line.now.waiting.items }
+{
+    line.waiting.is_empty()
+}
+
+/// Moves the oldest batch under way on a link to the bridge in which it ends. There is one.
+pub(crate) fn move_batch(line: &mut Line, station: &mut Station) -> Result<(), Memory>
+    requires some { 0 < length line.old.waiting.items }
+    requires few { line.old.taken < 100000 }
+    ensures ok { OnOk result (Moves line.old line.new station.old station.new) }
+    ensures err_line { OnErr result (line.new.taken ≡ line.old.taken) }
+    ensures err_station { OnErr result (station.new ≡ record station.old { taken = station.new.taken }) }
+{
+    let Some(batch) = line.waiting.pop_front() else {
+        unreachable!()
+    };
+    put_in(&mut station.taken, batch)?;
+    line.taken += 1;
+    Ok(())
+}
