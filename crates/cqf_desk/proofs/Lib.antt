@@ -1,0 +1,5 @@
+mod Alike
+mod Borne
+mod Calls
+mod Rests
+mod Steps
