@@ -1,8 +1,8 @@
 -- The entries behind an opening part, one by one.
-use Rattle.std.proofs.Common.{◌≡◌, ℕ, ◌+◌, ◌<◌, ◌≤◌, List, Option, Some, [], ◌∷◌, ◌++◌, map, length, take, drop, get_or, refl, ap, sym, ◌∙◌, arith}
-use Rattle.std.specs.Prelude.{slice_get, suc, zero, option_map}
-use Rattle.std.proofs.lemmas.List.{get_or_read, map-append, take_more}
-use Rattle.std.proofs.lemmas.Option.{slice_get-get_or, slice_get-map}
+use Rattle.std.proofs.Common.{◌≡◌, ℕ, ◌+◌, ◌<◌, List, Some, [], ◌∷◌, ◌++◌, map, length, take, drop, get_or, refl, ap, sym, ◌∙◌, arith}
+use Rattle.std.specs.Prelude.{slice_get, suc, zero}
+use Rattle.std.proofs.lemmas.List.{map-append, take_more}
+use Rattle.std.proofs.lemmas.Option.{same_Some, slice_get-get_or}
 
 -- what is read of a list stands there
 pub is_at : {X : Type 0} (xs : List X) (k : ℕ) (x : X) → k < length xs → x ≡ get_or xs k x → slice_get xs k ≡ Some x
@@ -45,3 +45,11 @@ pub take-map : {X Y : Type 0} (f : X → Y) (xs : List X) (k : ℕ) → take k (
 take-map f xs zero = refl
 take-map f [] (suc k) = refl
 take-map f (x ∷ xs) (suc k) = (λ i. f x ∷ take-map f xs k i)
+
+-- a list up to a place, what stands there, and what is behind
+pub parts_at : {X : Type 0} (xs : List X) (k : ℕ) (x : X) → slice_get xs k ≡ Some x → (more : List X) × (xs ≡ take k xs ++ x ∷ more)
+parts_at [] k x h = absurd cc
+parts_at (y ∷ xs) zero x h = (xs, λ i. same_Some y x h i ∷ xs)
+parts_at (y ∷ xs) (suc k) x h =
+    let parts = parts_at xs k x h in
+    (parts.0, λ i. y ∷ parts.1 i)

@@ -1,23 +1,27 @@
 -- Calls made once more, one by one.
-use Rattle.std.proofs.Common.{◌≡◌, ℕ, ◌+◌, ◌-◌, ◌<◌, ◌≤◌, ◌==◌, ◌&&◌, Bool, List, Option, Some, [], ◌∷◌, ◌++◌, true, false, map, length, take, drop, get_or, refl, ap, sym, ◌∙◌, arith, length-append, subst, add-one, if◌then◌else◌}
+use Rattle.std.proofs.Common.{◌≡◌, ℕ, ◌+◌, ◌-◌, ◌<◌, ◌≤◌, ◌==◌, Bool, List, Option, Some, [], ◌∷◌, ◌++◌, true, false, map, length, take, get_or, refl, ap, sym, ◌∙◌, arith, length-append, subst, add-one, if◌then◌else◌}
 use Rattle.std.specs.Prelude.{IfSome, slice_get, option_map, suc, zero}
 use Rattle.std.specs.List.{list_any}
 use Rattle.std.specs.Option.{option_map_or}
-use Rattle.std.proofs.lemmas.Bool.{and_from, eq-eqb, ne_eqb}
+use Rattle.std.proofs.lemmas.Bool.{and_parts}
 use Rattle.std.proofs.lemmas.List.{append-nil, append_assoc, length-map, take_all, take_more}
 use Rattle.std.proofs.lemmas.Option.{get_or_from_slice_get, slice_get-map, slice_get_within}
 use Rattle.cqf_lists.specs.Lists.{each_below}
-use Rattle.cqf_lists.proofs.Any.{list_any-map, none_member}
+use Rattle.cqf_lists.proofs.Any.{none_member}
 use Rattle.cqf_lists.proofs.EachBelow.{none_below}
 use Rattle.cqf_lists.proofs.Members.{contains_at}
 use Rattle.cqf_model.specs.Domain.{Domain}
-use Rattle.cqf_model.specs.History.{IsLegalHistory, Recorded, held_in, is_seal, seals}
+use Rattle.cqf_model.specs.History.{IsLegalHistory, Recorded, held_in, is_seal, seals, table_at}
 use Rattle.cqf_admission.specs.declared.entries.Entry.{Entry}
 use Rattle.cqf_admission.specs.Admission.{Administration, recorded_of}
 use Rattle.cqf_admission.specs.Tables.{CycleTable}
 use Rattle.cqf_desk.specs.Again.{GoesOn, MovesOn, StepsTo, next_table}
 use Rattle.cqf_desk.specs.Closing.{closed_by, is_seal_by, table_closed, tables_by}
-use Rattle.cqf_desk.proofs.Rests.{before, behind, is_at, one_more, take-map}
+use Rattle.cqf_model.specs.declared.history.Reply.TheVariants.{Sealed}
+use Rattle.cqf_laws_definitions.specs.TableLaws.{ClosedTablesStay}
+use Rattle.cqf_laws_history.specs.StateLaws.{SealClosesTable, SealsAreCounted}
+use Rattle.cqf_desk.proofs.ClosedTables.{table_there}
+use Rattle.cqf_desk.proofs.Rests.{parts_at, before, behind, is_at, one_more, take-map}
 
 -- an administration has gone on with the first of these calls
 pub record HasGoneOn (start again : Administration) (rest : List Entry) (k : ℕ) : Type 0 where
@@ -97,16 +101,22 @@ closes_nothing start again new rest number tables next k e has inside is goes no
     }
 
 -- a Seal of the seat
-pub closes_its_table : (start again new : Administration) (rest : List Entry) (number : ℕ) (tables : List CycleTable) (next k : ℕ) (e : Entry) (table : CycleTable) →
+pub closes_its_table : ClosedTablesStay → SealsAreCounted → SealClosesTable → (start again new : Administration) (rest : List Entry) (number : ℕ) (tables : List CycleTable) (next k : ℕ) (e : Entry) (table : CycleTable) →
     HasClosed start again rest number tables next k → k < length rest → e ≡ get_or rest k e → GoesOn again new (recorded_of e) →
-    is_seal_by number (recorded_of e) ≡ true → next < length tables → table ≡ get_or tables next table → table ≡ next_table again →
+    is_seal_by number (recorded_of e) ≡ true → e.reply ≡ Sealed → next < length tables → table ≡ get_or tables next table → table ≡ next_table again →
     HasClosed start new rest number tables (next + 1) (k + 1)
-closes_its_table start again new rest number tables next k e table has inside is goes its there own next_is =
+closes_its_table stay counted closing start again new rest number tables next k e table has inside is goes its sealed there own next_is =
     let all = start.entries ++ map recorded_of rest in
     let so_far : take (length start.entries + k) all ≡ again.entries =
     before start.entries (map recorded_of rest) k ∙ ap (λ xs. start.entries ++ xs) (take-map recorded_of rest k) ∙ sym has.gone.entries in
+    let parts = parts_at all (length start.entries + k) (recorded_of e) (stands start.entries rest k e inside is) in
+    let front = take (length start.entries + k) all in
+    let its_rows : table_at start.domain all (seals front) ≡ held_in start.domain front (seals front) =
+    ap (λ (es : List Recorded). table_at start.domain es (seals front)) parts.1
+    ∙ table_there stay counted closing start.domain front parts.0 (recorded_of e) (and_parts (e.seat == number) (is_seal (recorded_of e).act) its).1 sealed in
     let the_table : table_closed start.domain all (length start.entries + k) ≡ table =
-    ap (λ (es : List Recorded). next_table (record { domain = start.domain; entries = es })) so_far
+    (λ i. record { cycle = seals front; rows = its_rows i })
+    ∙ ap (λ (es : List Recorded). next_table (record { domain = start.domain; entries = es })) so_far
     ∙ ap (λ (d : Domain). next_table (record { domain = d; entries = again.entries })) (sym has.gone.domain) ∙ sym next_is in
     let one_table : closed_by start.domain all number (length start.entries + k) ≡ table ∷ [] =
     closes start.domain all number (length start.entries + k) (recorded_of e) true (stands start.entries rest k e inside is) its
@@ -121,10 +131,10 @@ closes_its_table start again new rest number tables next k e table has inside is
     }
 
 -- one step
-pub steps_on : (start again new : Administration) (rest : List Entry) (number : ℕ) (tables : List CycleTable) (next after k : ℕ) (e : Entry) →
+pub steps_on : ClosedTablesStay → SealsAreCounted → SealClosesTable → (start again new : Administration) (rest : List Entry) (number : ℕ) (tables : List CycleTable) (next after k : ℕ) (e : Entry) →
     HasClosed start again rest number tables next k → k < length rest → e ≡ get_or rest k e → StepsTo again new (recorded_of e) number tables next after →
     HasClosed start new rest number tables after (k + 1)
-steps_on start again new rest number tables next after k e has inside is steps = by_seal (is_seal_by number (recorded_of e)) refl steps.moves
+steps_on stay counted closing start again new rest number tables next after k e has inside is steps = by_seal (is_seal_by number (recorded_of e)) refl steps.moves
   where
     -- whether or not it is a Seal of the seat
     by_seal : (b : Bool) → is_seal_by number (recorded_of e) ≡ b → MovesOn b tables next after (next_table again) → HasClosed start new rest number tables after (k + 1)
@@ -132,7 +142,8 @@ steps_on start again new rest number tables next after k e has inside is steps =
         let there = slice_get_within tables next (next_table again) moves.0 in
         let own : next_table again ≡ get_or tables next (next_table again) = sym (get_or_from_slice_get tables next (next_table again) (next_table again) moves.0) in
         subst (λ n. HasClosed start new rest number tables n (k + 1)) (sym moves.1)
-        (closes_its_table start again new rest number tables next k e (next_table again) has inside is steps.goes its there own refl)
+        (closes_its_table stay counted closing start again new rest number tables next k e (next_table again) has inside is steps.goes its
+        (steps.sealed (and_parts (e.seat == number) (is_seal (recorded_of e).act) its).1) there own refl)
     by_seal false none moves =
         subst (λ n. HasClosed start new rest number tables n (k + 1)) (sym moves) (closes_nothing start again new rest number tables next k e has inside is steps.goes none)
 

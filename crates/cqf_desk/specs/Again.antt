@@ -31,14 +31,14 @@ pub record GoesOn (old new : Administration) (e : Recorded) : Type 0 where
   pub domain : new.domain ≡ old.domain
   pub entries : new.entries ≡ old.entries ++ e ∷ []
 
--- the table that the next Seal closes
+-- the table that the next Seal closes: the streams that are held in the next cycle
 abbrev pub next_table : Administration → CycleTable
 next_table a = record { cycle = seals a.entries; rows = held_of a }
 
 -- what a call comes to: where it is answered as it was, the administration goes on with it
 abbrev pub ComesTo : Administration → Administration → Recorded → Made → Type 0
 ComesTo old new e made.Answered = GoesOn old new e × (is_seal e.act ≡ false)
-ComesTo old new e (made.Closed table) = GoesOn old new e × (is_seal e.act ≡ true) × (table ≡ next_table old)
+ComesTo old new e (made.Closed table) = GoesOn old new e × (is_seal e.act ≡ true) × (e.reply ≡ Sealed) × (table ≡ next_table old)
 ComesTo old new e made.Otherwise = Unit {0}
 ComesTo old new e made.Memory = Unit {0}
 
@@ -50,4 +50,5 @@ MovesOn false tables next after table = after ≡ next
 -- a call that is made once more, and what it closes for the seat
 pub record StepsTo (old new : Administration) (e : Recorded) (number : ℕ) (tables : List CycleTable) (next after : ℕ) : Type 0 where
   pub goes : GoesOn old new e
+  pub sealed : is_seal e.act ≡ true → e.reply ≡ Sealed
   pub moves : MovesOn (is_seal_by number e) tables next after (next_table old)

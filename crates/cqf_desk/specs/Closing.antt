@@ -4,7 +4,7 @@ use Rattle.std.specs.List.{list_any}
 use Rattle.std.specs.Option.{option_map_or}
 use Rattle.cqf_lists.specs.Lists.{each_below}
 use Rattle.cqf_model.specs.Domain.{Domain}
-use Rattle.cqf_model.specs.History.{IsLegalHistory, Recorded, held_in, is_seal, seals}
+use Rattle.cqf_model.specs.History.{IsLegalHistory, Recorded, is_seal, seals, table_at}
 use Rattle.cqf_admission.specs.declared.entries.Entry.{Entry}
 use Rattle.cqf_admission.specs.Admission.{Administration, recorded_of}
 use Rattle.cqf_admission.specs.Tables.{CycleTable}
@@ -21,10 +21,10 @@ calls_by number entries = filter (λ (e : Recorded). e.seat == number) entries
 abbrev pub is_seal_by : ℕ → Recorded → Bool
 is_seal_by number e = (e.seat == number) && is_seal e.act
 
--- the table that a Seal at a place closes: that of the next cycle, with the streams that the entries before hold in it
+-- the table of the cycle that a Seal at a place closes
 abbrev pub table_closed : Domain → List Recorded → ℕ → CycleTable
 table_closed d entries place =
-    record { cycle = seals (take place entries); rows = held_in d (take place entries) (seals (take place entries)) }
+    record { cycle = seals (take place entries); rows = table_at d entries (seals (take place entries)) }
 
 -- the table that one seat closes at a place, where it does
 abbrev pub closed_by : Domain → List Recorded → ℕ → ℕ → List CycleTable

@@ -8,6 +8,8 @@ ghost use Rattle.cqf_desk.specs.Closing.{tables_by};
 use crate::same::is_same_table;
 use crate::seats::{enters, reply_of};
 use cqf_admission::{Admission, Call, Entry, Receipt, Refused, Reply, SealFault, Table};
+use cqf_laws_definitions::closed_tables_stay;
+use cqf_laws_history::state_follows_history;
 use cqf_units::Memory;
 use std::alloc::AllocError;
 
@@ -134,6 +136,8 @@ pub(crate) fn has_tables(
     ensures { IfOk result (λ same. same ≡ true →
         tables.now ≡ tables_by again.old.domain (again.old.entries ++ map recorded_of rest.now) (length again.old.entries) number) }
 {
+    closed_tables_stay();
+    state_follows_history();
     let mut next = 0;
     for entry in rest {
         match step(again, entry, number, tables, next) {

@@ -1,4 +1,4 @@
-use Rattle.std.proofs.Common.{sym, ◌∙◌, arith, refl}
+use Rattle.std.proofs.Common.{arith, refl}
 use Rattle.cqf_desk.proofs.Borne.{none_there}
 use Rattle.cqf_desk.proofs.closing.are_its_seats.Goals as goal
 
