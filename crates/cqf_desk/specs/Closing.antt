@@ -1,5 +1,6 @@
 -- What a closed desk's history is to its seats (profile).
-use Rattle.std.specs.Prelude.{ℕ, Bool, ◌≡◌, ◌+◌, ◌-◌, ◌<◌, ◌++◌, List, [], ◌∷◌, ◌==◌, ◌&&◌, if◌then◌else◌, true, All, drop, filter, length, map, slice_get, take, Result, Ok, Err}
+use Rattle.std.specs.Prelude.{ℕ, Bool, ◌≡◌, ◌+◌, ◌-◌, ◌<◌, ◌++◌, List, [], ◌∷◌, ◌==◌, ◌&&◌, if◌then◌else◌, true, Result, Ok, Err}
+use Rattle.std.specs.Prelude.{All, drop, filter, length, map, slice_get, take}
 use Rattle.std.specs.List.{list_any}
 use Rattle.std.specs.Option.{option_map_or}
 use Rattle.cqf_lists.specs.Lists.{each_below}
