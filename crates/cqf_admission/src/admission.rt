@@ -77,6 +77,14 @@ impl Admission {
         self.history.as_slice()
     }
 
+    /// All entries, in order, of an admission that is over. It takes no memory.
+    pub fn into_history(self) -> Vec<Entry>
+        ensures entries { map recorded_of result.items ≡ self.entries }
+        ensures legal { IsLegalHistory self.domain self.entries }
+    {
+        self.history
+    }
+
     /// The next cycle to be closed to changes: the number of Seals so far. A call has its effect from this cycle on.
     pub fn next_cycle(&self) -> Cycle
         ensures { result.0 ≡ seals self.now.entries }

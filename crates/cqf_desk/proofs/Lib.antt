@@ -1,0 +1,6 @@
+mod Alike
+mod Borne
+mod Calls
+mod ClosedTables
+mod Rests
+mod Steps

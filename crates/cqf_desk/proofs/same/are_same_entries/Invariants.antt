@@ -1,0 +1,7 @@
+-- The entries so far are the same.
+use Rattle.std.proofs.Common.{◌≡◌, map, take}
+use Rattle.cqf_admission.specs.Admission.{recorded_of}
+use Rattle.cqf_desk.proofs.same.are_same_entries.Given as goal
+
+abbrev pub invariant-loop-place : goal.invariant-loop-place
+invariant-loop-place l = map recorded_of (take l.place l.these) ≡ map recorded_of (take l.place l.those)

@@ -1,0 +1,72 @@
+-- What a closed desk's history is to its seats (profile).
+use Rattle.std.specs.Prelude.{ℕ, Bool, ◌≡◌, ◌+◌, ◌-◌, ◌<◌, ◌++◌, List, [], ◌∷◌, ◌==◌, ◌&&◌, if◌then◌else◌, true, Result, Ok, Err}
+use Rattle.std.specs.Prelude.{All, drop, filter, length, map, slice_get, take}
+use Rattle.std.specs.List.{list_any}
+use Rattle.std.specs.Option.{option_map_or}
+use Rattle.cqf_lists.specs.Lists.{each_below}
+use Rattle.cqf_model.specs.Domain.{Domain}
+use Rattle.cqf_model.specs.History.{IsLegalHistory, Recorded, is_seal, seals, table_at}
+use Rattle.cqf_admission.specs.declared.entries.Entry.{Entry}
+use Rattle.cqf_admission.specs.Admission.{Administration, recorded_of}
+use Rattle.cqf_admission.specs.Tables.{CycleTable}
+use Rattle.cqf_desk.specs.declared.faults.CloseFault.{CloseFault}
+use Rattle.cqf_desk.specs.declared.faults.CloseFault.TheVariants.{SeatMissing, SeatsDisagree, Memory}
+use Rattle.cqf_desk.specs.declared.history.History.{History}
+use Rattle.cqf_desk.specs.Desk.{Counter, Sitting}
+
+-- the calls of one seat, in order, with their answers
+abbrev pub calls_by : ℕ → List Recorded → List Recorded
+calls_by number entries = filter (λ (e : Recorded). e.seat == number) entries
+
+-- whether an entry is a Seal of one seat
+abbrev pub is_seal_by : ℕ → Recorded → Bool
+is_seal_by number e = (e.seat == number) && is_seal e.act
+
+-- the table of the cycle that a Seal at a place closes
+abbrev pub table_closed : Domain → List Recorded → ℕ → CycleTable
+table_closed d entries place =
+    record { cycle = seals (take place entries); rows = table_at d entries (seals (take place entries)) }
+
+-- the table that one seat closes at a place, where it does
+abbrev pub closed_by : Domain → List Recorded → ℕ → ℕ → List CycleTable
+closed_by d entries number place =
+    option_map_or (λ (e : Recorded). if is_seal_by number e then table_closed d entries place ∷ [] else []) (slice_get entries place) []
+
+-- the tables that one seat's Seals close behind so many entries, in order
+abbrev pub tables_by : Domain → List Recorded → ℕ → ℕ → List CycleTable
+tables_by d entries first number = each_below (λ i. closed_by d entries number (first + i)) (length entries - first)
+
+-- the seat has just its calls of the history behind so many entries, and the tables of its Seals there
+pub record IsBorneOut (d : Domain) (entries : List Recorded) (first : ℕ) (seat : Sitting) : Type 0 where
+  pub calls : seat.calls ≡ calls_by seat.number (drop first entries)
+  pub tables : seat.tables ≡ tables_by d entries first seat.number
+
+-- as many seats as the desk has, and one of each number
+pub record AreItsSeats (count : ℕ) (seats : List Sitting) : Type 0 where
+  pub many : length seats ≡ count
+  pub each : (number : ℕ) → number < count → list_any (λ (s : Sitting). s.number == number) seats ≡ true
+
+-- a history with the opening part, behind which the seats' calls go on legally, and no others
+pub record IsOfSeats (opening : List Recorded) (d : Domain) (count : ℕ) (seats : List Sitting) (entries : List Recorded) : Type 0 where
+  pub legal : IsLegalHistory d entries
+  pub begins : take (length opening) entries ≡ opening
+  pub known : All (λ (e : Recorded). e.seat < count) (drop (length opening) entries)
+  pub own : All (IsBorneOut d entries (length opening)) seats
+
+-- its parts: the opening part comes first, and the rest goes on legally by calls of so many seats
+pub record GoesOnBySeats (opening : Administration) (count : ℕ) (first rest : List Entry) : Type 0 where
+  pub begins : map recorded_of first ≡ opening.entries
+  pub known : All (λ (e : Entry). e.seat < count) rest
+  pub legal : IsLegalHistory opening.domain (opening.entries ++ map recorded_of rest)
+
+-- what a comparison comes to
+abbrev pub Settles : Administration → ℕ → List Recorded → List Sitting → Result (Unit {0}) CloseFault → Type 0
+Settles opening count entries seats (Ok done) = IsOfSeats opening.entries opening.domain count seats entries
+Settles opening count entries seats (Err SeatMissing) = ⊥
+Settles opening count entries seats (Err (SeatsDisagree seat)) = Unit {0}
+Settles opening count entries seats (Err Memory) = Unit {0}
+
+-- what a desk is closed with
+pub record IsClosed (desk : Counter) (seats : List Sitting) (history : History) : Type 0 where
+  pub opening : history.opening ≡ length desk.opening.entries
+  pub entries : IsOfSeats desk.opening.entries desk.opening.domain desk.seats seats (map recorded_of history.entries.items)

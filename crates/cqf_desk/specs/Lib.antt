@@ -1,0 +1,4 @@
+pub mod Again
+pub mod Closing
+pub mod Desk
+pub mod Faults

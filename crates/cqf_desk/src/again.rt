@@ -1,0 +1,150 @@
+//! A history's calls, made once more.
+ghost use Rattle.std.specs.Prelude.{◌≡◌, ◌++◌, true, Some, length, map, slice_get, IfOk, IfSome};
+ghost use Rattle.cqf_model.specs.History.{IsLegalHistory};
+ghost use Rattle.cqf_admission.specs.Admission.{recorded_of};
+ghost use Rattle.cqf_desk.specs.Again.{ComesTo, IsAnsweredSo, IsClosedSo, StepsTo};
+ghost use Rattle.cqf_desk.specs.Closing.{tables_by};
+
+use crate::same::is_same_table;
+use crate::seats::{enters, reply_of};
+use cqf_admission::{Admission, Call, Entry, Receipt, Refused, Reply, SealFault, Table};
+use cqf_laws_definitions::closed_tables_stay;
+use cqf_laws_history::state_follows_history;
+use cqf_units::Memory;
+use std::alloc::AllocError;
+
+/// What a call comes to that is made once more.
+#[derive(Drop)]
+pub(crate) enum Made {
+    /// It enters with the same answer.
+    Answered,
+    /// It is a Seal, and closes this table.
+    Closed(Table),
+    /// Its answer is another.
+    Otherwise,
+    /// A growth was refused.
+    Memory,
+}
+
+/// What a request or a withdrawal comes to with this answer, where it got that reply.
+fn answered(answer: Result<Receipt, Refused>, reply: Reply) -> Made
+    ensures { IsAnsweredSo answer reply result }
+{
+    if answer == Err(Refused::Memory) {
+        return Made::Memory;
+    }
+    if !enters(&answer) {
+        return Made::Otherwise;
+    }
+    if reply_of(answer) != reply {
+        return Made::Otherwise;
+    }
+    Made::Answered
+}
+
+/// What a Seal comes to with this answer, where it got that reply.
+fn closed(answer: Result<Table, SealFault>, reply: Reply) -> Made
+    ensures { IsClosedSo answer reply result }
+{
+    if reply != Reply::Sealed {
+        return Made::Otherwise;
+    }
+    match answer {
+        Ok(table) => Made::Closed(table),
+        Err(SealFault::CyclesSpent) => Made::Otherwise,
+        Err(SealFault::Memory) => Made::Memory,
+    }
+}
+
+/// Makes a call once more.
+fn make(admission: &mut Admission, entry: &Entry) -> Made
+    ensures { ComesTo admission.old admission.new (recorded_of entry.now) result }
+{
+    match &entry.call {
+        Call::Admit(request) => answered(admission.admit(entry.seat, request), entry.reply),
+        Call::Withdraw(name) => answered(
+            admission.withdraw(entry.seat, name.as_str()),
+            entry.reply,
+        ),
+        Call::Seal => closed(admission.seal(entry.seat), entry.reply),
+    }
+}
+
+/// Whether an admission goes on with these calls, each with the answer that it got.
+pub(crate) fn goes_on(again: &mut Admission, rest: &[Entry]) -> Result<bool, Memory>
+    ensures { IfOk result (λ same. same ≡ true → IsLegalHistory again.old.domain (again.old.entries ++ map recorded_of rest.now)) }
+{
+    for entry in rest {
+        match make(again, entry) {
+            Made::Answered => {}
+            Made::Closed(_table) => {}
+            Made::Otherwise => return Ok(false),
+            Made::Memory => return Err(AllocError),
+        }
+    }
+    let _legal = again.history();
+    Ok(true)
+}
+
+/// Whether the table at a place is this one.
+fn is_at(tables: &[Table], place: usize, table: &Table) -> bool
+    ensures { result ≡ true → slice_get tables.now place ≡ Some table.now }
+{
+    match tables.get(place) {
+        Some(kept) => is_same_table(kept, table),
+        None => false,
+    }
+}
+
+/// Makes a call once more, and looks for the table that the seat closes by it among the seat's tables, from a place on:
+/// the place where the next one stands. None where an answer or the table is another.
+fn step(
+    again: &mut Admission,
+    entry: &Entry,
+    number: u16,
+    tables: &[Table],
+    next: usize,
+) -> Result<Option<usize>, Memory>
+    ensures { IfOk result (λ after. IfSome after (StepsTo again.old again.new (recorded_of entry.now) number tables.now next)) }
+{
+    match make(again, entry) {
+        Made::Answered => Ok(Some(next)),
+        Made::Closed(table) => {
+            if entry.seat != number {
+                return Ok(Some(next));
+            }
+            if next >= tables.len() {
+                return Ok(None);
+            }
+            if !is_at(tables, next, &table) {
+                return Ok(None);
+            }
+            Ok(Some(next + 1))
+        }
+        Made::Otherwise => Ok(None),
+        Made::Memory => Err(AllocError),
+    }
+}
+
+/// Whether these are the tables that a seat's Seals close as an admission goes on with these calls.
+pub(crate) fn has_tables(
+    again: &mut Admission,
+    rest: &[Entry],
+    number: u16,
+    tables: &[Table],
+) -> Result<bool, Memory>
+    ensures { IfOk result (λ same. same ≡ true →
+        tables.now ≡ tables_by again.old.domain (again.old.entries ++ map recorded_of rest.now) (length again.old.entries) number) }
+{
+    closed_tables_stay();
+    state_follows_history();
+    let mut next = 0;
+    for entry in rest {
+        match step(again, entry, number, tables, next) {
+            Ok(Some(after)) => next = after,
+            Ok(None) => return Ok(false),
+            Err(fault) => return Err(fault),
+        }
+    }
+    Ok(next == tables.len())
+}

@@ -1,0 +1,232 @@
+//! The comparisons by which a desk is closed.
+ghost use Rattle.std.specs.Prelude.{◌≡◌, ◌↔◌, ◌++◌, ◌==◌, ◌<◌, true, false, None, length, map, min, All, IfOk, IsErrOf};
+ghost use Rattle.std.specs.List.{list_any};
+ghost use Rattle.std.specs.Option.{option_map_or};
+ghost use Rattle.cqf_model.specs.History.{IsLegalHistory};
+ghost use Rattle.cqf_admission.specs.Admission.{recorded_of};
+ghost use Rattle.cqf_desk.specs.Closing.{AreItsSeats, GoesOnBySeats, IsBorneOut, IsClosed, Settles, calls_by, is_seal_by, tables_by};
+
+use crate::again::{goes_on, has_tables};
+use crate::faults::CloseFault;
+use crate::history::History;
+use crate::same::{are_same_entries, is_same_entry};
+use crate::seats::Seat;
+use cqf_admission::{Admission, Call, Entry, Table};
+use cqf_units::Memory;
+use std::alloc::Global;
+
+/// Whether one of the seats has the number.
+fn is_there(seats: &[Seat], number: u16) -> bool
+    ensures { result ≡ list_any (λ s. s.number == number) seats.now }
+{
+    seats.iter().any(|seat| seat.number() == number)
+}
+
+/// Whether these are the seats of a desk that has so many: as many, and one of each number.
+pub(crate) fn are_its_seats(count: u16, seats: &[Seat]) -> bool
+    ensures { (result ≡ true) ↔ AreItsSeats count seats.now }
+{
+    if seats.len() != usize::from(count) {
+        return false;
+    }
+    for number in 0..count {
+        if !is_there(seats, number) {
+            return false;
+        }
+    }
+    true
+}
+
+/// Whether each of the calls is of one of so many seats.
+fn are_known(rest: &[Entry], count: u16) -> bool
+    ensures { result ≡ true → All (λ e. e.seat < count) rest.now }
+{
+    rest.iter().all(|entry| entry.seat < count)
+}
+
+/// Whether an entry is a Seal of the seat.
+fn is_seal_of(entry: &Entry, number: u16) -> bool
+    ensures { result ≡ is_seal_by number (recorded_of entry.now) }
+{
+    entry.seat == number && matches!(entry.call, Call::Seal)
+}
+
+/// Whether one of the calls is a Seal of the seat.
+fn has_seal(rest: &[Entry], number: u16) -> bool
+    ensures { result ≡ list_any (λ e. is_seal_by number (recorded_of e)) rest.now }
+{
+    rest.iter().any(|entry| is_seal_of(entry, number))
+}
+
+/// Whether these are the calls of the seat among all calls.
+fn has_calls(calls: &[Entry], rest: &[Entry], number: u16) -> bool
+    ensures { result ≡ true → map recorded_of calls.now ≡ calls_by number (map recorded_of rest.now) }
+{
+    let mut next = 0;
+    for entry in rest {
+        if entry.seat == number {
+            if next >= calls.len() {
+                return false;
+            }
+            if !is_same_entry(&calls[next], entry) {
+                return false;
+            }
+            next += 1;
+        }
+    }
+    next == calls.len()
+}
+
+/// Whether these are the tables that a seat's Seals close behind an opening part.
+fn closes_tables(
+    alloc: Global,
+    opening: &Admission,
+    rest: &[Entry],
+    number: u16,
+    tables: &[Table],
+) -> Result<bool, Memory>
+    ensures { IfOk result (λ so. so ≡ true →
+        tables.now ≡ tables_by opening.now.domain (opening.now.entries ++ map recorded_of rest.now) (length opening.now.entries) number) }
+{
+    let mut again = opening.try_copy(alloc)?;
+    has_tables(&mut again, rest, number, tables)
+}
+
+/// Whether the seat's tables are those that its Seals close. Only for a seat that has sealed the calls are made once more.
+fn has_its_tables(
+    alloc: Global,
+    opening: &Admission,
+    rest: &[Entry],
+    seat: &Seat,
+) -> Result<bool, Memory>
+    ensures { IfOk result (λ so. so ≡ true →
+        seat.now.tables ≡ tables_by opening.now.domain (opening.now.entries ++ map recorded_of rest.now) (length opening.now.entries) seat.now.number) }
+{
+    let tables = seat.tables();
+    let number = seat.number();
+    if tables.len() == 0 && !has_seal(rest, number) {
+        return Ok(true);
+    }
+    closes_tables(alloc, opening, rest, number, tables)
+}
+
+/// Whether the seat's calls and tables are those of the history that has these calls behind its opening part.
+fn bears_out(
+    alloc: Global,
+    opening: &Admission,
+    rest: &[Entry],
+    seat: &Seat,
+) -> Result<bool, Memory>
+    ensures { IfOk result (λ so. so ≡ true →
+        IsBorneOut opening.now.domain (opening.now.entries ++ map recorded_of rest.now) (length opening.now.entries) seat.now) }
+{
+    if !has_calls(seat.calls(), rest, seat.number()) {
+        return Ok(false);
+    }
+    has_its_tables(alloc, opening, rest, seat)
+}
+
+/// The least number of a seat that isn't borne out, where there is one.
+fn first_against(
+    alloc: Global,
+    opening: &Admission,
+    rest: &[Entry],
+    seats: &[Seat],
+) -> Result<Option<u16>, Memory>
+    ensures { IfOk result (λ least. least ≡ None →
+        All (IsBorneOut opening.now.domain (opening.now.entries ++ map recorded_of rest.now) (length opening.now.entries)) seats.now) }
+{
+    let mut least = None;
+    for seat in seats {
+        match bears_out(alloc, opening, rest, seat) {
+            Ok(true) => {}
+            Ok(false) => least = Some(lesser(least, seat.number())),
+            Err(fault) => return Err(fault),
+        }
+    }
+    Ok(least)
+}
+
+/// The lesser of two numbers, of which one may be missing.
+fn lesser(least: Option<u16>, number: u16) -> u16
+    ensures { result ≡ option_map_or (λ n. min n number) least number }
+{
+    match least {
+        Some(before) => before.min(number),
+        None => number,
+    }
+}
+
+/// Whether an admission goes on with these calls.
+fn is_legal_behind(alloc: Global, opening: &Admission, rest: &[Entry]) -> Result<bool, Memory>
+    ensures { IfOk result (λ legal. legal ≡ true → IsLegalHistory opening.now.domain (opening.now.entries ++ map recorded_of rest.now)) }
+{
+    let mut again = opening.try_copy(alloc)?;
+    goes_on(&mut again, rest)
+}
+
+/// Whether a history goes on legally from its opening part by calls of so many seats, and has that part.
+fn is_of_seats(
+    alloc: Global,
+    opening: &Admission,
+    count: u16,
+    first: &[Entry],
+    rest: &[Entry],
+) -> Result<bool, Memory>
+    ensures { IfOk result (λ so. so ≡ true → GoesOnBySeats opening.now count first.now rest.now) }
+{
+    if !are_same_entries(first, opening.history()) {
+        return Ok(false);
+    }
+    if !are_known(rest, count) {
+        return Ok(false);
+    }
+    is_legal_behind(alloc, opening, rest)
+}
+
+/// Compares a history with what the seats kept, the seats first.
+fn check(
+    alloc: Global,
+    opening: &Admission,
+    count: u16,
+    entries: &[Entry],
+    seats: &[Seat],
+) -> Result<(), CloseFault>
+    ensures { Settles opening.now count (map recorded_of entries.now) seats.now result }
+{
+    let before = opening.history().len();
+    if entries.len() < before {
+        return Err(CloseFault::SeatsDisagree(count));
+    }
+    let (first, rest) = entries.split_at(before);
+    match first_against(alloc, opening, rest, seats) {
+        Ok(None) => {}
+        Ok(Some(seat)) => return Err(CloseFault::SeatsDisagree(seat)),
+        Err(_) => return Err(CloseFault::Memory),
+    }
+    match is_of_seats(alloc, opening, count, first, rest) {
+        Ok(true) => Ok(()),
+        Ok(false) => Err(CloseFault::SeatsDisagree(count)),
+        Err(_) => Err(CloseFault::Memory),
+    }
+}
+
+/// The history of a desk with these seats, where it is what they kept.
+pub(crate) fn settle(
+    alloc: Global,
+    opening: &Admission,
+    count: u16,
+    entries: Vec<Entry>,
+    seats: &[Seat],
+) -> Result<History, CloseFault>
+    ensures missing { IsErrOf result CloseFault.SeatMissing → ⊥ }
+    ensures closed { IfOk result (λ history. IsClosed (record { opening = opening.now; seats = count }) seats.now history) }
+{
+    match check(alloc, opening, count, entries.as_slice(), seats) {
+        Ok(()) => Ok(History {
+            opening: opening.history().len(),
+            entries,
+        }),
+        Err(fault) => Err(fault),
+    }
+}

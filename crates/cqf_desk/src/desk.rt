@@ -1,0 +1,123 @@
+//! The desk.
+ghost use Rattle.std.specs.Prelude.{◌≡◌, ◌↔◌, IfOk, IsErrOf};
+ghost use Rattle.cqf_model.specs.History.{Admits, Withdraws};
+ghost use Rattle.cqf_admission.specs.Asking.{asked_of};
+ghost use Rattle.cqf_desk.specs.Closing.{AreItsSeats, IsClosed};
+ghost use Rattle.cqf_desk.specs.Desk.{Keeps, KeepsSeal, fresh_seats};
+
+use crate::closing::{are_its_seats, settle};
+use crate::faults::CloseFault;
+use crate::history::History;
+use crate::seats::Seat;
+use cqf_admission::{Admission, Receipt, Refused, SealFault};
+use cqf_topology::Request;
+use cqf_units::Memory;
+use std::alloc::Global;
+use std::marker::Model;
+use std::sync::{Mutex, Wait};
+
+/// An admission behind a lock, at which threads ask with seats of their own (profile).
+#[derive(Drop)]
+pub struct Desk {
+    alloc: Global,
+    /// The admission as it was handed in.
+    opening: Admission,
+    seats: u16,
+    admission: Mutex<Admission>,
+}
+
+impl Model for Desk {
+    ghost use Rattle.cqf_desk.specs.Desk.{Counter};
+
+    ghost Value = { Counter };
+
+    ghost view = { λ d. record { opening = d.opening; seats = d.seats } };
+}
+
+impl Desk {
+    /// A desk over an admission, and its seats, numbered from 0: 1 to 16 of them (profile). What the admission's history
+    /// has already is the opening part. It waits for nobody.
+    pub fn new(alloc: Global, admission: Admission, seats: u16) -> Result<(Desk, Vec<Seat>), Memory>
+        ensures desk { IfOk result (λ made. made.0 ≡ record { opening = admission; seats = seats }) }
+        ensures seats { IfOk result (λ made. made.1.items ≡ fresh_seats seats) }
+    {
+        let numbered = new_seats(alloc, seats)?;
+        let desk = Desk {
+            alloc,
+            opening: admission.try_copy(alloc)?,
+            seats,
+            admission: Mutex::new(admission),
+        };
+        Ok((desk, numbered))
+    }
+
+    /// Asks for a stream. The answer is that of [`Admission::admit`] behind the calls that were made before, and the seat
+    /// keeps the call with that very answer. With `HistoryFull` and `Memory` neither the history nor the seat changes;
+    /// `Memory` may come where `HistoryFull` is due too. It waits for the lock alone.
+    pub fn admit<R: Wait>(
+        &self,
+        rt: &R,
+        seat: &mut Seat,
+        request: &Request,
+    ) -> Result<Receipt, Refused>
+        ensures { Keeps seat.old seat.new (Admits (asked_of request.now)) result }
+    {
+        let Ok(asked) = request.try_copy(self.alloc) else {
+            return Err(Refused::Memory);
+        };
+        seat.admit(&mut self.admission.lock(rt), asked, request)
+    }
+
+    /// Withdraws the stream of a name, likewise by [`Admission::withdraw`].
+    pub fn withdraw<R: Wait>(&self, rt: &R, seat: &mut Seat, name: &str) -> Result<Receipt, Refused>
+        ensures { Keeps seat.old seat.new (Withdraws name.now) result }
+    {
+        let Ok(asked) = String::from_str(self.alloc, name) else {
+            return Err(Refused::Memory);
+        };
+        seat.withdraw(&mut self.admission.lock(rt), asked, name)
+    }
+
+    /// Closes the next cycle to changes, by [`Admission::seal`]. The seat keeps the Seal and the cycle's table. With
+    /// `CyclesSpent` and `Memory` neither the history nor the seat changes. It waits for the lock alone.
+    pub fn seal<R: Wait>(&self, rt: &R, seat: &mut Seat) -> Result<(), SealFault>
+        ensures { KeepsSeal seat.old seat.new result }
+    {
+        seat.seal(&mut self.admission.lock(rt))
+    }
+
+    /// The history of all calls, once all seats are handed back. It is legal and begins with the opening part; behind that
+    /// stand the calls of the desk's seats and no others, and each seat has just its own of them, in its order, with the
+    /// replies that it got, and the tables of its Seals. It waits for nobody.
+    ///
+    /// Refused with `SeatMissing` where the seats aren't the desk's, one of each number; with `SeatsDisagree` where a seat
+    /// of that number, as one of another desk, has other calls or tables than the history has of it; and with `Memory`.
+    /// The desk and the seats are gone then too.
+    pub fn close(self, seats: Vec<Seat>) -> Result<History, CloseFault>
+        ensures missing { IsErrOf result CloseFault.SeatMissing ↔ (AreItsSeats self.seats seats.items → ⊥) }
+        ensures closed { IfOk result (λ history. IsClosed self seats.items history) }
+    {
+        if !are_its_seats(self.seats, seats.as_slice()) {
+            return Err(CloseFault::SeatMissing);
+        }
+        let entries = self.admission.into_inner().into_history();
+        settle(
+            self.alloc,
+            &self.opening,
+            self.seats,
+            entries,
+            seats.as_slice(),
+        )
+    }
+}
+
+/// So many seats with which nobody has called yet.
+fn new_seats(alloc: Global, seats: u16) -> Result<Vec<Seat>, Memory>
+    ensures { IfOk result (λ numbered. numbered.items ≡ fresh_seats seats) }
+{
+    let mut numbered = Vec::with_capacity(alloc, usize::from(seats))?;
+    for number in 0..seats {
+        numbered.push(Seat::new(alloc, number))?;
+    }
+    Ok(numbered)
+}

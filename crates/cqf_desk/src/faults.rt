@@ -1,0 +1,31 @@
+//! Why a desk isn't closed.
+ghost use Rattle.std.specs.Prelude.{Some};
+ghost use Rattle.cqf_desk.specs.Faults.{close_fault_text};
+
+use std::fmt;
+use thiserror::Error;
+
+/// Why a desk gives no history as it is closed: the first of these that is so (profile). It prints as its name, and then
+/// its value.
+#[derive(Clone, Copy, Debug, PartialEq, Eq, Drop, Error)]
+pub enum CloseFault {
+    /// The seats that are handed in aren't those of the desk, one of each number.
+    SeatMissing,
+    /// The least number of a seat whose calls or tables aren't those of the history. It is the number of seats where the
+    /// history isn't the opening part with calls of the desk's seats behind it.
+    SeatsDisagree(u16),
+    /// A growth was refused.
+    Memory,
+}
+
+impl fmt::Display for CloseFault {
+    ghost output = { λ fault. Some (close_fault_text fault) };
+
+    fn fmt<W: fmt::Write>(&self, f: &mut fmt::Formatter<W>) -> fmt::Result {
+        match self {
+            CloseFault::SeatMissing => f.write_str("SeatMissing"),
+            CloseFault::SeatsDisagree(seat) => write!(f, "SeatsDisagree {seat}"),
+            CloseFault::Memory => f.write_str("Memory"),
+        }
+    }
+}

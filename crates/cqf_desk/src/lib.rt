@@ -1,0 +1,28 @@
+//! One admission that several threads share: administrators ask at a desk, each with a seat of their own.
+//!
+//! - [`Desk`] answers requests, withdrawals and Seals as its [`Admission`](cqf_admission::Admission) does, one after the
+//!   other, whichever thread asks.
+//! - [`Seat`] keeps the calls that were made with it, each with the answer that it got, and the tables of its Seals.
+//! - [`Desk::close`] gives the [`History`]: legal, with each seat's calls in that seat's order, and no others. What a seat
+//!   kept and what the history has are compared there, and a [`CloseFault`] says where they differ.
+//!
+//! ```text
+//! Desk::new(alloc, admission, 2)          the desk and seats 0 and 1
+//! admit(seat 0, x)                        Ok: number 0, effect 0       in one thread
+//! seal(seat 1), seat 1's last_table()     the table of cycle 0         in another
+//! close([seat 0, seat 1])                 0 admit x accepted, 1 seal   or the other way round: then x's effect is 1
+//! ```
+#![tactic(auto)]
+
+mod again;
+mod closing;
+mod desk;
+mod faults;
+mod history;
+mod same;
+mod seats;
+
+pub use desk::Desk;
+pub use faults::CloseFault;
+pub use history::History;
+pub use seats::Seat;

@@ -1,0 +1,167 @@
+//! The seats of a desk.
+ghost use Rattle.std.specs.Prelude.{◌≡◌, ◌-◌, ◌<◌, ◌++◌, [], ◌∷◌, true, false, length, map, option_copied, slice_get, string_bytes, vec_len, vec_capacity};
+ghost use Rattle.cqf_model.specs.History.{Admits, Withdraws};
+ghost use Rattle.cqf_admission.specs.Admission.{is_entered, recorded_of, reply_of};
+ghost use Rattle.cqf_admission.specs.Asking.{asked_of};
+ghost use Rattle.cqf_desk.specs.Desk.{IsAnswered, IsSealed, Keeps};
+
+use cqf_admission::{Admission, Call, Entry, Receipt, Refused, Reply, SealFault, Table};
+use cqf_topology::Request;
+use std::alloc::Global;
+use std::marker::Model;
+
+/// A seat of a desk: a number, the calls that were made with it, in order, with the answers that they got, and the tables
+/// of its Seals (profile).
+#[derive(Debug, Drop)]
+pub struct Seat {
+    number: u16,
+    calls: Vec<Entry>,
+    tables: Vec<Table>,
+}
+
+impl Model for Seat {
+    ghost use Rattle.std.specs.Prelude.{map};
+    ghost use Rattle.cqf_admission.specs.Admission.{recorded_of};
+    ghost use Rattle.cqf_desk.specs.Desk.{Sitting};
+
+    ghost Value = { Sitting };
+
+    ghost view = { λ s. record { number = s.number; calls = map recorded_of s.calls.items; tables = s.tables.items } };
+}
+
+impl Seat {
+    /// A seat with which nobody has called yet.
+    pub(crate) fn new(alloc: Global, number: u16) -> Seat
+        ensures { result ≡ record { number = number; calls = []; tables = [] } }
+    {
+        Seat {
+            number,
+            calls: Vec::new(alloc),
+            tables: Vec::new(alloc),
+        }
+    }
+
+    /// The seat's number, from 0. Entries of the history have it.
+    pub fn number(&self) -> u16
+        ensures { result ≡ self.now.number }
+    {
+        self.number
+    }
+
+    /// The table of the seat's newest Seal, where it has sealed a cycle. It takes no memory.
+    pub fn last_table(&self) -> Option<&Table>
+        ensures { option_copied result ≡ slice_get self.now.tables (length self.now.tables - 1) }
+    {
+        self.tables.last()
+    }
+
+    /// The calls that were made with the seat, and the tables of its Seals.
+    pub(crate) fn calls(&self) -> &[Entry]
+        ensures { map recorded_of result.now ≡ self.now.calls }
+    {
+        self.calls.as_slice()
+    }
+
+    pub(crate) fn tables(&self) -> &[Table]
+        ensures { result.now ≡ self.now.tables }
+    {
+        self.tables.as_slice()
+    }
+
+    /// Makes a request of an admission, and keeps it with its answer. `asked` is the request again.
+    pub(crate) fn admit(
+        &mut self,
+        admission: &mut Admission,
+        asked: Request,
+        request: &Request,
+    ) -> Result<Receipt, Refused>
+        requires { asked_of asked ≡ asked_of request.now }
+        ensures answered { IsAnswered admission.old admission.new self.old.number (Admits (asked_of request.now)) result }
+        ensures keeps { Keeps self.old self.new (Admits (asked_of request.now)) result }
+    {
+        if self.calls.reserve(1).is_err() {
+            return Err(Refused::Memory);
+        }
+        let answer = admission.admit(self.number, request);
+        keep(&mut self.calls, self.number, Call::Admit(asked), answer);
+        answer
+    }
+
+    /// Makes a withdrawal likewise. `asked` is the name again.
+    pub(crate) fn withdraw(
+        &mut self,
+        admission: &mut Admission,
+        asked: String,
+        name: &str,
+    ) -> Result<Receipt, Refused>
+        requires { string_bytes asked ≡ name.now }
+        ensures answered { IsAnswered admission.old admission.new self.old.number (Withdraws name.now) result }
+        ensures keeps { Keeps self.old self.new (Withdraws name.now) result }
+    {
+        if self.calls.reserve(1).is_err() {
+            return Err(Refused::Memory);
+        }
+        let answer = admission.withdraw(self.number, name);
+        keep(&mut self.calls, self.number, Call::Withdraw(asked), answer);
+        answer
+    }
+
+    /// Closes the next cycle of an admission to changes, and keeps the Seal and its table.
+    pub(crate) fn seal(&mut self, admission: &mut Admission) -> Result<(), SealFault>
+        ensures { IsSealed admission.old admission.new self.old self.new result }
+    {
+        if self.calls.reserve(1).is_err() {
+            return Err(SealFault::Memory);
+        }
+        if self.tables.reserve(1).is_err() {
+            return Err(SealFault::Memory);
+        }
+        match admission.seal(self.number) {
+            Ok(table) => {
+                self.tables.push(table).unwrap();
+                enter(&mut self.calls, self.number, Call::Seal, Reply::Sealed);
+                Ok(())
+            }
+            Err(fault) => Err(fault),
+        }
+    }
+}
+
+/// Whether a call with this answer enters the history.
+pub(crate) fn enters(answer: &Result<Receipt, Refused>) -> bool
+    ensures { result ≡ is_entered answer.now }
+{
+    match answer {
+        Ok(_) => true,
+        Err(refused) => *refused != Refused::HistoryFull && *refused != Refused::Memory,
+    }
+}
+
+/// The answer as the history has it.
+pub(crate) fn reply_of(answer: Result<Receipt, Refused>) -> Reply
+    ensures { result ≡ reply_of answer }
+{
+    match answer {
+        Ok(receipt) => Reply::Accepted(receipt),
+        Err(refused) => Reply::Refused(refused),
+    }
+}
+
+/// Adds a call behind a seat's others, where there is room.
+fn enter(calls: &mut Vec<Entry>, seat: u16, call: Call, reply: Reply)
+    requires { vec_len calls.old < vec_capacity calls.old }
+    ensures { calls.new.items ≡ calls.old.items ++ record { seat = seat; call = call; reply = reply } ∷ [] }
+{
+    calls.push(Entry { seat, call, reply }).unwrap();
+}
+
+/// Adds a call with its answer likewise, where it has entered the history.
+fn keep(calls: &mut Vec<Entry>, seat: u16, call: Call, answer: Result<Receipt, Refused>)
+    requires { vec_len calls.old < vec_capacity calls.old }
+    ensures entered { is_entered answer ≡ true → calls.new.items ≡ calls.old.items ++ record { seat = seat; call = call; reply = reply_of answer } ∷ [] }
+    ensures unchanged { is_entered answer ≡ false → calls.new.items ≡ calls.old.items }
+{
+    if enters(&answer) {
+        enter(calls, seat, call, reply_of(answer));
+    }
+}
