@@ -1,3 +1,5 @@
 pub mod Adding
 pub mod Posting
 pub mod Whole
+pub mod Copying
+pub mod Agreeing

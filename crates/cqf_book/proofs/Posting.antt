@@ -141,15 +141,13 @@ next_posted posted page before next =
 
 -- so do they with their totals, where the bridge's row is written anew
 pub next_kept : (posted : Posted) (page : Page) (frames octets frames_after octets_after : List ℕ) (bridge : ℕ) (own row : List Page)
-    → AreKept posted frames octets → bridge ≡ page.bridge → page.bridge < posted.bridges → page.cycle.0 < posted.cycles
-    → own ≡ get_or posted.pages bridge own → length own ≤ page.cycle.0 → page.cycle.0 ≤ length own
+    → AreKept posted frames octets → bridge ≡ page.bridge → IsNext posted page → own ≡ get_or posted.pages bridge own
     → row ≡ own ++ page ∷ [] → AreAdded page.starts.items frames octets frames_after octets_after → AreFew page.starts.items
     → AreKept (record { bridges = posted.bridges; cycles = posted.cycles; pages = set posted.pages bridge row }) frames_after octets_after
-next_kept posted page frames octets frames_after octets_after bridge own row before at of_bridge of_cycle is_own not_before not_behind is_row added few =
-    let inside : page.bridge < length posted.pages = omega (arith, before.posted_so.each_bridge, of_bridge) in
+next_kept posted page frames octets frames_after octets_after bridge own row before at next is_own is_row added few =
+    let inside : page.bridge < length posted.pages = omega (arith, before.posted_so.each_bridge, next.0) in
     let own_pages : own ≡ pages_of posted page.bridge =
-    get_or_read posted.pages bridge own (omega arith) is_own [] ∙ ap (λ (k : ℕ). pages_of posted k) at in
-    let next : IsNext posted page = (of_bridge, of_cycle, omega (arith, ap length own_pages)) in
+    get_or_read posted.pages bridge own (omega (arith, inside, at)) is_own [] ∙ ap (λ (k : ℕ). pages_of posted k) at in
     let pages : set posted.pages bridge row ≡ set posted.pages page.bridge (pages_of posted page.bridge ++ page ∷ []) =
     ap (λ (k : ℕ). set posted.pages k row) at
     ∙ ap (λ (r : List Page). set posted.pages page.bridge r) (is_row ∙ ap (λ (r : List Page). r ++ page ∷ []) own_pages) in

@@ -1,4 +1,5 @@
 pub mod Faults
 pub mod Pages
+pub mod Shares
 pub mod Totals
 pub mod Whole

@@ -80,3 +80,12 @@ frames_posted link pages = over_pages (λ (page : Page). frames_on link page.sta
 
 abbrev pub octets_posted : ℕ → List (List Page) → ℕ
 octets_posted link pages = over_pages (λ (page : Page). octets_on link page.starts.items) pages
+
+-- some pages that were posted have so many whole cycles
+abbrev pub AreWholeOfSome : ℕ → Type 0
+AreWholeOfSome cycles = (posted : Posted) × ArePosted posted × AreWhole posted cycles
+
+-- or so many frames and octets on the link
+abbrev pub AreTotalsOfSome : ℕ → ℕ → ℕ → Type 0
+AreTotalsOfSome link frames octets =
+    (posted : Posted) × ArePosted posted × (frames ≡ frames_posted link posted.pages) × (octets ≡ octets_posted link posted.pages)

@@ -1,9 +1,12 @@
 //! The pages of one bridge.
-ghost use Rattle.std.specs.Prelude.{◌≡◌, ◌++◌, [], ◌∷◌, IfErr, OnErr, OnOk, length, option_copied, slice_get};
+ghost use Rattle.std.specs.Prelude.{◌≡◌, ◌++◌, [], ◌∷◌, IfErr, IfOk, OnErr, OnOk, length, map, option_copied, slice_get};
+ghost use Rattle.cqf_book.specs.Shares.{said};
 ghost use Rattle.cqf_book.specs.Totals.{AreAdded, AreFew, HaveRoom};
 
+use crate::same_pages::copied_pages;
 use crate::totals::LinkTotals;
 use cqf_model::Page;
+use cqf_units::Memory;
 use std::alloc::Global;
 use std::marker::Model;
 
@@ -44,6 +47,22 @@ impl BridgePages {
         ensures { option_copied result ≡ slice_get self.now place }
     {
         self.pages.get(place)
+    }
+
+    /// The pages, in order of cycle.
+    pub(crate) fn as_slice(&self) -> &[Page]
+        ensures { result.now ≡ self.now }
+    {
+        self.pages.as_slice()
+    }
+
+    /// Pages that say the same, unless memory runs out.
+    pub(crate) fn try_copy(&self, alloc: Global) -> Result<BridgePages, Memory>
+        ensures { IfOk result (λ copy. map said copy ≡ map said self.now) }
+    {
+        Ok(BridgePages {
+            pages: copied_pages(alloc, self.pages.as_slice())?,
+        })
     }
 
     /// Puts the page behind the others, and adds its starts to the totals. Where a growth is refused, the pages and the

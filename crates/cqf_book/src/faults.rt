@@ -1,6 +1,6 @@
-//! Why a page isn't taken.
+//! Why a page isn't taken, and why a cycle book doesn't close.
 ghost use Rattle.std.specs.Prelude.{Some};
-ghost use Rattle.cqf_book.specs.Faults.{page_fault_text};
+ghost use Rattle.cqf_book.specs.Faults.{book_close_text, page_fault_text};
 
 use std::fmt;
 use thiserror::Error;
@@ -30,6 +30,29 @@ impl fmt::Display for PageFault {
             PageFault::DoublePage => f.write_str("DoublePage"),
             PageFault::CycleSkipped => f.write_str("CycleSkipped"),
             PageFault::Memory => f.write_str("Memory"),
+        }
+    }
+}
+
+/// Why a cycle book doesn't close: the first of these that is so. It prints as its name, and the bridge's number.
+#[derive(Clone, Copy, Debug, PartialEq, Eq, Drop, Error)]
+pub enum BookClose {
+    /// The shares aren't one of each bridge of the book.
+    ShareMissing,
+    /// The pages in this bridge's share aren't those that the book took of the bridge: the least bridge of which that is so.
+    SharesDisagree(u8),
+    /// A growth was refused.
+    Memory,
+}
+
+impl fmt::Display for BookClose {
+    ghost output = { λ fault. Some (book_close_text fault) };
+
+    fn fmt<W: fmt::Write>(&self, f: &mut fmt::Formatter<W>) -> fmt::Result {
+        match self {
+            BookClose::ShareMissing => f.write_str("ShareMissing"),
+            BookClose::SharesDisagree(bridge) => write!(f, "SharesDisagree {bridge}"),
+            BookClose::Memory => f.write_str("Memory"),
         }
     }
 }

@@ -2,6 +2,8 @@
 //!
 //! - [`Pages`] takes each bridge's [`Page`]s in order of cycle, each once, and refuses the others with a [`PageFault`].
 //! - [`Totals`] is how many streams' frames and octets the pages have on a link.
+//! - [`CycleBook`] is pages under a lock, which bridges write in threads of their own, each by its [`Share`]. Closed, it is
+//!   the book of all pages, or says with a [`BookClose`] why it isn't.
 //!
 //! ```text
 //! Pages::new(alloc, 3, 5)      three bridges, five cycles, no page
@@ -13,11 +15,15 @@
 #![tactic(auto)]
 
 mod bridge_pages;
+mod closing;
+mod cycle_book;
 mod faults;
 mod pages;
+mod same_pages;
 mod totals;
 
 pub use cqf_model::Page;
-pub use faults::PageFault;
+pub use cycle_book::{CycleBook, Share};
+pub use faults::{BookClose, PageFault};
 pub use pages::Pages;
 pub use totals::Totals;

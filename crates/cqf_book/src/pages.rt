@@ -1,7 +1,8 @@
 //! The pages of all bridges.
-ghost use Rattle.std.specs.Prelude.{◌≡◌, ◌<◌, ◌≤◌, ◌↔◌, [], IfErr, IfOk, IsErrOf, OnErr, OnOk, length, option_copied, replicate};
+ghost use Rattle.std.specs.Prelude.{◌≡◌, ◌<◌, ◌≤◌, ◌↔◌, [], Some, IfErr, IfNone, IfOk, IsErrOf, OnErr, OnOk, length, map, option_copied, replicate};
 ghost use Rattle.cqf_book.specs.Pages.{ArePosted, AreWhole, IsDouble, IsNext, IsOfStrangeBridge, IsOfStrangeCycle, SkipsCycle};
-ghost use Rattle.cqf_book.specs.Pages.{frames_posted, octets_posted, page_at, with_page};
+ghost use Rattle.cqf_book.specs.Pages.{frames_posted, octets_posted, page_at, pages_of, with_page};
+ghost use Rattle.cqf_book.specs.Shares.{said};
 ghost use Rattle.cqf_book.specs.Whole.{IsLeastBelow};
 
 use crate::bridge_pages::BridgePages;
@@ -62,24 +63,40 @@ impl Pages {
         ensures err { OnErr result (self.new ≡ self.old) }
         ensures back { IfErr result (λ refused. refused.1 ≡ page) }
     {
-        if page.bridge >= self.bridges {
-            return Err((PageFault::StrangeBridge, page));
-        }
-        if page.cycle.0 >= self.cycles {
-            return Err((PageFault::StrangeCycle, page));
+        if let Some(fault) = self.refusal(&page) {
+            return Err((fault, page));
         }
         let own = &mut self.posted[usize::from(page.bridge)];
-        let place = page.cycle.0 as usize;
-        if place < own.len() {
-            return Err((PageFault::DoublePage, page));
-        }
-        if place > own.len() {
-            return Err((PageFault::CycleSkipped, page));
-        }
         match own.push(page, &mut self.totals) {
             Ok(()) => Ok(()),
             Err(page) => Err((PageFault::Memory, page)),
         }
+    }
+
+    /// Why the page isn't the next one of its bridge, where it isn't. It takes no memory.
+    pub(crate) fn refusal(&self, page: &Page) -> Option<PageFault>
+        ensures strange_bridge { (result ≡ Some PageFault.StrangeBridge) ↔ IsOfStrangeBridge self.now page.now }
+        ensures strange_cycle { (result ≡ Some PageFault.StrangeCycle) ↔ IsOfStrangeCycle self.now page.now }
+        ensures double_page { (result ≡ Some PageFault.DoublePage) ↔ IsDouble self.now page.now }
+        ensures cycle_skipped { (result ≡ Some PageFault.CycleSkipped) ↔ SkipsCycle self.now page.now }
+        ensures memory { (result ≡ Some PageFault.Memory) → ⊥ }
+        ensures next { IfNone result (IsNext self.now page.now) }
+    {
+        if page.bridge >= self.bridges {
+            return Some(PageFault::StrangeBridge);
+        }
+        if page.cycle.0 >= self.cycles {
+            return Some(PageFault::StrangeCycle);
+        }
+        let own = &self.posted[usize::from(page.bridge)];
+        let place = page.cycle.0 as usize;
+        if place < own.len() {
+            return Some(PageFault::DoublePage);
+        }
+        if place > own.len() {
+            return Some(PageFault::CycleSkipped);
+        }
+        None
     }
 
     /// Of how many first cycles each bridge has posted its page: the least number of pages that a bridge has, and with no
@@ -95,6 +112,7 @@ impl Pages {
     pub fn totals(&self, link: u8) -> Totals
         ensures frames { result.frames ≡ frames_posted link self.now.pages }
         ensures octets { result.octets ≡ octets_posted link self.now.pages }
+        ensures facts { ArePosted self.now }
     {
         self.totals.at(link)
     }
@@ -105,6 +123,48 @@ impl Pages {
     {
         self.posted.get(usize::from(bridge))?.get(cycle.0 as usize)
     }
+
+    /// How many bridges there are.
+    pub(crate) fn bridges(&self) -> u8
+        ensures { result ≡ self.now.bridges }
+    {
+        self.bridges
+    }
+
+    /// The bridge's pages, in order of cycle; none of a bridge that isn't one of the bridges.
+    pub(crate) fn of_bridge(&self, bridge: u8) -> &[Page]
+        ensures { result.now ≡ pages_of self.now bridge }
+    {
+        match self.posted.get(usize::from(bridge)) {
+            Some(pages) => pages.as_slice(),
+            None => &[],
+        }
+    }
+
+    /// The same bridges and cycles, with pages that say the same, unless memory runs out.
+    pub(crate) fn try_copy(&self, alloc: Global) -> Result<Pages, Memory>
+        ensures bridges { IfOk result (λ copy. copy.bridges ≡ self.now.bridges) }
+        ensures cycles { IfOk result (λ copy. copy.cycles ≡ self.now.cycles) }
+        ensures pages { IfOk result (λ copy. map (map said) copy.pages ≡ map (map said) self.now.pages) }
+    {
+        Ok(Pages {
+            bridges: self.bridges,
+            cycles: self.cycles,
+            posted: copied_rows(alloc, self.posted.as_slice())?,
+            totals: self.totals.try_copy()?,
+        })
+    }
+}
+
+/// Each bridge's pages again, unless memory runs out.
+fn copied_rows(alloc: Global, posted: &[BridgePages]) -> Result<Vec<BridgePages>, Memory>
+    ensures { IfOk result (λ rows. map (map said) rows.items ≡ map (map said) posted.now) }
+{
+    let mut rows = Vec::new(alloc);
+    for pages in posted {
+        rows.push(pages.try_copy(alloc)?)?;
+    }
+    Ok(rows)
 }
 
 /// So many bridges, of which none has posted a page.

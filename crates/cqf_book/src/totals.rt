@@ -32,6 +32,17 @@ impl LinkTotals {
         })
     }
 
+    /// The same totals again, unless memory runs out.
+    pub(crate) fn try_copy(&self) -> Result<LinkTotals, Memory>
+        ensures frames { IfOk result (λ copy. copy.frames.items ≡ self.now.frames.items) }
+        ensures octets { IfOk result (λ copy. copy.octets.items ≡ self.now.octets.items) }
+    {
+        Ok(LinkTotals {
+            frames: self.frames.clone()?,
+            octets: self.octets.clone()?,
+        })
+    }
+
     /// The totals of the link.
     pub(crate) fn at(&self, link: u8) -> Totals
         requires frames { length self.now.frames.items ≡ 256 }

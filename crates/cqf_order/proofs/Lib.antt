@@ -1,4 +1,5 @@
 pub mod Listing
 pub mod Taken
+pub mod ThreeSorts
 pub mod BookSorts
 pub mod Left

@@ -1,13 +1,14 @@
 //! The order in which offers are taken at the edge, by instant and then by their place among the offers; and the order
-//! in which a book has drops, by cycle, bridge and frame (profile).
+//! in which a book has drops, by cycle, bridge and frame, and starts, by cycle, link and instant (profile).
 //!
 //! - [`InTime`] gives a bridge's offers before an instant one after the other, in the order in which they are taken. Where
 //!   they stand in that order it takes no memory.
 //! - [`in_time`] gives the places of a bridge's offers before an instant in the order in which they are taken.
-//! - [`sort_drops`] puts drops into the order of a book.
+//! - [`sort_drops`] and [`sort_starts`] put drops, and starts, into the order of a book.
 #![tactic(auto)]
 
 mod drops;
+mod starts;
 mod waiting;
 
 ghost use Rattle.std.specs.Prelude.{◌≡◌, ◌==◌, ◌&&◌, All, IfOk, map, nat_lt};
@@ -19,6 +20,7 @@ ghost use Rattle.cqf_order.specs.InTime.{received_of, IsListed, IsDue};
 use cqf_model::Offer;
 use cqf_units::Memory;
 pub use drops::sort_drops;
+pub use starts::sort_starts;
 use std::alloc::Global;
 pub use waiting::InTime;
 

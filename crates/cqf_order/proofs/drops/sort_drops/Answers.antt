@@ -1,6 +1,6 @@
 use Rattle.std.proofs.Common.{rules}
 use Rattle.std.proofs.lemmas.List.Sorted.{IsNonDecreasingBy-from_sort_by_key, answers_always, IsPermutation-trans}
-use Rattle.cqf_order.proofs.BookSorts.{cycle_of_drop, bridge_of_drop, frame_of_drop, three-sorts}
+use Rattle.cqf_order.proofs.BookSorts.{cycle_of_drop, bridge_of_drop, frame_of_drop, three-sorts_of_drops}
 use Rattle.cqf_order.proofs.drops.sort_drops.Goals as goal
 
 pub returns-in_err-sort_by_key-3-clause-moved : goal.returns-in_err-sort_by_key-3-clause-moved
@@ -10,7 +10,7 @@ returns-in_err-sort_by_key-3-clause-moved c =
 
 pub returns-clause-ok : goal.returns-clause-ok
 returns-clause-ok c =
-    three-sorts _ _ _ _
+    three-sorts_of_drops _ _ _ _
     (record {
       moved = c.sort_by_key.ensures.permutation;
       ascends = IsNonDecreasingBy-from_sort_by_key frame_of_drop _ c.in_ok-sort_by_key.ensures.sorted (λ a r q k. search rules);

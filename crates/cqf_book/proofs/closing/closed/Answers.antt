@@ -1,0 +1,12 @@
+use Rattle.std.proofs.Common.{ℕ, subst}
+use Rattle.cqf_model.specs.Book.{contents_of}
+use Rattle.cqf_book.specs.Pages.{pages_of}
+use Rattle.cqf_book.specs.Shares.{IsBookOfPages, all_pages_of}
+use Rattle.cqf_book.proofs.Agreeing.{same_book}
+use Rattle.cqf_book.proofs.closing.closed.Goals as goal
+
+-- the pages that were posted say what those from before and the shares' say
+pub returns-in-Ok-clause-ok : goal.returns-in-Ok-clause-ok
+returns-in-Ok-clause-ok c =
+    same_book (pages_of c.args.posted.now) (all_pages_of c.args.opening.now c.args.shares.now) c.args.opening.now.bridges c.in_default.ensures (contents_of c.in-Ok.book)
+    (subst (λ (n : ℕ). IsBookOfPages (pages_of c.args.posted.now) n (contents_of c.in-Ok.book)) c.bridges-2.ensures c.in-Ok.ensures)

@@ -1,0 +1,7 @@
+use Rattle.std.proofs.Common.{rules}
+use Rattle.std.proofs.lemmas.Slice.Eq.{slice_eq-Decides}
+use Rattle.cqf_book.proofs.same_pages.are_same_drops.Goals as goal
+
+-- the lists are the same where they are so element by element
+pub returns : goal.returns
+returns c is = (slice_eq-Decides (λ a b. search rules) _ _ _ c.eq.ensures).0 is

@@ -1,0 +1,153 @@
+//! The book of the pages that were posted, where the shares agree with them.
+ghost use Rattle.std.specs.Prelude.{◌≡◌, ◌<◌, ◌↔◌, ◌++◌, IfNone, IfOk, IfSome, IsErrOf, IsTrue, OnOk, count_by, find, length, map, option_copied, true};
+ghost use Rattle.std.specs.List.{flat_map};
+ghost use Rattle.cqf_model.specs.Book.{contents_of};
+ghost use Rattle.cqf_book.specs.Pages.{pages_of};
+ghost use Rattle.cqf_book.specs.Shares.{Agree, AreOneEach, IsBookOfPages, IsBookOfShares, all_pages_of, is_of, on_pages, pages_by, said};
+
+use crate::cycle_book::Share;
+use crate::faults::BookClose;
+use crate::pages::Pages;
+use crate::same_pages::are_same;
+use cqf_model::{Book, Page};
+use cqf_order::{sort_drops, sort_starts};
+use cqf_units::Memory;
+use std::alloc::Global;
+
+/// How many of the shares are the bridge's.
+fn count_of(shares: &[Share], bridge: u8) -> usize
+    ensures { result ≡ count_by (is_of bridge) shares.now }
+{
+    shares
+        .iter()
+        .filter(|share| share.bridge() == bridge)
+        .count()
+}
+
+/// Whether there is one share of each of so many bridges, and no other.
+fn are_one_each(shares: &[Share], bridges: u8) -> bool
+    ensures { (result ≡ true) ↔ AreOneEach bridges shares.now }
+{
+    if shares.len() != usize::from(bridges) {
+        return false;
+    }
+    for bridge in 0..bridges {
+        if count_of(shares, bridge) != 1 {
+            return false;
+        }
+    }
+    true
+}
+
+/// The bridge's share, the first where there are several.
+fn share_of(shares: &[Share], bridge: u8) -> Option<&Share>
+    ensures { option_copied result ≡ find (is_of bridge) shares.now }
+{
+    shares.iter().find(|share| share.bridge() == bridge)
+}
+
+/// The pages in the bridge's share; none where there is no such share.
+fn share_pages(shares: &[Share], bridge: u8) -> &[Page]
+    ensures { result.now ≡ pages_by shares.now bridge }
+{
+    match share_of(shares, bridge) {
+        Some(share) => share.pages(),
+        None => &[],
+    }
+}
+
+/// Whether pages say what the earlier and the later ones say, one behind the other.
+fn continues(pages: &[Page], earlier: &[Page], later: &[Page]) -> bool
+    ensures { IsTrue result → map said pages.now ≡ map said (earlier.now ++ later.now) }
+{
+    if pages.len() < earlier.len() {
+        return false;
+    }
+    let (before, behind) = pages.split_at(earlier.len());
+    if !are_same(before, earlier) {
+        return false;
+    }
+    are_same(behind, later)
+}
+
+/// The least bridge whose pages aren't those from before and its share's behind them.
+fn first_to_disagree(opening: &Pages, posted: &Pages, shares: &[Share]) -> Option<u8>
+    ensures { IfNone result (Agree opening.now shares.now posted.now opening.now.bridges) }
+{
+    for bridge in 0..opening.bridges() {
+        let pages = posted.of_bridge(bridge);
+        if !continues(
+            pages,
+            opening.of_bridge(bridge),
+            share_pages(shares, bridge),
+        ) {
+            return Some(bridge);
+        }
+    }
+    None
+}
+
+/// Puts what stands on the pages behind what the book has.
+fn add_pages(book: &mut Book, pages: &[Page]) -> Result<(), Memory>
+    ensures starts { OnOk result (book.new.starts.items ≡ book.old.starts.items ++ flat_map (λ page. page.starts.items) pages.now) }
+    ensures background { OnOk result (book.new.background.items ≡ book.old.background.items ++ flat_map (λ page. page.background.items) pages.now) }
+    ensures drops { OnOk result (book.new.drops.items ≡ book.old.drops.items ++ flat_map (λ page. page.drops.items) pages.now) }
+{
+    for page in pages {
+        book.starts.extend_from_slice(page.starts.as_slice())?;
+        book.background
+            .extend_from_slice(page.background.as_slice())?;
+        book.drops.extend_from_slice(page.drops.as_slice())?;
+    }
+    Ok(())
+}
+
+/// What stands on the pages of the first bridges, so many of them, bridge by bridge and page by page.
+fn gathered(alloc: Global, posted: &Pages, bridges: u8) -> Result<Book, Memory>
+    ensures starts { IfOk result (λ book. book.starts.items ≡ on_pages (λ page. page.starts.items) (pages_of posted.now) bridges) }
+    ensures background { IfOk result (λ book. book.background.items ≡ on_pages (λ page. page.background.items) (pages_of posted.now) bridges) }
+    ensures drops { IfOk result (λ book. book.drops.items ≡ on_pages (λ page. page.drops.items) (pages_of posted.now) bridges) }
+{
+    let mut book = Book {
+        starts: Vec::new(alloc),
+        background: Vec::new(alloc),
+        drops: Vec::new(alloc),
+    };
+    for bridge in 0..bridges {
+        add_pages(&mut book, posted.of_bridge(bridge))?;
+    }
+    Ok(book)
+}
+
+/// The book of the pages of the first bridges, so many of them.
+fn book_of(alloc: Global, posted: &Pages, bridges: u8) -> Result<Book, Memory>
+    ensures { IfOk result (λ book. IsBookOfPages (pages_of posted.now) bridges (contents_of book)) }
+{
+    let mut book = gathered(alloc, posted, bridges)?;
+    sort_starts(&mut book.starts)?;
+    sort_starts(&mut book.background)?;
+    sort_drops(&mut book.drops)?;
+    Ok(book)
+}
+
+/// The book of the pages that were posted, where the shares are one of each bridge and agree with them.
+pub(crate) fn closed(
+    alloc: Global,
+    opening: &Pages,
+    posted: &Pages,
+    shares: &[Share],
+) -> Result<Book, BookClose>
+    ensures missing { IsErrOf result BookClose.ShareMissing ↔ (AreOneEach opening.now.bridges shares.now → ⊥) }
+    ensures ok { IfOk result (λ book. IsBookOfShares opening.now shares.now (contents_of book)) }
+{
+    if !are_one_each(shares, opening.bridges()) {
+        return Err(BookClose::ShareMissing);
+    }
+    if let Some(bridge) = first_to_disagree(opening, posted, shares) {
+        return Err(BookClose::SharesDisagree(bridge));
+    }
+    match book_of(alloc, posted, opening.bridges()) {
+        Ok(book) => Ok(book),
+        Err(_) => Err(BookClose::Memory),
+    }
+}

@@ -1,0 +1,187 @@
+//! A book that bridges write in threads of their own, each by its share.
+ghost use Rattle.std.specs.Prelude.{◌≡◌, ◌≢◌, ◌↔◌, ◌≤◌, ◌+◌, [], IfErr, IfOk, IsErrOf, OnErr, OnOk, vec_len, vec_capacity};
+ghost use Rattle.cqf_model.specs.Book.{contents_of};
+ghost use Rattle.cqf_book.specs.Pages.{AreWholeOfSome, AreTotalsOfSome};
+ghost use Rattle.cqf_book.specs.Shares.{AreOneEach, IsBookOfShares, new_shares, said, with_own};
+
+use crate::closing::closed;
+use crate::faults::{BookClose, PageFault};
+use crate::pages::Pages;
+use crate::same_pages::copied_page;
+use crate::totals::Totals;
+use cqf_model::{Book, Page};
+use cqf_units::Memory;
+use std::alloc::Global;
+use std::marker::Model;
+use std::sync::{Mutex, Wait};
+
+/// What a bridge has in a [`CycleBook`]: its number, and the pages that it has posted there.
+#[derive(Debug, Drop)]
+pub struct Share {
+    bridge: u8,
+    pages: Vec<Page>,
+}
+
+impl Model for Share {
+    ghost use Rattle.cqf_book.specs.Shares.{Own};
+
+    ghost Value = { Own };
+
+    ghost view = { λ share. record { bridge = share.bridge; pages = share.pages.items } };
+}
+
+impl Share {
+    /// The number of the share's bridge.
+    pub fn bridge(&self) -> u8
+        ensures { result ≡ self.now.bridge }
+    {
+        self.bridge
+    }
+
+    /// The pages that the bridge has posted by this share, in order.
+    pub fn pages(&self) -> &[Page]
+        ensures { result.now ≡ self.now.pages }
+    {
+        self.pages.as_slice()
+    }
+}
+
+/// The shares of so many bridges, by number, that have posted nothing.
+fn one_each(alloc: Global, bridges: u8) -> Result<Vec<Share>, Memory>
+    ensures { IfOk result (λ shares. shares.items ≡ new_shares bridges) }
+{
+    let mut shares = Vec::new(alloc);
+    for bridge in 0..bridges {
+        shares.push(Share {
+            bridge,
+            pages: Vec::new(alloc),
+        })?;
+    }
+    Ok(shares)
+}
+
+/// A page that says the same, with room for a page more among those there, unless memory runs out.
+fn copy_with_room(pages: &mut Vec<Page>, page: &Page) -> Result<Page, Memory>
+    ensures same { pages.new.items ≡ pages.old.items }
+    ensures room { OnOk result (vec_len pages.new + 1 ≤ vec_capacity pages.new) }
+    ensures copy { IfOk result (λ copy. said copy ≡ said page.now) }
+{
+    let copy = copied_page(page)?;
+    pages.reserve(1)?;
+    Ok(copy)
+}
+
+/// A book that several threads write, each for a bridge of its own: [`Pages`] under a lock. Contracts see it as the pages
+/// that it was made of; what was posted since is known once the book is closed.
+#[derive(Drop)]
+pub struct CycleBook {
+    alloc: Global,
+    /// The pages that the book was made of.
+    opening: Pages,
+    /// These again, and the pages posted since.
+    posted: Mutex<Pages>,
+}
+
+impl Model for CycleBook {
+    ghost use Rattle.cqf_book.specs.Pages.{Posted};
+
+    ghost Value = { Posted };
+
+    ghost view = { λ book. book.opening };
+}
+
+impl CycleBook {
+    /// A book that begins with these pages, and a share for each of their bridges, by number, that has posted nothing.
+    pub fn new(alloc: Global, pages: Pages) -> Result<(CycleBook, Vec<Share>), Memory>
+        ensures opening { IfOk result (λ made. made.0 ≡ pages) }
+        ensures shares { IfOk result (λ made. made.1.items ≡ new_shares pages.bridges) }
+    {
+        let shares = one_each(alloc, pages.bridges())?;
+        let posted = Mutex::new(pages.try_copy(alloc)?);
+        let book = CycleBook {
+            alloc,
+            opening: pages,
+            posted,
+        };
+        Ok((book, shares))
+    }
+
+    /// Takes the next page of the share's bridge, and keeps it in the share too. The answers are those of [`Pages::post`]
+    /// while the lock is held, and for a page of another bridge than the share's it's [`PageFault::StrangeBridge`]. A page
+    /// that isn't taken comes back with the reason, and the book and the share stay as they are. It may wait for the lock.
+    pub fn post<R: Wait>(
+        &self,
+        rt: &R,
+        share: &mut Share,
+        page: Page,
+    ) -> Result<(), (PageFault, Page)>
+        ensures ok { OnOk result (share.new ≡ with_own share.old page) }
+        ensures err { OnErr result (share.new ≡ share.old) }
+        ensures back { IfErr result (λ refused. refused.1 ≡ page) }
+        ensures another { page.bridge ≢ share.old.bridge → IsErrOf result (PageFault.StrangeBridge, page) }
+    {
+        if page.bridge != share.bridge {
+            return Err((PageFault::StrangeBridge, page));
+        }
+        let Ok(copy) = copy_with_room(&mut share.pages, &page) else {
+            return Err((self.refusal(rt, &page), page));
+        };
+        match self.take(rt, copy) {
+            Ok(()) => {
+                share.pages.push(page).unwrap();
+                Ok(())
+            }
+            Err(fault) => Err((fault, page)),
+        }
+    }
+
+    /// Why the page isn't taken, where there is no memory for it.
+    fn refusal<R: Wait>(&self, rt: &R, page: &Page) -> PageFault {
+        self.posted
+            .lock(rt)
+            .refusal(page)
+            .unwrap_or(PageFault::Memory)
+    }
+
+    /// Posts the page among those under the lock.
+    fn take<R: Wait>(&self, rt: &R, page: Page) -> Result<(), PageFault> {
+        match self.posted.lock(rt).post(page) {
+            Ok(()) => Ok(()),
+            Err((fault, _)) => Err(fault),
+        }
+    }
+
+    /// Of how many first cycles each bridge has posted its page: what [`Pages::whole_cycles`] answers of the pages at one
+    /// time. It may wait for the lock, and takes no memory.
+    pub fn whole_cycles<R: Wait>(&self, rt: &R) -> u32
+        ensures { AreWholeOfSome result }
+    {
+        self.posted.lock(rt).whole_cycles()
+    }
+
+    /// How many streams' frames the pages have on the link, and their octets: what [`Pages::totals`] answers of the pages at
+    /// one time. It may wait for the lock, and takes no memory.
+    pub fn totals<R: Wait>(&self, rt: &R, link: u8) -> Totals
+        ensures { AreTotalsOfSome link result.frames result.octets }
+    {
+        self.posted.lock(rt).totals(link)
+    }
+
+    /// The book of the pages that it was made of and, bridge by bridge, of those of the bridge's share behind them: the
+    /// starts by cycle, then link, then instant, the drops by cycle, then bridge, then frame; what has these three in common
+    /// stands by page, and by its place there (profile). It waits for nobody. It takes one share of each bridge, in any
+    /// order; other shares are [`BookClose::ShareMissing`], and a share whose pages aren't those that the book took of its
+    /// bridge is [`BookClose::SharesDisagree`]. With a fault the pages are gone.
+    pub fn close(self, shares: Vec<Share>) -> Result<Book, BookClose>
+        ensures missing { IsErrOf result BookClose.ShareMissing ↔ (AreOneEach self.bridges shares.items → ⊥) }
+        ensures ok { IfOk result (λ book. IsBookOfShares self shares.items (contents_of book)) }
+    {
+        let CycleBook {
+            alloc,
+            opening,
+            posted,
+        } = self;
+        let posted = posted.into_inner();
+        closed(alloc, &opening, &posted, shares.as_slice())
+    }
+}

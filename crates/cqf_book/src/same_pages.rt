@@ -1,0 +1,76 @@
+//! Pages that say the same.
+ghost use Rattle.std.specs.Prelude.{◌≡◌, ◌++◌, IfOk, IsTrue, map};
+ghost use Rattle.cqf_book.specs.Shares.{said};
+
+use cqf_model::{Dropped, Page, Started};
+use cqf_units::Memory;
+use std::alloc::Global;
+
+/// A page that says the same, unless memory runs out.
+pub(crate) fn copied_page(page: &Page) -> Result<Page, Memory>
+    ensures { IfOk result (λ copy. said copy ≡ said page.now) }
+{
+    Ok(Page {
+        bridge: page.bridge,
+        cycle: page.cycle,
+        starts: page.starts.clone()?,
+        background: page.background.clone()?,
+        drops: page.drops.clone()?,
+    })
+}
+
+/// Pages that say the same one by one, unless memory runs out.
+pub(crate) fn copied_pages(alloc: Global, pages: &[Page]) -> Result<Vec<Page>, Memory>
+    ensures { IfOk result (λ copies. map said copies.items ≡ map said pages.now) }
+{
+    let mut copies = Vec::new(alloc);
+    for page in pages {
+        copies.push(copied_page(page)?)?;
+    }
+    Ok(copies)
+}
+
+/// Whether the starts are the same.
+fn are_same_starts(starts: &[Started], others: &[Started]) -> bool
+    ensures { IsTrue result → starts.now ≡ others.now }
+{
+    starts == others
+}
+
+/// Whether the drops are the same.
+fn are_same_drops(drops: &[Dropped], others: &[Dropped]) -> bool
+    ensures { IsTrue result → drops.now ≡ others.now }
+{
+    drops == others
+}
+
+/// Whether two pages say the same.
+fn is_same(page: &Page, other: &Page) -> bool
+    ensures { IsTrue result → said page.now ≡ said other.now }
+{
+    if page.bridge != other.bridge || page.cycle.0 != other.cycle.0 {
+        return false;
+    }
+    if !are_same_starts(&page.starts, &other.starts) {
+        return false;
+    }
+    if !are_same_starts(&page.background, &other.background) {
+        return false;
+    }
+    are_same_drops(&page.drops, &other.drops)
+}
+
+/// Whether pages say the same one by one.
+pub(crate) fn are_same(pages: &[Page], others: &[Page]) -> bool
+    ensures { IsTrue result → map said pages.now ≡ map said others.now }
+{
+    if pages.len() != others.len() {
+        return false;
+    }
+    for place in 0..pages.len() {
+        if !is_same(&pages[place], &others[place]) {
+            return false;
+        }
+    }
+    true
+}

@@ -1,0 +1,431 @@
+//! Cycle books, their shares, and the books that they close to, with values by hand.
+use cqf_book::{BookClose, CycleBook, Page, PageFault, Pages, Share, Totals};
+use cqf_model::{Dropped, Reason, Started};
+use cqf_units::{Cycle, Memory, Nanos};
+use std::alloc::Global;
+use std::mem::swap;
+use std::sync::Wait;
+use std::test::Fail;
+use std::thread::{Threads, join};
+
+/// A transmission of so many octets, at the cycle's first instant.
+fn started(cycle: u32, link: u8, octets: u32) -> Started {
+    Started {
+        cycle: Cycle(cycle),
+        link,
+        frame: 1,
+        octets,
+        start: Nanos(u64::from(cycle) * 125_000),
+    }
+}
+
+/// An offer that was dropped.
+fn dropped(cycle: u32, bridge: u8, frame: u32) -> Dropped {
+    Dropped {
+        cycle: Cycle(cycle),
+        bridge,
+        frame,
+        octets: 64,
+        reason: Reason::Unknown,
+    }
+}
+
+/// A page with one start of a stream's frame on the link, one of a background frame on the link behind it, and a drop.
+fn page_with(alloc: Global, bridge: u8, cycle: u32, link: u8) -> Result<Page, Memory> {
+    Ok(Page {
+        bridge,
+        cycle: Cycle(cycle),
+        starts: vec![in alloc; started(cycle, link, 64)]?,
+        background: vec![in alloc; started(cycle, link.wrapping_add(1), 1522)]?,
+        drops: vec![in alloc; dropped(cycle, bridge, 7)]?,
+    })
+}
+
+/// A page that is posted by the share at a place: its bridge and cycle, and the answer.
+type Post = (usize, u8, u32, Option<PageFault>);
+
+/// Whether a page comes back with this fault.
+fn comes_back(
+    refused: (PageFault, Page),
+    expected: Option<PageFault>,
+    bridge: u8,
+    cycle: u32,
+) -> bool {
+    let (fault, page) = refused;
+    expected == Some(fault) && page.bridge == bridge && page.cycle == Cycle(cycle)
+}
+
+/// Whether the book answers so to a page with one start on link 1, which comes back where it isn't taken.
+fn answers_of<R: Wait>(
+    rt: &R,
+    alloc: Global,
+    book: &CycleBook,
+    share: &mut Share,
+    post: &Post,
+) -> bool {
+    let (_, bridge, cycle, expected) = *post;
+    match page_with(alloc, bridge, cycle, 1) {
+        Ok(page) => match book.post(rt, share, page) {
+            Ok(()) => expected.is_none(),
+            Err(refused) => comes_back(refused, expected, bridge, cycle),
+        },
+        Err(_) => false,
+    }
+}
+
+/// Whether it does so to the post by the share at its place.
+fn answers<R: Wait>(
+    rt: &R,
+    alloc: Global,
+    book: &CycleBook,
+    shares: &mut [Share],
+    post: &Post,
+) -> bool {
+    match shares.get_mut(post.0) {
+        Some(share) => answers_of(rt, alloc, book, share, post),
+        None => false,
+    }
+}
+
+/// Whether the book answers so to one page after the other.
+fn answers_all<R: Wait>(
+    rt: &R,
+    alloc: Global,
+    book: &CycleBook,
+    shares: &mut [Share],
+    posts: &[Post],
+) -> bool {
+    for post in posts {
+        if !answers(rt, alloc, book, shares, post) {
+            return false;
+        }
+    }
+    true
+}
+
+/// Whether the starts are on these links in these cycles, each of so many octets.
+fn are_starts(starts: &[Started], octets: u32, places: &[(u32, u8)]) -> bool {
+    if starts.len() != places.len() {
+        return false;
+    }
+    for place in 0..starts.len() {
+        let (cycle, link) = places[place];
+        if starts[place] != started(cycle, link, octets) {
+            return false;
+        }
+    }
+    true
+}
+
+/// Whether the drops are those of these cycles and bridges.
+fn are_drops(drops: &[Dropped], places: &[(u32, u8)]) -> bool {
+    if drops.len() != places.len() {
+        return false;
+    }
+    for place in 0..drops.len() {
+        let (cycle, bridge) = places[place];
+        if drops[place] != dropped(cycle, bridge, 7) {
+            return false;
+        }
+    }
+    true
+}
+
+/// What stands in a book: cycle and link of each start of a stream's frame, and of each of a background frame, and cycle and
+/// bridge of each drop.
+type Lines = (
+    &'static [(u32, u8)],
+    &'static [(u32, u8)],
+    &'static [(u32, u8)],
+);
+
+/// Whether the book closes to a book with these lines.
+fn closes_to(book: CycleBook, shares: Vec<Share>, lines: &Lines) -> bool {
+    let (starts, background, drops) = *lines;
+    match book.close(shares) {
+        Ok(book) => {
+            are_starts(&book.starts, 64, starts)
+                && are_starts(&book.background, 1522, background)
+                && are_drops(&book.drops, drops)
+        }
+        Err(_) => false,
+    }
+}
+
+/// Whether the book doesn't close, for this reason.
+fn is_refused(book: CycleBook, shares: Vec<Share>, expected: BookClose) -> bool {
+    match book.close(shares) {
+        Ok(_) => false,
+        Err(fault) => fault == expected,
+    }
+}
+
+/// A book of three bridges and five cycles without a page, and its shares.
+fn three_by_five(alloc: Global) -> Result<(CycleBook, Vec<Share>), Memory> {
+    let pages = Pages::new(alloc, 3, 5)?;
+    CycleBook::new(alloc, pages)
+}
+
+/// The posts to such a book.
+const POSTS: &[Post] = &[
+    (1, 1, 0, None),
+    (1, 1, 0, Some(PageFault::DoublePage)),
+    (1, 9, 0, Some(PageFault::StrangeBridge)),
+    (1, 2, 0, Some(PageFault::StrangeBridge)),
+    (1, 1, 5, Some(PageFault::StrangeCycle)),
+    (0, 0, 1, Some(PageFault::CycleSkipped)),
+];
+
+/// Whether the book answers so to these posts, and has one page then.
+fn takes_one_page<R: Wait>(rt: &R, alloc: Global, book: &CycleBook, shares: &mut [Share]) -> bool {
+    let one = Totals {
+        frames: 1,
+        octets: 64,
+    };
+    answers_all(rt, alloc, book, shares, POSTS)
+        && book.whole_cycles(rt) == 0
+        && book.totals(rt, 1) == one
+}
+
+/// Whether a book answers so, and closes to the one page.
+fn closes_to_one_page<R: Wait>(rt: &R, alloc: Global) -> bool {
+    match three_by_five(alloc) {
+        Ok((book, mut shares)) => {
+            let takes = takes_one_page(rt, alloc, &book, shares.as_mut_slice());
+            let closes = closes_to(book, shares, &(&[(0, 1)], &[(0, 2)], &[(0, 1)]));
+            takes && closes
+        }
+        Err(_) => false,
+    }
+}
+
+#[test]
+fn shares_post_as_pages_do(rt: HostRuntime) -> Result<(), Fail> {
+    assert!(rt; closes_to_one_page(&rt, rt.alloc()));
+    Ok(())
+}
+
+/// How a book gets shares that aren't its own.
+#[derive(Clone, Copy, PartialEq, Eq)]
+enum Wrong {
+    /// The share of bridge 2 is missing.
+    Missing,
+    /// A second share of bridge 1 stands for that of bridge 2.
+    Twice,
+    /// The share of bridge 1 is one of another book that took no page.
+    Unused,
+}
+
+/// Puts the share at one place of the others in this place.
+fn put_other(shares: &mut [Share], place: usize, others: &mut [Share], other: usize) {
+    if let (Some(share), Some(another)) = (shares.get_mut(place), others.get_mut(other)) {
+        swap(share, another);
+    }
+}
+
+/// Makes the shares wrong.
+fn make_wrong(shares: &mut Vec<Share>, others: &mut [Share], wrong: Wrong) {
+    match wrong {
+        Wrong::Missing => shares.truncate(2),
+        Wrong::Twice => put_other(shares.as_mut_slice(), 2, others, 1),
+        Wrong::Unused => put_other(shares.as_mut_slice(), 1, others, 1),
+    }
+}
+
+/// Makes the shares wrong with those of another book.
+fn make_wrong_by_another(alloc: Global, shares: &mut Vec<Share>, wrong: Wrong) {
+    if let Ok((_, mut others)) = three_by_five(alloc) {
+        make_wrong(shares, others.as_mut_slice(), wrong);
+    }
+}
+
+/// Whether a book with a page of bridge 1 is refused with such shares, for this reason.
+fn is_wrong<R: Wait>(rt: &R, alloc: Global, wrong: Wrong, expected: BookClose) -> bool {
+    match three_by_five(alloc) {
+        Ok((book, mut shares)) => {
+            let post = (1, 1, 0, None);
+            let taken = answers(rt, alloc, &book, shares.as_mut_slice(), &post);
+            make_wrong_by_another(alloc, &mut shares, wrong);
+            let refused = is_refused(book, shares, expected);
+            taken && refused
+        }
+        Err(_) => false,
+    }
+}
+
+/// Wrong shares, and the answers.
+const WRONG: &[(Wrong, BookClose)] = &[
+    (Wrong::Missing, BookClose::ShareMissing),
+    (Wrong::Twice, BookClose::ShareMissing),
+    (Wrong::Unused, BookClose::SharesDisagree(1)),
+];
+
+#[test]
+fn a_book_closes_with_its_own_shares_alone(rt: HostRuntime) -> Result<(), Fail> {
+    for (wrong, expected) in WRONG {
+        assert!(rt; is_wrong(&rt, rt.alloc(), *wrong, *expected));
+    }
+    Ok(())
+}
+
+/// Whether the book takes the page with a start on a link of 2 less the bridge's number.
+fn takes<R: Wait>(rt: &R, alloc: Global, book: &CycleBook, share: &mut Share, cycle: u32) -> bool {
+    let bridge = share.bridge();
+    match page_with(alloc, bridge, cycle, 2u8.saturating_sub(bridge)) {
+        Ok(page) => book.post(rt, share, page).is_ok(),
+        Err(_) => false,
+    }
+}
+
+/// Whether the book takes the pages of these cycles.
+fn fills<R: Wait>(rt: &R, alloc: Global, book: &CycleBook, share: &mut Share, from: u32) -> bool {
+    for cycle in from..3 {
+        if !takes(rt, alloc, book, share, cycle) {
+            return false;
+        }
+    }
+    true
+}
+
+/// Whether the book takes the pages of two bridges, each in a thread of its own.
+fn fills_two<R: Threads + Wait + Sync>(
+    rt: &R,
+    alloc: Global,
+    book: &CycleBook,
+    one: &mut [Share],
+    two: &mut [Share],
+) -> bool {
+    let (one, two) = join(
+        rt,
+        move || fills_first(rt, alloc, book, one, 1),
+        move || fills_first(rt, alloc, book, two, 0),
+    );
+    one && two
+}
+
+/// Whether the book takes the pages of the first of some shares.
+fn fills_first<R: Wait>(
+    rt: &R,
+    alloc: Global,
+    book: &CycleBook,
+    shares: &mut [Share],
+    from: u32,
+) -> bool {
+    match shares.first_mut() {
+        Some(share) => fills(rt, alloc, book, share, from),
+        None => false,
+    }
+}
+
+/// Whether the book takes the pages of three bridges, each in a thread of its own, of bridge 1 those from cycle 1 on.
+fn fills_three<R: Threads + Wait + Sync>(
+    rt: &R,
+    alloc: Global,
+    book: &CycleBook,
+    shares: &mut [Share],
+) -> bool {
+    if shares.len() != 3 {
+        return false;
+    }
+    let (zero, rest) = shares.split_at_mut(1);
+    let (one, two) = rest.split_at_mut(1);
+    let (zero, others) = join(
+        rt,
+        move || fills_first(rt, alloc, book, zero, 0),
+        move || fills_two(rt, alloc, book, one, two),
+    );
+    zero && others
+}
+
+/// The lines of three bridges and three cycles.
+const NINE_PAGES: Lines = (
+    &[
+        (0, 0),
+        (0, 1),
+        (0, 2),
+        (1, 0),
+        (1, 1),
+        (1, 2),
+        (2, 0),
+        (2, 1),
+        (2, 2),
+    ],
+    &[
+        (0, 1),
+        (0, 2),
+        (0, 3),
+        (1, 1),
+        (1, 2),
+        (1, 3),
+        (2, 1),
+        (2, 2),
+        (2, 3),
+    ],
+    &[
+        (0, 0),
+        (0, 1),
+        (0, 2),
+        (1, 0),
+        (1, 1),
+        (1, 2),
+        (2, 0),
+        (2, 1),
+        (2, 2),
+    ],
+);
+
+/// Whether the pages take that of bridge 1 and cycle 0.
+fn takes_first(alloc: Global, pages: &mut Pages) -> bool {
+    match page_with(alloc, 1, 0, 1) {
+        Ok(page) => pages.post(page).is_ok(),
+        Err(_) => false,
+    }
+}
+
+/// Whether three threads fill a book that begins with these pages, and it closes to the book of all pages.
+fn fills_in_threads<R: Threads + Wait + Sync>(rt: &R, alloc: Global, pages: Pages) -> bool {
+    match CycleBook::new(alloc, pages) {
+        Ok((book, mut shares)) => {
+            let fills = fills_three(rt, alloc, &book, shares.as_mut_slice());
+            let whole = book.whole_cycles(rt);
+            shares.reverse();
+            let closes = closes_to(book, shares, &NINE_PAGES);
+            fills && whole == 3 && closes
+        }
+        Err(_) => false,
+    }
+}
+
+/// Whether they do so where the book begins with the page of bridge 1 and cycle 0.
+fn fills_behind_one_page<R: Threads + Wait + Sync>(rt: &R, alloc: Global) -> bool {
+    match Pages::new(alloc, 3, 3) {
+        Ok(mut pages) => {
+            let begins = takes_first(alloc, &mut pages);
+            let fills = fills_in_threads(rt, alloc, pages);
+            begins && fills
+        }
+        Err(_) => false,
+    }
+}
+
+#[test]
+fn three_threads_write_one_book(rt: HostRuntime) -> Result<(), Fail> {
+    assert!(rt; fills_behind_one_page(&rt, rt.alloc()));
+    Ok(())
+}
+
+/// Faults, and how they print.
+const TEXTS: &[(BookClose, &str)] = &[
+    (BookClose::ShareMissing, "ShareMissing"),
+    (BookClose::SharesDisagree(1), "SharesDisagree 1"),
+    (BookClose::Memory, "Memory"),
+];
+
+#[test]
+fn a_fault_prints_as_its_name(rt: HostRuntime) -> Result<(), Fail> {
+    for (fault, name) in TEXTS {
+        let text = format!(in rt.alloc(); "{fault}")?;
+        assert_eq!(rt; text.as_str(), *name);
+    }
+    Ok(())
+}

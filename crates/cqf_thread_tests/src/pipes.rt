@@ -1,0 +1,114 @@
+//! Pipes, with values by hand.
+ghost use Rattle.std.specs.Prelude.{◌≡◌, length};
+
+use cqf_worker::{PipeIn, PipeOut, pipe};
+use std::alloc::Global;
+use std::sync::Wait;
+use std::test::Fail;
+use std::thread::{Threads, join};
+
+/// Whether the items 1, 2 and 3 go in.
+fn puts_three<R: Wait>(rt: &R, into: &mut PipeIn<u32>) -> bool
+    requires { length into.old.items ≡ 0 }
+    ensures { into.new.pipe ≡ into.old.pipe }
+{
+    into.put(rt, 1).is_ok() && into.put(rt, 2).is_ok() && into.put(rt, 3).is_ok()
+}
+
+/// Whether 1 and then 2 come out.
+fn takes_two<R: Wait>(rt: &R, out: &mut PipeOut<u32>) -> bool
+    ensures { out.new.pipe ≡ out.old.pipe }
+{
+    out.take(rt) == Some(1) && out.take(rt) == Some(2)
+}
+
+/// Whether three items go in, and two come out in that order, and one is left.
+fn one_of_three_is_left<R: Wait>(rt: &R, alloc: Global) -> bool {
+    match pipe::<u32>(alloc) {
+        Ok((mut into, mut out)) => {
+            let put = puts_three(rt, &mut into);
+            let taken = takes_two(rt, &mut out);
+            let left = into.close(out);
+            put && taken && left == 1
+        }
+        Err(_) => false,
+    }
+}
+
+/// Whether an item comes back where the other end is gone.
+fn comes_back<R: Wait>(rt: &R, alloc: Global) -> bool {
+    match pipe::<u32>(alloc) {
+        Ok((mut into, out)) => {
+            drop(out);
+            into.put(rt, 7) == Err(7)
+        }
+        Err(_) => false,
+    }
+}
+
+/// Whether an item comes out where the other end is gone, and then none.
+fn comes_out<R: Wait>(rt: &R, alloc: Global) -> bool {
+    match pipe::<u32>(alloc) {
+        Ok((mut into, mut out)) => {
+            let put = into.put(rt, 5).is_ok();
+            drop(into);
+            let first = out.take(rt);
+            let second = out.take(rt);
+            put && first == Some(5) && second == None
+        }
+        Err(_) => false,
+    }
+}
+
+#[test]
+fn pipe_3(rt: HostRuntime) -> Result<(), Fail> {
+    assert!(rt; one_of_three_is_left(&rt, rt.alloc()));
+    assert!(rt; comes_back(&rt, rt.alloc()));
+    assert!(rt; comes_out(&rt, rt.alloc()));
+    Ok(())
+}
+
+/// Whether the numbers 0 to 99 go in.
+fn puts_all<R: Wait>(rt: &R, mut into: PipeIn<u32>) -> bool
+    requires { length into.items ≡ 0 }
+{
+    for number in 0..100 {
+        if into.put(rt, number).is_err() {
+            return false;
+        }
+    }
+    true
+}
+
+/// Whether the numbers 0 to 99 come out, and then none.
+fn takes_all<R: Wait>(rt: &R, mut out: PipeOut<u32>) -> bool {
+    for number in 0..100 {
+        if out.take(rt) != Some(number) {
+            return false;
+        }
+    }
+    out.take(rt) == None
+}
+
+/// Whether a hundred numbers cross from one thread to another in order.
+fn crosses<R: Threads + Wait + Sync>(rt: &R, alloc: Global) -> bool {
+    match pipe::<u32>(alloc) {
+        Ok((into, out)) => {
+            let (put, taken) = join(
+                rt,
+                move || -> bool
+                    requires { length into.items ≡ 0 }
+                { puts_all(rt, into) },
+                move || takes_all(rt, out),
+            );
+            put && taken
+        }
+        Err(_) => false,
+    }
+}
+
+#[test]
+fn a_hundred_numbers_cross_in_order(rt: HostRuntime) -> Result<(), Fail> {
+    assert!(rt; crosses(&rt, rt.alloc()));
+    Ok(())
+}

@@ -1,0 +1,134 @@
+//! The two ends of a pipe.
+ghost use Rattle.std.specs.Prelude.{◌≡◌, ◌<◌, ◌++◌, [], ◌∷◌, IfErr, IfNone, IfOk, IfSome, OnOk, length};
+ghost use Rattle.cqf_worker.specs.PipeEnds.{AreLeft};
+
+use crate::pipe_rule::{InOrder, Log, Puts, Receiver, Roles, Sender, Takes, Token, Total};
+use cqf_units::Memory;
+use crossbeam_channel::bounded_with;
+use std::alloc::Global;
+use std::marker::Model;
+use std::sync::Wait;
+
+/// How many items wait in a pipe at most.
+const CAPACITY: usize = 4;
+
+/// The end of a pipe at which items are put. Contracts see which pipe it is, and the items that were put, in order.
+#[derive(Drop)]
+pub struct PipeIn<T: Drop> {
+    sender: Sender<T>,
+    pass: Token<T>,
+    puts: u64,
+}
+
+impl<T: Drop> Model for PipeIn<T> {
+    ghost use Rattle.std.specs.Prelude.{◌≡◌, ◌≤◌, length};
+    ghost use Rattle.crossbeam_channel.specs.Claims.{IsSeatAt};
+    ghost use Rattle.crossbeam_channel.specs.Ends.{sends_on};
+    ghost use Rattle.cqf_worker.specs.PipeEnds.{End, IsPutter, pipe_of, put_by};
+
+    ghost Value = { End T };
+
+    ghost view = { λ s. record { pipe = pipe_of s.pass; items = put_by s.pass } };
+
+    ghost invariant = { λ s. IsSeatAt (sends_on s.sender) s.pass × IsPutter s.pass × (s.puts ≡ length (put_by s.pass)) × (s.puts ≤ 1000000) };
+}
+
+/// The end of a pipe at which items are taken. Contracts see which pipe it is, and the items that were taken, in order.
+#[derive(Drop)]
+pub struct PipeOut<T: Drop> {
+    receiver: Receiver<T>,
+    pass: Token<T>,
+    takes: u64,
+}
+
+impl<T: Drop> Model for PipeOut<T> {
+    ghost use Rattle.std.specs.Prelude.{◌≡◌, ◌≤◌, length};
+    ghost use Rattle.crossbeam_channel.specs.Claims.{IsSeatAt};
+    ghost use Rattle.crossbeam_channel.specs.Ends.{receives_on};
+    ghost use Rattle.cqf_worker.specs.PipeEnds.{End, IsTaker, pipe_of, taken_by};
+
+    ghost Value = { End T };
+
+    ghost view = { λ s. record { pipe = pipe_of s.pass; items = taken_by s.pass } };
+
+    ghost invariant = { λ s. IsSeatAt (receives_on s.receiver) s.pass × IsTaker s.pass × (s.takes ≡ length (taken_by s.pass)) × (s.takes ≤ 1000000) };
+}
+
+/// The two ends of a pipe, at which nothing was put or taken yet. Four items can wait in it.
+pub fn pipe<T: Drop + Send>(alloc: Global) -> Result<(PipeIn<T>, PipeOut<T>), Memory>
+    ensures pair { IfOk result (λ ends. ends.0.pipe ≡ ends.1.pipe) }
+    ensures nothing_put { IfOk result (λ ends. ends.0.items ≡ []) }
+    ensures nothing_taken { IfOk result (λ ends. ends.1.items ≡ []) }
+{
+    let (sender, receiver, mut pass) = bounded_with::<T, Log<T>, InOrder, Global>(alloc, CAPACITY)?;
+    let other = sender.another::<Roles>(&mut pass);
+    let into = PipeIn {
+        sender,
+        pass,
+        puts: 0,
+    };
+    let out = PipeOut {
+        receiver,
+        pass: other,
+        takes: 0,
+    };
+    Ok((into, out))
+}
+
+impl<T: Drop> PipeIn<T> {
+    /// Puts an item in the pipe, up to a million in all. It waits while the pipe is full. Where the other end is gone the item
+    /// comes back, and nothing was put. It takes no memory.
+    pub fn put<R: Wait>(&mut self, rt: &R, item: T) -> Result<(), T>
+        requires room { length self.old.items < 1000000 }
+        ensures pipe { self.new.pipe ≡ self.old.pipe }
+        ensures ok { OnOk result (self.new.items ≡ self.old.items ++ item ∷ []) }
+        ensures err { IfErr result (λ back. self.new.items ≡ self.old.items) }
+        ensures back { IfErr result (λ back. back ≡ item) }
+    {
+        match self.sender.send_as::<Puts, R>(rt, &mut self.pass, item) {
+            Ok(()) => {
+                self.puts += 1;
+                Ok(())
+            }
+            Err(refused) => Err(refused.into_inner()),
+        }
+    }
+
+    /// How many items were put and not taken. Both ends are of one pipe. It waits for nobody and takes no memory.
+    pub fn close(self, out: PipeOut<T>) -> u64
+        requires pair { self.pipe ≡ out.pipe }
+        ensures { AreLeft self.items out.items result }
+    {
+        let PipeIn {
+            sender,
+            mut pass,
+            puts,
+        } = self;
+        let PipeOut {
+            receiver: _receiver,
+            pass: other,
+            takes,
+        } = out;
+        sender.absorb::<Roles>(&mut pass, other);
+        sender.learn_as::<Total>(&mut pass);
+        puts - takes
+    }
+}
+
+impl<T: Drop> PipeOut<T> {
+    /// Takes the item that was put first of those that wait. It waits while nothing waits in the pipe, and answers none where
+    /// the other end is gone too. It takes no memory.
+    pub fn take<R: Wait>(&mut self, rt: &R) -> Option<T>
+        ensures pipe { self.new.pipe ≡ self.old.pipe }
+        ensures some { IfSome result (λ item. self.new.items ≡ self.old.items ++ item ∷ []) }
+        ensures none { IfNone result (self.new.items ≡ self.old.items) }
+    {
+        match self.receiver.recv_as::<Takes, R>(rt, &mut self.pass) {
+            Ok(item) => {
+                self.takes += 1;
+                Some(item)
+            }
+            Err(_) => None,
+        }
+    }
+}
