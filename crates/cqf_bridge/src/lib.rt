@@ -23,8 +23,6 @@ mod outgoing;
 mod policing;
 mod receiving;
 mod sending;
-#[cfg(test)]
-mod tests;
 
 pub use batch::Batch;
 pub use bridge::Bridge;

@@ -1,0 +1,181 @@
+//! Cycles in turn: what a bridge refuses, and what stands after it.
+ghost use Rattle.std.specs.Prelude.{◌≡◌, ◌<◌, length};
+
+use crate::calls::{offers_for_x, receive};
+use crate::tables::{Call, ONE_BRANCH, add_tables, plan_of, tables_of};
+use cqf_admission::Table;
+use cqf_bridge::{Batch, Bridge, BridgeFault, Offer};
+use cqf_compile::Plan;
+use cqf_fixtures::line;
+use cqf_units::Cycle;
+use std::alloc::Global;
+use std::test::Fail;
+
+/// Whether a bridge sends a cycle, with one batch, of a link, that has no frame.
+fn sends_an_empty_batch(alloc: Global, bridge: &mut Bridge, cycle: Cycle, link: u8) -> bool
+    requires { cycle.0 < 100000 }
+{
+    let mut batches = Vec::new(alloc);
+    if bridge.send(alloc, cycle, &[], &mut batches).is_err() || batches.len() != 1 {
+        return false;
+    }
+    let batch = &batches.as_slice()[0];
+    batch.link() == link && batch.cycle() == cycle && batch.len() == 0 && batch.octets() == 0
+}
+
+/// Whether a bridge refuses to send a cycle for this cause, and gives no batch.
+fn refuses_to_send(alloc: Global, bridge: &mut Bridge, cycle: Cycle, fault: BridgeFault) -> bool
+    requires { cycle.0 < 100000 }
+{
+    let mut batches = Vec::new(alloc);
+    bridge.send(alloc, cycle, &[], &mut batches) == Err(fault) && batches.is_empty()
+}
+
+/// Why a bridge refuses to receive the cycle of a table, if it does.
+fn refusal(
+    alloc: Global,
+    bridge: &mut Bridge,
+    table: &Table,
+    batches: &[Batch],
+    offers: &[Offer],
+) -> Option<BridgeFault> {
+    let cycle = table.cycle();
+    if cycle.0 >= 100_000 {
+        return Some(BridgeFault::Memory);
+    }
+    receive(alloc, bridge, cycle, table, batches, offers).err()
+}
+
+/// Whether a bridge takes turns: it sends cycle 0, and nothing before it and behind it until it has received it.
+fn takes_turns(alloc: Global, bridge: &mut Bridge) -> bool {
+    let wrong = BridgeFault::WrongCycle;
+    refuses_to_send(alloc, bridge, Cycle(1), wrong)
+        && sends_an_empty_batch(alloc, bridge, Cycle(0), 1)
+        && refuses_to_send(alloc, bridge, Cycle(0), wrong)
+        && refuses_to_send(alloc, bridge, Cycle(1), wrong)
+        && bridge.background_starts().is_empty()
+}
+
+/// Whether a bridge that has sent cycle 0 wants a batch of link 0 to receive it, and receives it then.
+fn wants_its_batch(alloc: Global, first: &mut Bridge, bridge: &mut Bridge, table: &Table) -> bool {
+    let mut batches = Vec::new(alloc);
+    first.send(alloc, Cycle(0), &[], &mut batches).is_ok()
+        && refusal(alloc, bridge, table, &[], &[]) == Some(BridgeFault::StrangeBatch)
+        && refusal(alloc, bridge, table, batches.as_slice(), &[]) == None
+        && sends_an_empty_batch(alloc, bridge, Cycle(1), 1)
+}
+
+/// Whether it does so beside the first bridge of its plan.
+fn goes_in_turn(alloc: Global, plan: &Plan, tables: &[Table]) -> bool {
+    if plan.domain().bridges() != 3 || tables.len() != 1 {
+        return false;
+    }
+    let Ok(mut first) = Bridge::new(alloc, plan, 0) else {
+        return false;
+    };
+    let Ok(mut bridge) = Bridge::new(alloc, plan, 1) else {
+        return false;
+    };
+    takes_turns(alloc, &mut bridge) && wants_its_batch(alloc, &mut first, &mut bridge, &tables[0])
+}
+
+/// Whether the line's second bridge goes in turn, where no stream is held.
+fn line_goes_in_turn(alloc: Global) -> Result<bool, Fail> {
+    let tables = tables_of(alloc, line(), &[Call::Seal])?;
+    let plan = plan_of(alloc, line())?;
+    Ok(goes_in_turn(alloc, &plan, tables.as_slice()))
+}
+
+#[test]
+fn cycles_are_sent_and_received_in_turn(rt: HostRuntime) -> Result<(), Fail> {
+    assert!(rt; line_goes_in_turn(rt.alloc())?);
+    Ok(())
+}
+
+/// Admissions of two cycles each: one that holds 1,500 octets for `x`, one that holds 64, and one that holds no stream.
+const ADMISSIONS: &[&[Call]] = &[
+    &[Call::Admit(1500, ONE_BRANCH), Call::Seal, Call::Seal],
+    &[Call::Admit(64, ONE_BRANCH), Call::Seal, Call::Seal],
+    &[Call::Seal, Call::Seal],
+];
+
+/// Whether a bridge goes through cycle 0 with these offers, and appends what it sends in it and in the next one.
+fn sends_twice(
+    alloc: Global,
+    first: &mut Bridge,
+    table: &Table,
+    offers: &[Offer],
+    empty: &mut Vec<Batch>,
+    full: &mut Vec<Batch>,
+) -> bool {
+    first.send(alloc, Cycle(0), &[], empty).is_ok()
+        && refusal(alloc, first, table, &[], offers) == None
+        && first.send(alloc, Cycle(1), &[], full).is_ok()
+}
+
+/// Whether a bridge refuses the batch of cycle 1 where no row is of its frame, and is spent by it where the frame exceeds
+/// its gate.
+fn is_spent_by(
+    alloc: Global,
+    bridge: &mut Bridge,
+    tables: &[Table],
+    empty: &[Batch],
+    full: &[Batch],
+) -> bool
+    requires { length tables.now ≡ 6 }
+{
+    sends_an_empty_batch(alloc, bridge, Cycle(0), 1)
+        && refusal(alloc, bridge, &tables[2], empty, &[]) == None
+        && sends_an_empty_batch(alloc, bridge, Cycle(1), 1)
+        && refusal(alloc, bridge, &tables[5], full, &[]) == Some(BridgeFault::StrangeBatch)
+        && refusal(alloc, bridge, &tables[3], full, &[]) == Some(BridgeFault::OverOctets(1))
+        && refuses_to_send(alloc, bridge, Cycle(2), BridgeFault::Spent)
+}
+
+/// Whether the second bridge is spent by what the first one sends, which goes by the first admission, where it goes by the
+/// second itself.
+fn spends_the_next(
+    alloc: Global,
+    first: &mut Bridge,
+    bridge: &mut Bridge,
+    tables: &[Table],
+    offers: &[Offer],
+) -> bool
+    requires { length tables.now ≡ 6 }
+{
+    let mut empty = Vec::new(alloc);
+    let mut full = Vec::new(alloc);
+    sends_twice(alloc, first, &tables[0], offers, &mut empty, &mut full)
+        && is_spent_by(alloc, bridge, tables, empty.as_slice(), full.as_slice())
+}
+
+/// Whether it is so on a plan.
+fn disagree(alloc: Global, plan: &Plan, tables: &[Table], offers: &[Offer]) -> bool {
+    if plan.domain().bridges() != 3 || tables.len() != 6 {
+        return false;
+    }
+    let Ok(mut first) = Bridge::new(alloc, plan, 0) else {
+        return false;
+    };
+    let Ok(mut bridge) = Bridge::new(alloc, plan, 1) else {
+        return false;
+    };
+    spends_the_next(alloc, &mut first, &mut bridge, tables, offers)
+}
+
+/// Whether it is so on the line, where 1,500 octets are offered.
+fn line_disagrees(alloc: Global) -> Result<bool, Fail> {
+    let mut tables = Vec::new(alloc);
+    for calls in ADMISSIONS {
+        add_tables(alloc, line(), calls, &mut tables)?;
+    }
+    let offers = offers_for_x(alloc, &[(0, 0, 1500)])?;
+    let plan = plan_of(alloc, line())?;
+    Ok(disagree(alloc, &plan, tables.as_slice(), offers.as_slice()))
+}
+
+#[test]
+fn a_frame_that_exceeds_its_gate_inside_spends_the_bridge(rt: HostRuntime) -> Result<(), Fail> {
+    assert!(rt; line_disagrees(rt.alloc())?);
+    Ok(())
+}
