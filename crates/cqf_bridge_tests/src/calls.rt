@@ -10,24 +10,27 @@ use cqf_model::{Backed, Background};
 use cqf_topology::Domain;
 use cqf_units::{Cycle, Name, Nanos};
 use std::alloc::Global;
-use std::test::Fail;
 
 /// An offer for the stream `x`: its instant, its bridge and its octets.
 pub(crate) type Offering = (u64, u8, u32);
 
-/// The offers of a run, in order.
-pub(crate) fn offers_for_x(alloc: Global, cases: &[Offering]) -> Result<Vec<Offer>, Fail> {
-    let mut offers = Vec::new(alloc);
+/// Appends the offers of a run, in order.
+pub(crate) fn add_offers(cases: &[Offering], offers: &mut Vec<Offer>) -> bool {
     for (at, bridge, octets) in cases {
-        let stream = Name::new(b"x").ok_or("no name")?;
-        offers.push(Offer {
+        let Some(stream) = Name::new(b"x") else {
+            return false;
+        };
+        let offer = Offer {
             at: Nanos(*at),
             bridge: *bridge,
             stream,
             octets: *octets,
-        })?;
+        };
+        if offers.push(offer).is_err() {
+            return false;
+        }
     }
-    Ok(offers)
+    true
 }
 
 /// Whether an offer may be handed to a run of the domain.

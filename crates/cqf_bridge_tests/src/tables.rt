@@ -4,7 +4,6 @@ use cqf_compile::{Plan, compile};
 use cqf_topology::{Domain, Request};
 use cqf_units::Memory;
 use std::alloc::Global;
-use std::test::Fail;
 
 /// The line's one branch.
 pub(crate) const ONE_BRANCH: &[&[&str]] = &[&["a", "b", "c", "s"]];
@@ -18,15 +17,14 @@ pub(crate) enum Call {
 }
 
 /// The plan of a domain's text.
-pub(crate) fn plan_of(alloc: Global, text: &str) -> Result<Plan, Fail> {
-    let domain = Domain::read(alloc, text.as_bytes())?;
-    Ok(compile(alloc, &domain)?)
-}
-
-/// The admission of a domain's text.
-fn admission_of(alloc: Global, text: &str) -> Result<Admission, Fail> {
-    let domain = Domain::read(alloc, text.as_bytes())?;
-    Ok(Admission::new(alloc, &domain)?)
+pub(crate) fn plan_of(alloc: Global, text: &str) -> Option<Plan> {
+    let Ok(domain) = Domain::read(alloc, text.as_bytes()) else {
+        return None;
+    };
+    match compile(alloc, &domain) {
+        Ok(plan) => Some(plan),
+        Err(_) => None,
+    }
 }
 
 /// The nodes of a branch.
@@ -51,55 +49,46 @@ fn request_x(alloc: Global, octets: u32, branches: &[&[&str]]) -> Result<Request
     })
 }
 
-/// Makes a call, which is granted. A Seal's table goes behind those before it.
-fn make(
-    alloc: Global,
-    asked: &mut Admission,
-    call: &Call,
-    tables: &mut Vec<Table>,
-) -> Result<(), Fail> {
-    match call {
-        Call::Admit(octets, branches) => {
-            let request = request_x(alloc, *octets, branches)?;
-            asked.admit(0, &request)?;
-        }
-        Call::Withdraw => {
-            asked.withdraw(0, "x")?;
-        }
-        Call::Seal => tables.push(asked.seal(0)?)?,
+/// Whether a request for the stream `x` is granted.
+fn admit(alloc: Global, asked: &mut Admission, octets: u32, branches: &[&[&str]]) -> bool {
+    match request_x(alloc, octets, branches) {
+        Ok(request) => asked.admit(0, &request).is_ok(),
+        Err(_) => false,
     }
-    Ok(())
 }
 
-/// Makes calls one after the other.
-fn make_all(
-    alloc: Global,
-    asked: &mut Admission,
-    calls: &[Call],
-    tables: &mut Vec<Table>,
-) -> Result<(), Fail> {
+/// Closes a cycle, and puts its table behind those before it.
+fn seal(asked: &mut Admission, tables: &mut Vec<Table>) -> bool {
+    match asked.seal(0) {
+        Ok(table) => tables.push(table).is_ok(),
+        Err(_) => false,
+    }
+}
+
+/// Makes calls one after the other, which are granted.
+fn make_all(alloc: Global, asked: &mut Admission, calls: &[Call], tables: &mut Vec<Table>) -> bool {
     for call in calls {
-        make(alloc, asked, call, tables)?;
+        let made = match call {
+            Call::Admit(octets, branches) => admit(alloc, asked, *octets, branches),
+            Call::Withdraw => asked.withdraw(0, "x").is_ok(),
+            Call::Seal => seal(asked, tables),
+        };
+        if !made {
+            return false;
+        }
     }
-    Ok(())
+    true
 }
 
-/// Appends the tables of the Seals among these calls of an admission over a domain's text.
+/// Appends the tables of the Seals among these calls of an admission over a plan's domain.
 pub(crate) fn add_tables(
     alloc: Global,
-    text: &str,
+    plan: &Plan,
     calls: &[Call],
     tables: &mut Vec<Table>,
-) -> Result<(), Fail> {
-    let mut asked = admission_of(alloc, text)?;
-    let made = make_all(alloc, &mut asked, calls, tables);
-    drop(asked);
-    made
-}
-
-/// The tables of such calls alone.
-pub(crate) fn tables_of(alloc: Global, text: &str, calls: &[Call]) -> Result<Vec<Table>, Fail> {
-    let mut tables = Vec::new(alloc);
-    add_tables(alloc, text, calls, &mut tables)?;
-    Ok(tables)
+) -> bool {
+    match Admission::new(alloc, plan.domain()) {
+        Ok(mut asked) => make_all(alloc, &mut asked, calls, tables),
+        Err(_) => false,
+    }
 }
