@@ -8,7 +8,7 @@ mod KeptGates
 mod MadeBatch
 mod Receives
 mod Offering
-mod OfferedRuns
+pub mod OfferedRuns
 mod RunCycle
 mod Sends
 mod Taking

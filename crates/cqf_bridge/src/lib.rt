@@ -27,8 +27,6 @@ mod policing;
 mod receiving;
 mod recording;
 mod sending;
-#[cfg(test)]
-mod tests;
 
 pub use batch::Batch;
 pub use bridge::Bridge;

@@ -21,6 +21,32 @@ const WIDE: &str =
 const FORK: &str =
     "cycle = 125000\nguard = 5000\nbridges = [\"a\", \"b\", \"c\"]\nstations = [\"s\", \"t\"]\n[[links]]\nfrom = \"a\"\nto = \"b\"\nrate = 1000\ndelay = 500\n[[links]]\nfrom = \"b\"\nto = \"c\"\nrate = 1000\ndelay = 500\n[[links]]\nfrom = \"c\"\nto = \"s\"\nrate = 1000\ndelay = 500\n[[links]]\nfrom = \"b\"\nto = \"t\"\nrate = 1000\ndelay = 500\n";
 
+/// 17 bridges in a row, from 0 to 16, to station s.
+const CHAIN: &str =
+    "cycle = 125000\nguard = 5000\nstations = [\"s\"]\nbridges = [\"0\", \"1\", \"2\", \"3\", \"4\", \"5\", \"6\", \"7\", \"8\", \"9\", \"10\", \"11\", \"12\", \"13\", \"14\", \"15\", \"16\"]\nlinks = [\
+    { from = \"0\", to = \"1\", rate = 1000, delay = 500 }, \
+    { from = \"1\", to = \"2\", rate = 1000, delay = 500 }, \
+    { from = \"2\", to = \"3\", rate = 1000, delay = 500 }, \
+    { from = \"3\", to = \"4\", rate = 1000, delay = 500 }, \
+    { from = \"4\", to = \"5\", rate = 1000, delay = 500 }, \
+    { from = \"5\", to = \"6\", rate = 1000, delay = 500 }, \
+    { from = \"6\", to = \"7\", rate = 1000, delay = 500 }, \
+    { from = \"7\", to = \"8\", rate = 1000, delay = 500 }, \
+    { from = \"8\", to = \"9\", rate = 1000, delay = 500 }, \
+    { from = \"9\", to = \"10\", rate = 1000, delay = 500 }, \
+    { from = \"10\", to = \"11\", rate = 1000, delay = 500 }, \
+    { from = \"11\", to = \"12\", rate = 1000, delay = 500 }, \
+    { from = \"12\", to = \"13\", rate = 1000, delay = 500 }, \
+    { from = \"13\", to = \"14\", rate = 1000, delay = 500 }, \
+    { from = \"14\", to = \"15\", rate = 1000, delay = 500 }, \
+    { from = \"15\", to = \"16\", rate = 1000, delay = 500 }, \
+    { from = \"16\", to = \"s\", rate = 1000, delay = 500 }]\n";
+
+/// The path of the row.
+const LONG: [&str; 18] = [
+    "0", "1", "2", "3", "4", "5", "6", "7", "8", "9", "10", "11", "12", "13", "14", "15", "16", "s",
+];
+
 /// The path of the line.
 const WHOLE: [&str; 4] = ["a", "b", "c", "s"];
 
@@ -323,6 +349,15 @@ fn what_is_no_path_is_refused_at_its_place(rt: HostRuntime) -> Result<(), Fail> 
     assert!(rt; broken == Some(Refused::BrokenPath(1)));
     assert!(rt; ends_in_bridge == Some(Refused::BrokenPath(1)));
     assert!(rt; empty == Some(Refused::BrokenPath(0)));
+    Ok(())
+}
+
+#[test]
+fn a_path_has_16_bridges_at_most(rt: HostRuntime) -> Result<(), Fail> {
+    let most = refused_on(rt.alloc(), CHAIN, "x", 64, &LONG[1..])?;
+    let more = refused_on(rt.alloc(), CHAIN, "x", 64, &LONG)?;
+    assert!(rt; most == None);
+    assert!(rt; more == Some(Refused::BrokenPath(17)));
     Ok(())
 }
 

@@ -52,6 +52,11 @@ const CHANGES: &[(&str, &str, &str)] = &[
         "to = \"s\"\nrate = 1000\ndelay = 5000",
         "DelayTooLong 2",
     ),
+    (
+        "rate = 1000\ndelay = 500",
+        "rate = 10\ndelay = 5000",
+        "DelayTooLong 0",
+    ),
     ("guard = 5000", "guard = 125000", "GuardTooLong"),
     ("guard = 5000\n", "", "Missing guard"),
     (

@@ -1,10 +1,10 @@
-use Rattle.std.proofs.Common.{◌+◌, ◌∙◌, ◌++◌, ◌∷◌, [], List, ap, subst, sym, take}
+use Rattle.std.proofs.Common.{◌∙◌, ◌++◌, ◌∷◌, [], ap, subst, sym, take}
 use Rattle.std.specs.List.{All}
 use Rattle.std.proofs.lemmas.List.{take_all, take_more}
 use Rattle.std.proofs.lemmas.List.Elements.{All-push}
 use Rattle.cqf_model.specs.declared.frames.Offer.{Offer}
 use Rattle.cqf_model.specs.Run.{IsOffer}
-use Rattle.cqf_bridge.proofs.tests.are_offers.Goals as goal
+use Rattle.cqf_bridge_tests.proofs.calls.are_offers.Goals as goal
 
 pub loop-offer-preserved : goal.loop-offer-preserved
 loop-offer-preserved c =

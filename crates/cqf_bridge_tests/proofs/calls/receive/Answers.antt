@@ -3,7 +3,7 @@ use Rattle.cqf_model.specs.Domain.{Domain}
 use Rattle.cqf_model.specs.Run.{AreOffers}
 use Rattle.cqf_laws_pages.specs.Gathered.{offered_for}
 use Rattle.cqf_bridge.proofs.OfferedRuns.{run_of_offers}
-use Rattle.cqf_bridge.proofs.tests.receive.Goals as goal
+use Rattle.cqf_bridge_tests.proofs.calls.receive.Goals as goal
 
 pub receive-requires-clause-offers : goal.receive-requires-clause-offers
 receive-requires-clause-offers c =
