@@ -14,22 +14,32 @@ use std::io;
 /// The streams of a round.
 const STREAMS: u32 = 1_000;
 
-/// The ring of 32 bridges and 32 stations, as a text.
-fn domain_text(alloc: Global) -> Result<String, AllocError> {
-    let mut text = String::from_str(alloc, "cycle = 10000000\nguard = 10000\n")?;
-    text.push_str("bridges = [")?;
-    for bridge in 0..32u32 {
-        text.push_str(format!(in alloc; "\"b{bridge}\", ")?.as_str())?;
+/// Appends the names of the 32 nodes of a kind, with quotes and commas.
+fn push_names(alloc: Global, text: &mut String, kind: &str) -> Result<(), AllocError> {
+    for number in 0..32u32 {
+        let name = format!(in alloc; "\"{kind}{number}\", ")?;
+        text.push_str(name.as_str())?;
     }
+    Ok(())
+}
+
+/// Appends the links of the 32 bridges.
+fn push_links(alloc: Global, text: &mut String) -> Result<(), AllocError> {
+    for bridge in 0..32u32 {
+        let links = links_of(alloc, bridge)?;
+        text.push_str(links.as_str())?;
+    }
+    Ok(())
+}
+
+/// Appends the ring of 32 bridges and 32 stations.
+fn push_domain(alloc: Global, text: &mut String) -> Result<(), AllocError> {
+    text.push_str("cycle = 10000000\nguard = 10000\nbridges = [")?;
+    push_names(alloc, text, "b")?;
     text.push_str("]\nstations = [")?;
-    for station in 0..32u32 {
-        text.push_str(format!(in alloc; "\"s{station}\", ")?.as_str())?;
-    }
+    push_names(alloc, text, "s")?;
     text.push_str("]\n")?;
-    for bridge in 0..32u32 {
-        text.push_str(links_of(alloc, bridge)?.as_str())?;
-    }
-    Ok(text)
+    push_links(alloc, text)
 }
 
 /// The links of a bridge: to the next bridge and to its station.
@@ -45,20 +55,43 @@ fn name_of(alloc: Global, stream: u32) -> Result<String, AllocError> {
     format!(in alloc; "stream-{stream}")
 }
 
-/// A request for a stream: three bridges of the ring, and the station of the last.
-fn request_of(alloc: Global, stream: u32) -> Result<Request, AllocError> {
+/// Appends the name of a node of a kind.
+fn push_node(
+    alloc: Global,
+    path: &mut Vec<String>,
+    kind: &str,
+    number: u32,
+) -> Result<(), AllocError> {
+    let name = format!(in alloc; "{kind}{number}")?;
+    path.push(name)?;
+    Ok(())
+}
+
+/// Appends the path of a stream: three bridges of the ring, and the station of the last.
+fn push_path(alloc: Global, path: &mut Vec<String>, stream: u32) -> Result<(), AllocError> {
     let first = stream % 32;
-    let second = (first + 1) % 32;
+    push_node(alloc, path, "b", first)?;
+    push_node(alloc, path, "b", (first + 1) % 32)?;
     let last = (first + 2) % 32;
+    push_node(alloc, path, "b", last)?;
+    push_node(alloc, path, "s", last)
+}
+
+/// The one path of a stream.
+fn paths_of(alloc: Global, stream: u32) -> Result<Vec<Vec<String>>, AllocError> {
     let mut path = Vec::new(alloc);
-    path.push(format!(in alloc; "b{first}")?)?;
-    path.push(format!(in alloc; "b{second}")?)?;
-    path.push(format!(in alloc; "b{last}")?)?;
-    path.push(format!(in alloc; "s{last}")?)?;
+    push_path(alloc, &mut path, stream)?;
     let mut paths = Vec::new(alloc);
     paths.push(path)?;
+    Ok(paths)
+}
+
+/// A request for a stream.
+fn request_of(alloc: Global, stream: u32) -> Result<Request, AllocError> {
+    let name = name_of(alloc, stream)?;
+    let paths = paths_of(alloc, stream)?;
     Ok(Request {
-        name: name_of(alloc, stream)?,
+        name,
         octets: 64,
         paths,
     })
@@ -95,14 +128,20 @@ fn seal_five(admission: &mut Admission) {
     }
 }
 
+/// The number of rounds that a word asks for.
+fn rounds_of(word: Option<String>) -> u32 {
+    match word {
+        Some(word) => word.as_str().parse().unwrap_or(2u32).clamp(1, 50),
+        None => 2,
+    }
+}
+
 /// The number of rounds that the process's words ask for.
 fn rounds<R: Env + AllocGlobal>(rt: &R) -> io::Result<u32> {
-    for word in std::env::args(rt)?.skip(1) {
-        if let Ok(rounds) = word.as_str().parse::<u32>() {
-            return Ok(rounds.clamp(1, 50));
-        }
-    }
-    Ok(2)
+    let mut words = std::env::args(rt)?;
+    let _program = words.next();
+    let word = words.next();
+    Ok(rounds_of(word))
 }
 
 /// Makes the calls of so many rounds. How many were accepted.
@@ -127,16 +166,24 @@ fn count_accepted(alloc: Global, domain: &Domain, rounds: u32) -> Result<u32, Al
 
 /// The same over the domain of a text, or none where that is refused.
 fn count_over(alloc: Global, text: &str, rounds: u32) -> Result<Option<u32>, AllocError> {
-    match Domain::read(alloc, text.as_bytes()) {
-        Ok(domain) => Ok(Some(count_accepted(alloc, &domain, rounds)?)),
-        Err(_) => Ok(None),
-    }
+    let Ok(domain) = Domain::read(alloc, text.as_bytes()) else {
+        return Ok(None);
+    };
+    let accepted = count_accepted(alloc, &domain, rounds);
+    drop(domain);
+    Ok(Some(accepted?))
+}
+
+/// The same over the ring.
+fn count_over_ring(alloc: Global, rounds: u32) -> Result<Option<u32>, AllocError> {
+    let mut text = String::new(alloc);
+    push_domain(alloc, &mut text)?;
+    count_over(alloc, text.as_str(), rounds)
 }
 
 fn main(rt: HostRuntime) -> io::Result<()> {
     let rounds = rounds(&rt)?;
-    let text = domain_text(rt.alloc())?;
-    match count_over(rt.alloc(), text.as_str(), rounds)? {
+    match count_over_ring(rt.alloc(), rounds)? {
         Some(accepted) => {
             let calls = rounds.saturating_mul(2_000);
             println!(rt; "{calls} calls, {accepted} accepted")

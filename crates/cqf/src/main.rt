@@ -26,11 +26,8 @@
 //! ```
 #![tactic(auto)]
 
-ghost use Rattle.std.specs.Prelude.{codes};
-ghost use Rattle.cqf_stop.specs.Stops.{EndsWith, line_of};
-
 use cqf_engine::{Heard, Told, engine, tell};
-use cqf_stop::{Stop, USAGE};
+use cqf_stop::Stop;
 use std::alloc::{AllocError, Global};
 use std::env::Env;
 use std::io;
@@ -51,17 +48,6 @@ fn texts(alloc: Global, words: &[String]) -> Result<Vec<&str>, AllocError> {
         .collect(alloc)
 }
 
-/// The end where the process's words can't be had: they aren't text, or memory lacks.
-fn no_arguments(alloc: Global, error: &io::Error) -> Stop
-    ensures { EndsWith 2 (line_of (codes "cqf: words")) result }
-{
-    if error.kind() == io::ErrorKind::OutOfMemory {
-        Stop::memory(alloc)
-    } else {
-        Stop::with_line(alloc, USAGE, "cqf: words\n")
-    }
-}
-
 fn main(rt: HostRuntime) -> ExitCode {
     let alloc = rt.alloc();
     let mut input = Heard::new(alloc, rt.stdin());
@@ -69,7 +55,7 @@ fn main(rt: HostRuntime) -> ExitCode {
     let words = match arguments(&rt) {
         Ok(words) => words,
         Err(error) => {
-            let stop = no_arguments(alloc, &error);
+            let stop = Stop::without_words(alloc, &error);
             return ExitCode::from(tell(&stop, &mut output, &mut faults));
         }
     };

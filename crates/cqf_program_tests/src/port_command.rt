@@ -41,6 +41,8 @@ const STARTS: &[(&str, &str, &str)] = &[
         "425,6,64,1\n900,7,64,2\n",
         "7,2,900,1476\n6,1,2000,2576\n",
     ),
+    // a frame that comes in the last tenth of the time
+    (LIST, "900000,6,64,1\n", "6,1,900000,900576\n"),
     // no arrivals
     (LIST, "", ""),
 ];

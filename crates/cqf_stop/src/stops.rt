@@ -1,9 +1,10 @@
 //! Ends of the program before its work is done.
-ghost use Rattle.std.specs.Prelude.{◌≡◌, ◌≢◌, [], IfOk, IfSome, MatchResult, string_bytes};
-ghost use Rattle.cqf_stop.specs.Stops.{EndsWith, fault_line};
+ghost use Rattle.std.specs.Prelude.{◌≡◌, ◌≢◌, [], IfOk, IfSome, MatchResult, codes, string_bytes};
+ghost use Rattle.cqf_stop.specs.Stops.{EndsWith, fault_line, line_of};
 
 use std::alloc::{AllocError, Global};
 use std::fmt::Display;
+use std::io;
 
 /// What was asked for is done.
 pub const DONE: u8 = 0;
@@ -53,6 +54,17 @@ impl Stop {
         match Vec::from_slice(alloc, line.as_bytes()) {
             Ok(text) => Stop { status, text },
             Err(_) => Stop::memory(alloc),
+        }
+    }
+
+    /// The end where the process's words can't be had: they aren't text, or memory lacks.
+    pub fn without_words(alloc: Global, error: &io::Error) -> Stop
+        ensures { EndsWith 2 (line_of (codes "cqf: words")) result }
+    {
+        if error.kind() == io::ErrorKind::OutOfMemory {
+            Stop::memory(alloc)
+        } else {
+            Stop::with_line(alloc, USAGE, "cqf: words\n")
         }
     }
 
