@@ -63,8 +63,9 @@ fn seats_up_to(line: &[u8]) -> u16
     }
 }
 
-/// The number of administrators: one more than the greatest of their numbers.
-fn administrators(text: &[u8]) -> u16
+/// The number of administrators of a script: one more than the greatest number whose order a line is, or 0 where there is
+/// none (profile). It is the seat of the Seals.
+pub fn administrators(text: &[u8]) -> u16
     ensures { result ≡ administrators (lines_of text.now) }
 {
     let mut most: u16 = 0;
