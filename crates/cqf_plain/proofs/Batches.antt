@@ -18,9 +18,10 @@ use Rattle.cqf_model.specs.Run.{Run}
 use Rattle.cqf_model.proofs.Coming.{backed_in_late}
 use Rattle.cqf_laws_pages.specs.BridgeCycle.{IsCompiledNetwork}
 use Rattle.cqf_laws_pages.specs.PortCycle.{PortStartsTheBatch, StartsInCycle, waits_in}
+use Rattle.cqf_plain.specs.Laws.{StepLaws}
 use Rattle.cqf_plain.specs.Ports.{HaveSent, LinkPort, StandAt, carried_by, network_of, port_at, rules_on}
 use Rattle.cqf_plain.specs.Sending.{sent_from}
-use Rattle.cqf_plain.proofs.OneCycle.{StepLaws, sent_legal, sent_queued}
+use Rattle.cqf_plain.proofs.OneCycle.{sent_legal, sent_queued}
 use Rattle.cqf_laws_port.specs.PortLaws.{HasAllBefore, OnlyThePastCounts}
 
 -- what comes from an instant on changes nothing of what comes before it

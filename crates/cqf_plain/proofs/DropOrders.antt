@@ -10,8 +10,9 @@ use Rattle.cqf_model.specs.Run.{Run}
 use Rattle.cqf_model.specs.Traffic.{Carried, policed_before}
 use Rattle.cqf_laws_pages.specs.BridgeCycle.{DropsAreOfTheCycle, policed_of}
 use Rattle.cqf_plain.specs.Cycle.{drops_at, drops_before}
+use Rattle.cqf_plain.specs.Laws.{StepLaws}
 use Rattle.cqf_plain.specs.Ports.{HaveSent, HaveTaken, LinkPort, StandAt, carried_by}
-use Rattle.cqf_plain.proofs.OneCycle.{StepLaws, same_network, sent_keeps}
+use Rattle.cqf_plain.proofs.OneCycle.{same_network, sent_keeps}
 
 -- the drops before a cycle are, cycle by cycle, those of each
 drops_by_cycle : DropsAreOfTheCycle → (run : Run) (cycles : ℕ) (carried : Carried) →

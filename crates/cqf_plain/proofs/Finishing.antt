@@ -9,14 +9,15 @@ use Rattle.cqf_model.specs.Book.{IsBook, drops_of}
 use Rattle.cqf_model.specs.Network.{IsLoss, IsLost, Network, compiled_lists}
 use Rattle.cqf_model.specs.Run.{Run}
 use Rattle.cqf_model.specs.Traffic.{Policed, policed_before}
-use Rattle.cqf_laws_network.specs.NetworkLaws.{IsShorter, LegalNetworkExists, LegalNetworkIsUnique}
-use Rattle.cqf_laws_pages.specs.BridgeCycle.{BridgeGoesOn, policed_of}
-use Rattle.cqf_laws_pages.specs.RunSteps.{KeepsItsCycles, LossesAreOfCycles, RunIsItsCycles}
+use Rattle.cqf_laws_network.specs.NetworkLaws.{IsShorter, LegalNetworkIsUnique}
+use Rattle.cqf_laws_pages.specs.BridgeCycle.{policed_of}
+use Rattle.cqf_laws_pages.specs.RunSteps.{KeepsItsCycles}
 use Rattle.cqf_plain.specs.Cycle.{NoneLost, NoneLostIn}
+use Rattle.cqf_plain.specs.Laws.{LossLaws, StepLaws}
 use Rattle.cqf_plain.specs.Ports.{HaveSent, HaveTaken, LinkPort, StandAt, carried_by, network_of}
 use Rattle.cqf_plain.specs.Run.{LosesInside, LosesNothing}
 use Rattle.cqf_plain.specs.Telling.{AreOf, TellsBook}
-use Rattle.cqf_plain.proofs.OneCycle.{StepLaws, same_network, sent_keeps, sent_legal, stand_legal}
+use Rattle.cqf_plain.proofs.OneCycle.{same_network, sent_keeps, sent_legal, stand_legal}
 
 -- the ports of a run that stand at a cycle have sent before it alone
 pub stand_of : (run : Run) (cycles : ℕ) (ports : List LinkPort) → StandAt run cycles ports → AreOf run.domain cycles ports
@@ -38,14 +39,6 @@ book_of_ports run cycles ports starts background drops stand tells dropped = rec
   are_background = tells.are_background;
   are_drops = dropped;
 }
-
--- the laws about losses
-pub record LossLaws : Type 0 where
-  pub exists : LegalNetworkExists
-  pub unique : LegalNetworkIsUnique
-  pub bridges : BridgeGoesOn
-  pub cycles : RunIsItsCycles
-  pub losses : LossesAreOfCycles
 
 module _ (run : Run) (cycle : ℕ) (before sent after : List LinkPort) (laws : StepLaws) (loss : LossLaws) (short : run.domain.guard < run.domain.cycle_time)
     (stand : StandAt run cycle before) (sends : HaveSent run cycle before sent) where

@@ -8,6 +8,8 @@ mod GoingOn
 mod PassedFrames
 mod Bridging
 mod Elsewhere
+mod Cutting
+mod EdgeOrders
 mod Transmitting
 mod Arranged
 mod Tellings
@@ -19,4 +21,5 @@ mod Batches
 mod Since
 mod Finishing
 mod WholeRun
+mod Taking
 mod RunReady

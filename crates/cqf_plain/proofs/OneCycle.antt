@@ -29,8 +29,9 @@ use Rattle.cqf_model.specs.Network.{queued_before}
 use Rattle.cqf_model.proofs.Links.{octet_positive}
 use Rattle.cqf_laws_network.specs.NetworkLaws.{IsShorter}
 use Rattle.cqf_laws_pages.specs.BridgeCycle.{policed_of}
-use Rattle.cqf_laws_pages.specs.PortCycle.{ClosedArrivalsChangeNothing, PortGoesOn, QueuedFramesWait, QueuedInItsCycle, waits_in}
-use Rattle.cqf_laws_pages.specs.RunSteps.{KeepsItsCycles, LongerRunKeepsItsCycles, RunGoesOn, SendsOneMore}
+use Rattle.cqf_laws_pages.specs.PortCycle.{waits_in}
+use Rattle.cqf_laws_pages.specs.RunSteps.{KeepsItsCycles, SendsOneMore}
+use Rattle.cqf_plain.specs.Laws.{StepLaws}
 use Rattle.cqf_plain.specs.Ports.{HaveRun, HaveSent, HaveTaken, IsLegalUpTo, LinkPort, StandAt, backed_by, backs_of, carried_by, network_of, new_port, no_port, port_at, rules_on, sents_of}
 
 -- frames that came later change nothing of what was sent
@@ -72,15 +73,6 @@ module _ (run : Run) (cycle : ℕ) (ports : List LinkPort) where
     sends = λ l inside. sends_as (cycle * run.domain.cycle_time) l (comes_before run (carried_by ports) l cycle) stand.ran inside (stand.came l inside);
     no_others = λ l past. no_others (cycle * run.domain.cycle_time) l stand.ran past;
   }
-
--- the laws by which a cycle is one step
-pub record StepLaws : Type 0 where
-  pub goes_on : RunGoesOn
-  pub keeps : LongerRunKeepsItsCycles
-  pub queued : QueuedInItsCycle
-  pub port_goes_on : PortGoesOn
-  pub waits : QueuedFramesWait
-  pub closed : ClosedArrivalsChangeNothing
 
 module _ (run : Run) (cycle : ℕ) (before sent : List LinkPort) (laws : StepLaws) (short : run.domain.guard < run.domain.cycle_time)
     (stand : StandAt run cycle before) (sends : HaveSent run cycle before sent) where
@@ -219,7 +211,7 @@ stand_ready run cycle ports some stand = record {
 -- and when they send the background frames between two cuts, they send the cycle
 pub sends_of_run : BackgroundStandsInOrder → PortsGetTheirBackground → (run : Run) (cycle from to : ℕ) (frames : List Backed) (before after : List LinkPort) →
     0 < run.domain.cycle_time → IsInOrderOf at_of (numbered_background run.background) frames →
-    IsCut (cycle * run.domain.cycle_time) frames from → IsCut ((cycle + 1) * run.domain.cycle_time) frames to → from ≤ to →
+    IsCut at_of (cycle * run.domain.cycle_time) frames from → IsCut at_of ((cycle + 1) * run.domain.cycle_time) frames to → from ≤ to →
     SendCycle run.domain cycle (between frames from to) before after → HaveSent run cycle before after
 sends_of_run stands ports run cycle from to frames before after some arranged first last order sends = record {
   ran = sends.ran;

@@ -1,11 +1,7 @@
 -- The ports send a cycle: its background frames are those up to the next cut, and all run to its end.
-use Rattle.std.proofs.Common.{◌≡◌, ℕ, ◌+◌, ◌-◌, ◌*◌, ◌≤◌, ◌<◌, ◌++◌, List, [], ◌∷◌, AllPairs, Contains, sym, ap, ◌∙◌, inl, inr, arith, subst, length, take, drop, get_or, length-append, take-append-drop}
+use Rattle.std.proofs.Common.{ℕ, ◌+◌, ◌-◌, ◌*◌, ◌≤◌, ◌<◌, ◌++◌, List, AllPairs, Contains, sym, ap, ◌∙◌, arith, subst, length, take, drop, get_or, length-append, take-append-drop}
 use Rattle.std.specs.BTreeSet.{BTreeSet}
-use Rattle.std.specs.List.Sorted.{IsNonDecreasingBy}
-use Rattle.std.proofs.lemmas.List.{get_or_append_left, get_or-drop, length-drop, take_more}
-use Rattle.std.proofs.lemmas.Option.{get_or_from_slice_get, slice_get_within}
-use Rattle.std.proofs.lemmas.List.Elements.{Contains-append_cases, Contains-append_right}
-use Rattle.cqf_lists.proofs.Members.{place_of_member, contains_from_take, contains_one}
+use Rattle.std.proofs.lemmas.List.{get_or_append_left}
 use Rattle.cqf_lists.proofs.Pairs.{pairs_second}
 use Rattle.cqf_model.specs.declared.frames.Backed.{Backed}
 use Rattle.cqf_model.specs.Domain.{Domain}
@@ -14,25 +10,7 @@ use Rattle.cqf_plain.specs.Backing.{AllGet, MayCome}
 use Rattle.cqf_plain.specs.Clock.{AllRunTo, Due}
 use Rattle.cqf_plain.specs.Ports.{LinkPort, port_at}
 use Rattle.cqf_plain.specs.Sending.{AreArranged, AreReady, IsCut, SendCycle, at_of, between}
-
--- the frames before a place are before an instant
-pub record AreSooner (end : ℕ) (frames : List Backed) (from place : ℕ) : Type 0 where
-  pub behind : from ≤ place
-  pub inside : place ≤ length frames
-  pub sooner : (x : Backed) → Contains (take place frames) x → at_of x < end
-
--- one more is
-pub one_sooner : (end : ℕ) (frames : List Backed) (from place : ℕ) (d : Backed) → AreSooner end frames from place → place < length frames →
-    at_of (get_or frames place d) < end → AreSooner end frames from (place + 1)
-one_sooner end frames from place d h inside early = record {
-  behind = omega (arith, h.behind);
-  inside = omega (arith, inside);
-  sooner = λ x c. elim (Contains-append_cases (take place frames) (get_or frames place d ∷ []) x
-      (subst (λ (xs : List Backed). Contains xs x) (take_more frames place d inside) c)) [
-        | inl old ↦ h.sooner x old
-        | inr new ↦ subst (λ (y : Backed). at_of y < end) (contains_one (get_or frames place d) x new) early
-      ];
-}
+use Rattle.cqf_plain.proofs.Cutting.{between_all}
 
 -- pairs of a front
 pairs_front : {X : Type 0} (R : X → X → Type 0) (xs ys : List X) → AllPairs R (xs ++ ys) → AllPairs R xs
@@ -40,31 +18,12 @@ pairs_front {X} R xs ys all i j d less below =
     subst (λ (x : X). R x (get_or xs j d)) (get_or_append_left xs ys d i (omega (arith, less, below)))
     (subst (λ (y : X). R (get_or (xs ++ ys) i d) y) (get_or_append_left xs ys d j below) (all i j d less (omega (arith, below, length-append xs ys))))
 
--- where the first of the others isn't, none is
-pub cut_there : (end : ℕ) (frames : List Backed) (from place : ℕ) (d : Backed) → AreSooner end frames from place → IsNonDecreasingBy at_of frames →
-    place < length frames → end ≤ at_of (get_or frames place d) → IsCut end frames place
-cut_there end frames from place d h ordered inside late = record {
-  inside = h.inside;
-  sooner = h.sooner;
-  later = λ x c.
-      let k = place_of_member (drop place frames) x c in
-      let below : k.0 < length (drop place frames) = slice_get_within (drop place frames) k.0 x k.1 in
-      let e : get_or frames (place + k.0) d ≡ x = sym (get_or-drop place frames k.0 d) ∙ get_or_from_slice_get (drop place frames) k.0 x d k.1 in
-      omega (arith, late, ordered place (place + k.0) d (omega arith) (omega (arith, below, length-drop place frames)), ap at_of e);
-}
-
--- the frames between two cuts are among all
-between_all : (frames : List Backed) (from to : ℕ) (x : Backed) → Contains (between frames from to) x → Contains (drop from frames) x × Contains frames x
-between_all frames from to x h =
-    let k = contains_from_take (drop from frames) (to - from) x h in
-    (k, subst (λ (xs : List Backed). Contains xs x) (take-append-drop from frames) (Contains-append_right (take from frames) (drop from frames) x k))
-
 -- those of a cycle may come to the ports
 pub may_come : (d : Domain) (cycle : ℕ) (frames : List Backed) (from to : ℕ) (ports : List LinkPort) → AreReady d cycle ports → AreArranged d frames →
-    IsCut (cycle * d.cycle_time) frames from → MayCome (between frames from to) ports
+    IsCut at_of (cycle * d.cycle_time) frames from → MayCome (between frames from to) ports
 may_come d cycle frames from to ports ready arranged cut =
     let pairs : AllPairs (λ (a b : Backed). at_of a ≤ at_of b) frames = λ i j z less below. arranged.in_order i j z (omega (arith, less)) below in
-    let good = λ (x : Backed) (h : Contains (between frames from to) x). arranged.good x (between_all frames from to x h).1 in
+    let good = λ (x : Backed) (h : Contains (between frames from to) x). arranged.good x (between_all at_of frames from to x h).1 in
     record {
       inside = λ x h. omega (arith, (good x h).on_link, ready.ran.one_each);
       classes = λ x h. omega (arith, (good x h).class_most);
@@ -74,7 +33,7 @@ may_come d cycle frames from to ports ready arranged cut =
           (pairs_second (λ (a b : Backed). at_of a ≤ at_of b) (take from frames) (drop from frames)
           (subst (AllPairs (λ (a b : Backed). at_of a ≤ at_of b)) (sym (take-append-drop from frames)) pairs)));
       each = λ x l h below.
-          let late = cut.later x (between_all frames from to x h).0 in
+          let late = cut.later x (between_all at_of frames from to x h).0 in
           let in_links : l < length d.links = omega (arith, below, ready.ran.one_each) in
           record {
             ahead = omega (arith, late, ready.ran.no_further l in_links);

@@ -1,42 +1,23 @@
 -- A run from its beginning to its book.
-use Rattle.std.proofs.Common.{ℕ, ◌+◌, ◌*◌, ◌<◌, ◌≤◌, ◌++◌, List, [], sym, refl, ap, ◌∙◌, arith, length, Option}
+use Rattle.std.proofs.Common.{ℕ, ◌+◌, ◌*◌, ◌<◌, ◌≤◌, ◌++◌, List, [], sym, refl, ap, ◌∙◌, arith, length, subst, Option}
 use Rattle.std.specs.BTreeSet.{BTreeSet}
-use Rattle.cqf_lists.proofs.Members.{contains_none}
 use Rattle.cqf_model.specs.declared.frames.Backed.{Backed}
 use Rattle.cqf_model.specs.declared.frames.Dropped.{Dropped}
 use Rattle.cqf_model.specs.declared.frames.Started.{Started}
 use Rattle.cqf_model.specs.Book.{Contents}
 use Rattle.cqf_model.specs.Run.{Run}
-use Rattle.cqf_laws_network.specs.NetworkLaws.{BookIsUnique}
-use Rattle.cqf_laws_pages.specs.BridgeCycle.{DropsAreOfTheCycle}
-use Rattle.cqf_laws_pages.specs.Gathered.{BackgroundStandsInOrder, PortsGetTheirBackground}
 use Rattle.cqf_plain.specs.Clock.{Due, IsFresh}
 use Rattle.cqf_plain.specs.Cycle.{IsAt, IsRunOf, TakesCycle, drops_at}
+use Rattle.cqf_plain.specs.Laws.{RunLaws}
 use Rattle.cqf_plain.specs.Ports.{AreNew, HaveSent, LinkPort, carried_by}
 use Rattle.cqf_plain.specs.Run.{IsBookOfRun}
-use Rattle.cqf_plain.specs.Sending.{IsCut, SendCycle, between}
+use Rattle.cqf_plain.specs.Sending.{IsCut, SendCycle, at_of, between}
 use Rattle.cqf_plain.specs.Telling.{TellsBook}
+use Rattle.cqf_plain.proofs.Cutting.{first_cut}
 use Rattle.cqf_plain.proofs.DropOrders.{drops_on}
-use Rattle.cqf_plain.proofs.Finishing.{LossLaws, book_of_ports, loses_nothing, none_lost_first, none_lost_on}
-use Rattle.cqf_plain.proofs.OneCycle.{StepLaws, sends_of_run, stand_first, stand_on}
+use Rattle.cqf_plain.proofs.Finishing.{book_of_ports, loses_nothing, none_lost_first, none_lost_on}
+use Rattle.cqf_plain.proofs.OneCycle.{sends_of_run, stand_first, stand_on}
 use Rattle.cqf_plain.proofs.Watching.{new_watched}
-
--- all laws on which a run stands
-pub record RunLaws : Type 0 where
-  pub step : StepLaws
-  pub loss : LossLaws
-  pub among : DropsAreOfTheCycle
-  pub stands : BackgroundStandsInOrder
-  pub ports : PortsGetTheirBackground
-  pub one_book : BookIsUnique
-
--- at first no background frame has come
-first_cut : (run : Run) (frames : List Backed) → IsCut (0 * run.domain.cycle_time) frames 0
-first_cut run frames = record {
-  inside = omega arith;
-  sooner = λ x h. absurd (contains_none x h);
-  later = λ x h. omega arith;
-}
 
 -- new ports begin the run
 pub begins_at : (run : Run) (frames : List Backed) (ports : List LinkPort) (due : BTreeSet Due) (told : List (Option ℕ)) → AreNew run.domain ports →
@@ -44,7 +25,7 @@ pub begins_at : (run : Run) (frames : List Backed) (ports : List LinkPort) (due 
 begins_at run frames ports due told new fresh = record {
   stand = stand_first run ports new.one_each new.each;
   watched = new_watched run.domain ports due told new fresh;
-  cut = first_cut run frames;
+  cut = subst (λ (t : ℕ). IsCut at_of t frames 0) (omega arith) (first_cut at_of frames);
   dropped = refl;
   none_lost = none_lost_first run ports;
 }
@@ -52,7 +33,7 @@ begins_at run frames ports due told new fresh = record {
 -- a cycle that is sent and taken brings it to the next
 pub goes_on_at : RunLaws → (run : Run) (cycle : ℕ) (frames : List Backed) (from to : ℕ) (before sent after : List LinkPort) (due due_after : BTreeSet Due)
     (drops drops_after : List Dropped) → IsRunOf run frames → IsAt run cycle frames from before due drops →
-    IsCut ((cycle + 1) * run.domain.cycle_time) frames to → from ≤ to → SendCycle run.domain cycle (between frames from to) before sent →
+    IsCut at_of ((cycle + 1) * run.domain.cycle_time) frames to → from ≤ to → SendCycle run.domain cycle (between frames from to) before sent →
     TakesCycle run cycle sent after due_after drops drops_after → IsAt run (cycle + 1) frames to after due_after drops_after
 goes_on_at laws run cycle frames from to before sent after due due_after drops drops_after is_run at cut order sends takes =
     let short = is_run.accepted.guard_short in

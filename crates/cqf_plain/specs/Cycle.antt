@@ -46,7 +46,7 @@ pub record IsAt (run : Run) (cycle : ℕ) (frames : List Backed) (next : ℕ) (p
     Type 0 where
   pub stand : StandAt run cycle ports
   pub watched : AreWatched due ports
-  pub cut : IsCut (cycle * run.domain.cycle_time) frames next
+  pub cut : IsCut at_of (cycle * run.domain.cycle_time) frames next
   pub dropped : drops ≡ drops_before run cycle (carried_by ports)
   pub none_lost : NoneLost run cycle ports
 

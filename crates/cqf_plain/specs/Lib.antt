@@ -1,11 +1,16 @@
 pub mod Faults
 pub mod Run
+pub mod Promise
 pub mod Frames
 pub mod Ports
 pub mod Clock
 pub mod Backing
 pub mod Passing
 pub mod Bridging
+pub mod AtBridge
 pub mod Sending
 pub mod Telling
 pub mod Cycle
+pub mod Laws
+pub mod Edge
+pub mod Going

@@ -20,14 +20,14 @@ pub record AreArranged (d : Domain) (frames : List Backed) : Type 0 where
   pub good : (x : Backed) → Contains frames x → IsBackground d x.background
   pub in_order : IsNonDecreasingBy at_of frames
 
--- those before a place are before an instant, and the others aren't
-pub record IsCut (end : ℕ) (frames : List Backed) (place : ℕ) : Type 0 where
+-- of frames that come at some instants, those before a place come before an end, and the others don't
+pub record IsCut {X : Type 0} (when : X → ℕ) (end : ℕ) (frames : List X) (place : ℕ) : Type 0 where
   pub inside : place ≤ length frames
-  pub sooner : (x : Backed) → Contains (take place frames) x → at_of x < end
-  pub later : (x : Backed) → Contains (drop place frames) x → end ≤ at_of x
+  pub sooner : (x : X) → Contains (take place frames) x → when x < end
+  pub later : (x : X) → Contains (drop place frames) x → end ≤ when x
 
 -- those from a place up to another
-abbrev pub between : List Backed → ℕ → ℕ → List Backed
+abbrev pub between : {X : Type 0} → List X → ℕ → ℕ → List X
 between frames from to = take (to - from) (drop from frames)
 
 -- the ports are ready for a cycle: they have run up to its beginning, and what came to them came before it

@@ -6,13 +6,21 @@
 //! end the book is what the ports have started (`book`), and the offers that were dropped.
 #![tactic(auto)]
 
+mod at_bridge;
 mod backing;
 mod book;
 mod clock;
+mod cycle;
+mod edge;
 mod faults;
+mod laws;
 mod passing;
 mod port;
 mod relay;
+mod running;
 mod steps;
 mod tables;
 mod transmit;
+
+pub use faults::RunFault;
+pub use running::run;

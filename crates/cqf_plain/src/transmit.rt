@@ -15,9 +15,9 @@ use cqf_units::{Cycle, Memory, Nanos};
 /// The place of the first background frame from a place on that isn't before an instant.
 fn cut(frames: &[Backed], from: usize, start: Nanos, end: Nanos) -> usize
     requires in_order { start.0 ≤ end.0 }
-    requires from { IsCut start.0 frames.now from }
+    requires from { IsCut at_of start.0 frames.now from }
     requires arranged { IsNonDecreasingBy at_of frames.now }
-    ensures cut { IsCut end.0 frames.now result }
+    ensures cut { IsCut at_of end.0 frames.now result }
     ensures behind { from ≤ result }
 {
     let mut place = from;
@@ -51,11 +51,11 @@ pub(crate) fn send_cycle(
     requires watched { AreWatched clock.old.due ports.old.items }
     requires ready { AreReady domain.now cycle ports.old.items }
     requires arranged { AreArranged domain.now frames.now }
-    requires from { IsCut (cycle * domain.now.cycle_time) frames.now from }
+    requires from { IsCut at_of (cycle * domain.now.cycle_time) frames.now from }
     ensures told { length clock.new.told.items ≡ length clock.old.told.items }
     ensures watched { OnOk result (AreWatched clock.new.due ports.new.items) }
     ensures behind { IfOk result (λ to. from ≤ to) }
-    ensures cut { IfOk result (λ to. IsCut ((cycle + 1) * domain.now.cycle_time) frames.now to) }
+    ensures cut { IfOk result (λ to. IsCut at_of ((cycle + 1) * domain.now.cycle_time) frames.now to) }
     ensures sends { IfOk result (λ to. SendCycle domain.now cycle (between frames.now from to) ports.old.items ports.new.items) }
 {
     let end = start_of(domain, cycle + 1);
