@@ -5,7 +5,7 @@ ghost use Rattle.cqf_inputs.specs.Lines.{background_line, domain_line, offers_li
 ghost use Rattle.cqf_model.specs.Run.{AreBackground, AreOffers};
 ghost use Rattle.cqf_report.specs.BackgroundFrames.{background_frames_of};
 ghost use Rattle.cqf_report.specs.Offers.{offers_of};
-ghost use Rattle.cqf_script.specs.Script.{called_of, script_of};
+ghost use Rattle.cqf_script.specs.Script.{AreFew, called_of, script_of};
 ghost use Rattle.cqf_stop.specs.Stops.{EndsWith, IsRefused, or_line};
 ghost use Rattle.cqf_topology.specs.DomainText.{domain_of_text};
 ghost use Rattle.cqf_topology.specs.StreamsText.{request_text, streams_of_text};
@@ -104,6 +104,7 @@ pub fn script_part(
     text: &[u8],
 ) -> Result<Vec<(u16, Call)>, Stop>
     ensures ok { IfOk result (λ calls. script_of (map asked_of requests.now) cycles text.now ≡ Ok (map called_of calls.items)) }
+    ensures few { IfOk result (λ calls. AreFew cycles (map called_of calls.items)) }
     ensures err { IfErr result (IsRefused (or_line script_line (script_of (map asked_of requests.now) cycles text.now))) }
 {
     match read_script(alloc, text, requests, cycles) {
