@@ -19,6 +19,7 @@ use Rattle.cqf_topology.specs.StreamsText.{request_text, streams_of_text}
 use Rattle.cqf_lists.specs.Results.{and_then, refuse}
 use Rattle.cqf_stop.specs.Stops.{EndsWith}
 use Rattle.cqf_compile_command.specs.CompileOutput.{AreAllHeld, admitted_from, compile_input, stream_line, with_asked}
+use Rattle.cqf_inputs.proofs.AskedTexts.{asked_texts}
 use Rattle.cqf_inputs.specs.Lines.{domain_line, streams_line}
 use Rattle.cqf_inputs.specs.Parts.{two_parts}
 use Rattle.cqf_stop.specs.Stops.{IsRefused, or_line}
@@ -141,11 +142,6 @@ refused-ends old new asked refused place stop more all answers line memory =
           IsRefused-line found (stream_line place refused) stop
           (ap (λ r. refuse r (stream_line place) (admitted_from old.domain (with_asked old.domain old.entries asked) (place + 1) more)) due) (line there)
     ]
-
--- what the texts of an input ask for
-asked_texts : (requests : List Request) → map asked_by (map request_text requests) ≡ map asked_of requests
-asked_texts [] = refl
-asked_texts (request ∷ requests) = ap (λ rest. asked_of request ∷ rest) (asked_texts requests)
 
 -- the domain and the streams that are read are the input's
 pub compile_input-is : (input domain_text streams_text : List ℕ) (domain : Domain) (requests : List Request) →

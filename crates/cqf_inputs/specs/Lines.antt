@@ -2,6 +2,8 @@
 use Rattle.std.specs.Prelude.{ℕ, List, codes}
 use Rattle.cqf_report.specs.Faults.{table_fault_text}
 use Rattle.cqf_report.specs.declared.tables.TableFault.{TableFault}
+use Rattle.cqf_script.specs.Faults.{script_fault_text}
+use Rattle.cqf_script.specs.declared.faults.ScriptFault.{ScriptFault}
 use Rattle.cqf_stop.specs.Stops.{fault_line}
 use Rattle.cqf_fields.specs.Faults.{toml_fault_text}
 use Rattle.cqf_topology.specs.Faults.{domain_fault_text}
@@ -19,3 +21,11 @@ streams_line fault = fault_line (codes "streams") (toml_fault_text fault)
 -- why offers are refused
 abbrev pub offers_line : TableFault → List ℕ
 offers_line fault = fault_line (codes "offers") (table_fault_text fault)
+
+-- why a script is refused
+abbrev pub script_line : ScriptFault → List ℕ
+script_line fault = fault_line (codes "script") (script_fault_text fault)
+
+-- why background frames are refused
+abbrev pub background_line : TableFault → List ℕ
+background_line fault = fault_line (codes "background") (table_fault_text fault)

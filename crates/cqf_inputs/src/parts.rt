@@ -2,11 +2,23 @@
 ghost use Rattle.std.specs.Prelude.{◌≡◌, Ok, IfOk, IfErr};
 ghost use Rattle.cqf_text.specs.Parts.{parts_of};
 ghost use Rattle.cqf_stop.specs.Stops.{EndsWith, IsRefused};
-ghost use Rattle.cqf_inputs.specs.Parts.{one_part, parts_line, two_parts};
+ghost use Rattle.cqf_inputs.specs.Parts.{one_part, parts_line, run_parts, two_parts};
+ghost use Rattle.cqf_inputs.specs.RunParts.{texts_of};
 
 use cqf_stop::{REFUSED, Stop};
 use cqf_text::parts;
 use std::alloc::Global;
+
+/// The parts of a run, each as it stands in the input.
+#[derive(Clone, Copy, Debug)]
+pub struct RunParts<'i> {
+    pub domain: &'i [u8],
+    pub streams: &'i [u8],
+    pub script: &'i [u8],
+    pub offers: &'i [u8],
+    /// The background frames, where the input has a fifth part.
+    pub background: Option<&'i [u8]>,
+}
 
 /// The end where the input has another number of parts than the command takes.
 fn parts_stop(alloc: Global) -> Stop
@@ -40,6 +52,33 @@ pub fn two_parts(alloc: Global, input: &[u8]) -> Result<(&[u8], &[u8]), Stop>
     };
     match found.as_slice() {
         [first, second] => Ok((*first, *second)),
+        _ => Err(parts_stop(alloc)),
+    }
+}
+
+/// The four or five parts of the input of a run. `Err` as [`one_part`].
+pub fn run_parts(alloc: Global, input: &[u8]) -> Result<RunParts<'_>, Stop>
+    ensures ok { IfOk result (λ found. run_parts (parts_of input.now) ≡ Ok (texts_of found)) }
+    ensures err { IfErr result (IsRefused (run_parts (parts_of input.now))) }
+{
+    let Ok(found) = parts(alloc, input) else {
+        return Err(Stop::memory(alloc));
+    };
+    match found.as_slice() {
+        [domain, streams, script, offers] => Ok(RunParts {
+            domain: *domain,
+            streams: *streams,
+            script: *script,
+            offers: *offers,
+            background: None,
+        }),
+        [domain, streams, script, offers, background] => Ok(RunParts {
+            domain: *domain,
+            streams: *streams,
+            script: *script,
+            offers: *offers,
+            background: Some(*background),
+        }),
         _ => Err(parts_stop(alloc)),
     }
 }

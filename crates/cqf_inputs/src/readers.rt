@@ -1,14 +1,19 @@
 //! The readers of parts that several commands have (profile).
 ghost use Rattle.std.specs.Prelude.{◌≡◌, ◌≢◌, ◌≤◌, [], Ok, IfOk, IfErr, length, map};
-ghost use Rattle.cqf_inputs.specs.Lines.{domain_line, offers_line, streams_line};
-ghost use Rattle.cqf_model.specs.Run.{AreOffers};
+ghost use Rattle.cqf_admission.specs.Asking.{asked_of};
+ghost use Rattle.cqf_inputs.specs.Lines.{background_line, domain_line, offers_line, script_line, streams_line};
+ghost use Rattle.cqf_model.specs.Run.{AreBackground, AreOffers};
+ghost use Rattle.cqf_report.specs.BackgroundFrames.{background_frames_of};
 ghost use Rattle.cqf_report.specs.Offers.{offers_of};
+ghost use Rattle.cqf_script.specs.Script.{AreFew, called_of, script_of};
 ghost use Rattle.cqf_stop.specs.Stops.{EndsWith, IsRefused, or_line};
 ghost use Rattle.cqf_topology.specs.DomainText.{domain_of_text};
 ghost use Rattle.cqf_topology.specs.StreamsText.{request_text, streams_of_text};
 
-use cqf_model::Offer;
-use cqf_report::{TableFault, read_offers};
+use cqf_admission::Call;
+use cqf_model::{Background, Offer};
+use cqf_report::{TableFault, read_background, read_offers};
+use cqf_script::{ScriptFault, read_script};
 use cqf_stop::Stop;
 use cqf_topology::{Domain, DomainFault, Request, StreamsFault, read_streams};
 use std::alloc::Global;
@@ -35,6 +40,17 @@ fn streams_stop(alloc: Global, fault: StreamsFault) -> Stop
     }
 }
 
+/// The end where a script is refused.
+fn script_stop(alloc: Global, fault: ScriptFault) -> Stop
+    ensures refused { fault ≢ ScriptFault.Memory → EndsWith 1 (script_line fault) result }
+    ensures memory { fault ≡ ScriptFault.Memory → EndsWith 3 [] result }
+{
+    match fault {
+        ScriptFault::Memory => Stop::memory(alloc),
+        _ => Stop::refused(alloc, "script", &fault),
+    }
+}
+
 /// The end where offers are refused.
 fn offers_stop(alloc: Global, fault: TableFault) -> Stop
     ensures refused { fault ≢ TableFault.Memory → EndsWith 1 (offers_line fault) result }
@@ -43,6 +59,17 @@ fn offers_stop(alloc: Global, fault: TableFault) -> Stop
     match fault {
         TableFault::Memory => Stop::memory(alloc),
         _ => Stop::refused(alloc, "offers", &fault),
+    }
+}
+
+/// The end where background frames are refused.
+fn background_stop(alloc: Global, fault: TableFault) -> Stop
+    ensures refused { fault ≢ TableFault.Memory → EndsWith 1 (background_line fault) result }
+    ensures memory { fault ≡ TableFault.Memory → EndsWith 3 [] result }
+{
+    match fault {
+        TableFault::Memory => Stop::memory(alloc),
+        _ => Stop::refused(alloc, "background", &fault),
     }
 }
 
@@ -68,6 +95,24 @@ pub fn streams_part(alloc: Global, text: &[u8]) -> Result<Vec<Request>, Stop>
     }
 }
 
+/// The calls of a script for so many cycles, each with its seat, where these streams may be admitted. `Err` as
+/// [`domain_part`].
+pub fn script_part(
+    alloc: Global,
+    requests: &[Request],
+    cycles: u32,
+    text: &[u8],
+) -> Result<Vec<(u16, Call)>, Stop>
+    ensures ok { IfOk result (λ calls. script_of (map asked_of requests.now) cycles text.now ≡ Ok (map called_of calls.items)) }
+    ensures few { IfOk result (λ calls. AreFew cycles (map called_of calls.items)) }
+    ensures err { IfErr result (IsRefused (or_line script_line (script_of (map asked_of requests.now) cycles text.now))) }
+{
+    match read_script(alloc, text, requests, cycles) {
+        Ok(calls) => Ok(calls),
+        Err(fault) => Err(script_stop(alloc, fault)),
+    }
+}
+
 /// The offers of a part, to a domain. `Err` as [`domain_part`].
 pub fn offers_part(alloc: Global, domain: &Domain, text: &[u8]) -> Result<Vec<Offer>, Stop>
     ensures ok { IfOk result (λ offers. offers_of domain.now text.now ≡ Ok offers.items) }
@@ -78,5 +123,18 @@ pub fn offers_part(alloc: Global, domain: &Domain, text: &[u8]) -> Result<Vec<Of
     match read_offers(alloc, domain, text) {
         Ok(offers) => Ok(offers),
         Err(fault) => Err(offers_stop(alloc, fault)),
+    }
+}
+
+/// The background frames of a part, for the links of a domain. `Err` as [`domain_part`].
+pub fn background_part(alloc: Global, domain: &Domain, text: &[u8]) -> Result<Vec<Background>, Stop>
+    ensures ok { IfOk result (λ frames. background_frames_of domain.now text.now ≡ Ok frames.items) }
+    ensures good { IfOk result (λ frames. AreBackground domain.now frames.items) }
+    ensures few { IfOk result (λ frames. length frames.items ≤ 1000000) }
+    ensures err { IfErr result (IsRefused (or_line background_line (background_frames_of domain.now text.now))) }
+{
+    match read_background(alloc, domain, text) {
+        Ok(frames) => Ok(frames),
+        Err(fault) => Err(background_stop(alloc, fault)),
     }
 }

@@ -1,3 +1,4 @@
 mod OrderLemmas
 mod ReadLines
 mod Words
+mod Few

@@ -1,9 +1,9 @@
 -- What a script calls for (profile).
-use Rattle.std.specs.Prelude.{ℕ, ◌+◌, List, [], ◌∷◌, Option, Some, None, Result, Ok, Err, find, max, nat_le, ok_or, option_map, if◌then◌else◌}
+use Rattle.std.specs.Prelude.{ℕ, ◌+◌, ◌≤◌, List, [], ◌∷◌, Option, Some, None, Result, Ok, Err, count_by, find, max, nat_le, not, ok_or, option_map, if◌then◌else◌}
 use Rattle.cqf_lists.specs.Results.{and_then}
 use Rattle.cqf_text.specs.Lines.{lines_of}
 use Rattle.cqf_model.specs.Domain.{is_text}
-use Rattle.cqf_model.specs.History.{Act, Admits, Asked, Seals, Withdraws}
+use Rattle.cqf_model.specs.History.{Act, Admits, Asked, Seals, Withdraws, is_seal}
 use Rattle.cqf_fields.specs.Fields.{and_first}
 use Rattle.cqf_admission.specs.declared.entries.Call.{Call}
 use Rattle.cqf_admission.specs.Admission.{act_of}
@@ -75,6 +75,18 @@ calls_from requests seat cycles number sealed called (line ∷ lines) =
 -- of administrators
 abbrev pub script_of : List Asked → ℕ → List ℕ → Result (List Called) ScriptFault
 script_of requests cycles text = calls_from requests (administrators (lines_of text)) cycles 1 0 0 (lines_of text)
+
+-- how many of some calls are Seals, and how many aren't
+abbrev pub seals_among : List Called → ℕ
+seals_among found = count_by (λ (call : Called). is_seal call.1) found
+
+abbrev pub others_among : List Called → ℕ
+others_among found = count_by (λ (call : Called). not (is_seal call.1)) found
+
+-- a script's calls are few: no more Seals than cycles, and no more than 100,000 others
+pub record AreFew (cycles : ℕ) (found : List Called) : Type 0 where
+  pub for_seals : seals_among found ≤ cycles
+  pub for_others : others_among found ≤ most_calls
 
 -- a call that was read, as the definitions have it
 abbrev pub called_of : ℕ × Call → Called

@@ -1,12 +1,12 @@
 //! The calls of a script.
-ghost use Rattle.std.specs.Prelude.{◌≡◌, ◌+◌, ◌<◌, ◌≤◌, ◌^◌, map, find, option_copied, string_bytes};
+ghost use Rattle.std.specs.Prelude.{◌≡◌, ◌+◌, ◌<◌, ◌≤◌, ◌^◌, IfOk, map, find, option_copied, string_bytes};
 ghost use Rattle.cqf_model.specs.Domain.{is_text};
 ghost use Rattle.cqf_text.specs.Lines.{lines_of};
 ghost use Rattle.cqf_fields.specs.Fields.{Gives};
 ghost use Rattle.cqf_admission.specs.Asking.{asked_of};
 ghost use Rattle.cqf_script.specs.Lines.{order_of_line};
 ghost use Rattle.cqf_script.specs.Orders.{ordered};
-ghost use Rattle.cqf_script.specs.Script.{administrators, call_of_line, call_of_order, call_of_seal, called_behind, called_of, script_of, sealed_behind, seats_up_to};
+ghost use Rattle.cqf_script.specs.Script.{AreFew, administrators, call_of_line, call_of_order, call_of_seal, called_behind, called_of, script_of, sealed_behind, seats_up_to};
 
 use crate::ScriptFault;
 use crate::lines::{Order, Wish, is_seal_line, read_order};
@@ -63,8 +63,9 @@ fn seats_up_to(line: &[u8]) -> u16
     }
 }
 
-/// The number of administrators: one more than the greatest of their numbers.
-fn administrators(text: &[u8]) -> u16
+/// The number of administrators of a script: one more than the greatest number whose order a line is, or 0 where there is
+/// none (profile). It is the seat of the Seals.
+pub fn administrators(text: &[u8]) -> u16
     ensures { result ≡ administrators (lines_of text.now) }
 {
     let mut most: u16 = 0;
@@ -167,7 +168,8 @@ pub fn read_script(
     requests: &[Request],
     cycles: u32,
 ) -> Result<Vec<(u16, Call)>, ScriptFault>
-    ensures { Gives ScriptFault.Memory (λ calls. map called_of calls.items) result (script_of (map asked_of requests.now) cycles text.now) }
+    ensures calls { Gives ScriptFault.Memory (λ calls. map called_of calls.items) result (script_of (map asked_of requests.now) cycles text.now) }
+    ensures few { IfOk result (λ calls. AreFew cycles (map called_of calls.items)) }
 {
     let seat = administrators(text);
     let mut place = Place {

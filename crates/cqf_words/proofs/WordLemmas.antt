@@ -1,5 +1,5 @@
 -- Values of a command, and the jobs that they rule out.
-use Rattle.std.proofs.Common.{◌≡◌, ◌≢◌, ◌∙◌, ℕ, true, refl, List, [], Option, Some, sym, ap, subst, slice_index, codes, arith, inl, inr, ◌⊎◌}
+use Rattle.std.proofs.Common.{◌≡◌, ◌≢◌, ◌∙◌, ◌+◌, ◌*◌, ℕ, true, refl, List, [], Option, Some, sym, ap, subst, slice_index, codes, arith, inl, inr, ◌⊎◌}
 use Rattle.clap.specs.Words.{App, Row, Text, first_of, fault_of, is_simple, is_simple_and_free, HasKind, HasMatchesOf, IsAmong, Kinds, kind_of, subcommand_of}
 use Rattle.clap.specs.Words.{subcommand_rows_of}
 use Rattle.clap.specs.declared.error.Error.{Error}
@@ -8,21 +8,17 @@ use Rattle.clap.specs.declared.error.kind.ErrorKind.{ErrorKind}
 use Rattle.clap.specs.declared.error.kind.ErrorKind.TheVariants.{DisplayHelp, DisplayVersion, InvalidValue, OutOfMemory}
 use Rattle.cqf_units.specs.declared.timing.Rate.{Rate}
 use Rattle.cqf_words.specs.declared.words.Job.{Job}
-use Rattle.cqf_words.specs.declared.words.Job.TheVariants.{Compile, Line, Port}
+use Rattle.cqf_words.specs.declared.words.Job.TheVariants.{Compile, Line, Port, Report, Run}
 use Rattle.cqf_stop.specs.declared.stops.Stop.{Stop}
 use Rattle.cqf_words.specs.Words.{cqf_app, rate_text, IsJob, IsJobOf, IsNumberIn, Mean, AskForHelp, EndsBy, EndsWords}
 
--- the commands' names differ
-other_commands : codes "line" ≡ codes "port" → ⊥
-other_commands e = let first : 108 ≡ 112 = ap (λ (name : Text). slice_index name 0) e in omega (arith, first)
+-- the first and the third letter of a command's name, which tell it from the others
+abbrev mark : Text → ℕ
+mark name = 256 * slice_index name 0 + slice_index name 2
 
--- the word `port` isn't `compile`
-port_is_other : codes "port" ≡ codes "compile" → ⊥
-port_is_other e = let first : 112 ≡ 99 = ap (λ (name : Text). slice_index name 0) e in omega (arith, first)
-
--- and neither is `line`
-line_is_other : codes "line" ≡ codes "compile" → ⊥
-line_is_other e = let first : 108 ≡ 99 = ap (λ (name : Text). slice_index name 0) e in omega (arith, first)
+-- names of two marks are two
+marked : (one two : Text) → one ≡ two → mark one ≡ mark two
+marked one two e = ap mark e
 
 -- with no number there is no job of `port`
 pub no_port-until : (rows : List Row) (text : Option Text) → text ≡ first_of (codes "until") rows → ((n : ℕ) → ¬ IsNumberIn 1 100000000 n text) → (job : Job) →
@@ -30,24 +26,41 @@ pub no_port-until : (rows : List Row) (text : Option Text) → text ≡ first_of
 no_port-until rows text same none (Port until rate) job =
     let P : Option Text → Type 0 = λ t. IsNumberIn 1 100000000 until t in
     none until (subst P (sym same) job.1)
-no_port-until rows text same none (Line cycles) job = other_commands (sym job.0)
-no_port-until rows text same none Compile job = port_is_other job
+no_port-until rows text same none (Line cycles) job = omega (arith, marked (codes "port") (codes "line") job.0)
+no_port-until rows text same none Compile job = omega (arith, marked (codes "port") (codes "compile") job)
+no_port-until rows text same none (Run cycles) job = omega (arith, marked (codes "port") (codes "run") job.0)
+no_port-until rows text same none (Report cycles) job = omega (arith, marked (codes "port") (codes "report") job.0)
 
 -- nor with no rate
 pub no_port-rate : (rows : List Row) (text : Option Text) → text ≡ first_of (codes "rate") rows → ((rate : Rate) → ¬ (text ≡ Some (rate_text rate))) →
     (job : Job) → ¬ IsJobOf job (codes "port") rows
 no_port-rate rows text same none (Port until rate) job = none rate (same ∙ job.2)
-no_port-rate rows text same none (Line cycles) job = other_commands (sym job.0)
-no_port-rate rows text same none Compile job = port_is_other job
+no_port-rate rows text same none (Line cycles) job = omega (arith, marked (codes "port") (codes "line") job.0)
+no_port-rate rows text same none Compile job = omega (arith, marked (codes "port") (codes "compile") job)
+no_port-rate rows text same none (Run cycles) job = omega (arith, marked (codes "port") (codes "run") job.0)
+no_port-rate rows text same none (Report cycles) job = omega (arith, marked (codes "port") (codes "report") job.0)
 
--- with no number there is no job of `line`
-pub no_line : (rows : List Row) (text : Option Text) → text ≡ first_of (codes "cycles") rows → ((n : ℕ) → ¬ IsNumberIn 1 100000 n text) → (job : Job) →
-    ¬ IsJobOf job (codes "line") rows
-no_line rows text same none (Port until rate) job = other_commands job.0
-no_line rows text same none Compile job = line_is_other job
-no_line rows text same none (Line cycles) job =
-    let P : Option Text → Type 0 = λ t. IsNumberIn 1 100000 cycles t in
-    none cycles (subst P (sym same) job.1)
+-- with no number of cycles there is no job of a command that has it
+pub no_line : (rows : List Row) → ((n : ℕ) → ¬ IsNumberIn 1 100000 n (first_of (codes "cycles") rows)) → (job : Job) → ¬ IsJobOf job (codes "line") rows
+no_line rows none (Port until rate) job = omega (arith, marked (codes "line") (codes "port") job.0)
+no_line rows none (Line cycles) job = none cycles job.1
+no_line rows none Compile job = omega (arith, marked (codes "line") (codes "compile") job)
+no_line rows none (Run cycles) job = omega (arith, marked (codes "line") (codes "run") job.0)
+no_line rows none (Report cycles) job = omega (arith, marked (codes "line") (codes "report") job.0)
+
+pub no_run : (rows : List Row) → ((n : ℕ) → ¬ IsNumberIn 1 100000 n (first_of (codes "cycles") rows)) → (job : Job) → ¬ IsJobOf job (codes "run") rows
+no_run rows none (Port until rate) job = omega (arith, marked (codes "run") (codes "port") job.0)
+no_run rows none (Line cycles) job = omega (arith, marked (codes "run") (codes "line") job.0)
+no_run rows none Compile job = omega (arith, marked (codes "run") (codes "compile") job)
+no_run rows none (Run cycles) job = none cycles job.1
+no_run rows none (Report cycles) job = omega (arith, marked (codes "run") (codes "report") job.0)
+
+pub no_report : (rows : List Row) → ((n : ℕ) → ¬ IsNumberIn 1 100000 n (first_of (codes "cycles") rows)) → (job : Job) → ¬ IsJobOf job (codes "report") rows
+no_report rows none (Port until rate) job = omega (arith, marked (codes "report") (codes "port") job.0)
+no_report rows none (Line cycles) job = omega (arith, marked (codes "report") (codes "line") job.0)
+no_report rows none Compile job = omega (arith, marked (codes "report") (codes "compile") job)
+no_report rows none (Run cycles) job = omega (arith, marked (codes "report") (codes "run") job.0)
+no_report rows none (Report cycles) job = none cycles job.1
 
 -- a number of a value is one of its text
 pub number_of-text : (least most number : ℕ) (text value : Option Text) → text ≡ value → IsNumberIn least most number text → IsNumberIn least most number value

@@ -10,7 +10,7 @@ use Rattle.clap.specs.declared.error.kind.ErrorKind.TheVariants.{DisplayHelp, Di
 use Rattle.cqf_units.specs.declared.timing.Rate.{Rate}
 use Rattle.cqf_units.specs.declared.timing.Rate.TheVariants.{Mb10, Mb100, Mb1000}
 use Rattle.cqf_words.specs.declared.words.Job.{Job}
-use Rattle.cqf_words.specs.declared.words.Job.TheVariants.{Compile, Line, Port}
+use Rattle.cqf_words.specs.declared.words.Job.TheVariants.{Compile, Line, Port, Report, Run}
 use Rattle.cqf_stop.specs.declared.stops.Stop.{Stop}
 
 -- an option `--NAME N` that has to be given, where N is from least to most
@@ -44,13 +44,24 @@ line_app = with_rule (new_app (codes "line")) (number_rule (codes "cycles") 1 10
 abbrev pub compile_app : App
 compile_app = new_app (codes "compile")
 
+-- `run --cycles N`
+abbrev pub run_app : App
+run_app = with_rule (new_app (codes "run")) (number_rule (codes "cycles") 1 100000)
+
+-- `report --cycles N`
+abbrev pub report_app : App
+report_app = with_rule (new_app (codes "report")) (number_rule (codes "cycles") 1 100000)
+
 -- the program's name, and settings: the words come without the program's name, and one of the commands has to be given
 abbrev pub named_app : App
 named_app = on_top (λ s. record s { no_binary_name = true; subcommand_required = true }) (new_app (codes "cqf"))
 
--- the program's commands
+-- the commands that run no scenario, and all of the program's
+abbrev pub first_app : App
+first_app = with_subcommand (with_subcommand (with_subcommand named_app port_app.top) line_app.top) compile_app.top
+
 abbrev pub cqf_app : App
-cqf_app = with_subcommand (with_subcommand (with_subcommand named_app port_app.top) line_app.top) compile_app.top
+cqf_app = with_subcommand (with_subcommand first_app run_app.top) report_app.top
 
 -- the text of a value writes a number from least to most: digits, and a plus may stand first
 abbrev pub IsNumberIn : ℕ → ℕ → ℕ → Option Text → Type 0
@@ -72,6 +83,10 @@ IsJobOf (Port until rate) name rows = (name ≡ codes "port")
 IsJobOf (Line cycles) name rows = (name ≡ codes "line")
     × IsNumberIn 1 100000 cycles (first_of (codes "cycles") rows)
 IsJobOf Compile name rows = name ≡ codes "compile"
+IsJobOf (Run cycles) name rows = (name ≡ codes "run")
+    × IsNumberIn 1 100000 cycles (first_of (codes "cycles") rows)
+IsJobOf (Report cycles) name rows = (name ≡ codes "report")
+    × IsNumberIn 1 100000 cycles (first_of (codes "cycles") rows)
 
 -- the job of the command that the words name, if they name one
 abbrev pub IsJob : Job → Option (Text × List Row) → Type 0

@@ -5,7 +5,7 @@ ghost use Rattle.cqf_units.specs.declared.timing.Rate.{Rate};
 ghost use Rattle.clap.specs.declared.builder.command.Command.TheViews.{out-Command};
 ghost use Rattle.clap.specs.Words.{app_of, first_of, found_of, kind_of, rows_of, rule_of, subcommand_rows_of};
 ghost use Rattle.cqf_words.specs.declared.words.Job.{Job};
-ghost use Rattle.cqf_words.specs.Words.{cqf_app, compile_app, line_app, named_app, port_app, number_rule, rate_rule, rate_text, IsJob, IsJobOf, IsNumberIn, Mean, EndsBy, EndsWords};
+ghost use Rattle.cqf_words.specs.Words.{cqf_app, compile_app, first_app, line_app, named_app, port_app, report_app, run_app, number_rule, rate_rule, rate_text, IsJob, IsJobOf, IsNumberIn, Mean, EndsBy, EndsWords};
 
 use clap::error::ErrorKind;
 use clap::{Arg, ArgAction, ArgMatches, Command, value_parser};
@@ -29,6 +29,29 @@ const COMPILE_INPUT: &str = r#"Standard input has two parts, which a line of %% 
   a domain       links = [{ from = "a", to = "s", rate = 1000, delay = 500 }]
   its streams    streams = [{ name = "x", octets = 1500, path = ["a", "s"] }]"#;
 
+/// What the help of `run` says of standard input and of its work.
+const RUN_INPUT: &str = r#"Standard input has four parts, which lines of %% divide, or five:
+  a domain       links = [{ from = "a", to = "s", rate = 1000, delay = 500 }]
+  its streams    streams = [{ name = "x", octets = 1500, path = ["a", "s"] }]
+  a script       0 admit x
+                 seal
+                 0 withdraw x
+  offers         at,bridge,stream,octets
+                 0,a,x,64
+  background     at,from,to,class,octets
+                 120000,a,s,0,1522
+
+The output is the history of the calls, a line of %%, and the book of every
+transmission and drop. A run keeps its input, the table of each cycle, all
+frames under way and its book in memory, so one of 100000 cycles and millions
+of transmissions takes gigabytes, and tells nothing before it ends."#;
+
+/// What the help of `report` says of standard input and of its work.
+const REPORT_INPUT: &str =
+    r"Standard input has the four or five parts of the command run. The output has
+a line for each link: its frames, their octets, and the most octets that it
+starts in one cycle. Background frames don't count. It takes what run takes.";
+
 /// What the program is asked to do.
 #[derive(Clone, Copy, Debug, PartialEq, Eq)]
 pub enum Job {
@@ -38,6 +61,10 @@ pub enum Job {
     Line { cycles: u32 },
     /// The configuration of a domain and its streams.
     Compile,
+    /// The history and the book of a scenario.
+    Run { cycles: u32 },
+    /// The sums by link of a scenario's book.
+    Report { cycles: u32 },
 }
 
 /// The option `--until N`.
@@ -114,6 +141,28 @@ fn compile_command<'a>(alloc: Global) -> Command<'a>
         .after_help(COMPILE_INPUT)
 }
 
+/// `run --cycles N`.
+fn run_command<'a>(alloc: Global) -> Result<Command<'a>, AllocError>
+    ensures app { IfOk result (λ command. app_of command ≡ run_app) }
+    ensures local { IfOk result (λ command. (out-Command command).has_globals ≡ false) }
+{
+    Command::new(alloc, "run")
+        .about("the history and the book of a domain, its streams, a script and offers")
+        .after_help(RUN_INPUT)
+        .arg(cycles_option(alloc))
+}
+
+/// `report --cycles N`.
+fn report_command<'a>(alloc: Global) -> Result<Command<'a>, AllocError>
+    ensures app { IfOk result (λ command. app_of command ≡ report_app) }
+    ensures local { IfOk result (λ command. (out-Command command).has_globals ≡ false) }
+{
+    Command::new(alloc, "report")
+        .about("what each link carries in a run")
+        .after_help(REPORT_INPUT)
+        .arg(cycles_option(alloc))
+}
+
 /// The program without its commands. Its name stands in the usage of each command.
 fn named_command<'a>(alloc: Global) -> Result<Command<'a>, AllocError>
     ensures app { IfOk result (λ command. app_of command ≡ named_app) }
@@ -128,9 +177,9 @@ fn named_command<'a>(alloc: Global) -> Result<Command<'a>, AllocError>
     )
 }
 
-/// The program's commands.
-fn commands<'a>(alloc: Global) -> Result<Command<'a>, AllocError>
-    ensures app { IfOk result (λ command. app_of command ≡ cqf_app) }
+/// The commands that run no scenario.
+fn first_commands<'a>(alloc: Global) -> Result<Command<'a>, AllocError>
+    ensures app { IfOk result (λ command. app_of command ≡ first_app) }
     ensures local { IfOk result (λ command. (out-Command command).has_globals ≡ false) }
 {
     let port = port_command(alloc)?;
@@ -139,6 +188,16 @@ fn commands<'a>(alloc: Global) -> Result<Command<'a>, AllocError>
         .subcommand(port)?
         .subcommand(line)?
         .subcommand(compile_command(alloc))
+}
+
+/// The program's commands.
+fn commands<'a>(alloc: Global) -> Result<Command<'a>, AllocError>
+    ensures app { IfOk result (λ command. app_of command ≡ cqf_app) }
+    ensures local { IfOk result (λ command. (out-Command command).has_globals ≡ false) }
+{
+    let run = run_command(alloc)?;
+    let report = report_command(alloc)?;
+    first_commands(alloc)?.subcommand(run)?.subcommand(report)
 }
 
 /// The text of an error of clap's, or what there is of it where memory lacks.
@@ -204,17 +263,48 @@ fn port_job(values: &ArgMatches<'_>) -> Option<Job>
     Some(Job::Port { until, rate })
 }
 
+/// The number of cycles of the command with these values.
+fn cycles_of(values: &ArgMatches<'_>) -> Option<u32>
+    ensures { MatchOption result ((cycles : ℕ) → ¬ IsNumberIn 1 100000 cycles (first_of (codes "cycles") (rows_of (found_of values.now))))
+        (λ cycles. IsNumberIn 1 100000 cycles (first_of (codes "cycles") (rows_of (found_of values.now)))) }
+{
+    match number_in(text_of(values, "cycles"), 1, 100_000) {
+        Some(cycles) => Some(cycles as u32),
+        None => None,
+    }
+}
+
 /// The job of the command `line` with its values.
 fn line_job(values: &ArgMatches<'_>) -> Option<Job>
     ensures { MatchOption result ((job : Job) → ¬ IsJobOf job (codes "line") (rows_of (found_of values.now)))
         (λ job. IsJobOf job (codes "line") (rows_of (found_of values.now))) }
 {
-    let Some(cycles) = number_in(text_of(values, "cycles"), 1, 100_000) else {
-        return None;
-    };
-    Some(Job::Line {
-        cycles: cycles as u32,
-    })
+    match cycles_of(values) {
+        Some(cycles) => Some(Job::Line { cycles }),
+        None => None,
+    }
+}
+
+/// The job of the command `run` with its values.
+fn run_job(values: &ArgMatches<'_>) -> Option<Job>
+    ensures { MatchOption result ((job : Job) → ¬ IsJobOf job (codes "run") (rows_of (found_of values.now)))
+        (λ job. IsJobOf job (codes "run") (rows_of (found_of values.now))) }
+{
+    match cycles_of(values) {
+        Some(cycles) => Some(Job::Run { cycles }),
+        None => None,
+    }
+}
+
+/// The job of the command `report` with its values.
+fn report_job(values: &ArgMatches<'_>) -> Option<Job>
+    ensures { MatchOption result ((job : Job) → ¬ IsJobOf job (codes "report") (rows_of (found_of values.now)))
+        (λ job. IsJobOf job (codes "report") (rows_of (found_of values.now))) }
+{
+    match cycles_of(values) {
+        Some(cycles) => Some(Job::Report { cycles }),
+        None => None,
+    }
 }
 
 /// The job of the command that was named.
@@ -227,6 +317,8 @@ fn job_of(matches: &ArgMatches<'_>) -> Option<Job>
         "port" => port_job(values),
         "line" => line_job(values),
         "compile" => Some(Job::Compile),
+        "run" => run_job(values),
+        "report" => report_job(values),
         _ => None,
     }
 }

@@ -3,7 +3,8 @@ use Rattle.std.proofs.Common.{◌≡◌, ◌++◌, [], ◌∷◌, Ok, map, arith
 use Rattle.std.proofs.lemmas.Grind.{common_steps}
 use Rattle.cqf_text.specs.Lines.{lines_of}
 use Rattle.cqf_admission.specs.Asking.{asked_of}
-use Rattle.cqf_script.specs.Script.{call_of_line, called_of}
+use Rattle.cqf_script.specs.Script.{call_of_line, called_of, script_of}
+use Rattle.cqf_script.proofs.Few.{AreFew-script}
 use Rattle.cqf_script.proofs.ReadLines.{read-one_more}
 use Rattle.cqf_script.proofs.calls.read_script.Goals as goal
 
@@ -24,3 +25,10 @@ loop-line-preserved c =
     c.loop-line.left.now c.in-Some.line.now c.in-Some.behind.now (called_of c.in_ok-call.call)
     c.loop-line.invariant first (omega (arith, c.in-Some.ensures.shorter)) good more
     c.behind-place.ensures.line c.behind-place.ensures.sealed c.behind-place.ensures.called
+
+-- and they are few
+pub returns-clause-few : goal.returns-clause-few
+returns-clause-few c =
+    let requests = map asked_of c.args.requests.now in
+    let read : script_of requests c.args.cycles c.args.text.now ≡ Ok (map called_of c.loop-line.calls.items) = grind (arith, common_steps) in
+    AreFew-script requests c.args.cycles c.args.text.now (map called_of c.loop-line.calls.items) read

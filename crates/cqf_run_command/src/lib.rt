@@ -1,0 +1,16 @@
+//! The command `run`: a scenario, run on one thread.
+//!
+//! - [`run_output`] is the command's output for its input, the history and the book of the input's scenario, or the end of
+//!   the run with the line of the input's first fault.
+//!
+//! `specs/RunOutput.antt` says what it is that a text `IsRunOutput`.
+//!
+//! ```text
+//! run_output(alloc, 2, b"..\n%%\nstreams = [{ name = \"x\", .. }]\n%%\n0 admit x\n%%\nat,bridge,stream,octets\n0,a,x,64\n")
+//!     is Ok(b"0 admit x accepted 0 0\n1 seal\n1 seal\n%%\nwhat,cycle,where,frame,octets,detail\nstart,1,a>s,1,64,125000\n")
+//! ```
+#![tactic(auto)]
+
+mod command;
+
+pub use command::run_output;

@@ -1,0 +1,4 @@
+mod Closed
+mod Room
+mod ReadInput
+mod BookOf

@@ -1,0 +1,4 @@
+pub mod Scenario
+pub mod Calls
+pub mod Books
+pub mod Closing

@@ -1,0 +1,104 @@
+//! The scenario of an input.
+ghost use Rattle.std.specs.Prelude.{◌≡◌, ◌≤◌, [], Ok, IfOk, IfErr, length, map, option_map};
+ghost use Rattle.cqf_inputs.specs.RunParts.{texts_of};
+ghost use Rattle.cqf_model.specs.Run.{AreBackground, AreOffers};
+ghost use Rattle.cqf_scenario.specs.Calls.{HasRoom};
+ghost use Rattle.cqf_scenario.specs.Closing.{MayBeRun, scenario_given};
+ghost use Rattle.cqf_scenario.specs.Scenario.{background_in, calls_in, frames_in, scenario_input, scenario_of};
+ghost use Rattle.cqf_script.specs.Script.{called_of};
+ghost use Rattle.cqf_stop.specs.Stops.{IsRefused};
+
+use cqf_admission::Call;
+use cqf_inputs::{
+    RunParts, background_part, domain_part, offers_part, run_parts, script_part, streams_part,
+};
+use cqf_model::{Background, Offer};
+use cqf_script::administrators;
+use cqf_stop::Stop;
+use cqf_topology::Domain;
+use std::alloc::Global;
+
+/// What a run is given.
+#[derive(Debug, Drop)]
+pub(crate) struct Given {
+    pub(crate) domain: Domain,
+    /// The calls of the script, each with its seat.
+    pub(crate) calls: Vec<(u16, Call)>,
+    /// The seat of the Seals.
+    pub(crate) sealer: u16,
+    pub(crate) offers: Vec<Offer>,
+    pub(crate) background: Vec<Background>,
+}
+
+/// The calls of the script, by the streams that may be admitted.
+fn read_calls(alloc: Global, cycles: u32, parts: RunParts<'_>) -> Result<Vec<(u16, Call)>, Stop>
+    ensures ok { IfOk result (λ calls. calls_in cycles (texts_of parts.entry) ≡ Ok (map called_of calls.items)) }
+    ensures room { IfOk result (λ calls. HasRoom cycles [] (map called_of calls.items)) }
+    ensures err { IfErr result (IsRefused (calls_in cycles (texts_of parts.entry))) }
+{
+    let requests = streams_part(alloc, parts.streams)?;
+    script_part(alloc, requests.as_slice(), cycles, parts.script)
+}
+
+/// The background frames, where there is a part of them.
+fn read_background_of(
+    alloc: Global,
+    domain: &Domain,
+    text: Option<&[u8]>,
+) -> Result<Vec<Background>, Stop>
+    ensures ok { IfOk result (λ frames. background_in domain.now (option_map (λ text. text.now) text.entry) ≡ Ok frames.items) }
+    ensures good { IfOk result (λ frames. AreBackground domain.now frames.items) }
+    ensures few { IfOk result (λ frames. length frames.items ≤ 1000000) }
+    ensures err { IfErr result (IsRefused (background_in domain.now (option_map (λ text. text.now) text.entry))) }
+{
+    match text {
+        Some(text) => background_part(alloc, domain, text),
+        None => Ok(Vec::new(alloc)),
+    }
+}
+
+/// The offers and the background frames.
+fn read_frames(
+    alloc: Global,
+    domain: &Domain,
+    parts: RunParts<'_>,
+) -> Result<(Vec<Offer>, Vec<Background>), Stop>
+    ensures ok { IfOk result (λ frames. frames_in domain.now (texts_of parts.entry) ≡ Ok (frames.0.items, frames.1.items)) }
+    ensures offers { IfOk result (λ frames. AreOffers domain.now frames.0.items) }
+    ensures background { IfOk result (λ frames. AreBackground domain.now frames.1.items) }
+    ensures few_offers { IfOk result (λ frames. length frames.0.items ≤ 1000000) }
+    ensures few_background { IfOk result (λ frames. length frames.1.items ≤ 1000000) }
+    ensures err { IfErr result (IsRefused (frames_in domain.now (texts_of parts.entry))) }
+{
+    let offers = offers_part(alloc, domain, parts.offers)?;
+    let background = read_background_of(alloc, domain, parts.background)?;
+    Ok((offers, background))
+}
+
+/// The scenario of some parts.
+fn read_parts(alloc: Global, cycles: u32, parts: RunParts<'_>) -> Result<Given, Stop>
+    ensures ok { IfOk result (λ given. scenario_of cycles (texts_of parts.entry) ≡ Ok (scenario_given given)) }
+    ensures good { IfOk result (λ given. MayBeRun cycles (scenario_given given)) }
+    ensures err { IfErr result (IsRefused (scenario_of cycles (texts_of parts.entry))) }
+{
+    let domain = domain_part(alloc, parts.domain)?;
+    let calls = read_calls(alloc, cycles, parts)?;
+    let (offers, background) = read_frames(alloc, &domain, parts)?;
+    Ok(Given {
+        domain,
+        calls,
+        sealer: administrators(parts.script),
+        offers,
+        background,
+    })
+}
+
+/// The scenario of the input, or the end with the line of its first fault.
+pub(crate) fn read_given(alloc: Global, cycles: u32, input: &[u8]) -> Result<Given, Stop>
+    ensures ok { IfOk result (λ given. scenario_input cycles input.now ≡ Ok (scenario_given given)) }
+    ensures good { IfOk result (λ given. MayBeRun cycles (scenario_given given)) }
+    ensures err { IfErr result (IsRefused (scenario_input cycles input.now)) }
+{
+    let parts = run_parts(alloc, input)?;
+    read_parts(alloc, cycles, parts)
+}

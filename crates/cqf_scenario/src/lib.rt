@@ -1,0 +1,21 @@
+//! Scenarios: what `run` and `report` are given, and what comes of it on one thread.
+//!
+//! A scenario is a domain, the calls of a script, offers and background frames. Its calls are applied in order, and the
+//! cycles that are still open then are closed; so each cycle has a table. The network runs over these tables.
+//!
+//! - [`simulate`] reads the scenario of an input and runs it: the administration with its history, and the book.
+//!
+//! `specs/` says what an input holds (`Scenario`), which history its calls make (`Calls`), and which book is its book
+//! (`Books`).
+//!
+//! ```text
+//! a script of the one line "0 admit x" over two cycles has the history
+//!     seat 0 admits x, seat 1 closes cycle 0, seat 1 closes cycle 1
+//! ```
+#![tactic(auto)]
+
+mod calls;
+mod given;
+mod runs;
+
+pub use runs::{Simulated, simulate};
