@@ -1,19 +1,18 @@
 -- What may come to a bridge: the links that end in it, and where a stream goes on from it.
 use Rattle.std.proofs.Common.{◌≡◌, ◌+◌, ◌≤◌, ◌<◌, ℕ, zero, suc, Bool, true, false, List, [], ◌∷◌, ◌++◌, ◌∙◌, inl, inr, sym, ap, refl, arith, length, map, get_or, Contains, Some, subst, length-append, append-nil}
-use Rattle.std.specs.Prelude.{◌==◌, ◌&&◌, Option, if◌then◌else◌, slice_get}
+use Rattle.std.specs.Prelude.{◌==◌, Option, if◌then◌else◌, slice_get}
 use Rattle.std.specs.Option.{option_map_or}
-use Rattle.std.specs.List.{flat_map, list_any}
-use Rattle.std.proofs.lemmas.Bool.{and_from, and_parts, both_ways, cases_Bool, cases_lt, eq-eqb, eqb-true, true≢false}
+use Rattle.std.specs.List.{flat_map}
+use Rattle.std.proofs.lemmas.Bool.{cases_lt, true≢false}
 use Rattle.std.proofs.lemmas.List.Concat.{flat_map-append}
 use Rattle.std.proofs.lemmas.Option.{get_or_from_slice_get, slice_get_cases, slice_get_within}
 use Rattle.cqf_lists.specs.Lists.{each_below}
 use Rattle.cqf_lists.proofs.EachBelow.{contains_from_below}
 use Rattle.cqf_lists.proofs.Made.{contains_if_there}
-use Rattle.cqf_lists.proofs.Members.{any_member, contains_map, contains_one, member_any, place_of_member}
+use Rattle.cqf_lists.proofs.Members.{contains_map, contains_one, place_of_member}
 use Rattle.cqf_model.specs.declared.topology.Link.{Link}
 use Rattle.cqf_model.specs.declared.topology.Row.{Row}
 use Rattle.cqf_model.specs.Domain.{Domain, enters, leaves, node_is}
-use Rattle.cqf_model.specs.Table.{goes_on, goes_to}
 use Rattle.cqf_bridge.specs.Batch.{LinkBatch}
 use Rattle.cqf_bridge.specs.Receiving.{AreBatchesOf, links_into}
 use Rattle.cqf_bridge.specs.Taking.{IsBatchOf}
@@ -30,27 +29,6 @@ pub enters_inside : (d : Domain) (l bridge : ℕ) → enters d l bridge ≡ true
 enters_inside d l bridge is = elim (slice_get_cases d.links l).1 [
   | inl w ↦ slice_get_within d.links l w.0 w.2
   | inr w ↦ absurd (true≢false (sym is ∙ ap (λ (o : Option Link). option_map_or (λ (link : Link). node_is link.to bridge) o false) w.1))
-]
-
--- a frame goes on from a bridge by a link that leaves it
-pub goes_on_by_link : (d : Domain) (row : Row) (way : Option ℕ) (bridge l : ℕ) →
-    (leaves d l bridge && list_any (λ next. next == l) (goes_to row way)) ≡ true → goes_on d row way bridge ≡ true
-goes_on_by_link d row way bridge l both =
-    let parts = and_parts (leaves d l bridge) (list_any (λ next. next == l) (goes_to row way)) both in
-    let m = any_member (λ next. next == l) (goes_to row way) parts.1 in
-    member_any (λ k. leaves d k bridge) (goes_to row way) m.0 m.1
-    (ap (λ (k : ℕ). leaves d k bridge) (eqb-true m.0 l m.2) ∙ parts.0)
-
--- or it doesn't
-pub goes_on_by_none : (d : Domain) (row : Row) (way : Option ℕ) (bridge : ℕ) →
-    ((l : ℕ) → l < length d.links → (leaves d l bridge && list_any (λ next. next == l) (goes_to row way)) ≡ false) → goes_on d row way bridge ≡ false
-goes_on_by_none d row way bridge none = elim (cases_Bool (goes_on d row way bridge)) [
-  | inl leads ↦
-      let m = any_member (λ k. leaves d k bridge) (goes_to row way) leads in
-      let by : list_any (λ next. next == m.0) (goes_to row way) ≡ true = member_any (λ next. next == m.0) (goes_to row way) m.0 m.1 (eq-eqb m.0 m.0 refl) in
-      absurd (both_ways (leaves d m.0 bridge && list_any (λ next. next == m.0) (goes_to row way)) (none m.0 (leaves_inside d m.0 bridge m.2))
-      (and_from (leaves d m.0 bridge) (list_any (λ next. next == m.0) (goes_to row way)) m.2 by))
-  | inr stays ↦ stays
 ]
 
 -- as many numbers at most as there are below one
