@@ -1,9 +1,10 @@
 -- What may come to a bridge: the links that end in it, and where a stream goes on from it.
-use Rattle.std.proofs.Common.{◌≡◌, ◌+◌, ◌≤◌, ◌<◌, ℕ, zero, suc, Bool, true, false, List, [], ◌∷◌, ◌∙◌, inl, inr, sym, ap, refl, arith, length, map, get_or, Contains, Some, subst, length-append}
+use Rattle.std.proofs.Common.{◌≡◌, ◌+◌, ◌≤◌, ◌<◌, ℕ, zero, suc, Bool, true, false, List, [], ◌∷◌, ◌++◌, ◌∙◌, inl, inr, sym, ap, refl, arith, length, map, get_or, Contains, Some, subst, length-append, append-nil}
 use Rattle.std.specs.Prelude.{◌==◌, ◌&&◌, Option, if◌then◌else◌, slice_get}
 use Rattle.std.specs.Option.{option_map_or}
-use Rattle.std.specs.List.{list_any}
+use Rattle.std.specs.List.{flat_map, list_any}
 use Rattle.std.proofs.lemmas.Bool.{and_from, and_parts, both_ways, cases_Bool, cases_lt, eq-eqb, eqb-true, true≢false}
+use Rattle.std.proofs.lemmas.List.Concat.{flat_map-append}
 use Rattle.std.proofs.lemmas.Option.{get_or_from_slice_get, slice_get_cases, slice_get_within}
 use Rattle.cqf_lists.specs.Lists.{each_below}
 use Rattle.cqf_lists.proofs.EachBelow.{contains_from_below}
@@ -100,3 +101,20 @@ module _ (d : Domain) (bridge cycle : ℕ) (rows : List Row) (batches : List Lin
   -- one that isn't of the cycle is none of them
   pub not_batches_of : (b : LinkBatch) → Contains batches b → ¬ IsBatchOf d bridge cycle rows b → ¬ AreBatchesOf d bridge cycle rows batches
   not_batches_of b held not are = not (record { of_cycle = are.of_cycle b held; frames = λ sent inside. are.frames b sent held inside })
+
+-- what is made of each link that ends in a bridge, end to end
+pub of_links_into : {Y : Type 0} (g : ℕ → List Y) (d : Domain) (bridge : ℕ) →
+    flat_map g (links_into d bridge) ≡ each_below (λ l. if enters d l bridge then g l else []) (length d.links)
+of_links_into {Y} g d bridge = below (length d.links)
+  where
+    -- of one
+    one : (b : Bool) (l : ℕ) → flat_map g (if b then l ∷ [] else []) ≡ (if b then g l else [])
+    one true l = append-nil (g l)
+    one false l = refl
+
+    -- of those below a number
+    below : (n : ℕ) → flat_map g (each_below (λ l. if enters d l bridge then l ∷ [] else []) n) ≡ each_below (λ l. if enters d l bridge then g l else []) n
+    below zero = refl
+    below (suc n) =
+        flat_map-append g (each_below (λ l. if enters d l bridge then l ∷ [] else []) n) (if enters d n bridge then n ∷ [] else [])
+        ∙ (λ i. below n i ++ one (enters d n bridge) n i)

@@ -1,8 +1,9 @@
+mod Behind
 mod Bridges
 mod Columns
-mod Coming
+pub mod Coming
 mod Handing
-mod InOrder
+pub mod InOrder
 mod KeptGates
 mod MadeBatch
 mod Receives

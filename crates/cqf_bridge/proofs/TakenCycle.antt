@@ -1,14 +1,12 @@
 -- Frames of a cycle that are taken one after the other.
-use Rattle.std.proofs.Common.{◌≡◌, ◌+◌, ◌*◌, ◌≤◌, ◌<◌, ℕ, Bool, true, false, not, List, [], ◌∷◌, ◌++◌, ◌∙◌, inl, inr, sym, ap, refl, arith, length, map, filter, find, take, drop, get_or, Contains, Option, Some, None, subst, append-nil, append_assoc, ◌-◌, ◌/◌}
-use Rattle.std.specs.Prelude.{◌==◌, if◌then◌else◌, replicate, slice_get, sum_by}
-use Rattle.std.specs.Option.{option_map_or}
+use Rattle.std.proofs.Common.{◌≡◌, ◌+◌, ◌*◌, ◌≤◌, ◌<◌, ℕ, Bool, true, false, List, [], ◌∷◌, ◌++◌, ◌∙◌, inl, inr, sym, ap, refl, arith, length, map, find, take, drop, get_or, Contains, Option, Some, None, subst, append-nil, append_assoc, ◌-◌, ◌/◌}
+use Rattle.std.specs.Prelude.{◌==◌, if◌then◌else◌, replicate, slice_get}
 use Rattle.std.specs.List.Sorted.{IsNonDecreasingBy}
 use Rattle.std.proofs.Math.Seq.{take-append_seam}
-use Rattle.std.proofs.lemmas.Bool.{eq-eqb, ne_eqb}
-use Rattle.std.proofs.lemmas.List.{drop_more, get_or-replicate, length-take-le, map-append, take-append-drop, take_all, take_more}
+use Rattle.std.proofs.lemmas.Bool.{ne_eqb}
+use Rattle.std.proofs.lemmas.List.{drop_more, get_or-replicate, length-take-le, take-append-drop, take_all, take_more}
 use Rattle.std.proofs.lemmas.List.Concat.{flat_map-append}
-use Rattle.std.proofs.lemmas.List.Elements.{Contains-append_cases, Contains-get_or, Contains-push, filter-append}
-use Rattle.std.proofs.lemmas.List.Sums.{sum_by-append}
+use Rattle.std.proofs.lemmas.List.Elements.{Contains-append_cases, Contains-get_or, Contains-push}
 use Rattle.std.proofs.lemmas.Option.{get_or_from_slice_get, slice_get_within}
 use Rattle.std.proofs.lemmas.Simd.{map-map}
 use Rattle.cqf_lists.proofs.Made.{map_same}
@@ -16,16 +14,14 @@ use Rattle.cqf_lists.proofs.Members.{contains_from_map, contains_from_take, cont
 use Rattle.cqf_lists.proofs.Places.{slice_get-take, slice_get_behind}
 use Rattle.cqf_units.proofs.Cycles.{cycle_below, cycle_from, cycle_upto}
 use Rattle.cqf_model.specs.declared.frames.Dropped.{Dropped}
-use Rattle.cqf_model.specs.declared.frames.Reason.TheVariants.{Octets, OtherBridge, Withdrawn}
-use Rattle.cqf_model.specs.declared.gates.StreamEntry.{StreamEntry}
 use Rattle.cqf_model.specs.declared.ports.Arrival.{Arrival}
 use Rattle.cqf_model.specs.declared.topology.Row.{Row}
 use Rattle.cqf_model.specs.Book.{drop_by}
-use Rattle.cqf_model.specs.Domain.{Domain, cycle_of, is_text}
+use Rattle.cqf_model.specs.Domain.{Domain, cycle_of}
 use Rattle.cqf_model.specs.Network.{IsLoss, QueuedFrame, arrivals_of, queued_by, queued_to}
-use Rattle.cqf_model.specs.StreamGate.{Call, octets_in, place_at, same_interval, stream_list, within}
-use Rattle.cqf_model.specs.Table.{begins_at, goes_on, is_live, row_named, row_of, table_of}
-use Rattle.cqf_model.specs.Traffic.{AtEdge, DroppedFor, ExceedsGate, LacksRow, Policed, Queued, Received, Relayed, Verdict, Way, calls_of, edge_verdict, inside_verdict, is_queued_of, police, police_all, verdict_by, within_gate}
+use Rattle.cqf_model.specs.StreamGate.{same_interval, stream_list}
+use Rattle.cqf_model.specs.Table.{table_of}
+use Rattle.cqf_model.specs.Traffic.{Policed, Received, Verdict, police, police_all}
 use Rattle.cqf_model.proofs.Coming.{queued_when}
 use Rattle.cqf_model.proofs.Policing.{police_more}
 use Rattle.cqf_gates.specs.StreamGate.{fresh, taken_at}
@@ -36,58 +32,13 @@ use Rattle.cqf_bridge.specs.declared.faults.BridgeFault.TheVariants as fault
 use Rattle.cqf_bridge.specs.declared.gates.KeptGate.{KeptGate}
 use Rattle.cqf_bridge.specs.Gates.{AreKept, IsKept, gate_or}
 use Rattle.cqf_bridge.specs.PortRecord.{PortRecord, with_frames}
-use Rattle.cqf_bridge.specs.Taking.{AreReady, HasPoliced, IsStopBy, IsStopOf, IsWaiting, MayBeTaken, TakesFrame, passes_by, policed_by, taken_in, verdict_of, with_verdict}
+use Rattle.cqf_bridge.specs.Taking.{AreReady, HasPoliced, IsStopBy, IsStopOf, IsWaiting, MayBeTaken, TakesFrame, policed_by, taken_in, verdict_of, with_verdict}
+use Rattle.cqf_bridge.proofs.Behind.{counted_behind, verdict_behind}
 use Rattle.cqf_bridge.proofs.Taking.{frames_more, frames_none}
-use Rattle.cqf_bridge.proofs.Verdicts.{gate_entries}
 
 -- the table of the cycle, where each cycle has it
 pub table_held : (cycle : ℕ) (rows : List Row) → table_of (replicate (cycle + 1) rows) cycle ≡ rows
 table_held cycle rows = get_or-replicate (cycle + 1) cycle rows [] (omega arith)
-
--- tests that agree on the table's rows give one verdict
-module _ (d : Domain) (rows : List Row) (bridge cycle : ℕ) (p q : Row → Bool) (agree : (row : Row) → Contains rows row → p row ≡ q row) where
-  at_edge : (found : Option Row) → ((row : Row) → found ≡ Some row → Contains rows row) → edge_verdict d bridge cycle p found ≡ edge_verdict d bridge cycle q found
-  at_edge None held = refl
-  at_edge (Some row) held =
-      let by : Bool → Verdict = λ b.
-      if not (is_live row cycle) then DroppedFor Withdrawn
-      else (if not (begins_at d row bridge) then DroppedFor OtherBridge
-      else (if not b then DroppedFor Octets
-      else Queued row)) in
-      ap by (agree row (held row refl))
-
-  inside : (m : ℕ) (found : Option Row) → ((row : Row) → found ≡ Some row → Contains rows row) → inside_verdict d bridge m p found ≡ inside_verdict d bridge m q found
-  inside m None held = refl
-  inside m (Some row) held =
-      let by : Bool → Verdict = λ b. if not (goes_on d row (Some m) bridge) then LacksRow else (if not b then ExceedsGate else Queued row) in
-      ap by (agree row (held row refl))
-
-  pub verdict_agrees : (way : Way) → verdict_by d rows bridge cycle p way ≡ verdict_by d rows bridge cycle q way
-  verdict_agrees (AtEdge name) = at_edge (row_named rows name) (λ row e. (find_member (λ (r : Row). is_text r.name name) rows row e).0)
-  verdict_agrees (Relayed m number) = inside m (row_of rows number) (λ row e. (find_member (λ (r : Row). r.no == number) rows row e).0)
-
--- the calls of a stream, behind one more frame
-calls_more : (time reserved number t : ℕ) (policed : List Policed) (p : Policed) → same_interval (stream_list time reserved) p.received.at t ≡ true →
-    octets_in (stream_list time reserved) (calls_of number (policed ++ p ∷ [])) t
-    ≡ octets_in (stream_list time reserved) (calls_of number policed) t + (if is_queued_of number p.verdict then p.received.octets else 0)
-calls_more time reserved number t policed p same =
-    let call_of : Policed → Call = λ q. (q.received.at, q.received.octets) in
-    let test : Policed → Bool = λ q. is_queued_of number q.verdict in
-    let counted : Call → ℕ = λ call. if same_interval (stream_list time reserved) call.0 t then call.1 else 0 in
-    ap (λ (ps : List Policed). sum_by counted (map call_of ps)) (filter-append test policed (p ∷ []))
-    ∙ ap (sum_by counted) (map-append call_of (filter test policed) (filter test (p ∷ [])))
-    ∙ sum_by-append counted (map call_of (filter test policed)) (map call_of (filter test (p ∷ [])))
-    ∙ ap (λ (n : ℕ). sum_by counted (map call_of (filter test policed)) + n) (one (is_queued_of number p.verdict))
-  where
-    one : (b : Bool) →
-        sum_by (λ (call : Call). if same_interval (stream_list time reserved) call.0 t then call.1 else 0)
-        (map (λ (q : Policed). (q.received.at, q.received.octets)) (if b then p ∷ [] else []))
-        ≡ (if b then p.received.octets else 0)
-    one true = ap (λ (b : Bool). 0 + (if b then p.received.octets else 0)) same ∙ zero_plus p.received.octets
-      where
-        zero_plus : (n : ℕ) → 0 + n ≡ n
-        zero_plus n = omega arith
-    one false = refl
 
 -- a gate that has seen no frame has taken nothing
 fresh_takes_none : (b : Bool) (taken : ℕ) → taken ≡ 0 → (if b then taken else 0) ≡ 0
@@ -125,19 +76,10 @@ module _ (d : Domain) (rows : List Row) (bridge cycle : ℕ) (ports_before : Lis
   module _ (counts : GateCountsCycles) (some : 0 < d.cycle_time) (policed : List Policed) (x : Received) (gates : List KeptGate) (ports : List PortRecord) (drops : List Dropped)
       (may : MayBeTaken d bridge cycle rows x) (kept : AreKept d.cycle_time (x.at + 1) gates)
       (h : HasPoliced d rows bridge cycle ports_before drops_before policed gates ports drops) where
-    -- the gates let pass what the frames before leave room for
-    gates_agree : (row : Row) → Contains rows row → passes_by d.cycle_time gates x row ≡ within_gate d policed row x
-    gates_agree row held = λ i.
-        option_map_or (λ (entry : StreamEntry). within entry.octet_max (h.counted row held x.at may.in_cycle i + x.octets))
-        (slice_get (gate_entries d.cycle_time (x.at + 1) gates row.no row.octets kept i)
-        (place_at (gate_entries d.cycle_time (x.at + 1) gates row.no row.octets kept i) x.at)) false
-
     -- so the verdict is the one of the definitions
     pub same_verdict : verdict_of d rows bridge cycle gates x ≡ (policed_next policed x).verdict
     same_verdict =
-        verdict_agrees d rows bridge cycle (passes_by d.cycle_time gates x) (λ row. within_gate d policed row x) gates_agree x.way
-        ∙ ap (λ (rs : List Row). verdict_by d rs bridge cycle (λ row. within_gate d policed row x) x.way) (sym (table_held cycle rows))
-        ∙ ap (λ (c : ℕ). verdict_by d (table_of (replicate (cycle + 1) rows) c) bridge c (λ row. within_gate d policed row x) x.way) (sym may.in_cycle)
+        verdict_behind d (replicate (cycle + 1) rows) rows bridge cycle counts some (table_held cycle rows) policed x gates may.in_cycle kept h.counted
 
     module _ (gates_after : List KeptGate) (ports_after : List PortRecord) (drops_after : List Dropped)
         (takes : TakesFrame d rows bridge cycle x gates gates_after ports ports_after drops drops_after) where
@@ -147,11 +89,8 @@ module _ (d : Domain) (rows : List Row) (bridge cycle : ℕ) (ports_before : Lis
           let v = verdict_of d rows bridge cycle gates x in
           let p = policed_next policed x in
           record {
-            counted = λ row held t in_cycle.
-                takes.counted row t held in_cycle
-                ∙ (λ i. h.counted row held t in_cycle i + (if is_queued_of row.no (same_verdict i) then x.octets else 0))
-                ∙ sym (calls_more d.cycle_time row.octets row.no t policed p
-                (counts d.cycle_time row.octets x.at t some ∙ eq-eqb (cycle_of d x.at) (cycle_of d t) (may.in_cycle ∙ sym in_cycle)));
+            counted = counted_behind d (replicate (cycle + 1) rows) rows bridge cycle counts some (table_held cycle rows) policed x gates may.in_cycle kept h.counted
+                gates_after takes.counted;
             queued =
                 takes.queued
                 ∙ (λ i. map (with_verdict d x (same_verdict i)) (h.queued i))

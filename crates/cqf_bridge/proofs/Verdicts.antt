@@ -10,7 +10,7 @@ use Rattle.cqf_lists.proofs.Members.{contains_here, find_member}
 use Rattle.cqf_lists.proofs.Pairs.{one_of_pairs}
 use Rattle.cqf_model.specs.declared.frames.Dropped.{Dropped}
 use Rattle.cqf_model.specs.declared.frames.Reason.{Reason}
-use Rattle.cqf_model.specs.declared.frames.Reason.TheVariants.{Octets}
+use Rattle.cqf_model.specs.declared.frames.Reason.TheVariants.{Octets, OtherBridge, Withdrawn}
 use Rattle.cqf_model.specs.declared.gates.StreamEntry.{StreamEntry}
 use Rattle.cqf_model.specs.declared.ports.Arrival.{Arrival}
 use Rattle.cqf_model.specs.declared.topology.Row.{Row}
@@ -20,8 +20,8 @@ use Rattle.cqf_model.specs.Network.{IsLoss, QueuedFrame, queued_by, queued_frame
 use Rattle.cqf_model.specs.GateList.{IsOpen}
 use Rattle.cqf_model.specs.Port.{PortRules}
 use Rattle.cqf_model.specs.StreamGate.{gate_class, place_at, place_in, same_interval, stream_list, within}
-use Rattle.cqf_model.specs.Table.{goes_on, goes_to, row_named, row_of}
-use Rattle.cqf_model.specs.Traffic.{AtEdge as Offering, DroppedFor, ExceedsGate, LacksRow, Queued, Received, Relayed, Verdict, came_by, edge_verdict, inside_verdict, is_queued_of, verdict_by}
+use Rattle.cqf_model.specs.Table.{begins_at, goes_on, goes_to, is_live, row_named, row_of}
+use Rattle.cqf_model.specs.Traffic.{AtEdge as Offering, DroppedFor, ExceedsGate, LacksRow, Queued, Received, Relayed, Verdict, Way, came_by, edge_verdict, inside_verdict, is_queued_of, verdict_by}
 use Rattle.cqf_units.specs.Timing.{cycle_at}
 use Rattle.cqf_gates.specs.StreamGate.{Gate, gate_after, lets_pass, octet_max_at, taken_at, taken_behind}
 use Rattle.cqf_gates.specs.declared.streams.Passed.TheVariants.{Class, OverOctets}
@@ -31,7 +31,8 @@ use Rattle.cqf_admission.specs.Tables.{AreInOrder}
 use Rattle.cqf_bridge.specs.declared.gates.KeptGate.{KeptGate}
 use Rattle.cqf_bridge.specs.Gates.{AreKept, IsKept, gate_in, gate_or, with_gate}
 use Rattle.cqf_bridge.specs.PortRecord.{PortRecord}
-use Rattle.cqf_bridge.specs.Taking.{AreReady, CanRecord, PassesOn, TakesFrame, passes_by, taken_in, verdict_if, verdict_of, with_verdict}
+use Rattle.cqf_bridge.specs.declared.policing.Outcome.{Outcome}
+use Rattle.cqf_bridge.specs.Taking.{CanRecord, HasClass, IsWaiting, MayBeTaken, PassesGate, Polices, TakesFrame, class_in, passes_by, queue_on, taken_in, verdict_as, verdict_if, verdict_of, with_verdict}
 use Rattle.cqf_bridge.proofs.KeptGates.{gate_beside, gate_put, kept_cases}
 use Rattle.cqf_bridge.proofs.Taking.{frames_none, not_out_of_order}
 
@@ -174,14 +175,18 @@ module _ (d : Domain) (cycle : ℕ) (x : Received) (row : Row) (gates gates_afte
       ∙ ap (gate_or time row.octets) (gate_put gates put)
       ∙ cond-true (row.octets == row.octets) (gate_after gate x.at x.octets) (gate_or time row.octets None) (eq-eqb row.octets row.octets refl)
 
-  module _ (counts : GateCountsCycles) (went : Bool) (decided : went ≡ passes_by d.cycle_time gates x row) where
+  module _ (counts : GateCountsCycles) where
+    -- whether it passes
+    abbrev went : Bool
+    went = passes_by d.cycle_time gates x row
+
     -- what the row's own gate has counted
     own_counted : (t : ℕ) → cycle_of d t ≡ cycle →
         taken_at (gate_in time gates_after row.no row.octets) t ≡ taken_at gate t + (if is_queued_of row.no (verdict_if went row) then x.octets else 0)
     own_counted t in_cycle =
         ap (λ (g : Gate). taken_at g t) own_after
         ∙ gate_counts counts time row.octets x.at x.octets t gate some (gate_entries time (x.at + 1) gates row.no row.octets kept) (here ∙ sym in_cycle)
-        ∙ ap (λ (b : Bool). taken_at gate t + (if b then x.octets else 0)) (sym decided ∙ sym (own went))
+        ∙ ap (λ (b : Bool). taken_at gate t + (if b then x.octets else 0)) (sym (own went))
       where
         own : (b : Bool) → is_queued_of row.no (verdict_if b row) ≡ b
         own true = eq-eqb row.no row.no refl
@@ -204,9 +209,8 @@ module _ (d : Domain) (cycle : ℕ) (x : Received) (row : Row) (gates gates_afte
         none false = refl
 
     -- so the frame went by its gate
-    pub went_by_gate : (ports ports_after : List PortRecord) → ports_after ≡ map (with_verdict d x (verdict_if went row)) ports →
-        PassesOn d cycle x row gates gates_after ports ports_after went
-    went_by_gate ports ports_after queued = record {
+    pub went_by_gate : (class : Option ℕ) → class ≡ (if went then Some (class_in d x row) else None) → PassesGate d cycle x row gates gates_after class
+    went_by_gate class decided = record {
       decided = decided;
       counted = λ other t same in_cycle. elim (cases_eq row.no other.no) [
         | inl e ↦
@@ -216,13 +220,7 @@ module _ (d : Domain) (cycle : ℕ) (x : Received) (row : Row) (gates gates_afte
         | inr apart ↦ other_counted other t apart
       ];
       kept = kept_again;
-      queued = queued;
     }
-
--- nothing is queued
-pub none_queued : (d : Domain) (x : Received) (row : Row) (ports : List PortRecord) → ports ≡ map (with_verdict d x (verdict_if false row)) ports
-none_queued d x row [] = refl
-none_queued d x row (r ∷ ports) = λ i. sym (frames_none r) i ∷ none_queued d x row ports i
 
 -- the class that a stream's frame gets is 6 or 7
 pub class_of_stream : GateGivesClass → (time reserved t : ℕ) → 0 < time →
@@ -234,14 +232,14 @@ class_of_stream gives time reserved t some = either (cycle_at time t % 2 == 0) (
     either true e = inl e
     either false e = inr e
 
-module _ (d : Domain) (cycle : ℕ) (x : Received) (row : Row) (gates : List KeptGate) (ports : List PortRecord) (short : d.guard < d.cycle_time) (gives : GateGivesClass)
-    (wait : QueuedFramesWait) (here : cycle_of d x.at ≡ cycle) (ready : AreReady d cycle (x.at + 1) gates ports) (arrival : Arrival)
+module _ (d : Domain) (cycle : ℕ) (x : Received) (row : Row) (ports : List PortRecord) (short : d.guard < d.cycle_time) (gives : GateGivesClass)
+    (wait : QueuedFramesWait) (here : cycle_of d x.at ≡ cycle) (each_waits : (r : PortRecord) → Contains ports r → IsWaiting d cycle (x.at + 1) r) (arrival : Arrival)
     (is : arrival ≡ (queued_frame d x row).arrival) where
   -- a frame that passed may be recorded at each port by whose link it goes on
   pub may_record : (r : PortRecord) → Contains ports r → list_any (λ next. next == r.link) (goes_to row (came_by x.way)) ≡ true → CanRecord r.port arrival
   may_record r held goes = (
     λ late.
-        let waiting = ready.ports_before r held in
+        let waiting = each_waits r held in
         let frame = queued_frame d x row in
         let queued : Contains (queued_to d r.link (record { received = x; verdict = Queued row } ∷ [])) frame =
         subst (λ (fs : List QueuedFrame). Contains fs frame)
@@ -258,7 +256,7 @@ module _ (d : Domain) (cycle : ℕ) (x : Received) (row : Row) (gates : List Kep
           | inl six ↦ omega (arith, same, ap (λ (a : Arrival). a.class) is, six)
           | inr seven ↦ omega (arith, same, ap (λ (a : Arrival). a.class) is, seven)
         ]) in
-        omega (arith, (ready.ports_before r held).sooner b inside high, ap (λ (a : Arrival). a.at.0) is)),
+        omega (arith, (each_waits r held).sooner b inside high, ap (λ (a : Arrival). a.at.0) is)),
   )
 
 -- rows of one number in a table are one row
@@ -266,68 +264,80 @@ pub one_row : (rows : List Row) (a b : Row) → AreInOrder rows → Contains row
 one_row rows a b order of_a of_b same =
     one_of_pairs (λ (p q : Row). p.no < q.no) rows a b order.numbers of_a of_b (λ less. omega (arith, less, same)) (λ less. omega (arith, less, same))
 
--- a reason drops a frame
-pub drop_not_lost : (v : Verdict) (reason : Reason) → v ≡ DroppedFor reason → ¬ IsLoss v
-drop_not_lost v reason is lost = subst IsLoss is lost
+-- a frame that is dropped goes to no port
+pub none_queued : (d : Domain) (x : Received) (reason : Reason) (ports : List PortRecord) → ports ≡ map (with_verdict d x (DroppedFor reason)) ports
+none_queued d x reason [] = refl
+none_queued d x reason (r ∷ ports) = λ i. sym (frames_none r) i ∷ none_queued d x reason ports i
 
-module _ (d : Domain) (rows : List Row) (bridge cycle : ℕ) (x : Received) (gates gates_after : List KeptGate) (ports ports_after : List PortRecord)
-    (drops drops_after : List Dropped) where
-  -- a frame that is dropped whatever its gate has left
-  pub takes_dropped : (reason : Reason) → verdict_of d rows bridge cycle gates x ≡ DroppedFor reason → AreKept d.cycle_time (x.at + 1) gates →
-      gates_after ≡ gates → ports_after ≡ ports → drops_after ≡ drops ++ drop_by cycle bridge x (DroppedFor reason) →
-      TakesFrame d rows bridge cycle x gates gates_after ports ports_after drops drops_after
-  takes_dropped reason is kept same_gates same_ports more = record {
+-- frames that go to the ports in the class that their gate gives are queued as the verdict has it
+pub queued_as : (d : Domain) (x : Received) (row : Row) (class : ℕ) (way : Option ℕ) (ports after : List PortRecord) → class ≡ class_in d x row → way ≡ came_by x.way →
+    after ≡ map (queue_on row way (record { at = record { 0 = x.at }; class = class; octets = x.octets; frame = x.frame })) ports →
+    after ≡ map (with_verdict d x (Queued row)) ports
+queued_as d x row class way ports after gives came is =
+    let on : Option ℕ → ℕ → PortRecord → PortRecord = λ w k. queue_on row w (record { at = record { 0 = x.at }; class = k; octets = x.octets; frame = x.frame }) in
+    is ∙ (λ i. map (on (came i) (gives i)) ports)
+
+module _ (d : Domain) (rows : List Row) (bridge cycle : ℕ) (x : Received) (gates gates_after : List KeptGate) where
+  -- a frame that goes on by no gate
+  pub polices_none : (made : Outcome) → verdict_as made ≡ verdict_of d rows bridge cycle gates x → HasClass d x made →
+      ((number : ℕ) → is_queued_of number (verdict_as made) ≡ false) → AreKept d.cycle_time (x.at + 1) gates → gates_after ≡ gates →
+      Polices d rows bridge cycle x gates gates_after made
+  polices_none made is class none kept same = record {
+    verdict = is;
+    class = class;
     counted = λ row t held in_cycle.
-        ap (λ (gs : List KeptGate). taken_in d.cycle_time gs row t) same_gates
+        ap (λ (gs : List KeptGate). taken_in d.cycle_time gs row t) same
         ∙ plus_none (taken_in d.cycle_time gates row t)
-        ∙ ap (λ (v : Verdict). taken_in d.cycle_time gates row t + (if is_queued_of row.no v then x.octets else 0)) (sym is);
-    kept = subst (AreKept d.cycle_time (x.at + 1)) (sym same_gates) kept;
-    queued = same_ports ∙ no_queue ports ∙ ap (λ (v : Verdict). map (with_verdict d x v) ports) (sym is);
-    dropped = more ∙ ap (λ (v : Verdict). drops ++ drop_by cycle bridge x v) (sym is);
-    not_lost = drop_not_lost (verdict_of d rows bridge cycle gates x) reason is;
+        ∙ ap (λ (b : Bool). taken_in d.cycle_time gates row t + (if b then x.octets else 0)) (sym (none row.no))
+        ∙ ap (λ (v : Verdict). taken_in d.cycle_time gates row t + (if is_queued_of row.no v then x.octets else 0)) is;
+    kept = subst (AreKept d.cycle_time (x.at + 1)) (sym same) kept;
   }
     where
       plus_none : (n : ℕ) → n ≡ n + 0
       plus_none n = omega arith
 
-      no_queue : (rs : List PortRecord) → rs ≡ map (with_verdict d x (DroppedFor reason)) rs
-      no_queue [] = refl
-      no_queue (r ∷ rs) = λ i. sym (frames_none r) i ∷ no_queue rs i
+  -- one that goes by the gate of its row
+  pub polices_row : (row : Row) → AreInOrder rows → Contains rows row → (class : Option ℕ) → PassesGate d cycle x row gates gates_after class → (made : Outcome) →
+      verdict_as made ≡ verdict_of d rows bridge cycle gates x → HasClass d x made →
+      ((number : ℕ) → is_queued_of number (verdict_if (passes_by d.cycle_time gates x row) row) ≡ is_queued_of number (verdict_as made)) →
+      Polices d rows bridge cycle x gates gates_after made
+  polices_row row order of_table class p made is gives same = record {
+    verdict = is;
+    class = gives;
+    counted = λ other t held in_cycle.
+        p.counted other t (λ e. ap (λ (r : Row). r.octets) (one_row rows row other order of_table held e)) in_cycle
+        ∙ ap (λ (b : Bool). taken_in d.cycle_time gates other t + (if b then x.octets else 0)) (same other.no)
+        ∙ ap (λ (v : Verdict). taken_in d.cycle_time gates other t + (if is_queued_of other.no v then x.octets else 0)) is;
+    kept = p.kept;
+  }
 
-  module _ (row : Row) (order : AreInOrder rows) (of_table : Contains rows row) where
-    -- reservations of rows of one number
-    same_octets : (other : Row) → Contains rows other → row.no ≡ other.no → row.octets ≡ other.octets
-    same_octets other held same = ap (λ (r : Row). r.octets) (one_row rows row other order of_table held same)
+  module _ (ports ports_after : List PortRecord) (drops drops_after : List Dropped) (made : Outcome) (p : Polices d rows bridge cycle x gates gates_after made) where
+    -- a frame that is policed is taken, where the ports and the drops get it
+    takes_so : ports_after ≡ map (with_verdict d x (verdict_as made)) ports → drops_after ≡ drops ++ drop_by cycle bridge x (verdict_as made) →
+        ¬ IsLoss (verdict_as made) → TakesFrame d rows bridge cycle x gates gates_after ports ports_after drops drops_after
+    takes_so queued dropped not_lost = record {
+      counted = p.counted;
+      kept = p.kept;
+      queued = queued ∙ ap (λ (v : Verdict). map (with_verdict d x v) ports) p.verdict;
+      dropped = dropped ∙ ap (λ (v : Verdict). drops ++ drop_by cycle bridge x v) p.verdict;
+      not_lost = subst (λ (v : Verdict). ¬ IsLoss v) p.verdict not_lost;
+    }
 
     -- one that goes on
-    pub takes_queued : verdict_of d rows bridge cycle gates x ≡ Queued row → PassesOn d cycle x row gates gates_after ports ports_after true →
-        drops_after ≡ drops → TakesFrame d rows bridge cycle x gates gates_after ports ports_after drops drops_after
-    takes_queued is p same = record {
-      counted = λ other t held in_cycle.
-          p.counted other t (same_octets other held) in_cycle
-          ∙ ap (λ (v : Verdict). taken_in d.cycle_time gates other t + (if is_queued_of other.no v then x.octets else 0)) (sym is);
-      kept = p.kept;
-      queued = p.queued ∙ ap (λ (v : Verdict). map (with_verdict d x v) ports) (sym is);
-      dropped = same ∙ sym (append-nil drops) ∙ ap (λ (v : Verdict). drops ++ drop_by cycle bridge x v) (sym is);
-      not_lost = λ lost. subst IsLoss is lost;
-    }
+    pub takes_queued : (row : Row) → verdict_as made ≡ Queued row → ports_after ≡ map (with_verdict d x (Queued row)) ports → drops_after ≡ drops →
+        TakesFrame d rows bridge cycle x gates gates_after ports ports_after drops drops_after
+    takes_queued row is queued same =
+        takes_so (queued ∙ ap (λ (v : Verdict). map (with_verdict d x v) ports) (sym is))
+        (same ∙ sym (append-nil drops) ∙ ap (λ (v : Verdict). drops ++ drop_by cycle bridge x v) (sym is))
+        (subst (λ (v : Verdict). ¬ IsLoss v) (sym is) (λ lost. lost))
 
-    -- one at the edge that exceeds its gate
-    pub takes_over : verdict_of d rows bridge cycle gates x ≡ DroppedFor Octets → PassesOn d cycle x row gates gates_after ports ports_after false →
-        drops_after ≡ drops ++ drop_by cycle bridge x (DroppedFor Octets) → TakesFrame d rows bridge cycle x gates gates_after ports ports_after drops drops_after
-    takes_over is p more = record {
-      counted = λ other t held in_cycle.
-          p.counted other t (same_octets other held) in_cycle
-          ∙ ap (λ (v : Verdict). taken_in d.cycle_time gates other t + (if is_queued_of other.no v then x.octets else 0)) (sym is);
-      kept = p.kept;
-      queued = p.queued ∙ sym (none_queued d x row ports) ∙ no_queue ports ∙ ap (λ (v : Verdict). map (with_verdict d x v) ports) (sym is);
-      dropped = more ∙ ap (λ (v : Verdict). drops ++ drop_by cycle bridge x v) (sym is);
-      not_lost = drop_not_lost (verdict_of d rows bridge cycle gates x) Octets is;
-    }
-      where
-        no_queue : (rs : List PortRecord) → rs ≡ map (with_verdict d x (DroppedFor Octets)) rs
-        no_queue [] = refl
-        no_queue (r ∷ rs) = λ i. sym (frames_none r) i ∷ no_queue rs i
+    -- one that is dropped
+    pub takes_dropped : (reason : Reason) → verdict_as made ≡ DroppedFor reason → ports_after ≡ ports → drops_after ≡ drops ++ drop_by cycle bridge x (DroppedFor reason) →
+        TakesFrame d rows bridge cycle x gates gates_after ports ports_after drops drops_after
+    takes_dropped reason is same more =
+        takes_so (same ∙ none_queued d x reason ports ∙ ap (λ (v : Verdict). map (with_verdict d x v) ports) (sym is))
+        (more ∙ ap (λ (v : Verdict). drops ++ drop_by cycle bridge x v) (sym is))
+        (subst (λ (v : Verdict). ¬ IsLoss v) (sym is) (λ lost. lost))
 
 -- the verdict on an offer, by the row of its name
 pub verdict_at_edge : (d : Domain) (rows : List Row) (bridge cycle : ℕ) (gates : List KeptGate) (x : Received) (name : List ℕ) (found : Option Row) →
@@ -352,6 +362,63 @@ verdict_inside d rows bridge cycle gates x link stream row came is goes =
     turned : (b : Bool) → (if not b then ExceedsGate else Queued row) ≡ verdict_if b row
     turned true = refl
     turned false = refl
+
+-- or of no row, or one that doesn't lead on
+pub verdict_lacking : (d : Domain) (rows : List Row) (bridge cycle : ℕ) (gates : List KeptGate) (x : Received) (link stream : ℕ) →
+    x.way ≡ Relayed link stream → None ≡ row_of rows stream → verdict_of d rows bridge cycle gates x ≡ LacksRow
+verdict_lacking d rows bridge cycle gates x link stream came is =
+    ap (verdict_by d rows bridge cycle (passes_by d.cycle_time gates x)) came
+    ∙ ap (inside_verdict d bridge link (passes_by d.cycle_time gates x)) (sym is)
+
+pub verdict_not_leading : (d : Domain) (rows : List Row) (bridge cycle : ℕ) (gates : List KeptGate) (x : Received) (link stream : ℕ) (row : Row) →
+    x.way ≡ Relayed link stream → Some row ≡ row_of rows stream → goes_on d row (Some link) bridge ≡ false →
+    verdict_of d rows bridge cycle gates x ≡ LacksRow
+verdict_not_leading d rows bridge cycle gates x link stream row came is goes =
+    let passes = passes_by d.cycle_time gates x in
+    let rest : Verdict = if not (passes row) then ExceedsGate else Queued row in
+    ap (verdict_by d rows bridge cycle passes) came
+    ∙ ap (inside_verdict d bridge link passes) (sym is)
+    ∙ ap (λ (b : Bool). if not b then LacksRow else rest) goes
+
+-- what a gate gives tells whether it let the frame pass
+pub class_given : (b : Bool) (k m : ℕ) → Some k ≡ (if b then Some m else None) → (b ≡ true) × (k ≡ m)
+class_given true k m given = (refl, cc)
+class_given false k m given = absurd cc
+
+pub none_given : (b : Bool) (m : ℕ) → None ≡ (if b then Some m else None) → b ≡ false
+none_given true m given = absurd cc
+none_given false m given = refl
+
+-- an offer lacks no row
+edge_lacks_none : (d : Domain) (bridge cycle : ℕ) (passes : Row → Bool) (found : Option Row) → edge_verdict d bridge cycle passes found ≡ LacksRow → ⊥
+edge_lacks_none d bridge cycle passes None lacks = absurd cc
+edge_lacks_none d bridge cycle passes (Some row) lacks = reasons (not (is_live row cycle)) (not (begins_at d row bridge)) (not (passes row)) lacks
+  where
+    -- whichever reason fits
+    reasons : (a b c : Bool) → (if a then DroppedFor Withdrawn else (if b then DroppedFor OtherBridge else (if c then DroppedFor Octets else Queued row))) ≡ LacksRow → ⊥
+    reasons true b c e = absurd cc
+    reasons false true c e = absurd cc
+    reasons false false true e = absurd cc
+    reasons false false false e = absurd cc
+
+-- nor does a frame that may be taken
+pub lacks_none : (d : Domain) (rows : List Row) (bridge cycle : ℕ) (gates : List KeptGate) (x : Received) → MayBeTaken d bridge cycle rows x →
+    verdict_of d rows bridge cycle gates x ≡ LacksRow → ⊥
+lacks_none d rows bridge cycle gates x may lacks = by_way x.way refl
+  where
+    -- one that passes its gate or not
+    either : (b : Bool) (row : Row) → verdict_if b row ≡ LacksRow → ⊥
+    either true row e = absurd cc
+    either false row e = absurd cc
+
+    -- by the way that it came
+    by_way : (way : Way) → x.way ≡ way → ⊥
+    by_way (Offering name) came =
+        edge_lacks_none d bridge cycle (passes_by d.cycle_time gates x) (row_named rows name)
+        (sym (verdict_at_edge d rows bridge cycle gates x name (row_named rows name) came refl) ∙ lacks)
+    by_way (Relayed link stream) came =
+        let k = may.leads_on link stream came in
+        either (passes_by d.cycle_time gates x k.0) k.0 (sym (verdict_inside d rows bridge cycle gates x link stream k.0 came (sym k.1) k.2) ∙ lacks)
 
 -- one row is found
 pub one_found : (a b : Row) → Some a ≡ Some b → a ≡ b

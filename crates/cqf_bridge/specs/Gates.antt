@@ -33,3 +33,7 @@ AreKept cycle_time until gates = (k : KeptGate) → Contains gates k → IsKept 
 abbrev pub HasCounted : ℕ → ℕ → List KeptGate → List Policed → Row → Type 0
 HasCounted cycle_time cycle gates policed row = (t : ℕ) → cycle_at cycle_time t ≡ cycle →
     taken_at (gate_in cycle_time gates row.no row.octets) t ≡ octets_in (stream_list cycle_time row.octets) (calls_of row.no policed) t
+
+-- so have the gates of all rows of a table
+abbrev pub HaveCounted : ℕ → ℕ → List Row → List Policed → List KeptGate → Type 0
+HaveCounted cycle_time cycle rows policed gates = (row : Row) → Contains rows row → HasCounted cycle_time cycle gates policed row

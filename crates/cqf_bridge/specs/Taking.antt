@@ -12,8 +12,9 @@ use Rattle.cqf_model.specs.Book.{drop_by, drops_in}
 use Rattle.cqf_model.specs.Domain.{Domain, cycle_of}
 use Rattle.cqf_model.specs.Network.{IsLoss, queued_by, queued_to}
 use Rattle.cqf_model.specs.Run.{Run}
+use Rattle.cqf_model.specs.StreamGate.{gate_class, stream_list}
 use Rattle.cqf_model.specs.Table.{goes_on, goes_to, row_of}
-use Rattle.cqf_model.specs.Traffic.{AtEdge as Offering, DroppedFor, ExceedsGate, Policed, Queued, Received, Relayed, Verdict, Way, is_queued_of, offer_received, police_all, sent_received, verdict_by}
+use Rattle.cqf_model.specs.Traffic.{AtEdge as Offering, DroppedFor, ExceedsGate, LacksRow, Policed, Queued, Received, Relayed, Verdict, Way, is_queued_of, offer_received, police, police_all, sent_received, verdict_by}
 use Rattle.cqf_laws_pages.specs.Gathered.{dropped_of}
 use Rattle.cqf_gates.specs.StreamGate.{lets_pass, taken_at}
 use Rattle.cqf_port.specs.PortState.{IsLate, IsOutOfOrder, PortState}
@@ -23,9 +24,11 @@ use Rattle.cqf_bridge.specs.declared.gates.KeptGate.{KeptGate}
 use Rattle.cqf_bridge.specs.declared.gathering.Came.{Came}
 use Rattle.cqf_bridge.specs.declared.gathering.Came.TheVariants.{AtEdge, ByLink}
 use Rattle.cqf_bridge.specs.declared.gathering.Incoming.{Incoming}
+use Rattle.cqf_bridge.specs.declared.policing.Outcome.{Outcome}
+use Rattle.cqf_bridge.specs.declared.policing.Outcome.TheVariants as outcome
 use Rattle.cqf_bridge.specs.Batch.{LinkBatch}
 use Rattle.cqf_bridge.specs.BridgeState.{BridgeState, IsBridge, end_of_cycle}
-use Rattle.cqf_bridge.specs.Gates.{AreKept, HasCounted, gate_in}
+use Rattle.cqf_bridge.specs.Gates.{AreKept, HaveCounted, gate_in}
 use Rattle.cqf_bridge.specs.PortRecord.{PortRecord, rules_on, with_frames}
 use Rattle.cqf_bridge.specs.Receiving.{IsFirstOver, MayCome, port_queued, verdicts_in}
 
@@ -91,20 +94,52 @@ taken_in cycle_time gates row t = taken_at (gate_in cycle_time gates row.no row.
 abbrev pub verdict_if : Bool → Row → Verdict
 verdict_if went row = if went then Queued row else ExceedsGate
 
--- a frame goes by the gate of a row's stream, and where it passes is queued to the ports by whose links the stream goes on
-pub record PassesOn (d : Domain) (cycle : ℕ) (x : Received) (row : Row) (gates gates_after : List KeptGate) (ports ports_after : List PortRecord)
-    (went : Bool) : Type 0 where
-  pub decided : went ≡ passes_by d.cycle_time gates x row
+-- the class in which a frame of a row's stream waits, where its gate lets it pass
+abbrev pub class_in : Domain → Received → Row → ℕ
+class_in d x row = gate_class (stream_list d.cycle_time row.octets) x.at
+
+-- a frame goes by the gate of a row's stream, which gives it a class, or none where it doesn't pass
+pub record PassesGate (d : Domain) (cycle : ℕ) (x : Received) (row : Row) (gates gates_after : List KeptGate) (class : Option ℕ) : Type 0 where
+  pub decided : class ≡ (if passes_by d.cycle_time gates x row then Some (class_in d x row) else None)
   pub counted : (other : Row) (t : ℕ) → (row.no ≡ other.no → row.octets ≡ other.octets) → cycle_of d t ≡ cycle →
       taken_in d.cycle_time gates_after other t
-      ≡ taken_in d.cycle_time gates other t + (if is_queued_of other.no (verdict_if went row) then x.octets else 0)
+      ≡ taken_in d.cycle_time gates other t + (if is_queued_of other.no (verdict_if (passes_by d.cycle_time gates x row) row) then x.octets else 0)
   pub kept : AreKept d.cycle_time (x.at + 1) gates_after
-  pub queued : ports_after ≡ map (with_verdict d x (verdict_if went row)) ports
 
 -- the verdict on an offer that names a row's stream, by a reason that doesn't hang on its gate
 abbrev pub verdict_unless : Option Reason → Bool → Row → Verdict
 verdict_unless (Some reason) passes row = DroppedFor reason
 verdict_unless None passes row = if not passes then DroppedFor Octets else Queued row
+
+-- what becomes of a frame, as the definitions have it
+abbrev pub verdict_as : Outcome → Verdict
+verdict_as (outcome.GoesOn row class) = Queued row.now
+verdict_as (outcome.Dropped reason) = DroppedFor reason
+verdict_as outcome.LacksRow = LacksRow
+verdict_as outcome.ExceedsGate = ExceedsGate
+
+-- a frame that goes on waits in the class that its stream's gate gives it
+abbrev pub HasClass : Domain → Received → Outcome → Type 0
+HasClass d x (outcome.GoesOn row class) = class ≡ class_in d x row.now
+HasClass d x (outcome.Dropped reason) = Unit {0}
+HasClass d x outcome.LacksRow = Unit {0}
+HasClass d x outcome.ExceedsGate = Unit {0}
+
+-- a frame is policed by the gates: the verdict on it is this outcome, and where it goes on its stream's gate has counted it
+pub record Polices (d : Domain) (rows : List Row) (bridge cycle : ℕ) (x : Received) (gates gates_after : List KeptGate) (made : Outcome) : Type 0 where
+  pub verdict : verdict_as made ≡ verdict_of d rows bridge cycle gates x
+  pub class : HasClass d x made
+  pub counted : (row : Row) (t : ℕ) → Contains rows row → cycle_of d t ≡ cycle →
+      taken_in d.cycle_time gates_after row t
+      ≡ taken_in d.cycle_time gates row t + (if is_queued_of row.no (verdict_of d rows bridge cycle gates x) then x.octets else 0)
+  pub kept : AreKept d.cycle_time (x.at + 1) gates_after
+
+-- so behind frames of the cycle that the gates have counted it is what becomes of it in a run with such a table in the cycle, and
+-- the gates have counted it too
+pub record IsPolicedBehind (d : Domain) (tables : List (List Row)) (bridge cycle : ℕ) (rows : List Row) (x : Received) (policed : List Policed)
+    (gates_after : List KeptGate) (made : Outcome) : Type 0 where
+  pub verdict : verdict_as made ≡ (police d tables bridge policed x).verdict
+  pub counted : HaveCounted d.cycle_time cycle rows (policed ++ police d tables bridge policed x ∷ []) gates_after
 
 -- a frame comes in the cycle, and where it came by a link its stream goes on from the bridge
 pub record MayBeTaken (d : Domain) (bridge cycle : ℕ) (rows : List Row) (x : Received) : Type 0 where
@@ -138,7 +173,7 @@ policed_by d rows bridge cycle frames = police_all d (replicate (cycle + 1) rows
 -- the gates, the ports and the drops are what policing these frames of a cycle gives
 pub record HasPoliced (d : Domain) (rows : List Row) (bridge cycle : ℕ) (ports_before : List PortRecord) (drops_before : List Dropped)
     (policed : List Policed) (gates : List KeptGate) (ports : List PortRecord) (drops : List Dropped) : Type 0 where
-  pub counted : (row : Row) → Contains rows row → HasCounted d.cycle_time cycle gates policed row
+  pub counted : HaveCounted d.cycle_time cycle rows policed gates
   pub queued : ports ≡ map (λ (r : PortRecord). with_frames r (queued_to d r.link policed)) ports_before
   pub dropped : drops ≡ drops_before ++ dropped_of cycle bridge policed
   pub none_lost : (p : Policed) → Contains policed p → ¬ IsLoss p.verdict

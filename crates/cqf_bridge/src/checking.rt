@@ -104,8 +104,8 @@ fn ends_in(domain: &Domain, link: u8, bridge: u8) -> bool
     }
 }
 
-/// The links that end in a bridge, by number.
-fn incoming_links(domain: &Domain, number: u8) -> ArrayVec<u8, 64>
+/// The links that end in a bridge, by number. It takes no memory.
+pub fn incoming_links(domain: &Domain, number: u8) -> ArrayVec<u8, 64>
     ensures { result.items ≡ links_into domain.now number }
 {
     let mut links = ArrayVec::new();

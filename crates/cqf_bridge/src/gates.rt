@@ -55,9 +55,10 @@ impl KeptGate {
     }
 }
 
-/// The gates of the streams of which a bridge has seen frames: one for each number, looked up by it.
+/// The gates of the streams of which a bridge has seen frames: one for each number, looked up by it. [`police`](crate::police)
+/// calls them.
 #[derive(Debug, Drop)]
-pub(crate) struct StreamGates {
+pub struct StreamGates {
     numbers: IndexSet<u32>,
     kept: Vec<KeptGate>,
 }
@@ -74,8 +75,8 @@ impl Model for StreamGates {
 }
 
 impl StreamGates {
-    /// No gates.
-    pub(crate) fn new(alloc: Global) -> StreamGates
+    /// No gates: no frame was seen. It takes no memory.
+    pub fn new(alloc: Global) -> StreamGates
         ensures { result ≡ [] }
     {
         StreamGates {

@@ -1,34 +1,75 @@
 //! What comes to a bridge in a cycle, in the order in which it is taken.
 ghost use Rattle.std.specs.Prelude.{◌≡◌, ◌*◌, ◌<◌, ◌++◌, IfOk, OnOk, Contains, length, map};
 ghost use Rattle.cqf_model.specs.declared.frames.Sent.{Sent as ASent};
-ghost use Rattle.cqf_model.specs.Traffic.{Received, offer_received, sent_received};
+ghost use Rattle.cqf_model.specs.Traffic.{Received, came_by, offer_received, sent_received};
 ghost use Rattle.cqf_laws_pages.specs.Gathered.{IsInOrderOf};
 ghost use Rattle.cqf_bridge.specs.Batch.{LinkBatch};
-ghost use Rattle.cqf_bridge.specs.Taking.{CanGather, gathered_by, received_as};
+ghost use Rattle.cqf_bridge.specs.Taking.{CanGather, gathered_by, received_as, way_of};
 
 use crate::Batch;
 use crate::checking::whole_in;
-use cqf_model::Offered;
+use cqf_model::{Offered, Sent};
 use cqf_topology::Domain;
 use cqf_units::{Memory, Name, Nanos};
 use std::alloc::Global;
 
 /// How a frame came to a bridge.
-#[derive(Drop)]
-pub(crate) enum Came {
+#[derive(Debug, Drop)]
+pub enum Came {
     /// By the link of this number, with the number of its stream.
     ByLink(u8, u32),
     /// At the edge, with the name of the stream that it claims.
     AtEdge(Name),
 }
 
+impl Came {
+    /// The link by which it came, none at the edge.
+    pub fn link(&self) -> Option<u8>
+        ensures { result ≡ came_by (way_of self.now) }
+    {
+        match self {
+            Came::ByLink(link, _) => Some(*link),
+            Came::AtEdge(_) => None,
+        }
+    }
+}
+
 /// A frame that comes to a bridge: when it is whole there, its size, its number, and how it came.
-#[derive(Drop)]
-pub(crate) struct Incoming {
-    pub(crate) at: Nanos,
-    pub(crate) octets: u32,
-    pub(crate) frame: u32,
-    pub(crate) came: Came,
+#[derive(Debug, Drop)]
+pub struct Incoming {
+    pub at: Nanos,
+    pub octets: u32,
+    pub frame: u32,
+    pub came: Came,
+}
+
+impl Incoming {
+    /// A frame that a link sent, as it comes to the bridge in which the link ends: it is whole there when its last octet has
+    /// come, after the link's delay (profile). Its start is within the 1,000,000 longest cycles.
+    pub fn by_link(domain: &Domain, link: u8, sent: Sent) -> Incoming
+        requires inside { link < length domain.now.links }
+        requires early { sent.start.0 < 1000001 * 10000000 }
+        ensures { received_as result ≡ sent_received domain.now link sent }
+    {
+        Incoming {
+            at: whole_in(domain, link, sent),
+            octets: sent.octets,
+            frame: sent.frame,
+            came: Came::ByLink(link, sent.stream),
+        }
+    }
+
+    /// A frame that is offered at the edge: it is whole at its offer's instant.
+    pub fn at_edge(offered: &Offered) -> Incoming
+        ensures { received_as result ≡ offer_received offered.now }
+    {
+        Incoming {
+            at: offered.offer.at,
+            octets: offered.offer.octets,
+            frame: offered.frame,
+            came: Came::AtEdge(offered.offer.stream.copied()),
+        }
+    }
 }
 
 /// Adds the frames of a batch, in order of start.
@@ -38,35 +79,17 @@ fn gather_batch(domain: &Domain, batch: &Batch, frames: &mut Vec<Incoming>) -> R
         ≡ map received_as frames.old.items ++ map (sent_received domain.now batch.now.link) batch.now.frames) }
 {
     for place in 0..batch.len() {
-        let sent = batch.get(place);
-        frames.push(Incoming {
-            at: whole_in(domain, batch.link(), sent),
-            octets: sent.octets,
-            frame: sent.frame,
-            came: Came::ByLink(batch.link(), sent.stream),
-        })?;
+        frames.push(Incoming::by_link(domain, batch.link(), batch.get(place)))?;
     }
     Ok(())
 }
 
-/// A frame that is offered at the edge.
-fn offered_frame(offered: &Offered) -> Incoming
-    ensures { received_as result ≡ offer_received offered.now }
-{
-    Incoming {
-        at: offered.offer.at,
-        octets: offered.offer.octets,
-        frame: offered.frame,
-        came: Came::AtEdge(offered.offer.stream.copied()),
-    }
-}
-
-/// Adds offers, as they are listed.
-fn gather_offers(offers: &[Offered], frames: &mut Vec<Incoming>) -> Result<(), Memory>
+/// Puts offers behind other frames, as they are listed. `Memory` where a growth is refused.
+pub fn gather_offers(offers: &[Offered], frames: &mut Vec<Incoming>) -> Result<(), Memory>
     ensures { OnOk result (map received_as frames.new.items ≡ map received_as frames.old.items ++ map offer_received offers.now) }
 {
     for offered in offers {
-        frames.push(offered_frame(offered))?;
+        frames.push(Incoming::at_edge(offered))?;
     }
     Ok(())
 }
@@ -89,6 +112,15 @@ fn gathered(
     Ok(frames)
 }
 
+/// Brings frames into the order in which a bridge takes them: by instant, those of one instant as they stand. Before, they stand
+/// by link, each link's as it sent them, and then the offers by instant and place. `Memory` where a growth is refused.
+pub fn bring_in_order(frames: &mut Vec<Incoming>) -> Result<(), Memory>
+    ensures { OnOk result (IsInOrderOf (λ (x : Received). x.at) (map received_as frames.old.items) (map received_as frames.new.items)) }
+{
+    frames.sort_by_key(|frame| frame.at.0)?;
+    Ok(())
+}
+
 /// The frames of batches and the offers in the order in which a bridge takes them: by instant, then by batch and place, the
 /// offers last.
 pub(crate) fn in_order(
@@ -101,6 +133,6 @@ pub(crate) fn in_order(
     ensures { IfOk result (λ frames. IsInOrderOf (λ (x : Received). x.at) (gathered_by domain.now batches.now offers.now) (map received_as frames.items)) }
 {
     let mut frames = gathered(alloc, domain, batches, offers)?;
-    frames.sort_by_key(|frame| frame.at.0)?;
+    bring_in_order(&mut frames)?;
     Ok(frames)
 }

@@ -5,6 +5,9 @@
 //!   [`Batch`] a link, of streams' frames, for the bridge or station at its end; the background frames that started are
 //!   [`Bridge::background_starts`]. In `specs/` it is its `BridgeState`: its domain and number, how far it is, and all that
 //!   was recorded at its ports. A [`BridgeFault`] says why it refuses a call.
+//! - [`police`] says what becomes of a frame that comes to a bridge, for those that have ports of their own: each
+//!   [`Incoming`] frame of a cycle, by one of the [`incoming_links`] or at the edge ([`gather_offers`]) and brought into order
+//!   ([`bring_in_order`]), has its [`Outcome`] by the [`StreamGates`].
 //! - [`Offer`] is a frame that is offered at the edge, and [`Offered`] is an offer with its number.
 //! - [`Sent`] is a frame that a link carries.
 //! - [`Started`] is a transmission and [`Dropped`] a dropped offer, with its [`Reason`]; a [`Book`] has all of a run.
@@ -22,12 +25,17 @@ mod offers;
 mod outgoing;
 mod policing;
 mod receiving;
+mod recording;
 mod sending;
 #[cfg(test)]
 mod tests;
 
 pub use batch::Batch;
 pub use bridge::Bridge;
+pub use checking::incoming_links;
 pub use cqf_model::{Book, Dropped, Offer, Offered, Reason, Sent, Started};
 pub use faults::BridgeFault;
+pub use gates::StreamGates;
+pub use gathering::{Came, Incoming, bring_in_order, gather_offers};
 pub use offers::offers_of;
+pub use policing::{Outcome, police};

@@ -10,7 +10,7 @@ ghost use Rattle.cqf_bridge.specs.Taking.{AreReady, HasPoliced, IsStopOf, MayBeT
 use crate::gates::StreamGates;
 use crate::gathering::{Incoming, in_order};
 use crate::outgoing::Outgoing;
-use crate::policing::take_frame;
+use crate::recording::take_frame;
 use crate::{Batch, BridgeFault};
 use cqf_admission::Table;
 use cqf_laws_cycle::gate_counts_cycles;

@@ -19,7 +19,13 @@ mod DropOrders
 mod Waiting
 mod Batches
 mod Since
+mod Gathering
+mod FramesTaken
+mod OneBridge
 mod Finishing
 mod WholeRun
 mod Taking
+mod QuietCycle
+mod GoingThrough
+mod Ending
 mod RunReady

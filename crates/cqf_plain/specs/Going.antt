@@ -1,5 +1,5 @@
 -- How a run goes on by a cycle.
-use Rattle.std.specs.Prelude.{ℕ, ◌≡◌, ◌*◌, ◌<◌, ◌++◌, Contains, List, filter, length}
+use Rattle.std.specs.Prelude.{ℕ, ◌≡◌, ◌*◌, ◌<◌, ◌≤◌, ◌++◌, Contains, List, filter, length, [], Option, map}
 use Rattle.std.specs.BTreeSet.{BTreeSet}
 use Rattle.cqf_lists.specs.Lists.{each_below}
 use Rattle.cqf_model.specs.declared.frames.Backed.{Backed}
@@ -14,15 +14,16 @@ use Rattle.cqf_model.specs.Table.{table_of}
 use Rattle.cqf_model.specs.Traffic.{Policed, numbered}
 use Rattle.cqf_laws_pages.specs.BridgeCycle.{policed_of}
 use Rattle.cqf_laws_pages.specs.Gathered.{IsInOrderOf, offered_for}
+use Rattle.cqf_admission.specs.Tables.{CycleTable}
 use Rattle.cqf_plain.specs.AtBridge.{HaveStarted}
 use Rattle.cqf_plain.specs.Bridging.{PassFirst}
-use Rattle.cqf_plain.specs.Clock.{Due}
+use Rattle.cqf_plain.specs.Clock.{Due, IsFresh}
 use Rattle.cqf_plain.specs.Cycle.{IsAt, IsRunOf}
 use Rattle.cqf_plain.specs.declared.faults.RunFault.{RunFault}
 use Rattle.cqf_plain.specs.declared.faults.RunFault.TheVariants.{WrongTables, Inside, Memory}
 use Rattle.cqf_plain.specs.declared.passing.Passed.{Passed}
 use Rattle.cqf_plain.specs.Edge.{is_at, offered_when}
-use Rattle.cqf_plain.specs.Ports.{LinkPort, carried_by}
+use Rattle.cqf_plain.specs.Ports.{AreNew, LinkPort, carried_by}
 use Rattle.cqf_plain.specs.Run.{LosesInside}
 use Rattle.cqf_plain.specs.Sending.{AreCounted, IsCut}
 
@@ -72,3 +73,24 @@ pub record IsNext (d : Domain) (cycle : ℕ) (rows : List Row) (frames : List Ba
   pub within_run : cycle < length run.tables
   pub table : table_of run.tables cycle ≡ rows
   pub now_at : IsNow run cycle frames next offers taken ports due drops
+
+-- a call goes through the cycles of this run: the tables are the call's, too
+pub record GoesByAll (d : Domain) (tables : List CycleTable) (frames : List Backed) (offers : List Offered) (run : Run) : Type 0 where
+  pub by : GoesBy d frames offers run
+  pub rows : run.tables ≡ map (λ (t : CycleTable). t.rows) tables
+
+-- a run that hasn't begun: new ports, of which none is due, and nothing taken or dropped
+pub record IsNew (d : Domain) (next taken : ℕ) (ports : List LinkPort) (due : BTreeSet Due) (told : List (Option ℕ)) (drops : List Dropped) :
+    Type 0 where
+  pub new_ports : AreNew d ports
+  pub fresh : IsFresh (length ports) due told
+  pub no_drops : drops ≡ []
+  pub first_frame : next ≡ 0
+  pub first_offer : taken ≡ 0
+
+-- a run of a domain that was given frames and offers is at its end: behind its last table
+pub record HasEnded (d : Domain) (frames : List Backed) (offers : List Offered) (next taken : ℕ) (ports : List LinkPort) (due : BTreeSet Due)
+    (drops : List Dropped) (run : Run) : Type 0 where
+  pub by : GoesBy d frames offers run
+  pub short : length run.tables ≤ 100000
+  pub now_at : IsNow run (length run.tables) frames next offers taken ports due drops

@@ -2,7 +2,7 @@
 use Rattle.cqf_laws_cycle.specs.Compiled.{GateGivesClass}
 use Rattle.cqf_laws_network.specs.NetworkLaws.{BookIsUnique, LegalNetworkExists, LegalNetworkIsUnique}
 use Rattle.cqf_laws_pages.specs.BridgeCycle.{BridgeGoesOn, CycleBringsItsBatches, DropsAreOfTheCycle}
-use Rattle.cqf_laws_pages.specs.Gathered.{BackgroundStandsInOrder, OffersStandInOrder, PortsGetTheirBackground}
+use Rattle.cqf_laws_pages.specs.Gathered.{BackgroundStandsInOrder, FramesAreTakenInOrder, OffersStandInOrder, PortsGetTheirBackground}
 use Rattle.cqf_laws_pages.specs.PortCycle.{ClosedArrivalsChangeNothing, PortGoesOn, PortStartsTheBatch, QueuedFramesWait, QueuedInItsCycle}
 use Rattle.cqf_laws_pages.specs.RunSteps.{LongerRunKeepsItsCycles, LossesAreOfCycles, RunGoesOn, RunIsItsCycles}
 use Rattle.cqf_laws_port.specs.PortLaws.{OnlyThePastCounts}
@@ -37,3 +37,4 @@ pub record RunLaws : Type 0 where
   pub brings : CycleBringsItsBatches
   pub gives : GateGivesClass
   pub offers : OffersStandInOrder
+  pub taken : FramesAreTakenInOrder

@@ -13,4 +13,7 @@ pub mod Telling
 pub mod Cycle
 pub mod Laws
 pub mod Edge
+pub mod Quiet
 pub mod Going
+pub mod Incoming
+pub mod TakingFrames

@@ -1,5 +1,5 @@
 //! The instants at which the ports start next, in order.
-ghost use Rattle.std.specs.Prelude.{◌≡◌, ◌<◌, IfOk, IfSome, IfNone, OnOk, length};
+ghost use Rattle.std.specs.Prelude.{◌≡◌, ◌<◌, true, IfOk, IfSome, IfNone, OnOk, length};
 ghost use Rattle.std.specs.Option.{option_map};
 ghost use Rattle.cqf_plain.specs.Clock.{IsEarliest, IsFresh, IsTold, NoneDueBefore};
 
@@ -38,6 +38,19 @@ impl Clock {
             self.due.pop_first()
         } else {
             None
+        }
+    }
+
+    /// Whether none is before an end.
+    pub(crate) fn is_idle(&self, end: Nanos) -> bool
+        ensures { result ≡ true → NoneDueBefore end.0 self.now.due }
+    {
+        match self.due.first() {
+            Some(first) => {
+                let (instant, _) = *first;
+                end.0 <= instant
+            }
+            None => true,
         }
     }
 

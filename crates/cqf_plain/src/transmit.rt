@@ -13,7 +13,7 @@ use cqf_topology::Domain;
 use cqf_units::{Cycle, Memory, Nanos};
 
 /// The place of the first background frame from a place on that isn't before an instant.
-fn cut(frames: &[Backed], from: usize, start: Nanos, end: Nanos) -> usize
+pub(crate) fn cut(frames: &[Backed], from: usize, start: Nanos, end: Nanos) -> usize
     requires in_order { start.0 ≤ end.0 }
     requires from { IsCut at_of start.0 frames.now from }
     requires arranged { IsNonDecreasingBy at_of frames.now }

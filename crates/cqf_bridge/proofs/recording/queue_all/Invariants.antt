@@ -1,6 +1,6 @@
 use Rattle.std.specs.Prelude.{◌≡◌, ◌++◌, map, take, drop}
 use Rattle.cqf_bridge.specs.Taking.{queue_on}
-use Rattle.cqf_bridge.proofs.policing.queue_all.Given as goal
+use Rattle.cqf_bridge.proofs.recording.queue_all.Given as goal
 
 abbrev pub invariant-loop-place : goal.invariant-loop-place
 invariant-loop-place l =

@@ -2,7 +2,7 @@ use Rattle.std.proofs.Common.{◌≡◌, ◌∙◌, ◌<◌, arith, get_or, leng
 use Rattle.std.proofs.lemmas.List.Elements.{Contains-get_or}
 use Rattle.cqf_bridge.specs.Taking.{queue_on}
 use Rattle.cqf_bridge.proofs.Verdicts.{next_done, next_is}
-use Rattle.cqf_bridge.proofs.policing.queue_all.Goals as goal
+use Rattle.cqf_bridge.proofs.recording.queue_all.Goals as goal
 
 pub queue_one-requires-clause-taken : goal.queue_one-requires-clause-taken
 queue_one-requires-clause-taken c =

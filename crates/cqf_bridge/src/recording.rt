@@ -1,0 +1,141 @@
+//! What becomes of a frame at a bridge's ports: it is queued to them, or dropped.
+ghost use Rattle.std.specs.Prelude.{◌≡◌, ◌+◌, ◌^◌, ◌<◌, ◌++◌, ◌==◌, Contains, IfErr, OnOk, map, true};
+ghost use Rattle.std.specs.List.{list_any};
+ghost use Rattle.cqf_model.specs.Book.{drop_by};
+ghost use Rattle.cqf_model.specs.Domain.{cycle_of};
+ghost use Rattle.cqf_model.specs.Table.{goes_to};
+ghost use Rattle.cqf_model.specs.Traffic.{DroppedFor, Queued};
+ghost use Rattle.cqf_bridge.specs.PortRecord.{PortRecord};
+ghost use Rattle.cqf_bridge.specs.Taking.{AreReady, CanRecord, IsStopBy, IsWaiting, MayBeTaken, TakesFrame, class_in, queue_on, received_as, verdict_of, with_verdict};
+
+use crate::BridgeFault;
+use crate::gates::StreamGates;
+use crate::gathering::Incoming;
+use crate::outgoing::Outgoing;
+use crate::policing::{Outcome, police};
+use cqf_admission::Table;
+use cqf_laws_cycle::gate_gives_class;
+use cqf_laws_pages::queued_frames_wait;
+use cqf_model::{Arrival, Dropped, Reason, Row};
+use cqf_topology::Domain;
+use cqf_units::{Cycle, Memory};
+
+/// Records an arrival at a port, where its stream goes on by the port's link.
+fn queue_one(
+    port: &mut Outgoing,
+    row: &Row,
+    way: Option<u8>,
+    arrival: Arrival,
+) -> Result<(), Memory>
+    requires gate { arrival.class < 8 }
+    requires early { arrival.at.0 < 2 ^ 62 }
+    requires taken { list_any (λ next. next == port.old.link) (goes_to row.now way) ≡ true → CanRecord port.old.port arrival }
+    ensures { OnOk result (port.new ≡ queue_on row.now way arrival port.old) }
+{
+    if row.goes_on_by(way, port.link()) {
+        port.record(arrival, Some(row.no))?;
+    }
+    Ok(())
+}
+
+/// Records an arrival at each port by whose link its stream goes on.
+fn queue_all(
+    ports: &mut Vec<Outgoing>,
+    row: &Row,
+    way: Option<u8>,
+    arrival: Arrival,
+) -> Result<(), Memory>
+    requires gate { arrival.class < 8 }
+    requires early { arrival.at.0 < 2 ^ 62 }
+    requires taken { (r : PortRecord) → Contains ports.old.items r → list_any (λ next. next == r.link) (goes_to row.now way) ≡ true → CanRecord r.port arrival }
+    ensures { OnOk result (ports.new.items ≡ map (queue_on row.now way arrival) ports.old.items) }
+{
+    for place in 0..ports.len() {
+        queue_one(&mut ports[place], row, way, arrival)?;
+    }
+    Ok(())
+}
+
+/// Queues a frame that goes on in a class to the ports by whose links its stream goes on.
+fn queue_frame(
+    domain: &Domain,
+    cycle: Cycle,
+    row: &Row,
+    class: u8,
+    frame: &Incoming,
+    ports: &mut Vec<Outgoing>,
+) -> Result<(), Memory>
+    requires early { cycle.0 < 100000 }
+    requires in_cycle { cycle_of domain.now frame.now.at.0 ≡ cycle.0 }
+    requires class { class ≡ class_in domain.now (received_as frame.now) row.now }
+    requires waiting { (r : PortRecord) → Contains ports.old.items r → IsWaiting domain.now cycle.0 (frame.now.at.0 + 1) r }
+    ensures { OnOk result (ports.new.items ≡ map (with_verdict domain.now (received_as frame.now) (Queued row.now)) ports.old.items) }
+{
+    gate_gives_class();
+    queued_frames_wait();
+    let _time = domain.cycle_time();
+    let arrival = Arrival {
+        at: frame.at,
+        class,
+        octets: frame.octets,
+        frame: frame.frame,
+    };
+    queue_all(ports, row, frame.came.link(), arrival)
+}
+
+/// Drops an offer.
+fn drop_offer(
+    number: u8,
+    cycle: Cycle,
+    frame: &Incoming,
+    reason: Reason,
+    drops: &mut Vec<Dropped>,
+) -> Result<(), Memory>
+    ensures { OnOk result (drops.new.items ≡ drops.old.items ++ drop_by cycle.0 number (received_as frame.now) (DroppedFor reason)) }
+{
+    drops.push(Dropped {
+        cycle,
+        bridge: number,
+        frame: frame.frame,
+        octets: frame.octets,
+        reason,
+    })?;
+    Ok(())
+}
+
+/// Takes a frame, behind those before it in the cycle.
+pub(crate) fn take_frame(
+    domain: &Domain,
+    number: u8,
+    cycle: Cycle,
+    table: &Table,
+    frame: &Incoming,
+    gates: &mut StreamGates,
+    ports: &mut Vec<Outgoing>,
+    drops: &mut Vec<Dropped>,
+) -> Result<(), BridgeFault>
+    requires early { cycle.0 < 100000 }
+    requires may { MayBeTaken domain.now number cycle.0 table.now.rows (received_as frame.now) }
+    requires ready { AreReady domain.now cycle.0 (frame.now.at.0 + 1) gates.old ports.old.items }
+    ensures takes { OnOk result (TakesFrame domain.now table.now.rows number cycle.0 (received_as frame.now) gates.old gates.new
+        ports.old.items ports.new.items drops.old.items drops.new.items) }
+    ensures stops { IfErr result (λ fault. IsStopBy (verdict_of domain.now table.now.rows number cycle.0 gates.old (received_as frame.now)) frame.now.frame fault) }
+{
+    let outcome = match police(domain, number, cycle, table, frame, gates) {
+        Ok(outcome) => outcome,
+        Err(_) => return Err(BridgeFault::Memory),
+    };
+    match outcome {
+        Outcome::GoesOn(row, class) => match queue_frame(domain, cycle, row, class, frame, ports) {
+            Ok(()) => Ok(()),
+            Err(_) => Err(BridgeFault::Memory),
+        },
+        Outcome::Dropped(reason) => match drop_offer(number, cycle, frame, reason, drops) {
+            Ok(()) => Ok(()),
+            Err(_) => Err(BridgeFault::Memory),
+        },
+        // the batch was checked
+        Outcome::LacksRow => unreachable!(),
+        Outcome::ExceedsGate => Err(BridgeFault::OverOctets(frame.frame)),
+    }
+}

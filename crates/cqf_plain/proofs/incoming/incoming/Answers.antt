@@ -1,0 +1,23 @@
+use Rattle.std.proofs.Common.{◌∙◌, ◌++◌, ℕ, List, Contains, ap, map, subst}
+use Rattle.std.specs.List.{flat_map}
+use Rattle.cqf_model.specs.Traffic.{Received, offer_received}
+use Rattle.cqf_laws_pages.specs.Gathered.{IsInOrderOf}
+use Rattle.cqf_bridge.specs.Taking.{received_as}
+use Rattle.cqf_plain.specs.Incoming.{brought_by, sent_since}
+use Rattle.cqf_plain.proofs.Gathering.{into_inside}
+use Rattle.cqf_plain.proofs.incoming.incoming.Goals as goal
+
+pub gather_links-requires-clause-inside : goal.gather_links-requires-clause-inside
+gather_links-requires-clause-inside c = λ l held.
+    into_inside c.args.domain.now c.args.number l
+    (subst (λ (ls : List ℕ). Contains ls l) (c.as_slice.ensures.value ∙ c.incoming_links-links.ensures) held)
+
+pub returns : goal.returns
+returns c =
+    let offered = map offer_received c.args.offers.now in
+    let brings = brought_by c.args.domain.now (sent_since c.args.ports.now c.args.counts.now) in
+    subst (λ (xs : List Received). IsInOrderOf (λ (x : Received). x.at) xs (map received_as c.bring_in_order.new.frames.items))
+    (c.in_ok-gather_offers.ensures
+    ∙ ap (λ (xs : List Received). xs ++ offered)
+    (c.in_ok-frames.ensures ∙ ap (flat_map brings) (c.as_slice.ensures.value ∙ c.incoming_links-links.ensures)))
+    c.in_ok-bring_in_order.ensures
