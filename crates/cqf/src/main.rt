@@ -4,6 +4,9 @@
 //!   writes the frames that the port starts before instant N.
 //! - `cqf line --cycles N` reads offers, and writes the book of the smallest network over N cycles.
 //! - `cqf compile` reads a domain and its streams, and writes the gate list of each port and the gates of each stream.
+//! - `cqf run --cycles N` reads a domain, its streams, a script of admissions and withdrawals, offers, and background frames
+//!   where there are any, and writes the history of the calls and the book of every transmission and drop over N cycles.
+//! - `cqf report --cycles N` reads the same, and writes what each link carries.
 //!
 //! Without a word after the program's name the words stand in the first line of the input:
 //!
@@ -61,6 +64,7 @@ fn main(rt: HostRuntime) -> ExitCode {
     };
     let status = match texts(alloc, words.as_slice()) {
         Ok(words) => engine(
+            &rt,
             alloc,
             words.as_slice(),
             &mut input,

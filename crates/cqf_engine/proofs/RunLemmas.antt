@@ -1,17 +1,18 @@
 -- From what each step of a run says to what the run comes to.
-use Rattle.std.proofs.Common.{◌≡◌, ◌≢◌, ◌⊎◌, ◌≤◌, ◌∙◌, ℕ, zero, suc, List, [], ◌∷◌, Bool, false, length, arith, codes, inl, inr, sym, subst, refl}
+use Rattle.std.proofs.Common.{◌≡◌, ◌≢◌, ◌⊎◌, ◌≤◌, ◌∙◌, ℕ, zero, suc, List, [], ◌∷◌, Bool, false, Option, Some, None, length, arith, codes, inl, inr, sym, subst, refl}
 use Rattle.std.specs.Str.{IsUtf8}
 use Rattle.std.specs.Io.KnownBytes.{IsAtEnd}
 use Rattle.cqf_stop.specs.Stops.{EndsWith, line_of}
-use Rattle.cqf_words.specs.Words.{EndsWords, Mean}
+use Rattle.clap.specs.Words.{Row, Text, first_of, subcommand_of}
+use Rattle.cqf_words.specs.Words.{EndsWords, IsJob, IsJobOf, IsNumberIn, Mean, cqf_app}
 use Rattle.cqf_engine.specs.Edge.{HasTold, IsHeard, Marks, Reading, Writing}
-use Rattle.cqf_engine.specs.Run.{first_line, input_of, words_of, Ends, EndsInput, EndsRead, HandsOver, HasCause, HasRun, IsBehindWords, IsOutput, IsRefusal, IsStopped, IsToldOutput, IsTooLong, Tells}
+use Rattle.cqf_engine.specs.Run.{first_line, input_of, words_of, Ends, EndsInput, EndsRead, HandsOver, HasCause, HasRun, IsBehindWords, IsOutput, IsRefusal, IsStopped, IsToldOutput, IsTooLong, IsWithin, Tells}
 use Rattle.cqf_engine.proofs.EdgeLemmas.{Appends-whole}
 use Rattle.cqf_stop.specs.declared.stops.Stop.{Stop}
 use Rattle.cqf_engine.specs.declared.heard.Broken.{Broken}
 use Rattle.cqf_engine.specs.declared.heard.Broken.TheVariants.{Memory, Fault}
 use Rattle.cqf_words.specs.declared.words.Job.{Job}
-use Rattle.cqf_words.specs.declared.words.Job.TheVariants.{Compile, Line, Port}
+use Rattle.cqf_words.specs.declared.words.Job.TheVariants.{Compile, Line, Port, Report, Run}
 
 -- words that mean no job, as they are given
 HasCause-given : (words : List (List ℕ)) (bytes : List ℕ) (stop : Stop) → words ≢ [] → EndsWords words stop → HasCause words bytes stop
@@ -146,6 +147,8 @@ refusal_statuses : (job : Job) (input : List ℕ) (stop : Stop) → IsRefusal jo
 refusal_statuses (Port until rate) input stop h = h.statuses
 refusal_statuses (Line cycles) input stop h = h.statuses
 refusal_statuses Compile input stop h = h.statuses
+refusal_statuses (Run cycles) input stop h = h.statuses
+refusal_statuses (Report cycles) input stop h = h.statuses
 
 -- so its status is at most 3
 pub refusal_few : (job : Job) (input : List ℕ) (stop : Stop) → IsRefusal job input stop → stop.status ≤ 3
@@ -156,6 +159,8 @@ refusal_memory : (job : Job) (input : List ℕ) (stop : Stop) → IsRefusal job 
 refusal_memory (Port until rate) input stop h = h.memory
 refusal_memory (Line cycles) input stop h = h.memory
 refusal_memory Compile input stop h = h.memory
+refusal_memory (Run cycles) input stop h = h.memory
+refusal_memory (Report cycles) input stop h = h.memory
 
 -- an input that is refused stops it
 pub HasCause-by_refusal : (words : List (List ℕ)) (bytes : List ℕ) (job : Job) (stop : Stop) → length bytes ≤ 67108864
@@ -284,3 +289,23 @@ Ends-stopped words input output faults stop status heard behind_words s t = elim
       let same : status ≡ stop.status = elim t.statuses [ inl is ↦ is | inr fails ↦ absurd (no_help fails.0) ] in
       Ends-barred words input output faults stop status heard behind_words s no_help same t
 ]
+
+-- a number that a text writes is at most the greatest
+number_within : (least most number : ℕ) (text : Option Text) → IsNumberIn least most number text → number ≤ most
+number_within least most number None is = absurd is
+number_within least most number (Some text) is = is.3
+
+-- the numbers of a job that words mean are within their limits
+job_within : (job : Job) (name : Text) (rows : List Row) → IsJobOf job name rows → IsWithin job
+job_within (Port until rate) name rows is = number_within 1 100000000 until (first_of (codes "until") rows) is.1
+job_within (Line cycles) name rows is = number_within 1 100000 cycles (first_of (codes "cycles") rows) is.1
+job_within Compile name rows is = tt
+job_within (Run cycles) name rows is = number_within 1 100000 cycles (first_of (codes "cycles") rows) is.1
+job_within (Report cycles) name rows is = number_within 1 100000 cycles (first_of (codes "cycles") rows) is.1
+
+found_within : (job : Job) (found : Option (Text × List Row)) → IsJob job found → IsWithin job
+found_within job None is = absurd is
+found_within job (Some command) is = job_within job command.0 command.1 is
+
+pub IsWithin-means : (words : List Text) (job : Job) → Mean words job → IsWithin job
+IsWithin-means words job means = found_within job (subcommand_of cqf_app words) means.read

@@ -11,28 +11,37 @@ use Rattle.cqf_compile_command.specs.CompileOutput.{compiled_input}
 use Rattle.cqf_stop.specs.Stops.{EndsWith, IsRefused, line_of}
 use Rattle.cqf_line_command.specs.LineOutput.{IsLineOutput, line_input}
 use Rattle.cqf_port_command.specs.PortOutput.{IsPortOutput, port_input}
+use Rattle.cqf_report_command.specs.ReportOutput.{IsReportOutput}
+use Rattle.cqf_run_command.specs.RunOutput.{IsRunOutput}
+use Rattle.cqf_scenario.specs.Scenario.{scenario_input}
 use Rattle.cqf_words.specs.Words.{AreMistaken, AskForHelp, Mean}
 use Rattle.cqf_stop.specs.declared.stops.Stop.{Stop}
 use Rattle.cqf_words.specs.declared.words.Job.{Job}
-use Rattle.cqf_words.specs.declared.words.Job.TheVariants.{Compile, Line, Port}
+use Rattle.cqf_words.specs.declared.words.Job.TheVariants.{Compile, Line, Port, Report, Run}
 
 -- the job's numbers aren't above their limits
 abbrev pub IsWithin : Job → Type 0
 IsWithin (Port until rate) = until ≤ 100000000
 IsWithin (Line cycles) = cycles ≤ 100000
 IsWithin Compile = ⊤
+IsWithin (Run cycles) = cycles ≤ 100000
+IsWithin (Report cycles) = cycles ≤ 100000
 
 -- the output of a job for its input
 abbrev pub IsOutput : Job → List ℕ → List ℕ → Type 0
 IsOutput (Port until rate) input output = IsPortOutput until rate input output
 IsOutput (Line cycles) input output = IsLineOutput cycles input output
 IsOutput Compile input output = compiled_input input ≡ Ok output
+IsOutput (Run cycles) input output = IsRunOutput cycles input output
+IsOutput (Report cycles) input output = IsReportOutput cycles input output
 
 -- the input of a job is refused, with the line of its first fault
 abbrev pub IsRefusal : Job → List ℕ → Stop → Type 0
 IsRefusal (Port until rate) input stop = IsRefused (port_input input) stop
 IsRefusal (Line cycles) input stop = IsRefused (line_input input) stop
 IsRefusal Compile input stop = IsRefused (compiled_input input) stop
+IsRefusal (Run cycles) input stop = IsRefused (scenario_input cycles input) stop
+IsRefusal (Report cycles) input stop = IsRefused (scenario_input cycles input) stop
 
 -- the byte is a space
 abbrev pub is_space : ℕ → Bool

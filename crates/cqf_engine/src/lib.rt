@@ -10,7 +10,7 @@
 //!
 //! ```text
 //! let mut input = Heard::new(alloc, b"links = []\n".as_slice());
-//! engine(alloc, &["compile"], &mut input, &mut output, &mut faults)
+//! engine(rt, alloc, &["compile"], &mut input, &mut output, &mut faults)
 //!     is 1, with nothing on output and "cqf: parts\n" on faults
 //! ```
 #![tactic(auto)]

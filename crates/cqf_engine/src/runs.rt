@@ -11,15 +11,23 @@ use crate::told::Told;
 use cqf_compile_command::compile_output;
 use cqf_line_command::line_output;
 use cqf_port_command::port_output;
+use cqf_report_command::report_output;
+use cqf_run_command::run_output;
 use cqf_stop::{DONE, FAULT, NO_MEMORY, Stop, USAGE};
 use cqf_text::split_line;
 use cqf_words::{Job, read_words};
 use std::alloc::{AllocError, Global};
 use std::io::{Read, Write};
+use std::thread::Threads;
 
-/// The output of the job for its input. `Err` with status 1 and the line of the first fault of the input, and with
+/// The output of the job for its input; `rt` is for the threads of `report`. `Err` with status 1 and the line of the first fault of the input, and with
 /// status 3 for want of memory.
-pub fn answer(alloc: Global, job: &Job, input: &[u8]) -> Result<Vec<u8>, Stop>
+pub fn answer(
+    rt: &(impl Threads + Sync),
+    alloc: Global,
+    job: &Job,
+    input: &[u8],
+) -> Result<Vec<u8>, Stop>
     requires { IsWithin job.now }
     ensures ok { IfOk result (λ output. IsOutput job.now input.now output.items) }
     ensures err { IfErr result (IsRefusal job.now input.now) }
@@ -28,6 +36,8 @@ pub fn answer(alloc: Global, job: &Job, input: &[u8]) -> Result<Vec<u8>, Stop>
         Job::Port { until, rate } => port_output(alloc, until, rate, input),
         Job::Line { cycles } => line_output(alloc, cycles, input),
         Job::Compile => compile_output(alloc, input),
+        Job::Run { cycles } => run_output(alloc, cycles, input),
+        Job::Report { cycles } => report_output(rt, alloc, cycles, input),
     }
 }
 
@@ -39,7 +49,12 @@ fn split_words(alloc: Global, line: &str) -> Result<Vec<&str>, AllocError>
 }
 
 /// The run of words that are given.
-fn run_given<R: Read>(alloc: Global, words: &[&str], input: &mut Heard<R>) -> Result<Vec<u8>, Stop>
+fn run_given<R: Read>(
+    rt: &(impl Threads + Sync),
+    alloc: Global,
+    words: &[&str],
+    input: &mut Heard<R>,
+) -> Result<Vec<u8>, Stop>
     requires given { map (λ word. word.now) words.now ≢ [] }
     requires unheard { IsUnheard input.old }
     ensures heard { IsHeard (reading R.remaining input.old input.new) }
@@ -54,7 +69,7 @@ fn run_given<R: Read>(alloc: Global, words: &[&str], input: &mut Heard<R>) -> Re
     if let Err(stop) = read_input(alloc, input) {
         return Err(stop);
     }
-    answer(alloc, &job, input.bytes())
+    answer(rt, alloc, &job, input.bytes())
 }
 
 /// The first line of the bytes, and what stands behind it.
@@ -69,7 +84,7 @@ fn split_first_line(bytes: &[u8]) -> (&[u8], &[u8])
 }
 
 /// The run of the words in the first line.
-fn run_line(alloc: Global, bytes: &[u8]) -> Result<Vec<u8>, Stop>
+fn run_line(rt: &(impl Threads + Sync), alloc: Global, bytes: &[u8]) -> Result<Vec<u8>, Stop>
     requires { length bytes.now ≤ 67108864 }
     ensures ok { IfOk result (λ output. IsDone [] bytes.now output.items) }
     ensures err { IfErr result (HasCause [] bytes.now) }
@@ -86,11 +101,15 @@ fn run_line(alloc: Global, bytes: &[u8]) -> Result<Vec<u8>, Stop>
         Ok(job) => job,
         Err(stop) => return Err(stop),
     };
-    answer(alloc, &job, rest)
+    answer(rt, alloc, &job, rest)
 }
 
 /// The run of words that the input begins with.
-fn run_taken<R: Read>(alloc: Global, input: &mut Heard<R>) -> Result<Vec<u8>, Stop>
+fn run_taken<R: Read>(
+    rt: &(impl Threads + Sync),
+    alloc: Global,
+    input: &mut Heard<R>,
+) -> Result<Vec<u8>, Stop>
     requires { IsUnheard input.old }
     ensures heard { IsHeard (reading R.remaining input.old input.new) }
     ensures ok { IfOk result (λ output. HasRun [] (reading R.remaining input.old input.new) output.items) }
@@ -99,11 +118,16 @@ fn run_taken<R: Read>(alloc: Global, input: &mut Heard<R>) -> Result<Vec<u8>, St
     if let Err(stop) = read_input(alloc, input) {
         return Err(stop);
     }
-    run_line(alloc, input.bytes())
+    run_line(rt, alloc, input.bytes())
 }
 
 /// The run of words that are given, or where none are of those in the first line of the input.
-fn run<R: Read>(alloc: Global, words: &[&str], input: &mut Heard<R>) -> Result<Vec<u8>, Stop>
+fn run<R: Read>(
+    rt: &(impl Threads + Sync),
+    alloc: Global,
+    words: &[&str],
+    input: &mut Heard<R>,
+) -> Result<Vec<u8>, Stop>
     requires { IsUnheard input.old }
     ensures heard { IsHeard (reading R.remaining input.old input.new) }
     ensures behind_words { IsBehindWords (map (λ word. word.now) words.now) (reading R.remaining input.old input.new) }
@@ -111,9 +135,9 @@ fn run<R: Read>(alloc: Global, words: &[&str], input: &mut Heard<R>) -> Result<V
     ensures err { IfErr result (IsStopped (map (λ word. word.now) words.now) (reading R.remaining input.old input.new)) }
 {
     if words.is_empty() {
-        run_taken(alloc, input)
+        run_taken(rt, alloc, input)
     } else {
-        run_given(alloc, words, input)
+        run_given(rt, alloc, words, input)
     }
 }
 
@@ -146,9 +170,10 @@ pub fn tell<O: Write, F: Write>(stop: &Stop, output: &mut Told<O>, faults: &mut 
 }
 
 /// Runs the program: the words without the program's name, and where there are none the words of the input's first
-/// line. The exit status: 0 done, 1 refused input, 2 usage, 3 want of memory, 4 a read or a write failed. What is
+/// line. `rt` is for threads. The exit status: 0 done, 1 refused input, 2 usage, 3 want of memory, 4 a read or a write failed. What is
 /// asked for goes to `output`, and the line of a fault to `faults`.
 pub fn engine<R: Read, O: Write, F: Write>(
+    rt: &(impl Threads + Sync),
     alloc: Global,
     words: &[&str],
     input: &mut Heard<R>,
@@ -160,7 +185,7 @@ pub fn engine<R: Read, O: Write, F: Write>(
     ensures { Ends (map (λ word. word.now) words.now) (reading R.remaining input.old input.new) (writing O.contents output.old output.new)
         (writing F.contents faults.old faults.new) result }
 {
-    match run(alloc, words, input) {
+    match run(rt, alloc, words, input) {
         Ok(text) => hand_over(text.as_slice(), output, faults),
         Err(stop) => tell(&stop, output, faults),
     }

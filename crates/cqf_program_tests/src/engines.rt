@@ -4,6 +4,7 @@ use cqf_engine::{Heard, Told, engine};
 use std::alloc::Global;
 use std::io;
 use std::io::{ErrorKind, Read, Write};
+use std::thread::Threads;
 
 const OFFERS: &str = "at,bridge,stream,octets\n124999,a,x,64\n";
 
@@ -13,6 +14,7 @@ const LINE: [&str; 3] = ["line", "--cycles", "3"];
 
 /// Whether a run ends with this status and leaves these texts on its output and on its writer of faults.
 fn leaves<R: Read + Drop>(
+    rt: &(impl Threads + Sync),
     alloc: Global,
     words: &[&str],
     input: R,
@@ -22,7 +24,7 @@ fn leaves<R: Read + Drop>(
     let mut input = Heard::new(alloc, input);
     let mut output = Told::new(Vec::new(alloc));
     let mut faults = Told::new(Vec::new(alloc));
-    let ended = engine(alloc, words, &mut input, &mut output, &mut faults);
+    let ended = engine(rt, alloc, words, &mut input, &mut output, &mut faults);
     ended == status
         && output.writer().as_slice() == texts.0.as_bytes()
         && faults.writer().as_slice() == texts.1.as_bytes()
@@ -82,6 +84,16 @@ impl Write for Unflushed {
     }
 }
 
+/// The smallest run: a frame of one stream goes by one link, and the words stand before it.
+const RUN: &str =
+    "run --cycles 2\ncycle = 125000\nguard = 5000\nbridges = [\"a\"]\nstations = [\"s\"]\n\
+    links = [{ from = \"a\", to = \"s\", rate = 1000, delay = 500 }]\n\
+    %%\nstreams = [{ name = \"x\", octets = 1500, path = [\"a\", \"s\"] }]\n\
+    %%\n0 admit x\n%%\nat,bridge,stream,octets\n0,a,x,64\n";
+
+const HISTORY_AND_BOOK: &str = "0 admit x accepted 0 0\n1 seal\n1 seal\n%%\n\
+    what,cycle,where,frame,octets,detail\nstart,1,a>s,1,64,125000\n";
+
 /// Words, inputs, and the status and texts that a run ends with.
 const CASES: &[(&[&str], &str, u8, (&str, &str))] = &[
     (&LINE, OFFERS, 0, (BOOK, "")),
@@ -91,6 +103,13 @@ const CASES: &[(&[&str], &str, u8, (&str, &str))] = &[
         "line --cycles 3\nat,bridge,stream,octets\n124999,a,x,64\n",
         0,
         (BOOK, ""),
+    ),
+    (&[], RUN, 0, (HISTORY_AND_BOOK, "")),
+    (
+        &["report", "--cycles", "2"],
+        "%%\n%%\n",
+        1,
+        ("", "cqf: parts\n"),
     ),
     (&LINE, "%%\n", 1, ("", "cqf: parts\n")),
     (&LINE, "", 1, ("", "cqf: offers: BadHeader\n")),
@@ -106,19 +125,29 @@ const CASES: &[(&[&str], &str, u8, (&str, &str))] = &[
 #[test]
 fn each_command_is_run(rt: HostRuntime) {
     for (words, input, status, texts) in CASES {
-        assert!(rt; leaves(rt.alloc(), words, input.as_bytes(), *status, *texts));
+        assert!(rt; leaves(&rt, rt.alloc(), words, input.as_bytes(), *status, *texts));
     }
 }
 
 #[test]
 fn first_words_that_are_no_text_are_misuse(rt: HostRuntime) {
     let input = b"port \xff\n";
-    assert!(rt; leaves(rt.alloc(), &[], input.as_slice(), 2, ("", "cqf: words\n")));
+    assert!(rt;
+        leaves(
+            &rt,
+            rt.alloc(),
+            &[],
+            input.as_slice(),
+            2,
+            ("", "cqf: words\n")
+        )
+    );
 }
 
 /// Whether a run of these words ends with status 4 and its line where the read of this number fails.
-fn is_input_fault(alloc: Global, words: &[&str], after: u8) -> bool {
+fn is_input_fault(rt: &(impl Threads + Sync), alloc: Global, words: &[&str], after: u8) -> bool {
     leaves(
+        rt,
         alloc,
         words,
         Breaks { after },
@@ -130,8 +159,8 @@ fn is_input_fault(alloc: Global, words: &[&str], after: u8) -> bool {
 #[test]
 fn a_reader_that_fails_is_told(rt: HostRuntime) {
     for after in 0..3 {
-        assert!(rt; is_input_fault(rt.alloc(), LINE.as_slice(), after));
-        assert!(rt; is_input_fault(rt.alloc(), &[], after));
+        assert!(rt; is_input_fault(&rt, rt.alloc(), LINE.as_slice(), after));
+        assert!(rt; is_input_fault(&rt, rt.alloc(), &[], after));
     }
 }
 
@@ -140,6 +169,7 @@ fn a_reader_that_never_ends_is_left(rt: HostRuntime) {
     let words = ["compile"];
     assert!(rt;
         leaves(
+            &rt,
             rt.alloc(),
             words.as_slice(),
             Endless,
@@ -150,11 +180,11 @@ fn a_reader_that_never_ends_is_left(rt: HostRuntime) {
 }
 
 /// Whether a run of `line` with this output ends with status 4 and its line.
-fn fails_on<O: Write + Drop>(alloc: Global, output: O) -> bool {
+fn fails_on<O: Write + Drop>(rt: &(impl Threads + Sync), alloc: Global, output: O) -> bool {
     let mut input = Heard::new(alloc, OFFERS.as_bytes());
     let mut output = Told::new(output);
     let mut faults = Told::new(Vec::new(alloc));
-    let status = engine(alloc, &LINE, &mut input, &mut output, &mut faults);
+    let status = engine(rt, alloc, &LINE, &mut input, &mut output, &mut faults);
     status == 4
         && output.is_refused()
         && faults.writer().as_slice() == b"cqf: output fault\n".as_slice()
@@ -162,35 +192,35 @@ fn fails_on<O: Write + Drop>(alloc: Global, output: O) -> bool {
 
 #[test]
 fn a_writer_that_fails_is_told(rt: HostRuntime) {
-    assert!(rt; fails_on(rt.alloc(), Closed));
-    assert!(rt; fails_on(rt.alloc(), Unflushed));
+    assert!(rt; fails_on(&rt, rt.alloc(), Closed));
+    assert!(rt; fails_on(&rt, rt.alloc(), Unflushed));
 }
 
 /// The status of a run of `line` that is refused, where nothing of that can be told.
-fn status_untold(alloc: Global) -> u8 {
+fn status_untold(rt: &(impl Threads + Sync), alloc: Global) -> u8 {
     let mut input = Heard::new(alloc, b"%%\n".as_slice());
     let mut output = Told::new(Vec::new(alloc));
     let mut faults = Told::new(Closed);
-    engine(alloc, &LINE, &mut input, &mut output, &mut faults)
+    engine(rt, alloc, &LINE, &mut input, &mut output, &mut faults)
 }
 
 #[test]
 fn a_writer_of_faults_that_fails_changes_no_status(rt: HostRuntime) {
-    assert_eq!(rt; status_untold(rt.alloc()), 1);
+    assert_eq!(rt; status_untold(&rt, rt.alloc()), 1);
 }
 
 /// The status of a run of these words, whose reader and output fail, and how much is told of it.
-fn end_of_misuse(alloc: Global, words: &[&str]) -> (u8, usize) {
+fn end_of_misuse(rt: &(impl Threads + Sync), alloc: Global, words: &[&str]) -> (u8, usize) {
     let mut input = Heard::new(alloc, Breaks { after: 0 });
     let mut output = Told::new(Closed);
     let mut faults = Told::new(Vec::new(alloc));
-    let status = engine(alloc, words, &mut input, &mut output, &mut faults);
+    let status = engine(rt, alloc, words, &mut input, &mut output, &mut faults);
     (status, faults.writer().len())
 }
 
 #[test]
 fn wrong_words_come_before_what_fails(rt: HostRuntime) {
-    let (status, told) = end_of_misuse(rt.alloc(), &["port", "--until", "0"]);
+    let (status, told) = end_of_misuse(&rt, rt.alloc(), &["port", "--until", "0"]);
     assert_eq!(rt; status, 2);
     assert!(rt; told > 0);
 }

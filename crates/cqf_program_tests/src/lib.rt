@@ -24,6 +24,10 @@ mod offers;
 #[cfg(test)]
 mod port_command;
 #[cfg(test)]
+mod report_command;
+#[cfg(test)]
+mod run_command;
+#[cfg(test)]
 mod starts;
 #[cfg(test)]
 mod stops;

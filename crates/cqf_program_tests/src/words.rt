@@ -38,6 +38,19 @@ const CASES: &[(&[&str], Option<Job>, u8)] = &[
         DONE,
     ),
     (&["compile"], Some(Job::Compile), DONE),
+    (
+        &["run", "--cycles", "1"],
+        Some(Job::Run { cycles: 1 }),
+        DONE,
+    ),
+    (
+        &["report", "--cycles", "100000"],
+        Some(Job::Report { cycles: 100_000 }),
+        DONE,
+    ),
+    (&["run"], None, USAGE),
+    (&["run", "--cycles", "100001"], None, USAGE),
+    (&["report", "--cycles", "0"], None, USAGE),
     (&["port", "--until", "0"], None, USAGE),
     (&["port", "--until", "100000001"], None, USAGE),
     (&["port", "--cycles", "5"], None, USAGE),
@@ -78,6 +91,8 @@ const HELP: &[(&[&str], &str)] = &[
     (&["--help"], "Usage: cqf <COMMAND>"),
     (&["compile", "--help"], "Usage: cqf compile\n"),
     (&["port", "--help"], "a gate list    80 120000\n"),
+    (&["run", "--help"], "a script       0 admit x\n"),
+    (&["report", "--help"], "Usage: cqf report --cycles <N>\n"),
 ];
 
 #[test]

@@ -2,7 +2,7 @@ use Rattle.std.proofs.Common.{List, ℕ, map, subst}
 use Rattle.std.proofs.lemmas.Result.{IfOk-weaker}
 use Rattle.cqf_engine.specs.Edge.{reading}
 use Rattle.cqf_engine.specs.Run.{IsOutput}
-use Rattle.cqf_engine.proofs.RunLemmas.{HasRun-given, IsStopped-by_words}
+use Rattle.cqf_engine.proofs.RunLemmas.{HasRun-given, IsStopped-by_words, IsWithin-means}
 use Rattle.cqf_engine.proofs.runs.run_given.Goals as goal
 
 pub returns-in-Err-clause-err : goal.returns-in-Err-clause-err
@@ -16,3 +16,6 @@ returns-clause-ok g c = IfOk-weaker c.answer.result _ _
     c.requires.given c.in_default.ensures.sound c.in_default.ensures.end c.in_default.ensures.short c.in-Ok.ensures.ok
     (subst (λ (input : List ℕ). IsOutput c.in-Ok.job input output.items) c.bytes.ensures h))
     c.answer.ensures.ok
+
+pub answer-requires-after_bounds : goal.answer-requires-after_bounds
+answer-requires-after_bounds g c = λ _ _. IsWithin-means (map (λ word. word.now) c.args.words.now) c.in-Ok.job c.in-Ok.ensures.ok
