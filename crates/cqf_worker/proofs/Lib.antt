@@ -1,1 +1,2 @@
 pub mod PipeSteps
+pub mod Each

@@ -1,2 +1,3 @@
 pub mod PipeRule
 pub mod PipeEnds
+pub mod Rows

@@ -2,6 +2,9 @@
 //!
 //! - [`pipe`] gives the two ends of a channel between two threads: one puts items, the other takes them in that order. Both
 //!   ends together tell how many items are still under way.
+//! - [`Carried`] is what such a pipe carries in a run: an item, or that none comes any more. [`take_each`] takes an item from
+//!   each of several pipes.
+//! - [`Pace`] is what a run's threads do before each step, and [`Free`] lets them go on at once.
 //!
 //! ```text
 //! let (mut into, mut out) = pipe(alloc)?;
@@ -11,7 +14,13 @@
 //! ```
 #![tactic(auto)]
 
+mod carried;
+mod pace;
 mod pipe_ends;
 mod pipe_rule;
+mod rows;
 
+pub use carried::Carried;
+pub use pace::{Free, Pace};
 pub use pipe_ends::{PipeIn, PipeOut, pipe};
+pub use rows::take_each;
