@@ -29,6 +29,13 @@ module _ {T : Type 0} where
   with_more (end ∷ ends) [] x d below = ap (λ (es : List (End T)). with_item end x ∷ es) (sym (with_none ends))
   with_more (end ∷ ends) (y ∷ items) x d below = ap (λ (es : List (End T)). with_item end y ∷ es) (with_more ends items x d (omega arith))
 
+  -- the next end is as it was
+  pub next_same : (ends outs : List (End T)) (items : List T) (place : ℕ) (d : End T) → outs ≡ with_each ends items
+      → length items ≡ place → get_or outs place d ≡ get_or ends place d
+  next_same ends outs items place d is_outs at =
+      ap (λ (es : List (End T)). get_or es place d) is_outs ∙ ap (λ (k : ℕ). get_or (with_each ends items) k d) (sym at) ∙ with_next ends items d
+      ∙ ap (λ (k : ℕ). get_or ends k d) at
+
   -- the next end gets an item
   pub one_more : (ends outs : List (End T)) (items : List T) (place : ℕ) (d after : End T) (x : T) → outs ≡ with_each ends items
       → length items ≡ place → place < length ends → after.pipe ≡ (get_or outs place d).pipe

@@ -2,8 +2,8 @@
 //!
 //! - [`pipe`] gives the two ends of a channel between two threads: one puts items, the other takes them in that order. Both
 //!   ends together tell how many items are still under way.
-//! - [`Carried`] is what such a pipe carries in a run: an item, or that none comes any more. [`take_each`] takes an item from
-//!   each of several pipes.
+//! - [`Carried`] is what such a pipe carries in a run: an item, or that none comes any more. [`put_each`] puts an item in
+//!   each of several pipes, and [`take_each`] takes one from each.
 //! - [`Pace`] is what a run's threads do before each step, and [`Free`] lets them go on at once.
 //!
 //! ```text
@@ -23,4 +23,4 @@ mod rows;
 pub use carried::Carried;
 pub use pace::{Free, Pace};
 pub use pipe_ends::{PipeIn, PipeOut, pipe};
-pub use rows::take_each;
+pub use rows::{put_each, take_each};

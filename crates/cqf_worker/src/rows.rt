@@ -1,11 +1,11 @@
 //! One item from each of several pipes.
-ghost use Rattle.std.specs.Prelude.{◌≡◌, List, IfOk, IfSome, length, map};
+ghost use Rattle.std.specs.Prelude.{◌≡◌, ◌<◌, All, List, IfOk, IfSome, IsTrue, length, map};
 ghost use Rattle.cqf_worker.specs.declared.carried.Carried.TheVariants.{Item};
 ghost use Rattle.cqf_worker.specs.declared.carried.Carried as carried;
 ghost use Rattle.cqf_worker.specs.Rows.{with_each};
 
 use crate::carried::Carried;
-use crate::pipe_ends::PipeOut;
+use crate::pipe_ends::{PipeIn, PipeOut};
 use cqf_units::Memory;
 use std::alloc::Global;
 use std::sync::Wait;
@@ -31,4 +31,22 @@ pub fn take_each<T: Drop, R: Wait>(
         }
     }
     Ok(Some(items))
+}
+
+/// Puts an item in each of the pipes, in turn, and says whether all were put. Where a pipe's other end is gone, the pipes behind
+/// it stay as they are, and the items left are gone. It waits while a pipe is full, and takes no memory.
+pub fn put_each<T: Drop, R: Wait>(rt: &R, ins: &mut [PipeIn<Carried<T>>], items: Vec<T>) -> bool
+    requires count { length items.items ≡ length ins.old }
+    requires room { All (λ end. length end.items < 1000000) ins.old }
+    ensures all { IsTrue result → ins.new ≡ with_each ins.old (map Item items.items) }
+    ensures some { (put : List (carried.Carried T)) × (ins.new ≡ with_each ins.old put) }
+{
+    let mut place = 0;
+    for item in items {
+        match ins[place].put(rt, Carried::Item(item)) {
+            Ok(()) => place += 1,
+            Err(_) => return false,
+        }
+    }
+    true
 }
