@@ -66,7 +66,8 @@ Settles opening count entries seats (Err SeatMissing) = ⊥
 Settles opening count entries seats (Err (SeatsDisagree seat)) = Unit {0}
 Settles opening count entries seats (Err Memory) = Unit {0}
 
--- what a desk is closed with
+-- what a desk is closed with, by its seats
 pub record IsClosed (desk : Counter) (seats : List Sitting) (history : History) : Type 0 where
+  pub its : AreItsSeats desk.seats seats
   pub opening : history.opening ≡ length desk.opening.entries
   pub entries : IsOfSeats desk.opening.entries desk.opening.domain desk.seats seats (map recorded_of history.entries.items)

@@ -1,13 +1,14 @@
 -- What a desk and its seats are to those who call them, and what a seat keeps of its calls (profile).
-use Rattle.std.specs.Prelude.{ℕ, ◌≡◌, List, [], ◌∷◌, ◌++◌, Result, Ok, Err, true, false}
+use Rattle.std.specs.Prelude.{ℕ, ◌≡◌, ◌≤◌, ◌↔◌, List, [], ◌∷◌, ◌++◌, Result, Ok, Err, true, false}
 use Rattle.cqf_model.specs.declared.history.Receipt.{Receipt}
 use Rattle.cqf_model.specs.declared.history.Refused.{Refused}
+use Rattle.cqf_model.specs.declared.history.Refused.TheVariants.{HistoryFull}
 use Rattle.cqf_model.specs.declared.history.Reply.TheVariants.{Sealed}
 use Rattle.cqf_model.specs.History.{Act, Recorded, Seals, reply_to}
 use Rattle.cqf_laws_history.specs.StateLaws.{with_entry}
 use Rattle.cqf_lists.specs.Lists.{each_below}
 use Rattle.cqf_admission.specs.declared.entries.SealFault.{SealFault}
-use Rattle.cqf_admission.specs.Admission.{Administration, Closes, is_entered, reply_of}
+use Rattle.cqf_admission.specs.Admission.{Administration, Closes, calls, is_entered, reply_of}
 use Rattle.cqf_admission.specs.Tables.{CycleTable}
 
 -- a desk: the administration that was handed to it, and how many seats it has
@@ -45,14 +46,17 @@ abbrev pub KeepsSeal : Sitting → Sitting → Result (Unit {0}) SealFault → T
 KeepsSeal old new (Ok done) = (table : CycleTable) × (new ≡ with_seal old table)
 KeepsSeal old new (Err fault) = new ≡ old
 
--- what a call does to the administration behind the desk: it gets the answer that is due there, and enters with it
+-- what a call does to the administration behind the desk: where the history is full it is refused for that, before all
+-- else, and else it gets the answer that is due there, and enters with it
 pub record IsAnswered (old new : Administration) (seat : ℕ) (act : Act) (result : Result Receipt Refused) : Type 0 where
+  pub full : (result ≡ Err HistoryFull) ↔ (100000 ≤ calls old.entries)
   pub domain : new.domain ≡ old.domain
   pub due : is_entered result ≡ true → reply_of result ≡ reply_to old.domain old.entries act
   pub entered : is_entered result ≡ true → new.entries ≡ with_entry old.entries seat act (reply_of result)
   pub unchanged : is_entered result ≡ false → new ≡ old
 
--- what a Seal does to it and to its seat: it closes the next cycle, of which the seat gets the table
+-- what a Seal does to it and to its seat: it closes the next cycle, of which the seat gets the table. It is refused for the
+-- reason that is due there
 abbrev pub IsSealed : Administration → Administration → Sitting → Sitting → Result (Unit {0}) SealFault → Type 0
 IsSealed before after old new (Ok done) = (table : CycleTable) × Closes before after old.number (Ok table) × (new ≡ with_seal old table)
-IsSealed before after old new (Err fault) = (after ≡ before) × (new ≡ old)
+IsSealed before after old new (Err fault) = Closes before after old.number (Err fault) × (new ≡ old)

@@ -211,7 +211,7 @@ fn check(
     }
 }
 
-/// The history of a desk with these seats, where it is what they kept.
+/// The history of a desk with these seats of its own, where it is what they kept.
 pub(crate) fn settle(
     alloc: Global,
     opening: &Admission,
@@ -219,6 +219,7 @@ pub(crate) fn settle(
     entries: Vec<Entry>,
     seats: &[Seat],
 ) -> Result<History, CloseFault>
+    requires { AreItsSeats count seats.now }
     ensures missing { IsErrOf result CloseFault.SeatMissing → ⊥ }
     ensures closed { IfOk result (λ history. IsClosed (record { opening = opening.now; seats = count }) seats.now history) }
 {

@@ -8,7 +8,7 @@ ghost use Rattle.cqf_desk.specs.Desk.{Keeps, KeepsSeal, fresh_seats};
 use crate::closing::{are_its_seats, settle};
 use crate::faults::CloseFault;
 use crate::history::History;
-use crate::seats::Seat;
+use crate::seats::{Seat, unasked};
 use cqf_admission::{Admission, Receipt, Refused, SealFault};
 use cqf_topology::Request;
 use cqf_units::Memory;
@@ -53,7 +53,7 @@ impl Desk {
 
     /// Asks for a stream. The answer is that of [`Admission::admit`] behind the calls that were made before, and the seat
     /// keeps the call with that very answer. With `HistoryFull` and `Memory` neither the history nor the seat changes;
-    /// `Memory` may come where `HistoryFull` is due too. It waits for the lock alone.
+    /// `Memory` comes only where `HistoryFull` isn't due. It waits for the lock alone.
     pub fn admit<R: Wait>(
         &self,
         rt: &R,
@@ -63,7 +63,7 @@ impl Desk {
         ensures { Keeps seat.old seat.new (Admits (asked_of request.now)) result }
     {
         let Ok(asked) = request.try_copy(self.alloc) else {
-            return Err(Refused::Memory);
+            return unasked(&self.admission.lock(rt));
         };
         seat.admit(&mut self.admission.lock(rt), asked, request)
     }
@@ -73,13 +73,14 @@ impl Desk {
         ensures { Keeps seat.old seat.new (Withdraws name.now) result }
     {
         let Ok(asked) = String::from_str(self.alloc, name) else {
-            return Err(Refused::Memory);
+            return unasked(&self.admission.lock(rt));
         };
         seat.withdraw(&mut self.admission.lock(rt), asked, name)
     }
 
     /// Closes the next cycle to changes, by [`Admission::seal`]. The seat keeps the Seal and the cycle's table. With
-    /// `CyclesSpent` and `Memory` neither the history nor the seat changes. It waits for the lock alone.
+    /// `CyclesSpent` and `Memory` neither the history nor the seat changes; `Memory` comes only where `CyclesSpent` isn't
+    /// due. It waits for the lock alone.
     pub fn seal<R: Wait>(&self, rt: &R, seat: &mut Seat) -> Result<(), SealFault>
         ensures { KeepsSeal seat.old seat.new result }
     {

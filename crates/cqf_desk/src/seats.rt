@@ -1,7 +1,7 @@
 //! The seats of a desk.
-ghost use Rattle.std.specs.Prelude.{◌≡◌, ◌-◌, ◌<◌, ◌++◌, [], ◌∷◌, true, false, length, map, option_copied, slice_get, string_bytes, vec_len, vec_capacity};
+ghost use Rattle.std.specs.Prelude.{◌≡◌, ◌↔◌, ◌-◌, ◌≤◌, ◌<◌, ◌++◌, [], ◌∷◌, true, false, length, map, option_copied, slice_get, string_bytes, vec_len, vec_capacity, Err};
 ghost use Rattle.cqf_model.specs.History.{Admits, Withdraws};
-ghost use Rattle.cqf_admission.specs.Admission.{is_entered, recorded_of, reply_of};
+ghost use Rattle.cqf_admission.specs.Admission.{Closes, calls, is_entered, recorded_of, reply_of};
 ghost use Rattle.cqf_admission.specs.Asking.{asked_of};
 ghost use Rattle.cqf_desk.specs.Desk.{IsAnswered, IsSealed, Keeps};
 
@@ -28,6 +28,12 @@ impl Model for Seat {
 
     ghost view = { λ s. record { number = s.number; calls = map recorded_of s.calls.items; tables = s.tables.items } };
 }
+
+/// After how many entries other than Seals an admission's history is full, and after how many Seals its cycles are spent
+/// (profile).
+const MOST_CALLS: usize = 100_000;
+
+const MOST_SEALS: u32 = 100_000;
 
 impl Seat {
     /// A seat with which nobody has called yet.
@@ -80,7 +86,7 @@ impl Seat {
         ensures keeps { Keeps self.old self.new (Admits (asked_of request.now)) result }
     {
         if self.calls.reserve(1).is_err() {
-            return Err(Refused::Memory);
+            return unasked(admission);
         }
         let answer = admission.admit(self.number, request);
         keep(&mut self.calls, self.number, Call::Admit(asked), answer);
@@ -99,7 +105,7 @@ impl Seat {
         ensures keeps { Keeps self.old self.new (Withdraws name.now) result }
     {
         if self.calls.reserve(1).is_err() {
-            return Err(Refused::Memory);
+            return unasked(admission);
         }
         let answer = admission.withdraw(self.number, name);
         keep(&mut self.calls, self.number, Call::Withdraw(asked), answer);
@@ -111,10 +117,10 @@ impl Seat {
         ensures { IsSealed admission.old admission.new self.old self.new result }
     {
         if self.calls.reserve(1).is_err() {
-            return Err(SealFault::Memory);
+            return Err(unsealed(admission));
         }
         if self.tables.reserve(1).is_err() {
-            return Err(SealFault::Memory);
+            return Err(unsealed(admission));
         }
         match admission.seal(self.number) {
             Ok(table) => {
@@ -125,6 +131,27 @@ impl Seat {
             Err(fault) => Err(fault),
         }
     }
+}
+
+/// The answer to a request or a withdrawal that there is no memory for.
+pub(crate) fn unasked(admission: &Admission) -> Result<Receipt, Refused>
+    ensures full { (result ≡ Err Refused.HistoryFull) ↔ (100000 ≤ calls admission.now.entries) }
+    ensures left { is_entered result ≡ false }
+{
+    if admission.history().len() >= MOST_CALLS + admission.next_cycle().0 as usize {
+        return Err(Refused::HistoryFull);
+    }
+    Err(Refused::Memory)
+}
+
+/// Why a cycle isn't closed where there is no memory for its Seal.
+fn unsealed(admission: &Admission) -> SealFault
+    ensures { Closes admission.now admission.now 0 (Err result) }
+{
+    if admission.next_cycle().0 >= MOST_SEALS {
+        return SealFault::CyclesSpent;
+    }
+    SealFault::Memory
 }
 
 /// Whether a call with this answer enters the history.

@@ -261,3 +261,91 @@ fn a_call_of_no_seat_is_noticed(rt: HostRuntime) -> Result<(), Fail> {
     assert!(rt; refused);
     Ok(())
 }
+
+/// Seals a cycle with each of a desk's seats.
+fn seal_with_each<R: Wait>(rt: &R, desk: &Desk, seats: &mut [Seat]) -> bool {
+    for seat in seats {
+        if desk.seal(rt, seat).is_err() {
+            return false;
+        }
+    }
+    true
+}
+
+/// Puts the two seats of a desk at which each sealed a cycle in the places of two, in their order or the other way round.
+fn exchange_both<R: Wait>(
+    rt: &R,
+    alloc: Global,
+    seats: &mut Vec<Seat>,
+    turned: bool,
+) -> Result<bool, Fail> {
+    let (other, mut others) = Desk::new(alloc, admission(alloc)?, 2)?;
+    let sealed = seal_with_each(rt, &other, others.as_mut_slice());
+    if turned {
+        others.as_mut_slice().reverse();
+    }
+    exchange(seats.as_mut_slice(), others.as_mut_slice(), 0, 0);
+    exchange(seats.as_mut_slice(), others.as_mut_slice(), 1, 1);
+    Ok(sealed)
+}
+
+/// Makes all steps at a desk, and exchanges both seats.
+fn work_and_exchange_both<R: Wait>(
+    rt: &R,
+    alloc: Global,
+    desk: &Desk,
+    seats: &mut Vec<Seat>,
+    turned: bool,
+) -> Result<bool, Fail> {
+    let worked = work(rt, alloc, desk, seats)?;
+    let sealed = exchange_both(rt, alloc, seats, turned)?;
+    Ok(worked && sealed)
+}
+
+/// Whether a desk that worked names seat 0, where both seats are of another desk.
+fn names_the_least<R: Wait>(rt: &R, alloc: Global, turned: bool) -> Result<bool, Fail> {
+    let (desk, mut seats) = Desk::new(alloc, admission(alloc)?, 2)?;
+    let worked = work_and_exchange_both(rt, alloc, &desk, &mut seats, turned);
+    let refused = is_refused(desk, seats, CloseFault::SeatsDisagree(0));
+    Ok(worked? && refused)
+}
+
+#[test]
+fn of_two_seats_that_disagree_the_least_is_named(rt: HostRuntime) -> Result<(), Fail> {
+    assert!(rt; names_the_least(&rt, rt.alloc(), false)?);
+    assert!(rt; names_the_least(&rt, rt.alloc(), true)?);
+    Ok(())
+}
+
+/// Makes all steps at a desk, seals a cycle as a stranger, and puts another desk's seat in the place of its own.
+fn work_with_a_stranger<R: Wait>(
+    rt: &R,
+    alloc: Global,
+    desk: &Desk,
+    seats: &mut Vec<Seat>,
+    place: usize,
+) -> Result<bool, Fail> {
+    let worked = work_and_exchange(rt, alloc, desk, seats, place, place)?;
+    let sealed = seal_as_a_stranger(rt, alloc, desk)?;
+    Ok(worked && sealed)
+}
+
+/// Whether a desk that sealed for a stranger is refused so with a seat of another.
+fn is_refused_with_a_stranger<R: Wait>(
+    rt: &R,
+    alloc: Global,
+    place: usize,
+    wanted: CloseFault,
+) -> Result<bool, Fail> {
+    let (desk, mut seats) = Desk::new(alloc, admission(alloc)?, 2)?;
+    let worked = work_with_a_stranger(rt, alloc, &desk, &mut seats, place);
+    let refused = is_refused(desk, seats, wanted);
+    Ok(worked? && refused)
+}
+
+#[test]
+fn a_seat_is_named_before_a_stranger(rt: HostRuntime) -> Result<(), Fail> {
+    assert!(rt; is_refused_with_a_stranger(&rt, rt.alloc(), 0, CloseFault::SeatsDisagree(0))?);
+    assert!(rt; is_refused_with_a_stranger(&rt, rt.alloc(), 1, CloseFault::SeatsDisagree(1))?);
+    Ok(())
+}
