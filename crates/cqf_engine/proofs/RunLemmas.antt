@@ -20,7 +20,7 @@ HasCause-given [] bytes stop some e = absurd (some refl)
 HasCause-given (word ∷ words) bytes stop some e = record {
   help = e.help;
   refused = λ one. absurd (elim e.statuses [ inl zero_is ↦ omega arith | inr other ↦ elim other [ inl two ↦ omega arith | inr three ↦ omega arith ] ]);
-  misused = λ two. record { short = λ none. absurd (some none); cause = inr ((λ none. absurd (some none)), e.mistake two, e.no_job (λ three. omega arith)) };
+  misused = λ two. record { status = two; short = λ none. absurd (some none); cause = inr ((λ none. absurd (some none)), e.mistake two, e.no_job (λ three. omega arith)) };
   memory = e.memory;
 }
 
@@ -45,7 +45,7 @@ pub HasCause-by_line : (bytes : List ℕ) (stop : Stop) → length bytes ≤ 671
 HasCause-by_line bytes stop short text e = record {
   help = e.help;
   refused = λ one. absurd (elim e.statuses [ inl zero_is ↦ omega arith | inr other ↦ elim other [ inl two ↦ omega arith | inr three ↦ omega arith ] ]);
-  misused = λ two. record { short = λ none. short; cause = inr ((λ none. text), e.mistake two, e.no_job (λ three. omega arith)) };
+  misused = λ two. record { status = two; short = λ none. short; cause = inr ((λ none. text), e.mistake two, e.no_job (λ three. omega arith)) };
   memory = e.memory;
 }
 
@@ -55,7 +55,7 @@ pub HasCause-by_bytes : (bytes : List ℕ) (stop : Stop) → length bytes ≤ 67
 HasCause-by_bytes bytes stop short no_text e = record {
   help = λ zero_is. absurd (elim e.statuses [ inl two ↦ omega arith | inr three ↦ omega arith ]);
   refused = λ one. absurd (elim e.statuses [ inl two ↦ omega arith | inr three ↦ omega arith ]);
-  misused = λ two. record { short = λ none. short; cause = inl (refl, no_text, e.line_is two) };
+  misused = λ two. record { status = two; short = λ none. short; cause = inl (refl, no_text, e.line_is two) };
   memory = e.memory;
 }
 
@@ -103,7 +103,7 @@ HasCause-read : (words : List (List ℕ)) (input : Reading) (stop : Stop) → En
     → HasCause words input.bytes stop
 HasCause-read words input stop e means = record {
   help = λ zero_is. absurd (elim e.statuses [ inl one ↦ omega arith | inr other ↦ elim other [ inl three ↦ omega arith | inr four ↦ omega arith ] ]);
-  refused = λ one. record { length_first = inl (e.long one, e.long_line one, means) };
+  refused = λ one. record { status = one; length_first = inl (e.long one, e.long_line one, means) };
   misused = λ two. absurd (elim e.statuses [ inl one ↦ omega arith | inr other ↦ elim other [ inl three ↦ omega arith | inr four ↦ omega arith ] ]);
   memory = e.memory;
 }
@@ -169,7 +169,7 @@ HasCause-by_refusal words bytes job stop short text means h =
     let statuses = refusal_statuses job (input_of words bytes) stop h in
     record {
       help = λ zero_is. absurd (elim statuses [ inl one ↦ omega arith | inr three ↦ omega arith ]);
-      refused = λ one. record { length_first = inr (short, text, (job, means, h)) };
+      refused = λ one. record { status = one; length_first = inr (short, text, (job, means, h)) };
       misused = λ two. absurd (elim statuses [ inl one ↦ omega arith | inr three ↦ omega arith ]);
       memory = refusal_memory job (input_of words bytes) stop h;
     }

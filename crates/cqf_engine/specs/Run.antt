@@ -78,14 +78,16 @@ pub record IsDone (words : List (List ℕ)) (bytes output : List ℕ) : Type 0 w
   pub is_output : IsOutput job (input_of words bytes) output
 
 -- the input is refused: it is too long, where words that are given mean a job; or the words mean a job, and this is the
--- line of the first fault of its input
+-- line of the first fault of its input: the stop has status 1, so that the line is that of the fault
 pub record IsRefusedRun (words : List (List ℕ)) (bytes : List ℕ) (stop : Stop) : Type 0 where
+  pub status : stop.status ≡ 1
   pub length_first : (IsTooLong bytes × (stop.text.items ≡ line_of (codes "cqf: input too long")) × (words ≢ [] → (job : Job) × Mean words job))
       ⊎ ((length bytes ≤ 67108864) × (words ≡ [] → IsUtf8 (first_line bytes))
       × ((job : Job) × Mean (words_of words bytes) job × IsRefusal job (input_of words bytes) stop))
 
--- the words mean no job: those of the first line aren't text; or they are a mistake
+-- the words mean no job: those of the first line aren't text; or they are a mistake. The stop has status 2
 pub record IsMisuse (words : List (List ℕ)) (bytes : List ℕ) (stop : Stop) : Type 0 where
+  pub status : stop.status ≡ 2
   pub short : words ≡ [] → length bytes ≤ 67108864
   pub cause : ((words ≡ []) × ¬ IsUtf8 (first_line bytes) × (stop.text.items ≡ line_of (codes "cqf: words")))
       ⊎ ((words ≡ [] → IsUtf8 (first_line bytes)) × AreMistaken (words_of words bytes) × ((job : Job) → ¬ Mean (words_of words bytes) job))
