@@ -1,4 +1,5 @@
 mod HeldLemmas
+mod ListedLemmas
 mod BranchLemmas
 mod FaultLemmas
 mod NodeLemmas

@@ -4,3 +4,4 @@ pub mod Branches
 pub mod Grants
 pub mod Tables
 pub mod Asking
+pub mod Commands

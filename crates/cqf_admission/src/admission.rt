@@ -10,7 +10,6 @@ use crate::branches::count_places;
 use crate::entries::{Call, Entry, SealFault, copied_entries, enter};
 use crate::held::Held;
 use crate::refusals::{find_open, grant, taken_of};
-use crate::rows::copied_rows;
 use crate::table::Table;
 use cqf_laws_history::state_follows_history;
 use cqf_model::{Receipt, Refused, Reply};
@@ -41,10 +40,11 @@ impl Model for Admission {
     ghost invariant = { λ a. IsRunning a.domain (map recorded_of a.history.items) a.held.rows a.next a.sealed };
 }
 
-/// How many entries of a history may be other than Seals, and how many may be Seals (profile).
-const MOST_CALLS: usize = 100_000;
+/// How many entries of a history may be other than Seals (profile).
+pub const MOST_CALLS: usize = 100_000;
 
-const MOST_SEALS: u32 = 100_000;
+/// How many entries of a history may be Seals (profile).
+pub const MOST_SEALS: u32 = 100_000;
 
 impl Admission {
     /// An admission for a domain, with an empty history.
@@ -56,7 +56,7 @@ impl Admission {
             alloc,
             domain: domain.try_copy(alloc)?,
             history: Vec::new(alloc),
-            held: Held::new(alloc),
+            held: Held::new(alloc)?,
             next: 0,
             sealed: 0,
         })
@@ -188,7 +188,7 @@ impl Admission {
         if self.sealed >= MOST_SEALS {
             return Err(SealFault::CyclesSpent);
         }
-        let Ok(rows) = copied_rows(self.alloc, self.held.rows()) else {
+        let Ok(listed) = self.held.share(self.alloc) else {
             return Err(SealFault::Memory);
         };
         if self.history.reserve(1).is_err() {
@@ -199,7 +199,7 @@ impl Admission {
         self.sealed += 1;
         self.held.let_go(Cycle(self.sealed));
         enter(&mut self.history, seat, Call::Seal, Reply::Sealed);
-        Ok(Table::new(cycle, rows))
+        Ok(Table::new(cycle, listed))
     }
 
     /// What the streams that are held in the next cycle cost of a link, in octets a cycle: never more than its budget

@@ -1,11 +1,13 @@
 //! The streams that are held, by number and by name, with their costs and their links in columns.
 ghost use Rattle.std.specs.Prelude.{◌≡◌, ◌+◌, ◌<◌, ◌≤◌, ◌^◌, [], ◌∷◌, ◌++◌, length, filter, if◌then◌else◌, position, false, OnOk, IfOk};
+ghost use Rattle.std.specs.Arc.{arc_value};
 ghost use Rattle.std.specs.List.{list_any};
 ghost use Rattle.cqf_model.specs.Domain.{is_text};
 ghost use Rattle.cqf_model.specs.Table.{is_held, link_cost};
 ghost use Rattle.cqf_admission.specs.Rows.{AreMoreBy, AreTotals, ended_at};
 ghost use Rattle.cqf_lanes.specs.Kernels.{has_bit, masked_total};
 
+use crate::listed::Listed;
 use crate::rows::{copied_rows, mask_of_row};
 use cqf_lanes::masked_sum;
 use cqf_model::Row;
@@ -13,6 +15,7 @@ use cqf_units::{Cycle, Memory, Name, Octets, cost};
 use indexmap::IndexSet;
 use std::alloc::Global;
 use std::marker::Model;
+use std::sync::Arc;
 
 /// The rows of held streams by number, at most 1,024. Beside them stand their names, what each costs of its links, and a
 /// mask of these links, so that what a link costs is one sum.
@@ -24,10 +27,14 @@ pub(crate) struct Held {
     masks: Vec<u64>,
     /// By link, the sum of the costs of those that go by it.
     sums: [u64; 64],
+    /// Rows as tables share them, and whether they are these rows: whether nothing has changed since they were listed.
+    shared: Arc<Listed>,
+    is_shared: bool,
 }
 
 impl Model for Held {
-    ghost use Rattle.std.specs.Prelude.{◌-◌, min, vec_len, vec_capacity};
+    ghost use Rattle.std.specs.Arc.{arc_value};
+    ghost use Rattle.std.specs.Prelude.{◌≡◌, ◌-◌, min, true, vec_len, vec_capacity};
     ghost use Rattle.indexmap.specs.IndexSet.{spare};
     ghost use Rattle.cqf_admission.specs.Rows.{AreSums, HaveColumns, HeldRows};
 
@@ -39,7 +46,8 @@ impl Model for Held {
           (min (vec_capacity h.costs - vec_len h.costs) (vec_capacity h.masks - vec_len h.masks));
     } };
 
-    ghost invariant = { λ h. HaveColumns h.names.keys h.rows.items h.costs.items h.masks.items × AreSums h.rows.items h.sums };
+    ghost invariant = { λ h. HaveColumns h.names.keys h.rows.items h.costs.items h.masks.items × AreSums h.rows.items h.sums
+        × (h.is_shared ≡ true → arc_value h.shared ≡ h.rows.items) };
 }
 
 /// What a link's streams cost of it, where that is a sum and, if the mask has the link's bit, the octets.
@@ -88,20 +96,26 @@ fn sums_of(costs: &[u32], masks: &[u64]) -> [u64; 64]
 }
 
 impl Held {
-    /// No streams.
-    pub(crate) fn new(alloc: Global) -> Held
-        ensures { result.rows ≡ [] }
+    /// No streams, unless memory runs out.
+    pub(crate) fn new(alloc: Global) -> Result<Held, Memory>
+        ensures { IfOk result (λ held. held.rows ≡ []) }
     {
+        let names = IndexSet::new(alloc);
+        let rows = Vec::new(alloc);
         let costs = Vec::new(alloc);
         let masks = Vec::new(alloc);
         let sums = sums_of(costs.as_slice(), masks.as_slice());
-        Held {
-            names: IndexSet::new(alloc),
-            rows: Vec::new(alloc),
+        let listed = Listed::new(alloc, &names, rows.as_slice())?;
+        let shared = Arc::new(alloc, listed)?;
+        Ok(Held {
+            names,
+            rows,
             costs,
             masks,
             sums,
-        }
+            shared,
+            is_shared: true,
+        })
     }
 
     /// The rows, by number.
@@ -161,6 +175,7 @@ impl Held {
             self.costs.as_slice(),
             self.masks.as_slice(),
         );
+        self.is_shared = false;
     }
 
     /// Ends the stream of the row at this place from a cycle on.
@@ -170,6 +185,7 @@ impl Held {
     {
         let row = &mut self.rows[place];
         row.withdrawn = Some(cycle);
+        self.is_shared = false;
     }
 
     /// Lets go of the streams that aren't held in a cycle.
@@ -190,7 +206,22 @@ impl Held {
         }
         if gone {
             self.sums = sums_of(self.costs.as_slice(), self.masks.as_slice());
+            self.is_shared = false;
         }
+    }
+
+    /// The rows for a table, which it shares with those before it where nothing has changed since, unless memory runs out.
+    pub(crate) fn share(&mut self, alloc: Global) -> Result<Arc<Listed>, Memory>
+        ensures same { self.new ≡ self.old }
+        ensures rows { IfOk result (λ listed. arc_value listed ≡ self.old.rows) }
+    {
+        if !self.is_shared {
+            let listed = Listed::new(alloc, &self.names, self.rows.as_slice())?;
+            let shared = Arc::new(alloc, listed)?;
+            self.shared = shared;
+            self.is_shared = true;
+        }
+        Arc::try_clone(&self.shared)
     }
 
     /// The same streams again, unless memory runs out.
@@ -203,6 +234,8 @@ impl Held {
             costs: Vec::from_slice(alloc, self.costs.as_slice())?,
             masks: Vec::from_slice(alloc, self.masks.as_slice())?,
             sums: self.sums,
+            shared: Arc::try_clone(&self.shared)?,
+            is_shared: self.is_shared,
         })
     }
 }

@@ -20,12 +20,13 @@ mod admission;
 mod branches;
 mod entries;
 mod held;
+mod listed;
 mod refusals;
 mod rows;
 mod table;
 mod trees;
 
-pub use admission::Admission;
+pub use admission::{Admission, MOST_CALLS, MOST_SEALS};
 pub use cqf_model::{Receipt, Refused, Reply, Row};
 pub use entries::{Call, Command, Entry, SealFault};
 pub use table::Table;

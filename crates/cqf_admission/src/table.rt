@@ -1,41 +1,44 @@
 //! The table of a cycle.
+ghost use Rattle.std.specs.Arc.{arc_value};
 ghost use Rattle.std.specs.Prelude.{◌≡◌, IfOk, option_copied};
-ghost use Rattle.cqf_model.specs.Domain.{is_text};
 ghost use Rattle.cqf_model.specs.Table.{row_named, row_of};
 ghost use Rattle.cqf_admission.specs.Tables.{AreInOrder, IsRowNamed, IsRowOf};
 
-use crate::rows::copied_rows;
+use crate::listed::Listed;
 use cqf_model::Row;
 use cqf_units::{Cycle, Memory, Name};
 use std::alloc::Global;
 use std::marker::Model;
+use std::sync::Arc;
 
 /// The table of a cycle that is closed to changes: the streams that are held in it, by number, no two of one number or
 /// name.
 #[derive(Debug, Drop)]
 pub struct Table {
     cycle: Cycle,
-    rows: Vec<Row>,
+    /// Tables of cycles between which nothing changes share their rows.
+    listed: Arc<Listed>,
 }
 
 impl Model for Table {
+    ghost use Rattle.std.specs.Arc.{arc_value};
     ghost use Rattle.cqf_admission.specs.Tables.{AreInOrder, CycleTable};
 
     ghost Value = { CycleTable };
 
-    ghost view = { λ t. record { cycle = t.cycle.0; rows = t.rows.items } };
+    ghost view = { λ t. record { cycle = t.cycle.0; rows = arc_value t.listed } };
 
-    ghost invariant = { λ t. AreInOrder t.rows.items };
+    ghost invariant = { λ t. AreInOrder (arc_value t.listed) };
 }
 
 impl Table {
     /// The table of a cycle with these rows.
-    pub(crate) fn new(cycle: Cycle, rows: Vec<Row>) -> Table
-        requires { AreInOrder rows.items }
+    pub(crate) fn new(cycle: Cycle, listed: Arc<Listed>) -> Table
+        requires { AreInOrder (arc_value listed) }
         ensures cycle { result.cycle ≡ cycle.0 }
-        ensures rows { result.rows ≡ rows.items }
+        ensures rows { result.rows ≡ arc_value listed }
     {
-        Table { cycle, rows }
+        Table { cycle, listed }
     }
 
     /// The cycle that the table is of.
@@ -50,7 +53,7 @@ impl Table {
         ensures rows { result.now ≡ self.now.rows }
         ensures order { AreInOrder self.now.rows }
     {
-        self.rows.as_slice()
+        self.listed.rows()
     }
 
     /// The row of the stream that has the name, where one is held.
@@ -58,7 +61,7 @@ impl Table {
         ensures found { option_copied result ≡ row_named self.now.rows name.now }
         ensures the_row { IsRowNamed self.now.rows name.now (option_copied result) }
     {
-        row_with_name(self.rows.as_slice(), name)
+        self.listed.row_named(name)
     }
 
     /// The row of the stream of this number, where it is held.
@@ -66,25 +69,18 @@ impl Table {
         ensures found { option_copied result ≡ row_of self.now.rows no }
         ensures the_row { IsRowOf self.now.rows no (option_copied result) }
     {
-        row_with_number(self.rows.as_slice(), no)
+        row_with_number(self.listed.rows(), no)
     }
 
-    /// The same table again, unless memory runs out.
-    pub fn try_copy(&self, alloc: Global) -> Result<Table, Memory>
+    /// The same table again, unless memory runs out. The two share their rows.
+    pub fn try_copy(&self, _alloc: Global) -> Result<Table, Memory>
         ensures { IfOk result (λ copy. copy ≡ self.now) }
     {
         Ok(Table {
             cycle: self.cycle,
-            rows: copied_rows(alloc, self.rows.as_slice())?,
+            listed: Arc::try_clone(&self.listed)?,
         })
     }
-}
-
-/// The first of some rows whose stream has the name.
-fn row_with_name<'a>(rows: &'a [Row], name: &Name) -> Option<&'a Row>
-    ensures { option_copied result ≡ row_named rows.now name.now }
-{
-    rows.iter().find(|row| has_name(row, name))
 }
 
 /// Of rows that stand by number the one whose stream has the number.
@@ -96,11 +92,4 @@ fn row_with_number(rows: &[Row], no: u32) -> Option<&Row>
         Ok(place) => Some(&rows[place]),
         Err(_) => None,
     }
-}
-
-/// Whether the row's stream has the name.
-fn has_name(row: &Row, name: &Name) -> bool
-    ensures { result ≡ is_text row.now.name name.now }
-{
-    row.name == *name
 }

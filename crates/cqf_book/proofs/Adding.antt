@@ -1,7 +1,7 @@
 -- Adding the frames of a page's starts to the totals of all links.
 use Rattle.std.proofs.Common.{ℕ, ◌*◌, ◌^◌, ◌≤◌, List, take}
 use Rattle.cqf_model.specs.declared.frames.Started.{Started}
-use Rattle.cqf_book.specs.Pages.{frames_on, octets_on}
+use Rattle.cqf_model.specs.OnLinks.{frames_on, octets_on}
 use Rattle.cqf_book.specs.Totals.{AreAdded}
 
 -- the starts below a place are counted, each of fewer than 2^32 octets

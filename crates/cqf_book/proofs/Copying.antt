@@ -5,8 +5,9 @@ use Rattle.std.proofs.Math.ListN.{get_or-map}
 use Rattle.std.proofs.lemmas.List.{length-map}
 use Rattle.std.proofs.lemmas.Option.{slice_get-map, none-some, same_Some}
 use Rattle.cqf_model.specs.declared.frames.Page.{Page}
+use Rattle.cqf_model.specs.OnLinks.{frames_on, octets_on}
 use Rattle.cqf_lists.proofs.Sums.{sum_map}
-use Rattle.cqf_book.specs.Pages.{Posted, ArePosted, frames_on, octets_on, over_pages, page_at, page_count, pages_of}
+use Rattle.cqf_book.specs.Pages.{Posted, ArePosted, over_pages, page_at, page_count, pages_of}
 use Rattle.cqf_book.specs.Shares.{Said, said}
 use Rattle.cqf_book.specs.Totals.{AreKept, count_of_pages}
 
@@ -27,6 +28,17 @@ from_map : {A B : Type 0} (f : A → B) (o : Option A) (y : B) → option_map f 
 from_map f (Some x) y h = (x, refl, same_Some (f x) y h)
 from_map f None y h = absurd (none-some y h)
 
+-- of pages that say the same, those at one place do
+pub said_at : (pages others : List Page) → map said others ≡ map said pages → (place : ℕ) (page : Page) → slice_get others place ≡ Some page →
+    (p : Page) × (slice_get pages place ≡ Some p) × (said p ≡ said page)
+said_at pages others same place page found = from_map said (slice_get pages place) (said page)
+    (sym (slice_get-map said pages place) ∙ ap (λ (row : List Said). slice_get row place) (sym same)
+    ∙ slice_get-map said others place ∙ ap (option_map said) found)
+
+-- and there are as many
+pub said_count : (pages others : List Page) → map said others ≡ map said pages → length others ≡ length pages
+said_count pages others same = sym (length-map others said) ∙ ap length same ∙ length-map pages said
+
 module _ (posted other : Posted) (same : rows_said other.pages ≡ rows_said posted.pages) where
   -- bridge by bridge the pages say the same
   pub same_row : (bridge : ℕ) → map said (pages_of other bridge) ≡ map said (pages_of posted bridge)
@@ -35,13 +47,11 @@ module _ (posted other : Posted) (same : rows_said other.pages ≡ rows_said pos
 
   -- there are as many
   same_count : (bridge : ℕ) → page_count other bridge ≡ page_count posted bridge
-  same_count bridge = sym (length-map (pages_of other bridge) said) ∙ ap length (same_row bridge) ∙ length-map (pages_of posted bridge) said
+  same_count bridge = said_count (pages_of posted bridge) (pages_of other bridge) (same_row bridge)
 
   -- the page at a place says the same
   same_page : (bridge cycle : ℕ) (page : Page) → page_at other bridge cycle ≡ Some page → (p : Page) × (page_at posted bridge cycle ≡ Some p) × (said p ≡ said page)
-  same_page bridge cycle page found = from_map said (page_at posted bridge cycle) (said page)
-      (sym (slice_get-map said (pages_of posted bridge) cycle) ∙ ap (λ (row : List Said). slice_get row cycle) (sym (same_row bridge))
-      ∙ slice_get-map said (pages_of other bridge) cycle ∙ ap (option_map said) found)
+  same_page bridge cycle page found = said_at (pages_of posted bridge) (pages_of other bridge) (same_row bridge) cycle page found
 
   -- a sum over all pages is the same
   same_sum : (of_said : Said → ℕ) → over_pages (λ (page : Page). of_said (said page)) other.pages ≡ over_pages (λ (page : Page). of_said (said page)) posted.pages

@@ -9,7 +9,8 @@ use Rattle.std.proofs.lemmas.List.Folds.{sum_by-replicate}
 use Rattle.std.proofs.lemmas.List.Sums.{sum_by-le, sum_by-set, sum_by_push}
 use Rattle.std.proofs.lemmas.Option.{none-some, same_Some}
 use Rattle.cqf_model.specs.declared.frames.Page.{Page}
-use Rattle.cqf_book.specs.Pages.{Posted, ArePosted, IsNext, frames_on, octets_on, over_pages, pages_of, with_page}
+use Rattle.cqf_model.specs.OnLinks.{frames_on, octets_on}
+use Rattle.cqf_book.specs.Pages.{Posted, ArePosted, IsNext, over_pages, pages_of, with_page}
 use Rattle.cqf_book.specs.Totals.{AreAdded, AreFew, AreKept, AreTotals, HaveRoom, count_of_pages}
 
 -- no bridge has a page

@@ -1,8 +1,8 @@
 -- The pages that the bridges have posted, what makes a page the next one, and what the pages have on a link (profile).
-use Rattle.std.specs.Prelude.{ℕ, ◌≡◌, ◌<◌, ◌≤◌, ◌==◌, ◌++◌, List, [], ◌∷◌, length, if◌then◌else◌, count_by, sum_by}
+use Rattle.std.specs.Prelude.{ℕ, ◌≡◌, ◌<◌, ◌≤◌, ◌++◌, List, [], ◌∷◌, length, sum_by}
 use Rattle.std.specs.Prelude.{Option, Some, slice_get, slice_index_or, slice_set}
 use Rattle.cqf_model.specs.declared.frames.Page.{Page}
-use Rattle.cqf_model.specs.declared.frames.Started.{Started}
+use Rattle.cqf_model.specs.OnLinks.{frames_on, octets_on}
 
 -- pages that were posted: of how many bridges and cycles they may be, and by bridge its pages, in order of cycle
 pub record Posted : Type 0 where
@@ -62,13 +62,6 @@ pub record AreWhole (posted : Posted) (cycles : ℕ) : Type 0 where
   pub each : (bridge : ℕ) → bridge < posted.bridges → cycles ≤ page_count posted bridge
   pub most : (more : ℕ) → more ≤ posted.cycles → ((bridge : ℕ) → bridge < posted.bridges → more ≤ page_count posted bridge) → more ≤ cycles
   pub least : 0 < posted.bridges → (bridge : ℕ) × (bridge < posted.bridges) × (page_count posted bridge ≡ cycles)
-
--- how many of some streams' frames are on the link, and their octets
-abbrev pub frames_on : ℕ → List Started → ℕ
-frames_on link starts = count_by (λ (start : Started). start.link == link) starts
-
-abbrev pub octets_on : ℕ → List Started → ℕ
-octets_on link starts = sum_by (λ (start : Started). if start.link == link then start.octets else 0) starts
 
 -- a sum over all pages
 abbrev pub over_pages : (Page → ℕ) → List (List Page) → ℕ

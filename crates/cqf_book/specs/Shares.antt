@@ -1,5 +1,5 @@
 -- The shares of a cycle book, and the book that their pages give (profile).
-use Rattle.std.specs.Prelude.{ℕ, ◌≡◌, ◌<◌, ◌++◌, ◌==◌, List, [], ◌∷◌, Bool, Option, Some, None, count_by, find, length, map}
+use Rattle.std.specs.Prelude.{ℕ, ◌≡◌, ◌<◌, ◌≤◌, ◌++◌, ◌==◌, List, [], ◌∷◌, Bool, Option, Some, None, count_by, find, length, map}
 use Rattle.std.specs.List.{All, flat_map}
 use Rattle.cqf_lists.specs.Lists.{each_below}
 use Rattle.cqf_model.specs.declared.frames.Dropped.{Dropped}
@@ -7,7 +7,7 @@ use Rattle.cqf_model.specs.declared.frames.Page.{Page}
 use Rattle.cqf_model.specs.declared.frames.Started.{Started}
 use Rattle.cqf_model.specs.Book.{Contents}
 use Rattle.cqf_order.specs.BookOrder.{IsDropBelow, IsStartBelow, in_book_order, starts_in_book_order}
-use Rattle.cqf_book.specs.Pages.{Posted, pages_of}
+use Rattle.cqf_book.specs.Pages.{Posted, page_count, pages_of}
 
 -- what a page says: whose it is, of which cycle, and what stands on it
 pub record Said : Type 0 where
@@ -57,10 +57,22 @@ pages_by shares bridge = pages_in (find (is_of bridge) shares)
 abbrev pub all_pages_of : Posted → List Own → ℕ → List Page
 all_pages_of opening shares bridge = pages_of opening bridge ++ pages_by shares bridge
 
--- the pages of each of so many bridges say what those from before and the share's say
+-- the pages from before the shares were made, and behind each bridge's those of its share
+abbrev pub with_shares : Posted → List Own → Posted
+with_shares opening shares = record {
+  bridges = opening.bridges;
+  cycles = opening.cycles;
+  pages = each_below (λ bridge. all_pages_of opening shares bridge ∷ []) opening.bridges;
+}
+
+-- a bridge's pages are no more than there are cycles, and say what those from before and its share's say
+pub record Agrees (opening : Posted) (shares : List Own) (posted : Posted) (bridge : ℕ) : Type 0 where
+  pub in_cycles : page_count posted bridge ≤ opening.cycles
+  pub same : map said (pages_of posted bridge) ≡ map said (all_pages_of opening shares bridge)
+
+-- and so do those of each of so many bridges
 abbrev pub Agree : Posted → List Own → Posted → ℕ → Type 0
-Agree opening shares posted bridges =
-    (bridge : ℕ) → bridge < bridges → map said (pages_of posted bridge) ≡ map said (all_pages_of opening shares bridge)
+Agree opening shares posted bridges = (bridge : ℕ) → bridge < bridges → Agrees opening shares posted bridge
 
 -- what stands on the pages of so many bridges, bridge by bridge and page by page
 abbrev pub on_pages : {A : Type 0} → (Page → List A) → (ℕ → List Page) → ℕ → List A

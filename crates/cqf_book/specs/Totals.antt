@@ -2,7 +2,8 @@
 use Rattle.std.specs.Prelude.{ℕ, ◌≡◌, ◌+◌, ◌*◌, ◌^◌, ◌<◌, ◌≤◌, List, length, sum_by, slice_index}
 use Rattle.cqf_model.specs.declared.frames.Page.{Page}
 use Rattle.cqf_model.specs.declared.frames.Started.{Started}
-use Rattle.cqf_book.specs.Pages.{Posted, ArePosted, frames_on, octets_on, frames_posted, octets_posted}
+use Rattle.cqf_model.specs.OnLinks.{frames_on, octets_on}
+use Rattle.cqf_book.specs.Pages.{Posted, ArePosted, frames_posted, octets_posted}
 
 -- what was added to the totals of all links is that of the starts
 pub record AreAdded (starts : List Started) (frames octets frames_after octets_after : List ℕ) : Type 0 where

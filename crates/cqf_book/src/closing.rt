@@ -2,8 +2,8 @@
 ghost use Rattle.std.specs.Prelude.{◌≡◌, ◌<◌, ◌↔◌, ◌++◌, IfNone, IfOk, IfSome, IsErrOf, IsTrue, OnOk, count_by, find, length, map, option_copied, true};
 ghost use Rattle.std.specs.List.{flat_map};
 ghost use Rattle.cqf_model.specs.Book.{contents_of};
-ghost use Rattle.cqf_book.specs.Pages.{pages_of};
-ghost use Rattle.cqf_book.specs.Shares.{Agree, AreOneEach, IsBookOfPages, IsBookOfShares, all_pages_of, is_of, on_pages, pages_by, said};
+ghost use Rattle.cqf_book.specs.Pages.{ArePosted, pages_of};
+ghost use Rattle.cqf_book.specs.Shares.{Agree, AreOneEach, IsBookOfPages, IsBookOfShares, all_pages_of, is_of, on_pages, pages_by, said, with_shares};
 
 use crate::cycle_book::Share;
 use crate::faults::BookClose;
@@ -76,6 +76,9 @@ fn first_to_disagree(opening: &Pages, posted: &Pages, shares: &[Share]) -> Optio
 {
     for bridge in 0..opening.bridges() {
         let pages = posted.of_bridge(bridge);
+        if pages.len() > opening.cycles() as usize {
+            return Some(bridge);
+        }
         if !continues(
             pages,
             opening.of_bridge(bridge),
@@ -139,6 +142,7 @@ pub(crate) fn closed(
 ) -> Result<Book, BookClose>
     ensures missing { IsErrOf result BookClose.ShareMissing ↔ (AreOneEach opening.now.bridges shares.now → ⊥) }
     ensures ok { IfOk result (λ book. IsBookOfShares opening.now shares.now (contents_of book)) }
+    ensures once { IfOk result (λ book. ArePosted (with_shares opening.now shares.now)) }
 {
     if !are_one_each(shares, opening.bridges()) {
         return Err(BookClose::ShareMissing);
@@ -146,6 +150,9 @@ pub(crate) fn closed(
     if let Some(bridge) = first_to_disagree(opening, posted, shares) {
         return Err(BookClose::SharesDisagree(bridge));
     }
+    // the pages of both stand in order: a fact for those that are closed
+    let _before = opening.cycles();
+    let _in_order = posted.cycles();
     match book_of(alloc, posted, opening.bridges()) {
         Ok(book) => Ok(book),
         Err(_) => Err(BookClose::Memory),

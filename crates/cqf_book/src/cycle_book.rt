@@ -1,8 +1,8 @@
 //! A book that bridges write in threads of their own, each by its share.
 ghost use Rattle.std.specs.Prelude.{◌≡◌, ◌≢◌, ◌↔◌, ◌≤◌, ◌+◌, [], IfErr, IfOk, IsErrOf, OnErr, OnOk, vec_len, vec_capacity};
 ghost use Rattle.cqf_model.specs.Book.{contents_of};
-ghost use Rattle.cqf_book.specs.Pages.{AreWholeOfSome, AreTotalsOfSome};
-ghost use Rattle.cqf_book.specs.Shares.{AreOneEach, IsBookOfShares, new_shares, said, with_own};
+ghost use Rattle.cqf_book.specs.Pages.{ArePosted, AreWholeOfSome, AreTotalsOfSome};
+ghost use Rattle.cqf_book.specs.Shares.{AreOneEach, IsBookOfShares, new_shares, said, with_own, with_shares};
 
 use crate::closing::closed;
 use crate::faults::{BookClose, PageFault};
@@ -171,10 +171,12 @@ impl CycleBook {
     /// starts by cycle, then link, then instant, the drops by cycle, then bridge, then frame; what has these three in common
     /// stands by page, and by its place there (profile). It waits for nobody. It takes one share of each bridge, in any
     /// order; other shares are [`BookClose::ShareMissing`], and a share whose pages aren't those that the book took of its
-    /// bridge is [`BookClose::SharesDisagree`]. With a fault the pages are gone.
+    /// bridge is [`BookClose::SharesDisagree`]. Where it answers, no page of these stands twice and none is missing: each is of
+    /// the bridge and the cycle at whose place it stands. With a fault the pages are gone.
     pub fn close(self, shares: Vec<Share>) -> Result<Book, BookClose>
         ensures missing { IsErrOf result BookClose.ShareMissing ↔ (AreOneEach self.bridges shares.items → ⊥) }
         ensures ok { IfOk result (λ book. IsBookOfShares self shares.items (contents_of book)) }
+        ensures once { IfOk result (λ book. ArePosted (with_shares self shares.items)) }
     {
         let CycleBook {
             alloc,

@@ -131,6 +131,14 @@ impl Pages {
         self.bridges
     }
 
+    /// How many cycles there are.
+    pub(crate) fn cycles(&self) -> u32
+        ensures value { result ≡ self.now.cycles }
+        ensures facts { ArePosted self.now }
+    {
+        self.cycles
+    }
+
     /// The bridge's pages, in order of cycle; none of a bridge that isn't one of the bridges.
     pub(crate) fn of_bridge(&self, bridge: u8) -> &[Page]
         ensures { result.now ≡ pages_of self.now bridge }

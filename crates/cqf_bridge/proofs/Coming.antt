@@ -1,55 +1,22 @@
--- What may come to a bridge: the links that end in it, and where a stream goes on from it.
-use Rattle.std.proofs.Common.{◌≡◌, ◌+◌, ◌≤◌, ◌<◌, ℕ, zero, suc, Bool, true, false, List, [], ◌∷◌, ◌++◌, ◌∙◌, inl, inr, sym, ap, refl, arith, length, map, get_or, Contains, Some, subst, length-append, append-nil}
-use Rattle.std.specs.Prelude.{◌==◌, Option, if◌then◌else◌, slice_get}
-use Rattle.std.specs.Option.{option_map_or}
-use Rattle.std.specs.List.{flat_map}
-use Rattle.std.proofs.lemmas.Bool.{cases_lt, true≢false}
-use Rattle.std.proofs.lemmas.List.Concat.{flat_map-append}
-use Rattle.std.proofs.lemmas.Option.{get_or_from_slice_get, slice_get_cases, slice_get_within}
-use Rattle.cqf_lists.specs.Lists.{each_below}
-use Rattle.cqf_lists.proofs.EachBelow.{contains_from_below}
-use Rattle.cqf_lists.proofs.Made.{contains_if_there}
-use Rattle.cqf_lists.proofs.Members.{contains_map, contains_one, place_of_member}
-use Rattle.cqf_model.specs.declared.topology.Link.{Link}
+-- What may come to a bridge: the batches of the links that end in it.
+use Rattle.std.proofs.Common.{◌≡◌, ◌+◌, ◌≤◌, ◌<◌, ℕ, true, List, ◌∙◌, inl, inr, sym, ap, arith, length, map, get_or, Contains, Some, subst}
+use Rattle.std.specs.Prelude.{slice_get}
+use Rattle.std.proofs.lemmas.Bool.{cases_lt}
+use Rattle.std.proofs.lemmas.Option.{get_or_from_slice_get, slice_get_within}
+use Rattle.cqf_lists.proofs.Members.{contains_map, place_of_member}
+use Rattle.cqf_lists.proofs.Numbers.{kept_number}
 use Rattle.cqf_model.specs.declared.topology.Row.{Row}
-use Rattle.cqf_model.specs.Domain.{Domain, enters, leaves, node_is}
+use Rattle.cqf_model.specs.Domain.{Domain, enters}
 use Rattle.cqf_bridge.specs.Batch.{LinkBatch}
 use Rattle.cqf_bridge.specs.Receiving.{AreBatchesOf, links_into}
 use Rattle.cqf_bridge.specs.Taking.{IsBatchOf}
-
--- a link that leaves a bridge is the domain's
-pub leaves_inside : (d : Domain) (l bridge : ℕ) → leaves d l bridge ≡ true → l < length d.links
-leaves_inside d l bridge is = elim (slice_get_cases d.links l).1 [
-  | inl w ↦ slice_get_within d.links l w.0 w.2
-  | inr w ↦ absurd (true≢false (sym is ∙ ap (λ (o : Option Link). option_map_or (λ (link : Link). link.from == bridge) o false) w.1))
-]
-
--- and so is one that ends in it
-pub enters_inside : (d : Domain) (l bridge : ℕ) → enters d l bridge ≡ true → l < length d.links
-enters_inside d l bridge is = elim (slice_get_cases d.links l).1 [
-  | inl w ↦ slice_get_within d.links l w.0 w.2
-  | inr w ↦ absurd (true≢false (sym is ∙ ap (λ (o : Option Link). option_map_or (λ (link : Link). node_is link.to bridge) o false) w.1))
-]
-
--- as many numbers at most as there are below one
-pub picked_length : (test : ℕ → Bool) (n : ℕ) → length (each_below (λ k. if test k then k ∷ [] else []) n) ≤ n
-picked_length test zero = omega arith
-picked_length test (suc n) =
-    omega (arith, picked_length test n, one (test n), length-append (each_below (λ k. if test k then k ∷ [] else []) n) (if test n then n ∷ [] else []))
-  where
-    -- one at most
-    one : (b : Bool) → length (if b then n ∷ [] else []) ≤ 1
-    one true = omega arith
-    one false = omega arith
 
 -- the links of batches, one for each that ends in a bridge, end in it
 pub batch_enters : (d : Domain) (bridge : ℕ) (batches : List LinkBatch) (b : LinkBatch) → map (λ (x : LinkBatch). x.link) batches ≡ links_into d bridge →
     Contains batches b → enters d b.link bridge ≡ true
 batch_enters d bridge batches b are held =
     let among : Contains (links_into d bridge) b.link = subst (λ (ls : List ℕ). Contains ls b.link) are (contains_map (λ (x : LinkBatch). x.link) batches b held) in
-    let f = contains_from_below (λ l. if enters d l bridge then l ∷ [] else []) (length d.links) b.link among in
-    let g = contains_if_there (enters d f.0 bridge) (f.0 ∷ []) b.link f.2 in
-    ap (λ (l : ℕ). enters d l bridge) (sym (contains_one f.0 b.link g.1)) ∙ g.0
+    (kept_number (λ l. enters d l bridge) (length d.links) b.link among).1
 
 -- what holds of the first elements, and of one more
 pub one_more_place : {X : Type 0} (P : X → Type 0) (xs : List X) (n : ℕ) (x : X) → x ≡ get_or xs n x → P x →
@@ -79,20 +46,3 @@ module _ (d : Domain) (bridge cycle : ℕ) (rows : List Row) (batches : List Lin
   -- one that isn't of the cycle is none of them
   pub not_batches_of : (b : LinkBatch) → Contains batches b → ¬ IsBatchOf d bridge cycle rows b → ¬ AreBatchesOf d bridge cycle rows batches
   not_batches_of b held not are = not (record { of_cycle = are.of_cycle b held; frames = λ sent inside. are.frames b sent held inside })
-
--- what is made of each link that ends in a bridge, end to end
-pub of_links_into : {Y : Type 0} (g : ℕ → List Y) (d : Domain) (bridge : ℕ) →
-    flat_map g (links_into d bridge) ≡ each_below (λ l. if enters d l bridge then g l else []) (length d.links)
-of_links_into {Y} g d bridge = below (length d.links)
-  where
-    -- of one
-    one : (b : Bool) (l : ℕ) → flat_map g (if b then l ∷ [] else []) ≡ (if b then g l else [])
-    one true l = append-nil (g l)
-    one false l = refl
-
-    -- of those below a number
-    below : (n : ℕ) → flat_map g (each_below (λ l. if enters d l bridge then l ∷ [] else []) n) ≡ each_below (λ l. if enters d l bridge then g l else []) n
-    below zero = refl
-    below (suc n) =
-        flat_map-append g (each_below (λ l. if enters d l bridge then l ∷ [] else []) n) (if enters d n bridge then n ∷ [] else [])
-        ∙ (λ i. below n i ++ one (enters d n bridge) n i)

@@ -121,27 +121,6 @@ fn police_inside<'a>(
     }
 }
 
-/// What becomes of a frame, by the way that it came.
-fn police_by_way<'a>(
-    domain: &Domain,
-    number: u8,
-    cycle: Cycle,
-    table: &'a Table,
-    frame: &Incoming,
-    gates: &mut StreamGates,
-) -> Result<Outcome<'a>, Memory>
-    requires in_cycle { cycle_of domain.now frame.now.at.0 ≡ cycle.0 }
-    requires kept { AreKept domain.now.cycle_time (frame.now.at.0 + 1) gates.old }
-    ensures { IfOk result (λ outcome. Polices domain.now table.now.rows number cycle.0 (received_as frame.now) gates.old gates.new outcome) }
-{
-    match &frame.came {
-        Came::ByLink(link, stream) => police_inside(
-            domain, number, cycle, table, frame, *link, *stream, gates,
-        ),
-        Came::AtEdge(name) => police_offer(domain, number, cycle, table, frame, name, gates),
-    }
-}
-
 /// What becomes of a frame at the bridge of this number, by the table of its cycle and behind the frames that the gates have
 /// counted: its stream's gate counts it where it goes on (profile, after IEEE 802.1Q, 8.6.5.1). The frame is whole within the
 /// cycle, and no sooner than the frames before it. `Memory` where a growth is refused.
@@ -162,6 +141,16 @@ pub fn police<'a>(
 {
     gate_counts_cycles();
     let _time = domain.cycle_time();
-    let outcome = police_by_way(domain, number, cycle, table, frame, gates)?;
-    Ok(outcome)
+    match &frame.came {
+        Came::ByLink(link, stream) => {
+            let outcome = police_inside(
+                domain, number, cycle, table, frame, *link, *stream, gates,
+            )?;
+            Ok(outcome)
+        }
+        Came::AtEdge(name) => {
+            let outcome = police_offer(domain, number, cycle, table, frame, name, gates)?;
+            Ok(outcome)
+        }
+    }
 }

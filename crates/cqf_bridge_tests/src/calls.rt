@@ -1,11 +1,11 @@
 //! Calls of a bridge that meet what it asks of its callers.
 ghost use Rattle.std.specs.Prelude.{◌≡◌, ◌<◌, ℕ, length, true};
 ghost use Rattle.cqf_model.specs.Domain.{leaves};
-ghost use Rattle.cqf_model.specs.Run.{AreOffers, IsOffer};
 ghost use Rattle.cqf_bridge.specs.BridgeState.{IsBackedOf};
 
 use cqf_admission::Table;
 use cqf_bridge::{Batch, Bridge, BridgeFault, Dropped, Offer, offers_of};
+use cqf_fixtures::are_offers;
 use cqf_model::{Backed, Background};
 use cqf_topology::Domain;
 use cqf_units::{Cycle, Name, Nanos};
@@ -27,28 +27,6 @@ pub(crate) fn add_offers(cases: &[Offering], offers: &mut Vec<Offer>) -> bool {
             octets: *octets,
         };
         if offers.push(offer).is_err() {
-            return false;
-        }
-    }
-    true
-}
-
-/// Whether an offer may be handed to a run of the domain.
-fn is_offer(domain: &Domain, offer: &Offer) -> bool
-    ensures { result ≡ true → IsOffer domain.now offer.now }
-{
-    let here = offer.bridge < domain.bridges();
-    let fits = offer.octets >= 64 && offer.octets <= 1522;
-    let early = offer.at.0 < 1_000_000_000_000;
-    here && fits && early
-}
-
-/// Whether offers may be.
-fn are_offers(domain: &Domain, offers: &[Offer]) -> bool
-    ensures { result ≡ true → AreOffers domain.now offers.now }
-{
-    for offer in offers {
-        if !is_offer(domain, offer) {
             return false;
         }
     }

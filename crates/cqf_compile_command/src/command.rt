@@ -102,6 +102,17 @@ fn close_cycle_0(alloc: Global, admission: &mut Admission) -> Result<Table, Stop
     }
 }
 
+/// Admits the streams in turn, where no call was made before, and closes cycle 0 to changes: its table.
+fn table_with(alloc: Global, admission: &mut Admission, requests: &[Request]) -> Result<Table, Stop>
+    requires { admission.old.entries ≡ [] }
+    ensures held { IfOk result (HoldsAll admission.old.domain (map asked_of requests.now)) }
+    ensures along { IfOk result (λ table. AreAlongLinks admission.old.domain table.rows) }
+    ensures err { IfErr result (IsRefused (admitted_from admission.old.domain [] 1 (map asked_of requests.now))) }
+{
+    admit_all(alloc, admission, requests)?;
+    close_cycle_0(alloc, admission)
+}
+
 /// The table of cycle 0, with all streams.
 fn table_of_cycle_0(alloc: Global, domain: &Domain, requests: &[Request]) -> Result<Table, Stop>
     ensures held { IfOk result (HoldsAll domain.now (map asked_of requests.now)) }
@@ -111,8 +122,7 @@ fn table_of_cycle_0(alloc: Global, domain: &Domain, requests: &[Request]) -> Res
     let Ok(mut admission) = Admission::new(alloc, domain) else {
         return Err(Stop::memory(alloc));
     };
-    admit_all(alloc, &mut admission, requests)?;
-    close_cycle_0(alloc, &mut admission)
+    table_with(alloc, &mut admission, requests)
 }
 
 /// The text of the domain's configuration with the streams of a table.

@@ -89,7 +89,8 @@ fn closes_tables(
         tables.now ≡ tables_by opening.now.domain (opening.now.entries ++ map recorded_of rest.now) (length opening.now.entries) number) }
 {
     let mut again = opening.try_copy(alloc)?;
-    has_tables(&mut again, rest, number, tables)
+    let so = has_tables(&mut again, rest, number, tables)?;
+    Ok(so)
 }
 
 /// Whether the seat's tables are those that its Seals close. Only for a seat that has sealed the calls are made once more.
@@ -162,7 +163,8 @@ fn is_legal_behind(alloc: Global, opening: &Admission, rest: &[Entry]) -> Result
     ensures { IfOk result (λ legal. legal ≡ true → IsLegalHistory opening.now.domain (opening.now.entries ++ map recorded_of rest.now)) }
 {
     let mut again = opening.try_copy(alloc)?;
-    goes_on(&mut again, rest)
+    let legal = goes_on(&mut again, rest)?;
+    Ok(legal)
 }
 
 /// Whether a history goes on legally from its opening part by calls of so many seats, and has that part.

@@ -5,7 +5,9 @@ ghost use Rattle.cqf_admission.specs.Admission.{Closes, calls, is_entered, recor
 ghost use Rattle.cqf_admission.specs.Asking.{asked_of};
 ghost use Rattle.cqf_desk.specs.Desk.{IsAnswered, IsSealed, Keeps};
 
-use cqf_admission::{Admission, Call, Entry, Receipt, Refused, Reply, SealFault, Table};
+use cqf_admission::{
+    Admission, Call, Entry, MOST_CALLS, MOST_SEALS, Receipt, Refused, Reply, SealFault, Table,
+};
 use cqf_topology::Request;
 use std::alloc::Global;
 use std::marker::Model;
@@ -28,12 +30,6 @@ impl Model for Seat {
 
     ghost view = { λ s. record { number = s.number; calls = map recorded_of s.calls.items; tables = s.tables.items } };
 }
-
-/// After how many entries other than Seals an admission's history is full, and after how many Seals its cycles are spent
-/// (profile).
-const MOST_CALLS: usize = 100_000;
-
-const MOST_SEALS: u32 = 100_000;
 
 impl Seat {
     /// A seat with which nobody has called yet.

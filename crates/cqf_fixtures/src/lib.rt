@@ -1,12 +1,16 @@
-//! Texts of domains that the tests of several crates read. Only tests use this crate.
+//! Texts of domains that the tests of several crates read, and what they ask of a run's offers. Only tests use this crate.
 //!
 //! - [`line`] is a domain of three bridges in a line, [`one_link`] one of a single bridge, and [`ring`] one whose first
 //!   and last bridge have links to each other too; [`fork`] is a line that branches.
 //! - [`line_and_link`] and [`one_link_with`] are changed forms of them; a test makes others with `replacen`.
+//! - [`are_offers`] and [`are_background`] tell what a run of a domain may be given.
 //!
 //! All have a cycle time of 125,000 ns, and links of 1,000 Mb/s with a delay of 500 ns. The guard time is 5,000 ns.
 #![tactic(auto)]
 
+mod given;
+
+pub use given::{are_background, are_offers};
 use std::alloc::{AllocError, Global};
 
 /// Bridges a, b and c, and station s.

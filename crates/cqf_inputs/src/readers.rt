@@ -4,9 +4,10 @@ ghost use Rattle.cqf_admission.specs.Asking.{asked_of};
 ghost use Rattle.cqf_inputs.specs.Lines.{background_line, domain_line, offers_line, script_line, streams_line};
 ghost use Rattle.cqf_model.specs.Run.{AreBackground, AreOffers};
 ghost use Rattle.cqf_report.specs.BackgroundFrames.{background_frames_of};
+ghost use Rattle.cqf_report.specs.Faults.{table_fault_text};
 ghost use Rattle.cqf_report.specs.Offers.{offers_of};
 ghost use Rattle.cqf_script.specs.Script.{AreFew, called_of, script_of};
-ghost use Rattle.cqf_stop.specs.Stops.{EndsWith, IsRefused, or_line};
+ghost use Rattle.cqf_stop.specs.Stops.{EndsWith, IsRefused, fault_line, or_line};
 ghost use Rattle.cqf_topology.specs.DomainText.{domain_of_text};
 ghost use Rattle.cqf_topology.specs.StreamsText.{request_text, streams_of_text};
 
@@ -51,25 +52,14 @@ fn script_stop(alloc: Global, fault: ScriptFault) -> Stop
     }
 }
 
-/// The end where offers are refused.
-fn offers_stop(alloc: Global, fault: TableFault) -> Stop
-    ensures refused { fault ≢ TableFault.Memory → EndsWith 1 (offers_line fault) result }
+/// The end where a part that is a table is refused.
+fn table_stop(alloc: Global, part: &str, fault: TableFault) -> Stop
+    ensures refused { fault ≢ TableFault.Memory → EndsWith 1 (fault_line part.now (table_fault_text fault)) result }
     ensures memory { fault ≡ TableFault.Memory → EndsWith 3 [] result }
 {
     match fault {
         TableFault::Memory => Stop::memory(alloc),
-        _ => Stop::refused(alloc, "offers", &fault),
-    }
-}
-
-/// The end where background frames are refused.
-fn background_stop(alloc: Global, fault: TableFault) -> Stop
-    ensures refused { fault ≢ TableFault.Memory → EndsWith 1 (background_line fault) result }
-    ensures memory { fault ≡ TableFault.Memory → EndsWith 3 [] result }
-{
-    match fault {
-        TableFault::Memory => Stop::memory(alloc),
-        _ => Stop::refused(alloc, "background", &fault),
+        _ => Stop::refused(alloc, part, &fault),
     }
 }
 
@@ -122,7 +112,7 @@ pub fn offers_part(alloc: Global, domain: &Domain, text: &[u8]) -> Result<Vec<Of
 {
     match read_offers(alloc, domain, text) {
         Ok(offers) => Ok(offers),
-        Err(fault) => Err(offers_stop(alloc, fault)),
+        Err(fault) => Err(table_stop(alloc, "offers", fault)),
     }
 }
 
@@ -135,6 +125,6 @@ pub fn background_part(alloc: Global, domain: &Domain, text: &[u8]) -> Result<Ve
 {
     match read_background(alloc, domain, text) {
         Ok(frames) => Ok(frames),
-        Err(fault) => Err(background_stop(alloc, fault)),
+        Err(fault) => Err(table_stop(alloc, "background", fault)),
     }
 }

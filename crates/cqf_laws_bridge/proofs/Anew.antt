@@ -3,16 +3,16 @@ use Rattle.std.proofs.Common.{◌≡◌, ℕ, ◌+◌, ◌*◌, ◌<◌, List, [
 use Rattle.std.proofs.Common.{ne_eqb, zero-add}
 use Rattle.std.proofs.lemmas.Bool.{and_right, cond-false}
 use Rattle.std.proofs.lemmas.List.Sums.{sum_by-append}
-use Rattle.cqf_lists.proofs.EachBelow.{contains_from_below}
 use Rattle.cqf_lists.proofs.Members.{contains_here, contains_later}
 use Rattle.cqf_lists.proofs.Sums.{sum_none}
-use Rattle.cqf_units.proofs.Cycles.{cycle_below, cycle_is}
+use Rattle.cqf_units.proofs.Cycles.{cycle_below}
 use Rattle.cqf_model.specs.declared.topology.Row.{Row}
 use Rattle.cqf_model.specs.Domain.{Domain, cycle_of}
 use Rattle.cqf_model.specs.Run.{Run}
 use Rattle.cqf_model.specs.Table.{table_of}
-use Rattle.cqf_model.specs.Traffic.{Carried, Policed, Received, is_queued_of, police, police_all, policed_before, received_at, received_before, verdict_by, within_gate}
-use Rattle.cqf_model.proofs.Coming.{before_when, received_when}
+use Rattle.cqf_model.specs.Traffic.{Carried, Policed, Received, is_queued_of, police, police_all, policed_before, received_before, verdict_by, within_gate}
+use Rattle.cqf_model.proofs.Coming.{before_when}
+use Rattle.cqf_model.proofs.InCycle.{received_in_when}
 use Rattle.cqf_model.proofs.Policing.{police_member}
 use Rattle.cqf_laws_pages.specs.BridgeCycle.{policed_in, policed_of, received_in}
 use Rattle.cqf_shift.specs.Edge.{GateIsReservation, octets_before}
@@ -66,15 +66,6 @@ module _ (reserves : GateIsReservation) (d : Domain) (some : 0 < d.cycle_time) (
       ∙ ap (λ (ps : List Policed). p ∷ ps) (same_verdicts (now ++ p ∷ []) xs (λ y h. here y (contains_later x xs y h)))
 
 module _ (run : Run) (carried : Carried) (bridge cycle : ℕ) where
-  -- what comes in a cycle is of the cycle
-  pub received_in_when : (x : Received) → Contains (received_in run carried bridge cycle) x → cycle_of run.domain x.at ≡ cycle
-  received_in_when x h =
-      let d = run.domain in
-      let begins = cycle * d.cycle_time in
-      let w = contains_from_below (λ offset. received_at run carried bridge (begins + offset)) d.cycle_time x h in
-      let at = received_when run carried bridge (begins + w.0) x w.2 in
-      cycle_is d.cycle_time cycle x.at (omega (arith, at)) (omega (arith, at, w.1))
-
   -- what becomes of the frames of a cycle is what becomes of them behind no others
   pub policed_anew : GateIsReservation → 0 < run.domain.cycle_time → policed_in run carried bridge cycle [] ≡ policed_of run carried bridge cycle
   policed_anew reserves some =
@@ -87,5 +78,5 @@ module _ (run : Run) (carried : Carried) (bridge cycle : ℕ) where
       let before : cycle_of d p.received.at < cycle = cycle_below d.cycle_time p.received.at cycle early in
       let never : ⊥ = omega (arith, before, e) in
       never) in
-      sym (same_verdicts reserves d some run.tables bridge cycle earlier others [] xs received_in_when)
+      sym (same_verdicts reserves d some run.tables bridge cycle earlier others [] xs (received_in_when run carried bridge cycle))
       ∙ ap (λ (ps : List Policed). police_all d run.tables bridge ps xs) (append-nil earlier)

@@ -5,6 +5,7 @@ use Rattle.std.proofs.lemmas.Simd.{map-map}
 use Rattle.cqf_lists.proofs.EachBelow.{same_below}
 use Rattle.cqf_lists.proofs.Made.{map_same}
 use Rattle.cqf_lists.proofs.Members.{contains_from_map, contains_map}
+use Rattle.cqf_lists.proofs.Numbers.{kept_number}
 use Rattle.cqf_lists.specs.Lists.{each_below}
 use Rattle.cqf_model.specs.Book.{Contents, IsBook, background_in, page_of}
 use Rattle.cqf_model.specs.Domain.{Domain, IsAccepted, bridge_of, enters}
@@ -21,18 +22,17 @@ use Rattle.cqf_bridge.specs.BridgeState.{BridgeState, SendsCycle, links_from}
 use Rattle.cqf_bridge.specs.Receiving.{IsReceiveFault, ReceivesCycle, links_into}
 use Rattle.cqf_bridge.specs.Faults.{IsSendFault}
 use Rattle.cqf_laws_bridge.specs.Cycles.{GivesTheBatches, GivesTheDrops, NewBridgeFollows, PageFollows, ReceivingFollows, SendingFollows, drops_of_cycle, page_given}
-use Rattle.cqf_laws_bridge.specs.Driven.{AreDriven, ArePassedOn, Course, GoesThrough, SendsInCourse, page_of_course}
+use Rattle.cqf_laws_bridge.specs.Driven.{AreDriven, ArePassedOn, DrivenCourse, GoesThrough, SendsInCourse, page_of_course}
 use Rattle.cqf_laws_bridge.specs.Follows.{FollowsTheNetwork, HasSentOfTheNetwork, batch_of, batches_from, batches_into, handed_with}
 use Rattle.cqf_laws_bridge.specs.NoFaults.{LosesNothing, ReceivesButForMemory, SendsButForMemory}
-use Rattle.cqf_laws_bridge.proofs.LinkLists.{kept_number}
 
 -- a bridge follows the network before a cycle
-pub record IsBefore (run : Run) (net : Network) (course : Course) (bridge cycle : ℕ) : Type 0 where
+pub record IsBefore (run : Run) (net : Network) (course : DrivenCourse) (bridge cycle : ℕ) : Type 0 where
   pub follows : FollowsTheNetwork run net (course.before bridge cycle)
   pub received : (course.before bridge cycle).received ≡ cycle
   pub number : (course.before bridge cycle).number ≡ bridge
 
-module _ (run : Run) (cycles : ℕ) (net : Network) (course : Course) (compiled : IsCompiledNetwork run cycles net) (sending : SendingFollows) (receiving : ReceivingFollows) where
+module _ (run : Run) (cycles : ℕ) (net : Network) (course : DrivenCourse) (compiled : IsCompiledNetwork run cycles net) (sending : SendingFollows) (receiving : ReceivingFollows) where
   -- it gives the network's batches in the cycle
   gives : (bridge cycle : ℕ) → cycle < cycles → IsBefore run net course bridge cycle → SendsInCourse run course bridge cycle →
       GivesTheBatches run cycle net (course.before bridge cycle) (course.halfway bridge cycle) (course.given bridge cycle)
@@ -211,7 +211,7 @@ same_pages d cycles page other accepted same =
     λ i. record { starts = same_starts i; background = same_others i; drops = same_drops i }
 
 module _ (begins : NewBridgeFollows) (sending : SendingFollows) (receiving : ReceivingFollows) (page_follows : PageFollows)
-    (run : Run) (cycles : ℕ) (course : Course) (book : Contents) (accepted : IsAccepted run.domain)
+    (run : Run) (cycles : ℕ) (course : DrivenCourse) (book : Contents) (accepted : IsAccepted run.domain)
     (is : IsBook run (compiled_lists run.domain) cycles book) (are : AreDriven run cycles course) where
   -- what a bridge gave in a cycle is its page
   pub page_is_of_course : (bridge cycle : ℕ) → bridge < length run.domain.bridges → cycle < cycles →

@@ -8,6 +8,7 @@ use Rattle.std.proofs.lemmas.Simd.{map-map}
 use Rattle.cqf_lists.specs.Lists.{each_below}
 use Rattle.cqf_lists.proofs.EachBelow.{contains_below}
 use Rattle.cqf_lists.proofs.Members.{contains_at, contains_cases, contains_filter, contains_from_filter, contains_from_map, contains_here, contains_later, contains_map, contains_none}
+use Rattle.cqf_lists.proofs.Numbers.{kept_number}
 use Rattle.cqf_units.proofs.Cycles.{cycle_from, cycle_upto}
 use Rattle.cqf_model.specs.declared.frames.Sent.{Sent}
 use Rattle.cqf_model.specs.declared.topology.Row.{Row}
@@ -18,6 +19,7 @@ use Rattle.cqf_model.specs.Run.{Run}
 use Rattle.cqf_model.specs.Table.{goes_on, row_of, table_of}
 use Rattle.cqf_model.specs.Traffic.{Carried, ExceedsGate, LacksRow, Policed, Queued, Received, inside_verdict, offered_at, police, police_all, policed_before}
 use Rattle.cqf_model.specs.Traffic.{received_at, relayed_at, sent_received, whole_at, within_gate}
+use Rattle.cqf_model.proofs.LinkEnds.{enters_inside}
 use Rattle.cqf_laws_pages.specs.BridgeCycle.{BatchIsWholeInItsCycle, CycleBringsItsBatches, IsCompiledNetwork, policed_of, received_in}
 use Rattle.cqf_laws_pages.specs.RunSteps.{LossesAreOfCycles}
 use Rattle.cqf_shift.specs.Edge.{GateIsReservation}
@@ -28,7 +30,6 @@ use Rattle.cqf_bridge.specs.BridgeState.{BridgeState}
 use Rattle.cqf_bridge.specs.Receiving.{AreBatchesOf, IsFirstOver, IsReceiveFault, MayCome, links_into, verdicts_in}
 use Rattle.cqf_laws_bridge.specs.Follows.{HasSentOfTheNetwork, batch_of, batches_into, handed_in}
 use Rattle.cqf_laws_bridge.specs.NoFaults.{LosesNothing}
-use Rattle.cqf_laws_bridge.proofs.LinkLists.{kept_number, link_that_enters}
 use Rattle.cqf_laws_bridge.proofs.TakenCycles.{verdicts_are}
 
 -- each frame that comes gets its verdict, behind some others
@@ -76,7 +77,7 @@ comes_in_cycle run carried cycle bridge m sent some here inside in_time =
     subst (λ (xs : List Received). Contains xs x) (sym (cond-true (enters d m bridge) (map (sent_received d m) (filter of_instant (carried m))) [] here)) kept in
     let at_instant : Contains (received_at run carried bridge t) x =
     Contains-append_left (each_below (relayed_at d carried bridge t) (length d.links)) (offered_at run.offers bridge t) x
-    (contains_below (relayed_at d carried bridge t) (length d.links) m x (link_that_enters d m bridge here) brought) in
+    (contains_below (relayed_at d carried bridge t) (length d.links) m x (enters_inside d m bridge here) brought) in
     contains_below (λ k. received_at run carried bridge (begins + k)) d.cycle_time offset x below
     (subst (λ (n : ℕ). Contains (received_at run carried bridge n) x) at at_instant)
 

@@ -2,6 +2,7 @@
 use Rattle.std.proofs.Common.{◌≡◌, ℕ, ◌*◌, ◌<◌, length, sym, ap, ◌∙◌}
 use Rattle.std.specs.List.{flat_map}
 use Rattle.std.proofs.lemmas.List.Folds.{flat_map-map}
+use Rattle.cqf_lists.proofs.Numbers.{made_of_kept}
 use Rattle.cqf_model.specs.Book.{Contents, IsBook, background_in, page_drops, page_of, page_starts, starts_in}
 use Rattle.cqf_model.specs.Domain.{Domain, leaves}
 use Rattle.cqf_model.specs.Network.{Network, compiled_lists}
@@ -13,7 +14,6 @@ use Rattle.cqf_laws_pages.specs.PageLaws.{PageSaysTheBackground, PageSaysWhatIsD
 use Rattle.cqf_bridge.specs.BridgeState.{links_from}
 use Rattle.cqf_laws_bridge.specs.Cycles.{drops_of_cycle, page_given, starts_of_batch}
 use Rattle.cqf_laws_bridge.specs.Follows.{batch_of, batches_from}
-use Rattle.cqf_laws_bridge.proofs.LinkLists.{made_of_kept}
 
 -- the frames of a bridge's batches are what its links send in the cycle
 starts_are : (d : Domain) (carried : Carried) (bridge cycle : ℕ) →

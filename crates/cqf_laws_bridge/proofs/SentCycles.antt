@@ -6,6 +6,7 @@ use Rattle.std.proofs.lemmas.Simd.{map-map}
 use Rattle.std.proofs.lemmas.Slice.Zip.{firsts-zip}
 use Rattle.cqf_lists.proofs.Made.{flat_map_same, map_same}
 use Rattle.cqf_lists.proofs.Members.{contains_from_map, contains_map}
+use Rattle.cqf_lists.proofs.Numbers.{kept_number, made_of_kept}
 use Rattle.cqf_model.specs.declared.frames.Backed.{Backed}
 use Rattle.cqf_model.specs.Book.{background_in}
 use Rattle.cqf_model.specs.Domain.{Domain, leaves}
@@ -20,7 +21,6 @@ use Rattle.cqf_bridge.specs.BridgeState.{BridgeState, background_from, batch_fro
 use Rattle.cqf_bridge.specs.PortRecord.{AreDemanded, PortRecord}
 use Rattle.cqf_laws_bridge.specs.Cycles.{GivesTheBatches, SendsOfTheRun}
 use Rattle.cqf_laws_bridge.specs.Follows.{HasSentOfTheNetwork, HasTaken, IsOfRun, batch_of, batches_from}
-use Rattle.cqf_laws_bridge.proofs.LinkLists.{kept_number, made_of_kept}
 use Rattle.cqf_laws_bridge.proofs.SentPorts.{background_is, batch_is, port_has_sent}
 
 -- a port of the run's bridge is of a link of the domain, which leaves the bridge

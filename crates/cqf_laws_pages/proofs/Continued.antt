@@ -7,16 +7,17 @@ use Rattle.std.proofs.lemmas.Bool.{and_left}
 use Rattle.std.proofs.lemmas.List.Concat.{flat_map-append}
 use Rattle.std.proofs.lemmas.List.Elements.{filter-append}
 use Rattle.std.proofs.lemmas.Nat.{le-div}
-use Rattle.cqf_lists.proofs.EachBelow.{below_plus, contains_from_below, filter_each, filter_none, same_below}
+use Rattle.cqf_lists.proofs.EachBelow.{below_plus, filter_each, filter_none, same_below}
 use Rattle.cqf_lists.proofs.Members.{contains_from_flat}
-use Rattle.cqf_units.proofs.Cycles.{cycle_from, cycle_is, takes_time}
+use Rattle.cqf_units.proofs.Cycles.{cycle_from, takes_time}
 use Rattle.cqf_model.specs.declared.frames.Dropped.{Dropped}
 use Rattle.cqf_model.specs.Book.{drop_by, drops_in, is_of_place}
 use Rattle.cqf_model.specs.Domain.{bridge_of, cycle_of}
 use Rattle.cqf_model.specs.Network.{QueuedFrame, backed_in, comes_before, queued_by, queued_in, queued_to}
 use Rattle.cqf_model.specs.Run.{Run}
 use Rattle.cqf_model.specs.Traffic.{Carried, Policed, police_all, policed_before, received_at, received_before}
-use Rattle.cqf_model.proofs.Coming.{before_when, policed_front, queued_when, received_when}
+use Rattle.cqf_model.proofs.Coming.{before_when, policed_front, queued_when}
+use Rattle.cqf_model.proofs.InCycle.{received_in_when}
 use Rattle.cqf_model.proofs.Policing.{police_member, police_more}
 use Rattle.cqf_laws_pages.specs.BridgeCycle.{policed_in, policed_of, received_in}
 use Rattle.cqf_laws_pages.specs.PortCycle.{waits_in}
@@ -30,12 +31,7 @@ module _ (run : Run) (carried : Carried) where
   pub policed_when : (bridge cycle : ℕ) (earlier : List Policed) (p : Policed) → Contains (policed_in run carried bridge cycle earlier) p →
       cycle_of run.domain p.received.at ≡ cycle
   policed_when bridge cycle earlier p h =
-      let d = run.domain in
-      let begins = cycle * d.cycle_time in
-      let w = contains_from_below (λ offset. received_at run carried bridge (begins + offset)) d.cycle_time p.received
-      (police_member d run.tables bridge earlier (received_in run carried bridge cycle) p h) in
-      let at = received_when run carried bridge (begins + w.0) p.received w.2 in
-      cycle_is d.cycle_time cycle p.received.at (omega (arith, at)) (omega (arith, at, w.1))
+      received_in_when run carried bridge cycle p.received (police_member run.domain run.tables bridge earlier (received_in run carried bridge cycle) p h)
 
   -- a frame that came before a cycle isn't
   came_before : (bridge cycle : ℕ) (p : Policed) → Contains (so_far bridge cycle) p → p.received.at < cycle * run.domain.cycle_time

@@ -1,0 +1,3 @@
+mod LineText
+mod LineRuns
+mod LineTables

@@ -3,7 +3,8 @@
 //! - [`line_output`] is the command's output for its input, the offers, or the end of the run with the line of the
 //!   input's first fault.
 //!
-//! `specs/LineOutput.antt` has the value of an input (`line_input`), and what it is that a text `IsLineOutput`.
+//! `specs/Line.antt` has the network and what is asked of it (`line_scenario`), `specs/LineOutput.antt` the value of an input
+//! (`line_input`), and what it is that a text `IsLineOutput`.
 //!
 //! ```text
 //! line_output(alloc, 3, b"at,bridge,stream,octets\n124999,a,x,64\n")
@@ -12,5 +13,7 @@
 #![tactic(auto)]
 
 mod command;
+mod domain;
+mod given;
 
 pub use command::line_output;

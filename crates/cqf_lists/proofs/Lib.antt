@@ -8,6 +8,7 @@ pub mod Keys
 pub mod Least
 pub mod Made
 pub mod Members
+pub mod Numbers
 pub mod Ones
 pub mod Pairs
 pub mod Picked

@@ -2,7 +2,9 @@ pub mod Arrivals
 pub mod ByCycle
 pub mod Coming
 pub mod Drops
+pub mod InCycle
 pub mod Legal
+pub mod LinkEnds
 pub mod Links
 pub mod Policing
 pub mod Residence

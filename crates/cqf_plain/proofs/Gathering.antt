@@ -1,19 +1,13 @@
 -- What comes to a bridge is gathered from the ports.
 use Rattle.std.proofs.Common.{◌≡◌, ℕ, ◌+◌, ◌≤◌, ◌<◌, ◌++◌, List, [], ◌∷◌, sym, ap, ◌∙◌, arith, length, get_or, append_assoc, append-nil, map, Contains, subst}
-use Rattle.std.specs.Prelude.{if◌then◌else◌}
 use Rattle.std.specs.List.{flat_map}
 use Rattle.std.proofs.Math.ListN.{drop_of_length-le}
 use Rattle.std.proofs.lemmas.List.{drop_more, map-append}
 use Rattle.std.proofs.lemmas.List.Elements.{Contains-get_or}
-use Rattle.cqf_lists.proofs.EachBelow.{contains_from_below}
-use Rattle.cqf_lists.proofs.Made.{contains_if_there}
-use Rattle.cqf_lists.proofs.Members.{contains_one}
 use Rattle.cqf_model.specs.declared.frames.Sent.{Sent}
-use Rattle.cqf_model.specs.Domain.{Domain, enters}
 use Rattle.cqf_model.specs.Network.{sent_by, sent_of}
 use Rattle.cqf_model.specs.Port.{Transmission}
 use Rattle.cqf_model.specs.Traffic.{Received}
-use Rattle.cqf_bridge.specs.Receiving.{links_into}
 use Rattle.cqf_plain.specs.declared.port.Queued.{Queued}
 use Rattle.cqf_plain.specs.Ports.{IsSaid, LinkPort}
 use Rattle.cqf_plain.specs.Sending.{sent_from}
@@ -46,10 +40,3 @@ pub all_gathered : (f : Sent → Received) (p : LinkPort) (place : ℕ) (list al
 all_gathered f p place list all past h =
     sym (append-nil list)
     ∙ ap (λ (xs : List Transmission). list ++ map f (flat_map (sent_of p.queued) xs)) (sym (drop_of_length-le p.starts past)) ∙ h
-
--- a link into a bridge is the domain's
-pub into_inside : (d : Domain) (bridge l : ℕ) → Contains (links_into d bridge) l → l < length d.links
-into_inside d bridge l held =
-    let w = contains_from_below (λ k. if enters d k bridge then k ∷ [] else []) (length d.links) l held in
-    let e : w.0 ≡ l = contains_one w.0 l (contains_if_there (enters d w.0 bridge) (w.0 ∷ []) l w.2).1 in
-    omega (arith, w.1, e)

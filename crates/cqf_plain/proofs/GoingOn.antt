@@ -1,13 +1,13 @@
 -- Frames that pass the bridges come to their ports one after the other.
 use Rattle.std.proofs.Common.{◌≡◌, ◌==◌, ℕ, ◌+◌, ◌^◌, ◌≤◌, ◌<◌, ◌++◌, List, [], ◌∷◌, AllPairs, Contains, sym, refl, ap, ◌∙◌, inl, inr, arith, subst, length, map, filter, take, drop, get_or, append_assoc, append-nil}
 use Rattle.std.specs.BTreeSet.{BTreeSet}
-use Rattle.std.specs.Prelude.{Bool, false, true, not, Option, Some, if◌then◌else◌, ◌&&◌, ◌||◌}
+use Rattle.std.specs.Prelude.{slice_set, Bool, false, true, not, Option, Some, if◌then◌else◌, ◌&&◌, ◌||◌}
 use Rattle.std.specs.List.{list_any}
 use Rattle.std.proofs.lemmas.List.Folds.{list_any-append}
 use Rattle.cqf_lists.proofs.Any.{list_any-filter, list_any-map}
 use Rattle.cqf_model.specs.declared.topology.Hop.{Hop}
 use Rattle.cqf_model.specs.Table.{same_way}
-use Rattle.cqf_bridge.proofs.Coming.{leaves_inside}
+use Rattle.cqf_model.proofs.LinkEnds.{leaves_inside}
 use Rattle.cqf_lists.proofs.Made.{contains_if_there}
 use Rattle.cqf_model.specs.declared.topology.Row.{Row}
 use Rattle.cqf_model.specs.Domain.{Domain, leaves}
@@ -20,10 +20,10 @@ use Rattle.cqf_model.specs.declared.ports.Arrival.{Arrival}
 use Rattle.cqf_model.specs.Network.{QueuedFrame, arrivals_of}
 use Rattle.cqf_model.specs.Port.{PortRules, no_arrival}
 use Rattle.cqf_port.specs.PortState.{IsLate, IsOutOfOrder, WasOpen}
-use Rattle.cqf_plain.specs.Clock.{AreWatched, Due, IsQueued}
+use Rattle.cqf_plain.specs.Clock.{AreWatched, Due}
 use Rattle.cqf_plain.specs.declared.passing.Passed.{Passed}
 use Rattle.cqf_plain.specs.Frames.{queued_of}
-use Rattle.cqf_plain.specs.Passing.{AllWait, ComesNoLater, GoesFirst, GoesOn, MayWait, goes_by, goes_within, is_hop_on, passed_on}
+use Rattle.cqf_plain.specs.Passing.{AllWait, ComesNoLater, HaveCome, GoesFirst, GoesOn, MayWait, goes_by, goes_within, is_hop_on, passed_on}
 use Rattle.cqf_plain.specs.Ports.{LinkPort, no_port, port_at, state_of, with_frame}
 
 -- an arrival of which nothing of its class came later isn't out of order
@@ -35,15 +35,14 @@ not_out_of_class p a none h =
     absurd (omega (arith, h.earlier, none w.0 w.1 (ap (λ (b : Arrival). b.class) w.2 ∙ h.last.of_class), ap (λ (b : Arrival). b.at.0) w.2))
 
 -- at first none has come
-pub none_wait : (before : List LinkPort) (due : BTreeSet Due) → AreWatched due before → AllWait [] before before due
-none_wait before due watched = record {
-  watched = watched;
+pub none_come_yet : (before : List LinkPort) → HaveCome [] before before
+none_come_yet before = record {
   one_each = refl;
   each = λ l below. record { same_link = refl; same_rules = refl; same_reached = refl; same_starts = refl; came = sym (append-nil (port_at before l).queued) };
 }
 
 module _ (frames : List Passed) (before : List LinkPort) (may : MayWait frames before) (count : ℕ) (x d : Passed) (inside : count < length frames)
-    (is_x : x ≡ get_or frames count d) (now : List LinkPort) (due : BTreeSet Due) (come : AllWait (take count frames) before now due) where
+    (is_x : x ≡ get_or frames count d) (now : List LinkPort) (come : HaveCome (take count frames) before now) where
   -- the next is one of them
   among : Contains frames x
   among = subst (Contains frames) (sym is_x) (Contains-get_or frames count d inside)
@@ -96,17 +95,16 @@ module _ (frames : List Passed) (before : List LinkPort) (may : MayWait frames b
       ∙ map-append (λ (y : Passed). queued_of y.frame) (filter (λ (y : Passed). y.link == l) (take count frames)) (filter (λ (y : Passed). y.link == l) (x ∷ []))
 
   -- so the next has come
-  pub next_waits : (after : List LinkPort) (due_after : BTreeSet Due) → IsQueued x.link (queued_of x.frame) now after due_after →
-      AllWait (take (count + 1) frames) before after due_after
-  next_waits after due_after queued =
+  pub next_waits : (after : List LinkPort) → after ≡ slice_set now x.link (with_frame (port_at now x.link) (queued_of x.frame)) →
+      HaveCome (take (count + 1) frames) before after
+  next_waits after queued =
       let link = x.link in
       record {
-        watched = queued.watched;
-        one_each = ap (λ (ps : List LinkPort). length ps) queued.ports ∙ length-set now link (with_frame (port_at now link) (queued_of x.frame)) ∙ come.one_each;
+        one_each = ap (λ (ps : List LinkPort). length ps) queued ∙ length-set now link (with_frame (port_at now link) (queued_of x.frame)) ∙ come.one_each;
         each = λ l below. (let own = come.each l below in elim (cases_eq l link) [
           | inl same ↦
               let here : port_at after l ≡ with_frame (port_at now l) (queued_of x.frame) =
-              ap (port_at after) same ∙ ap (λ (ps : List LinkPort). port_at ps link) queued.ports
+              ap (port_at after) same ∙ ap (λ (ps : List LinkPort). port_at ps link) queued
               ∙ get_or-set_same now link (with_frame (port_at now link) (queued_of x.frame)) no_port passed_port
               ∙ ap (λ (n : ℕ). with_frame (port_at now n) (queued_of x.frame)) (sym same) in
               let one : passed_on l (x ∷ []) ≡ queued_of x.frame ∷ [] =
@@ -123,7 +121,7 @@ module _ (frames : List Passed) (before : List LinkPort) (may : MayWait frames b
               }
           | inr other ↦
               let stays : port_at after l ≡ port_at now l =
-              ap (λ (ps : List LinkPort). port_at ps l) queued.ports
+              ap (λ (ps : List LinkPort). port_at ps l) queued
               ∙ get_or-set_other now link l (with_frame (port_at now link) (queued_of x.frame)) no_port other in
               let none : passed_on l (x ∷ []) ≡ [] =
               ap (map (λ (y : Passed). queued_of y.frame)) (cond-false (x.link == l) (x ∷ []) [] (ne_eqb link l (λ e. other (sym e)))) in
@@ -140,9 +138,14 @@ module _ (frames : List Passed) (before : List LinkPort) (may : MayWait frames b
       }
 
 -- in the end all have
-pub all_wait : (frames : List Passed) (before now : List LinkPort) (due : BTreeSet Due) (count : ℕ) → length frames ≤ count →
-    AllWait (take count frames) before now due → AllWait frames before now due
-all_wait frames before now due count past = subst (λ (xs : List Passed). AllWait xs before now due) (take_all count frames past)
+pub all_come : (frames : List Passed) (before now : List LinkPort) (count : ℕ) → length frames ≤ count →
+    HaveCome (take count frames) before now → HaveCome frames before now
+all_come frames before now count past = subst (λ (xs : List Passed). HaveCome xs before now) (take_all count frames past)
+
+-- and when all are watched, they wait
+pub all_wait : (frames : List Passed) (before after : List LinkPort) (due : BTreeSet Due) → HaveCome frames before after → AreWatched due after →
+    AllWait frames before after due
+all_wait frames before after due come watched = record { watched = watched; one_each = come.one_each; each = come.each }
 
 module _ (d : Domain) (bridge : ℕ) (way : Option ℕ) (number : ℕ) (arrival : Arrival) where
   -- a frame, and the same on a link

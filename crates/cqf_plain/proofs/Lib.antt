@@ -5,6 +5,7 @@ mod Said
 mod Watching
 mod Getting
 mod GoingOn
+mod Marks
 mod PassedFrames
 mod Bridging
 mod Elsewhere

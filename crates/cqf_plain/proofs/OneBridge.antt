@@ -4,11 +4,11 @@ use Rattle.std.specs.Prelude.{if◌then◌else◌, slice_index_or}
 use Rattle.std.proofs.Math.Nat.{mul-le-mul_right}
 use Rattle.std.proofs.lemmas.Bool.{cond-false, ne_eqb}
 use Rattle.std.proofs.lemmas.List.{get_or-map, length-map}
-use Rattle.cqf_lists.proofs.EachBelow.{contains_from_below}
 use Rattle.cqf_lists.proofs.Members.{contains_from_filter, contains_from_map}
+use Rattle.cqf_lists.proofs.Numbers.{made_of_kept}
 use Rattle.cqf_lists.proofs.Sums.{sum_none}
 use Rattle.cqf_units.specs.Timing.{cycle_at}
-use Rattle.cqf_units.proofs.Cycles.{cycle_below, cycle_is}
+use Rattle.cqf_units.proofs.Cycles.{cycle_below}
 use Rattle.cqf_model.specs.declared.frames.Dropped.{Dropped}
 use Rattle.cqf_model.specs.declared.frames.Offered.{Offered}
 use Rattle.cqf_model.specs.declared.frames.Sent.{Sent}
@@ -17,14 +17,15 @@ use Rattle.cqf_model.specs.Book.{batch}
 use Rattle.cqf_model.specs.Domain.{Domain, cycle_of, enters}
 use Rattle.cqf_model.specs.Run.{Run}
 use Rattle.cqf_model.specs.StreamGate.{Call, octets_in, same_interval, stream_list}
-use Rattle.cqf_model.specs.Traffic.{Carried, Policed, Received, calls_of, is_queued_of, offer_received, police_all, policed_before, received_at, received_before}
-use Rattle.cqf_model.proofs.Coming.{before_when, received_when}
+use Rattle.cqf_model.specs.Traffic.{Carried, Policed, Received, calls_of, is_queued_of, offer_received, police_all, policed_before, received_before}
+use Rattle.cqf_model.proofs.Coming.{before_when}
+use Rattle.cqf_model.proofs.InCycle.{received_in_when}
+use Rattle.cqf_model.proofs.LinkEnds.{enters_inside}
 use Rattle.cqf_model.proofs.Policing.{police_member}
 use Rattle.cqf_laws_cycle.specs.Compiled.{GateCountsCycles}
 use Rattle.cqf_laws_pages.specs.BridgeCycle.{BatchIsWholeInItsCycle, IsCompiledNetwork, policed_of, received_in}
 use Rattle.cqf_laws_pages.specs.Gathered.{AreWholeIn, DropsAreByFrame, FramesAreTakenInOrder, IsInOrderOf, dropped_of, gathered_in, offered_for}
 use Rattle.cqf_bridge.specs.Gates.{HaveCounted}
-use Rattle.cqf_bridge.proofs.Coming.{enters_inside, of_links_into}
 use Rattle.cqf_plain.specs.AtBridge.{IsPartOf, IsStopAt, TakesAt}
 use Rattle.cqf_plain.specs.Bridging.{PassesAt}
 use Rattle.cqf_plain.specs.declared.faults.RunFault.{RunFault}
@@ -35,16 +36,6 @@ use Rattle.cqf_plain.specs.Laws.{RunLaws}
 use Rattle.cqf_plain.specs.Ports.{LinkPort, carried_by, network_of, no_port, port_at}
 use Rattle.cqf_plain.specs.TakingFrames.{IsStopAmong, ListsByFrame, TakesAll}
 use Rattle.cqf_plain.proofs.Batches.{batch_is_sent, compiled}
-
--- what comes in a cycle is of the cycle
-received_in_when : (run : Run) (carried : Carried) (bridge cycle : ℕ) (x : Received) → Contains (received_in run carried bridge cycle) x →
-    cycle_of run.domain x.at ≡ cycle
-received_in_when run carried bridge cycle x h =
-    let d = run.domain in
-    let begins = cycle * d.cycle_time in
-    let w = contains_from_below (λ offset. received_at run carried bridge (begins + offset)) d.cycle_time x h in
-    let at = received_when run carried bridge (begins + w.0) x w.2 in
-    cycle_is d.cycle_time cycle x.at (omega (arith, at)) (omega (arith, at, w.1))
 
 -- gates that have seen no frame have counted nothing of a cycle, which is what the frames before it have taken of it
 pub none_counted : (run : Run) (carried : Carried) (bridge cycle : ℕ) (rows : List Row) → GateCountsCycles → 0 < run.domain.cycle_time →
@@ -129,7 +120,8 @@ module _ (d : Domain) (bridge cycle : ℕ) (rows : List Row) (sent : List LinkPo
           let batches = sent_since sent counts in
           let gathered : comes_by d bridge batches offers ≡ gathered_in run batches bridge cycle =
           (λ i. comes_by (sym part.domain i) bridge batches (sym part.offered i))
-          ∙ ap (λ (xs : List Received). xs ++ map offer_received (offered_for run.domain run.offers bridge cycle)) (of_links_into (brought_by run.domain batches) run.domain bridge) in
+          ∙ ap (λ (xs : List Received). xs ++ map offer_received (offered_for run.domain run.offers bridge cycle))
+          (made_of_kept (λ m. enters run.domain m bridge) (brought_by run.domain batches) (length run.domain.links)) in
           in_order run batches bridge cycle sorted (subst (λ (e : Domain). 0 < e.cycle_time) (sym part.domain) some) (whole_in whole)
           (subst (λ (xs : List Received). IsInOrderOf (λ (x : Received). x.at) xs sorted) gathered order)
           ∙ laws.brings run (cycle + 1) cycle bridge (network_of sent) batches of_network batch_same

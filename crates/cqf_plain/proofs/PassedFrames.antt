@@ -10,7 +10,7 @@ use Rattle.cqf_lists.proofs.EachBelow.{contains_from_below}
 use Rattle.cqf_lists.proofs.Made.{contains_if, pairs_of_flat}
 use Rattle.cqf_lists.proofs.Members.{contains_cases, contains_filter, contains_from_filter, contains_from_flat, contains_from_map, contains_here, contains_later, contains_map, contains_none, contains_one}
 use Rattle.cqf_lists.proofs.Pairs.{pairs_below, pairs_cons, pairs_from_map, pairs_head, pairs_none, pairs_one, pairs_tail}
-use Rattle.cqf_units.proofs.Cycles.{cycle_from, cycle_is, cycle_upto}
+use Rattle.cqf_units.proofs.Cycles.{cycle_from, cycle_upto}
 use Rattle.cqf_model.specs.declared.frames.Backed.{Backed}
 use Rattle.cqf_model.specs.declared.frames.Background.{Background}
 use Rattle.cqf_model.specs.declared.frames.Dropped.{Dropped}
@@ -21,6 +21,7 @@ use Rattle.cqf_model.specs.Run.{AreBackground, IsBackground, Run}
 use Rattle.cqf_model.specs.Table.{goes_to}
 use Rattle.cqf_model.specs.Traffic.{Carried, DroppedFor, ExceedsGate, LacksRow, Policed, Queued, Received, Verdict, came_by, police, police_all, policed_before, received_at}
 use Rattle.cqf_model.proofs.Coming.{queued_when, received_when}
+use Rattle.cqf_model.proofs.InCycle.{received_in_when}
 use Rattle.cqf_model.proofs.Policing.{police_member}
 use Rattle.cqf_laws_cycle.specs.Compiled.{GateGivesClass}
 use Rattle.cqf_laws_pages.specs.BridgeCycle.{policed_of, received_in}
@@ -108,14 +109,10 @@ module _ (run : Run) (carried : Carried) (bridge cycle l : ℕ) where
       cycle_of run.domain q.arrival.at.0 ≡ cycle
   queued_in_cycle q h =
       let d = run.domain in
-      let begins = cycle * d.cycle_time in
-      let earlier = policed_before run carried bridge begins in
+      let earlier = policed_before run carried bridge (cycle * d.cycle_time) in
       let w = contains_from_flat (λ (p : Policed). queued_by d l p.received p.verdict) (policed_of run carried bridge cycle) q h in
-      let c = contains_from_below (λ offset. received_at run carried bridge (begins + offset)) d.cycle_time w.0.received
-      (police_member d run.tables bridge earlier (received_in run carried bridge cycle) w.0 w.1) in
-      let at = received_when run carried bridge (begins + c.0) w.0.received c.2 in
-      let when = queued_when d l w.0.received w.0.verdict q w.2 in
-      cycle_is d.cycle_time cycle q.arrival.at.0 (omega (arith, at, when)) (omega (arith, at, when, c.1))
+      ap (λ (t : ℕ). cycle_of d t) (queued_when d l w.0.received w.0.verdict q w.2)
+      ∙ received_in_when run carried bridge cycle w.0.received (police_member d run.tables bridge earlier (received_in run carried bridge cycle) w.0 w.1)
 
   -- and is of class 6 or 7
   queued_class : GateGivesClass → 0 < run.domain.cycle_time → (q : QueuedFrame) → Contains (queued_to run.domain l (policed_of run carried bridge cycle)) q →

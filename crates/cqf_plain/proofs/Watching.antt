@@ -35,7 +35,7 @@ legal_until_next part p end t legal from upto next =
     (part p.rules (arrivals_of p.queued) end (t + 1) (p.starts ++ last) (omega (arith, upto)) next.legal)
 
 -- so the port of which it was told when it starts next is watched
-watched_told : LegalPartIsLegal → (due : BTreeSet Due) (link : ℕ) (p : LinkPort) (next : Option ℕ) → IsLegalUpTo p.reached p →
+pub watched_told : LegalPartIsLegal → (due : BTreeSet Due) (link : ℕ) (p : LinkPort) (next : Option ℕ) → IsLegalUpTo p.reached p →
     MatchOption next (StartsNever p) (StartsNextAt p) → ((t : ℕ) → next ≡ Some t → IsDue due t link) → IsWatched due link p
 watched_told part due link p None legal never told end from none = never end from
 watched_told part due link p (Some t) legal next told end from none = legal_until_next part p end t legal from (none t (told t refl)) next

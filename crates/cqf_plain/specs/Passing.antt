@@ -1,5 +1,5 @@
 -- The frames that pass the bridges in a cycle come to their ports.
-use Rattle.std.specs.Prelude.{ℕ, ◌≡◌, ◌==◌, ◌^◌, ◌≤◌, ◌<◌, ◌++◌, ◌&&◌, ◌⊎◌, not, AllPairs, Bool, Contains, List, [], ◌∷◌, Option, Some, filter, if◌then◌else◌, length, map}
+use Rattle.std.specs.Prelude.{ℕ, ◌≡◌, ◌≢◌, ◌==◌, ◌^◌, ◌≤◌, ◌<◌, ◌++◌, ◌&&◌, ◌⊎◌, false, true, not, AllPairs, Bool, Contains, List, [], ◌∷◌, Option, Some, filter, if◌then◌else◌, length, map, slice_index_or}
 use Rattle.std.specs.BTreeSet.{BTreeSet}
 use Rattle.std.specs.List.{list_any}
 use Rattle.cqf_model.specs.declared.ports.Arrival.{Arrival}
@@ -12,7 +12,7 @@ use Rattle.cqf_model.specs.Table.{goes_to, same_way}
 use Rattle.cqf_laws_pages.specs.BridgeCycle.{policed_of}
 use Rattle.cqf_port.specs.PortState.{IsLate}
 use Rattle.cqf_plain.specs.Backing.{Gets}
-use Rattle.cqf_plain.specs.Clock.{AreWatched, Due}
+use Rattle.cqf_plain.specs.Clock.{AreWatched, Due, IsDue, IsWatched}
 use Rattle.cqf_plain.specs.declared.passing.Passed.{Passed}
 use Rattle.cqf_plain.specs.Frames.{queued_of}
 use Rattle.cqf_plain.specs.Ports.{LinkPort, carried_by, port_at, state_of}
@@ -37,6 +37,25 @@ pub record MayWait (frames : List Passed) (ports : List LinkPort) : Type 0 where
   pub in_order : AllPairs ComesNoLater frames
 
 -- each port got those of its link
+pub record HaveCome (frames : List Passed) (before after : List LinkPort) : Type 0 where
+  pub one_each : length after ≡ length before
+  pub each : (l : ℕ) → l < length before → Gets (passed_on l frames) (port_at before l) (port_at after l)
+
+-- a link has a mark or none, and the others are as they were
+pub record IsMarked (mark : Bool) (link : ℕ) (before after : List Bool) : Type 0 where
+  pub here : slice_index_or after link false ≡ mark
+  pub others : (l : ℕ) → l ≢ link → slice_index_or after l false ≡ slice_index_or before l false
+
+-- only links are marked by which some of these frames go
+abbrev pub AreMarked : List Passed → List Bool → Type 0
+AreMarked frames marks = (l : ℕ) → slice_index_or marks l false ≡ true → (x : Passed) × Contains frames x × (x.link ≡ l)
+
+-- all ports are watched but those of marked links, and no other is due
+pub record AreWatchedBut (marks : List Bool) (due : BTreeSet Due) (ports : List LinkPort) : Type 0 where
+  pub inside : (t link : ℕ) → IsDue due t link → link < length ports
+  pub each : (link : ℕ) → link < length ports → slice_index_or marks link false ≡ false → IsWatched due link (port_at ports link)
+
+-- each port got those of its link, and all are watched
 pub record AllWait (frames : List Passed) (before after : List LinkPort) (due : BTreeSet Due) : Type 0 where
   pub watched : AreWatched due after
   pub one_each : length after ≡ length before

@@ -1,11 +1,13 @@
 //! The streams' frames that pass their gates at the bridges come to the ports by whose links they go on.
-ghost use Rattle.std.specs.Prelude.{◌≡◌, ◌++◌, OnOk, length};
-ghost use Rattle.cqf_plain.specs.Clock.{AreWatched};
-ghost use Rattle.cqf_plain.specs.Passing.{AllWait, GoesFirst, GoesOn, MayWait, goes_by, goes_within};
+ghost use Rattle.std.specs.Prelude.{◌≡◌, ◌++◌, ◌<◌, [], Contains, OnOk, length};
+ghost use Rattle.std.specs.BTreeSet.{BTreeSet};
+ghost use Rattle.cqf_plain.specs.Clock.{AreWatched, Due};
+ghost use Rattle.cqf_plain.specs.declared.passing.Passed.{Passed as APassed};
+ghost use Rattle.cqf_plain.specs.Passing.{AllWait, AreMarked, AreWatchedBut, GoesFirst, GoesOn, HaveCome, MayWait, goes_by, goes_within};
 
 use crate::clock::Clock;
 use crate::port::{EgressPort, Queued};
-use crate::steps::queue_frame;
+use crate::steps::{put_marked, tell_link};
 use cqf_bridge::leads_by;
 use cqf_model::{Arrival, Hop, Row};
 use cqf_topology::Domain;
@@ -100,7 +102,45 @@ pub(crate) fn pass_on(
     Ok(())
 }
 
-/// Queues frames that have passed to their ports.
+/// Puts frames that have passed to their ports, and marks their links: the clock isn't told of them yet.
+fn put_passed(
+    ports: &mut Vec<EgressPort>,
+    marks: &mut [bool; 256],
+    frames: &[Passed],
+) -> Result<(), Memory>
+    requires unmarked { AreMarked [] marks.old }
+    requires frames { MayWait frames.now ports.old.items }
+    ensures come { OnOk result (HaveCome frames.now ports.old.items ports.new.items) }
+    ensures marked { OnOk result (AreMarked frames.now marks.new) }
+    ensures watched { OnOk result ((due : BTreeSet Due) → AreWatched due ports.old.items → AreWatchedBut marks.new due ports.new.items) }
+{
+    for passed in frames {
+        put_marked(ports, marks, passed.link, passed.frame)?;
+    }
+    Ok(())
+}
+
+/// The clock is told of each marked link, once, when its port starts next.
+fn tell_marked(
+    ports: &[EgressPort],
+    clock: &mut Clock,
+    marks: &mut [bool; 256],
+    frames: &[Passed],
+) -> Result<(), Memory>
+    requires inside { (x : APassed) → Contains frames.now x → x.link < length ports.now }
+    requires told { length clock.old.told.items ≡ length ports.now }
+    requires marked { AreMarked frames.now marks.old }
+    requires watched { AreWatchedBut marks.old clock.old.due ports.now }
+    ensures told { length clock.new.told.items ≡ length clock.old.told.items }
+    ensures watched { OnOk result (AreWatched clock.new.due ports.now) }
+{
+    for passed in frames {
+        tell_link(ports, clock, marks, passed.link)?;
+    }
+    Ok(())
+}
+
+/// Queues frames that have passed to their ports. The clock is told of each port once.
 pub(crate) fn queue_passed(
     ports: &mut Vec<EgressPort>,
     clock: &mut Clock,
@@ -112,8 +152,8 @@ pub(crate) fn queue_passed(
     ensures told { length clock.new.told.items ≡ length clock.old.told.items }
     ensures come { OnOk result (AllWait frames.now ports.old.items ports.new.items clock.new.due) }
 {
-    for passed in frames {
-        queue_frame(ports, clock, passed.link, passed.frame)?;
-    }
+    let mut marks = [false; 256];
+    put_passed(ports, &mut marks, frames)?;
+    tell_marked(ports.as_slice(), clock, &mut marks, frames)?;
     Ok(())
 }

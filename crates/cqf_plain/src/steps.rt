@@ -1,9 +1,10 @@
 //! The ports on their clock.
-ghost use Rattle.std.specs.Prelude.{◌≡◌, ◌+◌, ◌^◌, ◌<◌, ◌≤◌, ℕ, IfOk, OnOk, length};
+ghost use Rattle.std.specs.Prelude.{◌≡◌, ◌+◌, ◌^◌, ◌<◌, ◌≤◌, ℕ, false, true, IfOk, OnOk, length, slice_set};
 ghost use Rattle.cqf_port.specs.PortState.{IsLate, IsOutOfOrder};
 ghost use Rattle.cqf_plain.specs.Clock.{AllRunTo, AreWatched, GetsFrame, IsQueued, StartsOn};
 ghost use Rattle.cqf_plain.specs.Frames.{queued_of};
-ghost use Rattle.cqf_plain.specs.Ports.{AreNew, port_at, state_of};
+ghost use Rattle.cqf_plain.specs.Passing.{AreWatchedBut, IsMarked};
+ghost use Rattle.cqf_plain.specs.Ports.{AreNew, port_at, state_of, with_frame};
 
 use crate::clock::Clock;
 use crate::port::{EgressPort, Queued};
@@ -93,6 +94,58 @@ pub(crate) fn queue_frame(
 {
     legal_part_is_legal();
     put_frame(ports, clock, link, frame)?;
+    Ok(())
+}
+
+/// Marks a link, or takes its mark away.
+fn mark(marks: &mut [bool; 256], link: u8, marked: bool)
+    ensures { IsMarked marked link marks.old marks.new }
+{
+    marks[usize::from(link)] = marked;
+}
+
+/// The port of a link gets a frame of which the clock isn't told, so the link is marked.
+pub(crate) fn put_marked(
+    ports: &mut Vec<EgressPort>,
+    marks: &mut [bool; 256],
+    link: u8,
+    frame: Queued,
+) -> Result<(), Memory>
+    requires inside { link < length ports.old.items }
+    requires gate { frame.arrival.class < 8 }
+    requires early { frame.arrival.at.0 < 2 ^ 62 }
+    requires in_time { ¬ IsLate (state_of (port_at ports.old.items link)) frame.arrival }
+    requires in_order { ¬ IsOutOfOrder (state_of (port_at ports.old.items link)) frame.arrival }
+    ensures marked { IsMarked true link marks.old marks.new }
+    ensures put { OnOk result (ports.new.items ≡ slice_set ports.old.items link (with_frame (port_at ports.old.items link) (queued_of frame))) }
+{
+    mark(marks, link, true);
+    let port = &mut ports[usize::from(link)];
+    port.queue(frame.arrival, frame.stream)?;
+    Ok(())
+}
+
+/// The clock is told when the port of a marked link starts next, and the link isn't marked any more.
+pub(crate) fn tell_link(
+    ports: &[EgressPort],
+    clock: &mut Clock,
+    marks: &mut [bool; 256],
+    link: u8,
+) -> Result<(), Memory>
+    requires inside { link < length ports.now }
+    requires told { length clock.old.told.items ≡ length ports.now }
+    requires watched { AreWatchedBut marks.old clock.old.due ports.now }
+    ensures told { length clock.new.told.items ≡ length clock.old.told.items }
+    ensures unmarked { IsMarked false link marks.old marks.new }
+    ensures watched { OnOk result (AreWatchedBut marks.new clock.new.due ports.now) }
+{
+    legal_part_is_legal();
+    let place = usize::from(link);
+    if !marks[place] {
+        return Ok(());
+    }
+    mark(marks, link, false);
+    clock.tell(link, ports[place].next_start())?;
     Ok(())
 }
 

@@ -1,10 +1,7 @@
 //! Runs of the network on one thread, with values by hand.
-ghost use Rattle.std.specs.Prelude.{◌≡◌, true};
-ghost use Rattle.cqf_model.specs.Run.{AreBackground, AreOffers, IsBackground, IsOffer};
-
 use cqf_admission::{Admission, Table};
 use cqf_compile::{Plan, compile};
-use cqf_fixtures::{fork, line, one_link, one_link_with, ring};
+use cqf_fixtures::{are_background, are_offers, fork, line, one_link, one_link_with, ring};
 use cqf_model::{Background, Book, Dropped, Offer, Reason, Started};
 use cqf_plain::{RunFault, run};
 use cqf_topology::{Domain, Request};
@@ -142,51 +139,6 @@ fn background_of(alloc: Global, rows: &[(u64, u8, u8, u32)]) -> Result<Vec<Backg
         })?;
     }
     Ok(background)
-}
-
-/// Whether an offer may be handed to a run of the domain.
-fn is_offer(domain: &Domain, offer: &Offer) -> bool
-    ensures { result ≡ true → IsOffer domain.now offer.now }
-{
-    let here = offer.bridge < domain.bridges();
-    let fits = offer.octets >= 64 && offer.octets <= 1522;
-    let early = offer.at.0 < 1_000_000_000_000;
-    here && fits && early
-}
-
-/// Whether offers may be.
-fn are_offers(domain: &Domain, offers: &[Offer]) -> bool
-    ensures { result ≡ true → AreOffers domain.now offers.now }
-{
-    for offer in offers {
-        if !is_offer(domain, offer) {
-            return false;
-        }
-    }
-    true
-}
-
-/// Whether a background frame may be handed to a run of the domain.
-fn is_background(domain: &Domain, frame: &Background) -> bool
-    ensures { result ≡ true → IsBackground domain.now frame.now }
-{
-    let here = frame.link < domain.links();
-    let class = frame.class <= 5;
-    let fits = frame.octets >= 64 && frame.octets <= 1522;
-    let early = frame.at.0 < 1_000_000_000_000;
-    here && class && fits && early
-}
-
-/// Whether background frames may be.
-fn are_background(domain: &Domain, frames: &[Background]) -> bool
-    ensures { result ≡ true → AreBackground domain.now frames.now }
-{
-    for frame in frames {
-        if !is_background(domain, frame) {
-            return false;
-        }
-    }
-    true
 }
 
 /// Runs the network, where it may be run.

@@ -14,8 +14,6 @@ mod engines;
 #[cfg(test)]
 mod histories;
 #[cfg(test)]
-mod line_books;
-#[cfg(test)]
 mod line_command;
 #[cfg(test)]
 mod link_sums;
@@ -31,5 +29,7 @@ mod run_command;
 mod starts;
 #[cfg(test)]
 mod stops;
+#[cfg(test)]
+mod whole_runs;
 #[cfg(test)]
 mod words;

@@ -18,6 +18,12 @@ const CASES: &[(u32, &str, &str)] = &[
         "what,cycle,where,frame,octets,detail\n\
         start,1,a>s,1,64,125000\nstart,2,a>s,2,64,250000\n",
     ),
+    // an unknown stream is dropped in its cycle, and an offer of a cycle that isn't run is in no book
+    (
+        2,
+        "at,bridge,stream,octets\n5,a,y,70\n130000,a,y,64\n250000,a,x,64\n",
+        "what,cycle,where,frame,octets,detail\ndrop,0,a,1,70,unknown\ndrop,1,a,2,64,unknown\n",
+    ),
     // the last cycle of the longest run
     (
         100_000,

@@ -3,8 +3,9 @@ use Rattle.std.proofs.Common.{◌≡◌, ℕ, suc, ◌+◌, ◌++◌, List, ap, 
 use Rattle.cqf_lists.specs.Lists.{each_below}
 use Rattle.cqf_model.specs.declared.frames.Started.{Started}
 use Rattle.cqf_model.specs.Domain.{Domain}
+use Rattle.cqf_model.specs.OnLinks.{frames_on, octets_on}
 use Rattle.cqf_report.specs.Books.{name_of_link}
-use Rattle.cqf_report.specs.LinkSums.{frames_on, link_fields, most_on, octets_on, sums_fields}
+use Rattle.cqf_report.specs.LinkSums.{link_fields, most_on, sums_fields}
 use Rattle.cqf_report.specs.Written.{line_of}
 
 module _ (header : List ℕ) (d : Domain) (starts : List Started) (link : ℕ) where

@@ -144,3 +144,11 @@ pub handed-out : {V E : Type 0} (result : Result V E) (items : V → List ℕ) (
     → IfOk result (λ v. (t : List ℕ) → HasText t → items v ≡ t) → HasText text → IfOk result (λ v. items v ≡ text)
 handed-out (Ok v) items HasText text h has = h text has
 handed-out (Err e) items HasText text h has = tt
+
+-- the parts of a book behind a text
+pub book-behind : (text header starts background drops : List ℕ) →
+    ((text ++ header) ++ starts) ++ background ++ drops ≡ text ++ (((header ++ starts) ++ background) ++ drops)
+book-behind text header starts background drops =
+    ap (λ (front : List ℕ). front ++ background ++ drops) (append_assoc text header starts)
+    ∙ ap (λ (front : List ℕ). front ++ drops) (append_assoc text (header ++ starts) background)
+    ∙ append_assoc text ((header ++ starts) ++ background) drops

@@ -1,21 +1,15 @@
 -- The sums of streams' frames by link, and these as a text (profile).
 use Rattle.std.specs.Prelude.{ℕ, ◌≡◌, ◌≤◌, ◌<◌, ◌++◌, ◌==◌, ◌&&◌, ◌⊎◌, List, [], ◌∷◌, Bool, if◌then◌else◌}
-use Rattle.std.specs.Prelude.{codes, count_by, decimal, fold, length, max, sum_by}
+use Rattle.std.specs.Prelude.{codes, decimal, fold, length, max, sum_by}
 use Rattle.std.specs.List.{AllPairs}
 use Rattle.cqf_lists.specs.Lists.{each_below}
 use Rattle.cqf_model.specs.declared.frames.Started.{Started}
 use Rattle.cqf_model.specs.Book.{Contents}
 use Rattle.cqf_model.specs.Domain.{Domain}
+use Rattle.cqf_model.specs.OnLinks.{frames_on, octets_on}
 use Rattle.cqf_report.specs.Books.{name_of_link}
 use Rattle.cqf_report.specs.Records.{Fields}
 use Rattle.cqf_report.specs.Written.{line_of}
-
--- how many of some starts are on a link, and how many octets these have together
-abbrev pub frames_on : ℕ → List Started → ℕ
-frames_on link starts = count_by (λ (start : Started). start.link == link) starts
-
-abbrev pub octets_on : ℕ → List Started → ℕ
-octets_on link starts = sum_by (λ (start : Started). if start.link == link then start.octets else 0) starts
 
 -- the octets of those that are on a link in one cycle
 abbrev pub octets_in : ℕ → ℕ → List Started → ℕ

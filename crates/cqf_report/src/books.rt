@@ -5,7 +5,7 @@ ghost use Rattle.cqf_model.specs.Book.{contents_of};
 ghost use Rattle.cqf_report.specs.Written.{ArePlain, HasWritten, IsPlain, line_of};
 ghost use Rattle.cqf_report.specs.Books.{book_header, dropped_fields, lines_of_drops, lines_of_starts, name_of_reason, started_fields, text_of_book};
 
-use crate::lines::{open_writer, write_line, written_text};
+use crate::lines::{open_writer_behind, write_line, written_text};
 use crate::names::{LinkNames, bridge_name};
 use cqf_model::{Book, Dropped, Reason, Started};
 use cqf_topology::Domain;
@@ -142,6 +142,26 @@ fn write_header<W: Write + Drop>(writer: &mut Writer<W>) -> Result<(), Memory>
     write_line(writer, &names)
 }
 
+/// Puts the text of a book, as [`write_book`] gives it, behind a text. The error is want of memory; the text is gone then.
+pub fn append_book(
+    alloc: Global,
+    text: Vec<u8>,
+    domain: &Domain,
+    book: &Book,
+) -> Result<Vec<u8>, Memory>
+    ensures { IfOk result (λ written. written.items ≡ text.items ++ text_of_book domain.now (contents_of book.now)) }
+{
+    let links = LinkNames::new(alloc, domain)?;
+    let mut writer = open_writer_behind(text);
+    write_header(&mut writer)?;
+    let start = b"start".as_slice();
+    write_starts(&mut writer, start, &links, book.starts.as_slice())?;
+    let background = b"background".as_slice();
+    write_starts(&mut writer, background, &links, book.background.as_slice())?;
+    write_drops(&mut writer, domain, book.drops.as_slice())?;
+    written_text(writer)
+}
+
 /// The text of a book: the header `what,cycle,where,frame,octets,detail`; then one line a transmission of a stream's frame,
 /// `start,CYCLE,FROM>TO,FRAME,OCTETS,INSTANT`; then one line a transmission of a background frame,
 /// `background,CYCLE,FROM>TO,FRAME,OCTETS,INSTANT`; and then one line a drop, `drop,CYCLE,BRIDGE,FRAME,OCTETS,REASON`, each
@@ -150,13 +170,5 @@ fn write_header<W: Write + Drop>(writer: &mut Writer<W>) -> Result<(), Memory>
 pub fn write_book(alloc: Global, domain: &Domain, book: &Book) -> Result<Vec<u8>, Memory>
     ensures { IfOk result (λ text. text.items ≡ text_of_book domain.now (contents_of book.now)) }
 {
-    let links = LinkNames::new(alloc, domain)?;
-    let mut writer = open_writer(alloc);
-    write_header(&mut writer)?;
-    let start = b"start".as_slice();
-    write_starts(&mut writer, start, &links, book.starts.as_slice())?;
-    let background = b"background".as_slice();
-    write_starts(&mut writer, background, &links, book.background.as_slice())?;
-    write_drops(&mut writer, domain, book.drops.as_slice())?;
-    written_text(writer)
+    append_book(alloc, Vec::new(alloc), domain, book)
 }

@@ -31,6 +31,13 @@ pub(crate) fn open_writer(alloc: Global) -> Writer<Vec<u8>>
     WriterBuilder::new().from_writer(Vec::new(alloc))
 }
 
+/// A writer that has written a text.
+pub(crate) fn open_writer_behind(text: Vec<u8>) -> Writer<Vec<u8>>
+    ensures { HasWritten (λ text. Some text.items) result text.items }
+{
+    WriterBuilder::new().from_writer(text)
+}
+
 /// What the writer has written.
 pub(crate) fn written_text(writer: Writer<Vec<u8>>) -> Result<Vec<u8>, Memory>
     ensures { IfOk result (λ written. (text : List ℕ) → HasWritten (λ w. Some w.items) writer text → written.items ≡ text) }

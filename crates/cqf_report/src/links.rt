@@ -2,8 +2,9 @@
 
 ghost use Rattle.std.specs.Prelude.{ℕ, ◌≡◌, ◌≤◌, ◌<◌, ◌^◌, ◌++◌, ◌==◌, ◌&&◌, List, IfOk, Some, length, map, max, sum_by, slice_index, slice_set};
 ghost use Rattle.cqf_model.specs.Book.{contents_of};
+ghost use Rattle.cqf_model.specs.OnLinks.{frames_on, octets_on};
 ghost use Rattle.cqf_report.specs.Written.{HasWritten, IsPlain, line_of};
-ghost use Rattle.cqf_report.specs.LinkSums.{AreInOrder, are_of_one_batch, frames_on, link_header, links_text, most_on, octets_on, sums_fields};
+ghost use Rattle.cqf_report.specs.LinkSums.{AreInOrder, are_of_one_batch, link_header, links_text, most_on, sums_fields};
 
 use crate::lines::{open_writer, write_line, written_text};
 use crate::names::LinkNames;

@@ -5,7 +5,7 @@ ghost use Rattle.cqf_run_command.specs.RunOutput.{IsRunOutput, run_text};
 ghost use Rattle.cqf_scenario.specs.Scenario.{scenario_input};
 ghost use Rattle.cqf_stop.specs.Stops.{IsRefused};
 
-use cqf_report::{write_book, write_history};
+use cqf_report::{append_book, write_history};
 use cqf_scenario::{Simulated, simulate};
 use cqf_stop::Stop;
 use cqf_units::Memory;
@@ -17,8 +17,7 @@ fn text_of_run(alloc: Global, made: &Simulated) -> Result<Vec<u8>, Memory>
 {
     let mut text = write_history(alloc, made.admission.history())?;
     text.extend_from_slice(b"%%\n".as_slice())?;
-    let book = write_book(alloc, made.admission.domain(), &made.book)?;
-    text.extend_from_slice(book.as_slice())?;
+    let text = append_book(alloc, text, made.admission.domain(), &made.book)?;
     Ok(text)
 }
 

@@ -2,3 +2,4 @@ mod Closed
 mod Room
 mod ReadInput
 mod BookOf
+mod Commands

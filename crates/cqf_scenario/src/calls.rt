@@ -72,7 +72,7 @@ fn apply(
 }
 
 /// Applies calls in turn, and keeps the tables of the cycles that they close.
-fn apply_all(
+pub(crate) fn apply_all(
     admission: &mut Admission,
     tables: &mut Vec<Table>,
     calls: &[(u16, Call)],

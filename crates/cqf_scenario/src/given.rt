@@ -20,14 +20,14 @@ use std::alloc::Global;
 
 /// What a run is given.
 #[derive(Debug, Drop)]
-pub(crate) struct Given {
-    pub(crate) domain: Domain,
-    /// The calls of the script, each with its seat.
-    pub(crate) calls: Vec<(u16, Call)>,
-    /// The seat of the Seals.
-    pub(crate) sealer: u16,
-    pub(crate) offers: Vec<Offer>,
-    pub(crate) background: Vec<Background>,
+pub struct Given {
+    pub domain: Domain,
+    /// The calls of the script, in order, each with its seat.
+    pub calls: Vec<(u16, Call)>,
+    /// The seat of the Seals that follow the calls.
+    pub sealer: u16,
+    pub offers: Vec<Offer>,
+    pub background: Vec<Background>,
 }
 
 /// The calls of the script, by the streams that may be admitted.

@@ -4,9 +4,11 @@
 //! cycles that are still open then are closed; so each cycle has a table. The network runs over these tables.
 //!
 //! - [`simulate`] reads the scenario of an input and runs it: the administration with its history, and the book.
+//! - [`run_given`] runs a scenario that was made otherwise.
+//! - [`read_opened`] reads a scenario whose cycles are closed while it runs: what its bridges and administrators begin with.
 //!
-//! `specs/` says what an input holds (`Scenario`), which history its calls make (`Calls`), and which book is its book
-//! (`Books`).
+//! `specs/` says what an input holds (`Scenario`), which history its calls make (`Calls`), which book is its book
+//! (`Books`), and what is begun with where cycles are closed while it runs (`Opening`).
 //!
 //! ```text
 //! a script of the one line "0 admit x" over two cycles has the history
@@ -16,6 +18,10 @@
 
 mod calls;
 mod given;
+mod opening;
+mod parting;
 mod runs;
 
-pub use runs::{Simulated, simulate};
+pub use given::Given;
+pub use opening::{Opened, read_opened};
+pub use runs::{Simulated, run_given, simulate};

@@ -56,8 +56,14 @@ fn book_of(
     }
 }
 
-/// A scenario, run over so many cycles.
-fn run_given(alloc: Global, cycles: u32, given: &Given) -> Result<Simulated, Memory>
+/// Runs a scenario over so many cycles, 0 to 100,000: its calls are applied in order, and then the cycles that are still open are
+/// closed, by the seat of the Seals; the book is that of the history on one thread. Its offers are at bridges of its domain and
+/// its background frames on links of it, at most 1,000,000 each; its calls are at most as many Seals as cycles, and at most
+/// 100,000 others (profile).
+///
+/// # Errors
+/// Where a growth is refused.
+pub fn run_given(alloc: Global, cycles: u32, given: &Given) -> Result<Simulated, Memory>
     requires short { cycles ≤ 100000 }
     requires may { MayBeRun cycles (scenario_given given.now) }
     ensures domain { IfOk result (λ made. made.admission.domain ≡ given.now.domain) }

@@ -10,13 +10,10 @@ ghost use Rattle.cqf_script.specs.Script.{AreFew, administrators, call_of_line, 
 
 use crate::ScriptFault;
 use crate::lines::{Order, Wish, is_seal_line, read_order};
-use cqf_admission::Call;
+use cqf_admission::{Call, MOST_CALLS};
 use cqf_text::split_line;
 use cqf_topology::Request;
 use std::alloc::Global;
-
-/// The most calls of a script that aren't Seals.
-const MOST_CALLS: u64 = 100_000;
 
 /// Where a line stands: its number, from 1, and how many Seals and other calls stand before it.
 #[derive(Clone, Copy)]
@@ -100,7 +97,7 @@ fn call_of_order(
 ) -> Result<(u16, Call), ScriptFault>
     ensures { Gives ScriptFault.Memory called_of result (call_of_order (map asked_of requests.now) place.line place.called (ordered order.now)) }
 {
-    let many = MOST_CALLS <= place.called;
+    let many = MOST_CALLS as u64 <= place.called;
     let call = match order.wish {
         Wish::Admit => {
             let Some(request) = request_named(requests, order.name) else {

@@ -166,54 +166,15 @@ fn three_by_five(alloc: Global) -> Result<(CycleBook, Vec<Share>), Memory> {
     CycleBook::new(alloc, pages)
 }
 
-/// The posts to such a book.
-const POSTS: &[Post] = &[
-    (1, 1, 0, None),
-    (1, 1, 0, Some(PageFault::DoublePage)),
-    (1, 9, 0, Some(PageFault::StrangeBridge)),
-    (1, 2, 0, Some(PageFault::StrangeBridge)),
-    (1, 1, 5, Some(PageFault::StrangeCycle)),
-    (0, 0, 1, Some(PageFault::CycleSkipped)),
-];
-
-/// Whether the book answers so to these posts, and has one page then.
-fn takes_one_page<R: Wait>(rt: &R, alloc: Global, book: &CycleBook, shares: &mut [Share]) -> bool {
-    let one = Totals {
-        frames: 1,
-        octets: 64,
-    };
-    answers_all(rt, alloc, book, shares, POSTS)
-        && book.whole_cycles(rt) == 0
-        && book.totals(rt, 1) == one
-}
-
-/// Whether a book answers so, and closes to the one page.
-fn closes_to_one_page<R: Wait>(rt: &R, alloc: Global) -> bool {
-    match three_by_five(alloc) {
-        Ok((book, mut shares)) => {
-            let takes = takes_one_page(rt, alloc, &book, shares.as_mut_slice());
-            let closes = closes_to(book, shares, &(&[(0, 1)], &[(0, 2)], &[(0, 1)]));
-            takes && closes
-        }
-        Err(_) => false,
-    }
-}
-
-#[test]
-fn shares_post_as_pages_do(rt: HostRuntime) -> Result<(), Fail> {
-    assert!(rt; closes_to_one_page(&rt, rt.alloc()));
-    Ok(())
-}
-
 /// How a book gets shares that aren't its own.
-#[derive(Clone, Copy, PartialEq, Eq)]
+#[derive(Clone, Copy)]
 enum Wrong {
     /// The share of bridge 2 is missing.
     Missing,
     /// A second share of bridge 1 stands for that of bridge 2.
     Twice,
-    /// The share of bridge 1 is one of another book that took no page.
-    Unused,
+    /// The shares of these bridges are those of another book that took no page.
+    Unused(&'static [usize]),
 }
 
 /// Puts the share at one place of the others in this place.
@@ -228,7 +189,11 @@ fn make_wrong(shares: &mut Vec<Share>, others: &mut [Share], wrong: Wrong) {
     match wrong {
         Wrong::Missing => shares.truncate(2),
         Wrong::Twice => put_other(shares.as_mut_slice(), 2, others, 1),
-        Wrong::Unused => put_other(shares.as_mut_slice(), 1, others, 1),
+        Wrong::Unused(places) => {
+            for place in places {
+                put_other(shares.as_mut_slice(), *place, others, *place);
+            }
+        }
     }
 }
 
@@ -239,31 +204,116 @@ fn make_wrong_by_another(alloc: Global, shares: &mut Vec<Share>, wrong: Wrong) {
     }
 }
 
-/// Whether a book with a page of bridge 1 is refused with such shares, for this reason.
-fn is_wrong<R: Wait>(rt: &R, alloc: Global, wrong: Wrong, expected: BookClose) -> bool {
+/// How a book closes: to a book with these lines, or not at all.
+#[derive(Clone, Copy)]
+enum Closing {
+    To(Lines),
+    Refused(BookClose),
+}
+
+/// Whether the book closes so.
+fn closes(book: CycleBook, shares: Vec<Share>, closing: &Closing) -> bool {
+    match *closing {
+        Closing::To(lines) => closes_to(book, shares, &lines),
+        Closing::Refused(fault) => is_refused(book, shares, fault),
+    }
+}
+
+/// What is posted to a book of three bridges and five cycles, how many frames and octets link 1 has sent then, how its shares
+/// are made wrong, and how it closes.
+struct Case {
+    posts: &'static [Post],
+    sent: (u128, u128),
+    wrong: Option<Wrong>,
+    closing: Closing,
+}
+
+/// Whether the book answers so to the posts, has so much on link 1 then, and no whole cycle.
+fn takes_posts<R: Wait>(
+    rt: &R,
+    alloc: Global,
+    book: &CycleBook,
+    shares: &mut [Share],
+    case: &Case,
+) -> bool {
+    let (frames, octets) = case.sent;
+    let totals = Totals { frames, octets };
+    answers_all(rt, alloc, book, shares, case.posts)
+        && book.whole_cycles(rt) == 0
+        && book.totals(rt, 1) == totals
+}
+
+/// Whether a book does so.
+fn is_so<R: Wait>(rt: &R, alloc: Global, case: &Case) -> bool {
     match three_by_five(alloc) {
         Ok((book, mut shares)) => {
-            let post = (1, 1, 0, None);
-            let taken = answers(rt, alloc, &book, shares.as_mut_slice(), &post);
-            make_wrong_by_another(alloc, &mut shares, wrong);
-            let refused = is_refused(book, shares, expected);
-            taken && refused
+            let takes = takes_posts(rt, alloc, &book, shares.as_mut_slice(), case);
+            if let Some(wrong) = case.wrong {
+                make_wrong_by_another(alloc, &mut shares, wrong);
+            }
+            takes && closes(book, shares, &case.closing)
         }
         Err(_) => false,
     }
 }
 
-/// Wrong shares, and the answers.
-const WRONG: &[(Wrong, BookClose)] = &[
-    (Wrong::Missing, BookClose::ShareMissing),
-    (Wrong::Twice, BookClose::ShareMissing),
-    (Wrong::Unused, BookClose::SharesDisagree(1)),
+/// A post of bridge 1 that is taken.
+const ONE: &[Post] = &[(1, 1, 0, None)];
+
+/// One of each of two bridges.
+const TWO: &[Post] = &[(2, 2, 0, None), (1, 1, 0, None)];
+
+/// Books, and how they close.
+const CASES: &[Case] = &[
+    Case {
+        posts: &[
+            (1, 1, 0, None),
+            (1, 1, 0, Some(PageFault::DoublePage)),
+            (1, 9, 0, Some(PageFault::StrangeBridge)),
+            (1, 2, 0, Some(PageFault::StrangeBridge)),
+            (1, 1, 5, Some(PageFault::StrangeCycle)),
+            (0, 0, 1, Some(PageFault::CycleSkipped)),
+        ],
+        sent: (1, 64),
+        wrong: None,
+        closing: Closing::To((&[(0, 1)], &[(0, 2)], &[(0, 1)])),
+    },
+    Case {
+        posts: ONE,
+        sent: (1, 64),
+        wrong: Some(Wrong::Missing),
+        closing: Closing::Refused(BookClose::ShareMissing),
+    },
+    Case {
+        posts: ONE,
+        sent: (1, 64),
+        wrong: Some(Wrong::Twice),
+        closing: Closing::Refused(BookClose::ShareMissing),
+    },
+    Case {
+        posts: ONE,
+        sent: (1, 64),
+        wrong: Some(Wrong::Unused(&[1])),
+        closing: Closing::Refused(BookClose::SharesDisagree(1)),
+    },
+    Case {
+        posts: TWO,
+        sent: (2, 128),
+        wrong: Some(Wrong::Unused(&[2, 1])),
+        closing: Closing::Refused(BookClose::SharesDisagree(1)),
+    },
+    Case {
+        posts: TWO,
+        sent: (2, 128),
+        wrong: Some(Wrong::Unused(&[2])),
+        closing: Closing::Refused(BookClose::SharesDisagree(2)),
+    },
 ];
 
 #[test]
 fn a_book_closes_with_its_own_shares_alone(rt: HostRuntime) -> Result<(), Fail> {
-    for (wrong, expected) in WRONG {
-        assert!(rt; is_wrong(&rt, rt.alloc(), *wrong, *expected));
+    for case in CASES {
+        assert!(rt; is_so(&rt, rt.alloc(), case));
     }
     Ok(())
 }

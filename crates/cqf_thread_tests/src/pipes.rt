@@ -1,9 +1,10 @@
 //! Pipes, with values by hand.
-ghost use Rattle.std.specs.Prelude.{◌≡◌, length};
+ghost use Rattle.std.specs.Prelude.{◌≡◌, ◌≤◌, length};
 
 use cqf_worker::{PipeIn, PipeOut, pipe};
 use std::alloc::Global;
 use std::sync::Wait;
+use std::sync::atomic::{AtomicU64, Ordering};
 use std::test::Fail;
 use std::thread::{Threads, join};
 
@@ -68,11 +69,13 @@ fn pipe_3(rt: HostRuntime) -> Result<(), Fail> {
     Ok(())
 }
 
-/// Whether the numbers 0 to 99 go in.
-fn puts_all<R: Wait>(rt: &R, mut into: PipeIn<u32>) -> bool
-    requires { length into.items ≡ 0 }
+/// Whether so many numbers go in, from 0 on.
+fn puts<R: Wait>(rt: &R, into: &mut PipeIn<u32>, count: u32) -> bool
+    requires few { count ≤ 1000 }
+    requires first { length into.old.items ≡ 0 }
+    ensures { into.new.pipe ≡ into.old.pipe }
 {
-    for number in 0..100 {
+    for number in 0..count {
         if into.put(rt, number).is_err() {
             return false;
         }
@@ -80,14 +83,26 @@ fn puts_all<R: Wait>(rt: &R, mut into: PipeIn<u32>) -> bool
     true
 }
 
-/// Whether the numbers 0 to 99 come out, and then none.
-fn takes_all<R: Wait>(rt: &R, mut out: PipeOut<u32>) -> bool {
-    for number in 0..100 {
+/// Whether so many numbers come out, from 0 on.
+fn takes<R: Wait>(rt: &R, out: &mut PipeOut<u32>, count: u32) -> bool {
+    for number in 0..count {
         if out.take(rt) != Some(number) {
             return false;
         }
     }
-    out.take(rt) == None
+    true
+}
+
+/// Whether the numbers 0 to 99 go in.
+fn puts_all<R: Wait>(rt: &R, mut into: PipeIn<u32>) -> bool
+    requires { length into.items ≡ 0 }
+{
+    puts(rt, &mut into, 100)
+}
+
+/// Whether the numbers 0 to 99 come out, and then none.
+fn takes_all<R: Wait>(rt: &R, mut out: PipeOut<u32>) -> bool {
+    takes(rt, &mut out, 100) && out.take(rt) == None
 }
 
 /// Whether a hundred numbers cross from one thread to another in order.
@@ -110,5 +125,60 @@ fn crosses<R: Threads + Wait + Sync>(rt: &R, alloc: Global) -> bool {
 #[test]
 fn a_hundred_numbers_cross_in_order(rt: HostRuntime) -> Result<(), Fail> {
     assert!(rt; crosses(&rt, rt.alloc()));
+    Ok(())
+}
+
+/// Whether four items go in while none comes out.
+fn four_wait<R: Wait>(rt: &R, alloc: Global) -> bool {
+    match pipe::<u32>(alloc) {
+        Ok((mut into, out)) => {
+            let put = puts(rt, &mut into, 4);
+            put && into.close(out) == 4
+        }
+        Err(_) => false,
+    }
+}
+
+/// Whether five items go in. The flag goes up behind the fifth.
+fn puts_five<R: Wait>(rt: &R, mut into: PipeIn<u32>, flag: &AtomicU64) -> bool
+    requires { length into.items ≡ 0 }
+{
+    let put = puts(rt, &mut into, 5);
+    flag.store(1, Ordering::SeqCst);
+    put
+}
+
+/// Whether the flag stays down while none of the items comes out, and then all do.
+fn takes_five<R: Wait>(rt: &R, mut out: PipeOut<u32>, flag: &AtomicU64) -> bool {
+    for _read in 0..100_000 {
+        if flag.load(Ordering::SeqCst) != 0 {
+            return false;
+        }
+    }
+    takes(rt, &mut out, 5)
+}
+
+/// Whether a fifth item waits until one has come out.
+fn fifth_waits<R: Threads + Wait + Sync>(rt: &R, alloc: Global) -> bool {
+    let flag = AtomicU64::new(0);
+    match pipe::<u32>(alloc) {
+        Ok((into, out)) => {
+            let (put, taken) = join(
+                rt,
+                || -> bool
+                    requires { length into.items ≡ 0 }
+                { puts_five(rt, into, &flag) },
+                || takes_five(rt, out, &flag),
+            );
+            put && taken && flag.load(Ordering::SeqCst) == 1
+        }
+        Err(_) => false,
+    }
+}
+
+#[test]
+fn four_items_wait_and_no_fifth(rt: HostRuntime) -> Result<(), Fail> {
+    assert!(rt; four_wait(&rt, rt.alloc()));
+    assert!(rt; fifth_waits(&rt, rt.alloc()));
     Ok(())
 }

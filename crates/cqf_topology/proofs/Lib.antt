@@ -6,3 +6,4 @@ pub mod Nodes
 pub mod Distinct
 pub mod Repeats
 pub mod Told
+pub mod Passed

@@ -129,6 +129,10 @@ if_so false = None
 abbrev pub is_too_many : List (List ℕ) → List (List ℕ) → List Link → Bool
 is_too_many bridges stations links = nat_lt 32 (length bridges) || nat_lt 64 (length stations) || nat_lt 64 (length links)
 
+-- the domain that the text says, with these links
+abbrev pub with_these : DomainText → List Link → Domain
+with_these d links = record { cycle_time = d.cycle_time; guard = d.guard; bridges = d.bridges; stations = d.stations; links = links }
+
 -- the domain that the text says, or the first check that it fails, each made over the whole before the next
 abbrev pub with_links : DomainText → List Link → Result Domain DomainFault
 with_links d links =
@@ -137,7 +141,7 @@ with_links d links =
     refuse (first_long_delay d.guard links) fault.DelayTooLong (
     refuse (first_long_gap d.guard links) fault.GapTooLong (
     refuse (if_so (is_too_many d.bridges d.stations links)) (λ _. fault.TooMany) (
-    Ok (record { cycle_time = d.cycle_time; guard = d.guard; bridges = d.bridges; stations = d.stations; links = links }))))))
+    Ok (with_these d links))))))
 
 -- the domain that the text says, or the first check that it fails, those of its names and ends before the others
 abbrev pub checked : DomainText → Result Domain DomainFault

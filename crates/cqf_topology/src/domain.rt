@@ -2,7 +2,7 @@
 ghost use Rattle.std.specs.Prelude.{◌≡◌, ◌<◌, ◌==◌, ◌&&◌, length, slice_get, position, Some, IfOk};
 ghost use Rattle.cqf_model.specs.Domain.{IsAccepted, node_named, link_between, same_node};
 ghost use Rattle.cqf_fields.specs.Fields.{Gives};
-ghost use Rattle.cqf_topology.specs.DomainText.{IsDomain, IsOnlyLink, IsReadable, IsNumbered, with_links, checked, domain_of_text};
+ghost use Rattle.cqf_topology.specs.DomainText.{IsDomain, IsOnlyLink, IsReadable, IsNumbered, with_links, with_these, checked, domain_of_text};
 
 use crate::DomainFault;
 use crate::draft::{Draft, read_draft};
@@ -44,6 +44,29 @@ impl Model for Domain {
     }) };
 }
 
+/// The checks of a domain whose links are numbered, but those of its names and ends: the first that it fails.
+fn check(alloc: Global, draft: &Draft, joined: &[JoinedLink]) -> Result<(), DomainFault>
+    ensures { Gives DomainFault.Memory (λ _. with_these draft.now joined.now) result (with_links draft.now joined.now) }
+{
+    let guard = draft.guard();
+    if let Some(link) = find_twice(alloc, joined)? {
+        return Err(DomainFault::LinkTwice(link));
+    }
+    if draft.cycle_time() <= guard {
+        return Err(DomainFault::GuardTooLong);
+    }
+    if let Some(link) = find_long_delay(joined, guard) {
+        return Err(DomainFault::DelayTooLong(link));
+    }
+    if let Some(link) = find_long_gap(joined, guard) {
+        return Err(DomainFault::GapTooLong(link));
+    }
+    if draft.bridges().len() > 32 || draft.stations().len() > 64 || joined.len() > 64 {
+        return Err(DomainFault::TooMany);
+    }
+    Ok(())
+}
+
 impl Domain {
     /// The domain that a text means, or the first fault of the text. Keys that mean nothing here are passed over.
     pub fn read(alloc: Global, text: &[u8]) -> Result<Domain, DomainFault>
@@ -76,27 +99,11 @@ impl Domain {
         requires { IsNumbered draft.now bridges.keys stations.keys joined.now }
         ensures { Gives DomainFault.Memory (λ domain. domain) result (with_links draft.now joined.now) }
     {
-        let cycle_time = draft.cycle_time();
-        let guard = draft.guard();
-        if let Some(link) = find_twice(alloc, joined).map_err(|_| DomainFault::Memory)? {
-            return Err(DomainFault::LinkTwice(link));
-        }
-        if cycle_time <= guard {
-            return Err(DomainFault::GuardTooLong);
-        }
-        if let Some(link) = find_long_delay(joined, guard) {
-            return Err(DomainFault::DelayTooLong(link));
-        }
-        if let Some(link) = find_long_gap(joined, guard) {
-            return Err(DomainFault::GapTooLong(link));
-        }
-        if bridges.len() > 32 || stations.len() > 64 || joined.len() > 64 {
-            return Err(DomainFault::TooMany);
-        }
-        let links = links_of(alloc, joined).map_err(|_| DomainFault::Memory)?;
+        check(alloc, draft, joined)?;
+        let links = links_of(alloc, joined)?;
         Ok(Domain {
-            cycle_time,
-            guard,
+            cycle_time: draft.cycle_time(),
+            guard: draft.guard(),
             bridges,
             stations,
             links,

@@ -4,7 +4,7 @@ ghost use Rattle.cqf_topology.specs.Faults.{domain_fault_text};
 ghost use Rattle.cqf_topology.specs.DomainText.{domain_fault};
 
 use cqf_fields::{Key, TomlFault};
-use cqf_units::Name as NodeName;
+use cqf_units::{Memory, Name as NodeName};
 use std::fmt;
 use thiserror::Error;
 
@@ -68,5 +68,16 @@ impl From<TomlFault> for DomainFault {
             TomlFault::BadValue(key) => DomainFault::BadValue(key),
             TomlFault::Memory => DomainFault::Memory,
         }
+    }
+}
+
+/// Want of memory, as a fault.
+impl From<Memory> for DomainFault {
+    ghost use Rattle.cqf_topology.specs.declared.faults.DomainFault.TheVariants as variant;
+
+    ghost from_gives = { λ _ fault. fault ≡ variant.Memory };
+
+    fn from(_refused: Memory) -> DomainFault {
+        DomainFault::Memory
     }
 }

@@ -40,27 +40,14 @@ no_port-rate rows text same none Compile job = omega (arith, marked (codes "port
 no_port-rate rows text same none (Run cycles) job = omega (arith, marked (codes "port") (codes "run") job.0)
 no_port-rate rows text same none (Report cycles) job = omega (arith, marked (codes "port") (codes "report") job.0)
 
--- with no number of cycles there is no job of a command that has it
-pub no_line : (rows : List Row) → ((n : ℕ) → ¬ IsNumberIn 1 100000 n (first_of (codes "cycles") rows)) → (job : Job) → ¬ IsJobOf job (codes "line") rows
-no_line rows none (Port until rate) job = omega (arith, marked (codes "line") (codes "port") job.0)
-no_line rows none (Line cycles) job = none cycles job.1
-no_line rows none Compile job = omega (arith, marked (codes "line") (codes "compile") job)
-no_line rows none (Run cycles) job = omega (arith, marked (codes "line") (codes "run") job.0)
-no_line rows none (Report cycles) job = omega (arith, marked (codes "line") (codes "report") job.0)
-
-pub no_run : (rows : List Row) → ((n : ℕ) → ¬ IsNumberIn 1 100000 n (first_of (codes "cycles") rows)) → (job : Job) → ¬ IsJobOf job (codes "run") rows
-no_run rows none (Port until rate) job = omega (arith, marked (codes "run") (codes "port") job.0)
-no_run rows none (Line cycles) job = omega (arith, marked (codes "run") (codes "line") job.0)
-no_run rows none Compile job = omega (arith, marked (codes "run") (codes "compile") job)
-no_run rows none (Run cycles) job = none cycles job.1
-no_run rows none (Report cycles) job = omega (arith, marked (codes "run") (codes "report") job.0)
-
-pub no_report : (rows : List Row) → ((n : ℕ) → ¬ IsNumberIn 1 100000 n (first_of (codes "cycles") rows)) → (job : Job) → ¬ IsJobOf job (codes "report") rows
-no_report rows none (Port until rate) job = omega (arith, marked (codes "report") (codes "port") job.0)
-no_report rows none (Line cycles) job = omega (arith, marked (codes "report") (codes "line") job.0)
-no_report rows none Compile job = omega (arith, marked (codes "report") (codes "compile") job)
-no_report rows none (Run cycles) job = omega (arith, marked (codes "report") (codes "run") job.0)
-no_report rows none (Report cycles) job = none cycles job.1
+-- with no number of cycles there is no job of a command that takes them alone
+pub no_cycles : (name : Text) (rows : List Row) → name ≢ codes "port" → name ≢ codes "compile" →
+    ((n : ℕ) → ¬ IsNumberIn 1 100000 n (first_of (codes "cycles") rows)) → (job : Job) → ¬ IsJobOf job name rows
+no_cycles name rows not_port not_compile none (Port until rate) job = not_port job.0
+no_cycles name rows not_port not_compile none (Line cycles) job = none cycles job.1
+no_cycles name rows not_port not_compile none Compile job = not_compile job
+no_cycles name rows not_port not_compile none (Run cycles) job = none cycles job.1
+no_cycles name rows not_port not_compile none (Report cycles) job = none cycles job.1
 
 -- a number of a value is one of its text
 pub number_of-text : (least most number : ℕ) (text value : Option Text) → text ≡ value → IsNumberIn least most number text → IsNumberIn least most number value

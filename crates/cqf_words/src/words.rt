@@ -1,5 +1,5 @@
 //! The words of a command line (profile).
-ghost use Rattle.std.specs.Prelude.{◌≡◌, ◌⊎◌, IfOk, IfErr, MatchOption, ℕ, Some, codes, false, map, option_map};
+ghost use Rattle.std.specs.Prelude.{◌≡◌, ◌≢◌, ◌⊎◌, IfOk, IfErr, MatchOption, ℕ, Some, codes, false, map, option_map};
 ghost use Rattle.clap.specs.declared.error.kind.ErrorKind.TheVariants.{InvalidValue};
 ghost use Rattle.cqf_units.specs.declared.timing.Rate.{Rate};
 ghost use Rattle.clap.specs.declared.builder.command.Command.TheViews.{out-Command};
@@ -274,36 +274,21 @@ fn cycles_of(values: &ArgMatches<'_>) -> Option<u32>
     }
 }
 
-/// The job of the command `line` with its values.
-fn line_job(values: &ArgMatches<'_>) -> Option<Job>
-    ensures { MatchOption result ((job : Job) → ¬ IsJobOf job (codes "line") (rows_of (found_of values.now)))
-        (λ job. IsJobOf job (codes "line") (rows_of (found_of values.now))) }
+/// The job of a command that takes a number of cycles and nothing else, by its name and its values.
+fn cycles_job(name: &str, values: &ArgMatches<'_>) -> Option<Job>
+    requires not_port { name.now ≢ codes "port" }
+    requires not_compile { name.now ≢ codes "compile" }
+    ensures { MatchOption result ((job : Job) → ¬ IsJobOf job name.now (rows_of (found_of values.now)))
+        (λ job. IsJobOf job name.now (rows_of (found_of values.now))) }
 {
-    match cycles_of(values) {
-        Some(cycles) => Some(Job::Line { cycles }),
-        None => None,
-    }
-}
-
-/// The job of the command `run` with its values.
-fn run_job(values: &ArgMatches<'_>) -> Option<Job>
-    ensures { MatchOption result ((job : Job) → ¬ IsJobOf job (codes "run") (rows_of (found_of values.now)))
-        (λ job. IsJobOf job (codes "run") (rows_of (found_of values.now))) }
-{
-    match cycles_of(values) {
-        Some(cycles) => Some(Job::Run { cycles }),
-        None => None,
-    }
-}
-
-/// The job of the command `report` with its values.
-fn report_job(values: &ArgMatches<'_>) -> Option<Job>
-    ensures { MatchOption result ((job : Job) → ¬ IsJobOf job (codes "report") (rows_of (found_of values.now)))
-        (λ job. IsJobOf job (codes "report") (rows_of (found_of values.now))) }
-{
-    match cycles_of(values) {
-        Some(cycles) => Some(Job::Report { cycles }),
-        None => None,
+    let Some(cycles) = cycles_of(values) else {
+        return None;
+    };
+    match name {
+        "line" => Some(Job::Line { cycles }),
+        "run" => Some(Job::Run { cycles }),
+        "report" => Some(Job::Report { cycles }),
+        _ => None,
     }
 }
 
@@ -315,11 +300,8 @@ fn job_of(matches: &ArgMatches<'_>) -> Option<Job>
     let (name, values) = matches.subcommand()?;
     match name {
         "port" => port_job(values),
-        "line" => line_job(values),
         "compile" => Some(Job::Compile),
-        "run" => run_job(values),
-        "report" => report_job(values),
-        _ => None,
+        _ => cycles_job(name, values),
     }
 }
 

@@ -1,2 +1,10 @@
-pub mod PipeSteps
-pub mod Each
+mod PipeSteps
+mod Each
+mod Batches
+mod Onward
+mod OneMore
+mod Going
+mod Wiring
+mod Unwiring
+mod HandedTables
+mod SealedCycles

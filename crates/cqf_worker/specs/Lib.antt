@@ -1,3 +1,10 @@
 pub mod PipeRule
 pub mod PipeEnds
 pub mod Rows
+pub mod Workers
+pub mod Stepping
+pub mod Wires
+pub mod Laying
+pub mod Closing
+pub mod Commands
+pub mod Handing

@@ -1,13 +1,29 @@
--- Items that are put in several pipes, or taken from them, one at each end (profile).
-use Rattle.std.specs.Prelude.{List, [], ◌∷◌, ◌++◌}
-use Rattle.cqf_worker.specs.PipeEnds.{End}
+-- Items that are put at several ports, or taken there, one at each (profile).
+use Rattle.std.specs.Prelude.{ℕ, ◌≡◌, ◌⊎◌, List, [], ◌∷◌, ◌++◌, map}
+use Rattle.cqf_worker.specs.declared.ports.Port.{Port}
+use Rattle.cqf_worker.specs.PipeEnds.{End, PipeId}
 
--- the end with one item more
-abbrev pub with_item : {T : Type 0} → End T → T → End T
-with_item end x = record { pipe = end.pipe; items = end.items ++ x ∷ [] }
+module _ {T : Type 0} where
+  -- a port's link and pipe, which stay whatever is put or taken
+  abbrev pub wire_of : Port (End T) → ℕ × PipeId T
+  wire_of port = (port.link, port.pipe.pipe)
 
--- the ends in turn, each with one item more as far as there are items
-abbrev pub with_each : {T : Type 0} → List (End T) → List T → List (End T)
-with_each [] items = []
-with_each (end ∷ ends) [] = end ∷ ends
-with_each (end ∷ ends) (x ∷ items) = with_item end x ∷ with_each ends items
+  abbrev pub wires_of : List (Port (End T)) → List (ℕ × PipeId T)
+  wires_of ports = map wire_of ports
+
+  -- the end with one item more
+  abbrev pub with_item : End T → T → End T
+  with_item end x = record { pipe = end.pipe; items = end.items ++ x ∷ [] }
+
+  abbrev pub with_item_at : Port (End T) → T → Port (End T)
+  with_item_at port x = record { link = port.link; pipe = with_item port.pipe x }
+
+  -- the item was put at the port, or nothing was
+  abbrev pub MayHaveGot : T → Port (End T) → Port (End T) → Type 0
+  MayHaveGot x before after = (after ≡ before) ⊎ (after ≡ with_item_at before x)
+
+  -- the ports in turn, each with one item more as far as there are items
+  abbrev pub with_each : List (Port (End T)) → List T → List (Port (End T))
+  with_each [] items = []
+  with_each (port ∷ ports) [] = port ∷ ports
+  with_each (port ∷ ports) (x ∷ items) = with_item_at port x ∷ with_each ports items

@@ -2,8 +2,7 @@
 //!
 //! - [`pipe`] gives the two ends of a channel between two threads: one puts items, the other takes them in that order. Both
 //!   ends together tell how many items are still under way.
-//! - [`Carried`] is what such a pipe carries in a run: an item, or that none comes any more. [`put_each`] puts an item in
-//!   each of several pipes, and [`take_each`] takes one from each.
+//! - [`Carried`] is what such a pipe carries in a run: an item, or that none comes any more.
 //! - [`Pace`] is what a run's threads do before each step, and [`Free`] lets them go on at once.
 //!
 //! ```text
@@ -14,13 +13,19 @@
 //! ```
 #![tactic(auto)]
 
+mod calling;
 mod carried;
+mod closing;
+mod laying;
 mod pace;
 mod pipe_ends;
 mod pipe_rule;
+mod ports;
 mod rows;
+mod sealing;
+mod stepping;
+mod worker;
 
 pub use carried::Carried;
 pub use pace::{Free, Pace};
 pub use pipe_ends::{PipeIn, PipeOut, pipe};
-pub use rows::{put_each, take_each};

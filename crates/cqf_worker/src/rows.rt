@@ -1,30 +1,33 @@
-//! One item from each of several pipes.
-ghost use Rattle.std.specs.Prelude.{◌≡◌, ◌<◌, All, List, IfOk, IfSome, IsTrue, length, map};
-ghost use Rattle.cqf_worker.specs.declared.carried.Carried.TheVariants.{Item};
+//! One item at each of several ports.
+ghost use Rattle.std.specs.Prelude.{◌≡◌, ◌<◌, ℕ, All, List, IfOk, IfSome, IsTrue, length, map, slice_index_or};
+ghost use Rattle.cqf_worker.specs.declared.carried.Carried.TheVariants.{Item, Stop};
 ghost use Rattle.cqf_worker.specs.declared.carried.Carried as carried;
-ghost use Rattle.cqf_worker.specs.Rows.{with_each};
+ghost use Rattle.cqf_worker.specs.declared.ports.Port as ported;
+ghost use Rattle.cqf_worker.specs.PipeEnds.{End};
+ghost use Rattle.cqf_worker.specs.Rows.{MayHaveGot, with_each};
 
 use crate::carried::Carried;
 use crate::pipe_ends::{PipeIn, PipeOut};
+use crate::ports::Port;
 use cqf_units::Memory;
 use std::alloc::Global;
 use std::sync::Wait;
 
-/// Takes an item from each of the pipes, in turn, and gives them in that order. Where a pipe carries that no item comes any
-/// more, or its other end is gone, it answers none, and the pipes behind it stay as they are; so it is where memory is refused.
+/// Takes an item at each of the ports, in turn, and gives them in that order. Where a pipe carries that no item comes any
+/// more, or its other end is gone, it answers none, and the ports behind it stay as they are; so it is where memory is refused.
 /// It waits while nothing waits in a pipe.
-pub fn take_each<T: Drop, R: Wait>(
+pub(crate) fn take_each<T: Drop, R: Wait>(
     rt: &R,
     alloc: Global,
-    outs: &mut [PipeOut<Carried<T>>],
+    ports: &mut [Port<PipeOut<Carried<T>>>],
 ) -> Result<Option<Vec<T>>, Memory>
-    ensures all { IfOk result (λ answer. IfSome answer (λ items. outs.new ≡ with_each outs.old (map Item items.items))) }
-    ensures count { IfOk result (λ answer. IfSome answer (λ items. length items.items ≡ length outs.old)) }
-    ensures some { (taken : List (carried.Carried T)) × (outs.new ≡ with_each outs.old taken) }
+    ensures all { IfOk result (λ answer. IfSome answer (λ items. ports.new ≡ with_each ports.old (map Item items.items))) }
+    ensures count { IfOk result (λ answer. IfSome answer (λ items. length items.items ≡ length ports.old)) }
+    ensures some { (taken : List (carried.Carried T)) × (ports.new ≡ with_each ports.old taken) }
 {
-    let mut items = Vec::with_capacity(alloc, outs.len())?;
-    for place in 0..outs.len() {
-        match outs[place].take(rt) {
+    let mut items = Vec::with_capacity(alloc, ports.len())?;
+    for place in 0..ports.len() {
+        match ports[place].pipe.take(rt) {
             Some(Carried::Item(item)) => items.push(item)?,
             Some(Carried::Stop) => return Ok(None),
             None => return Ok(None),
@@ -33,20 +36,40 @@ pub fn take_each<T: Drop, R: Wait>(
     Ok(Some(items))
 }
 
-/// Puts an item in each of the pipes, in turn, and says whether all were put. Where a pipe's other end is gone, the pipes behind
+/// Puts an item at each of the ports, in turn, and says whether all were put. Where a pipe's other end is gone, the ports behind
 /// it stay as they are, and the items left are gone. It waits while a pipe is full, and takes no memory.
-pub fn put_each<T: Drop, R: Wait>(rt: &R, ins: &mut [PipeIn<Carried<T>>], items: Vec<T>) -> bool
-    requires count { length items.items ≡ length ins.old }
-    requires room { All (λ end. length end.items < 1000000) ins.old }
-    ensures all { IsTrue result → ins.new ≡ with_each ins.old (map Item items.items) }
-    ensures some { (put : List (carried.Carried T)) × (ins.new ≡ with_each ins.old put) }
+pub(crate) fn put_each<T: Drop, R: Wait>(
+    rt: &R,
+    ports: &mut [Port<PipeIn<Carried<T>>>],
+    items: Vec<T>,
+) -> bool
+    requires count { length items.items ≡ length ports.old }
+    requires room { All (λ port. length port.pipe.items < 1000000) ports.old }
+    ensures all { IsTrue result → ports.new ≡ with_each ports.old (map Item items.items) }
+    ensures some { (put : List (carried.Carried T)) × (ports.new ≡ with_each ports.old put) }
 {
     let mut place = 0;
     for item in items {
-        match ins[place].put(rt, Carried::Item(item)) {
+        match ports[place].pipe.put(rt, Carried::Item(item)) {
             Ok(()) => place += 1,
             Err(_) => return false,
         }
     }
     true
+}
+
+/// Puts at each of the ports that no item comes any more. A port whose pipe's other end is gone is passed over. It waits while a
+/// pipe is full, and takes no memory.
+pub(crate) fn stop_each<T: Drop, R: Wait>(rt: &R, ports: &mut [Port<PipeIn<Carried<T>>>])
+    requires room { All (λ port. length port.pipe.items < 1000000) ports.old }
+    ensures count { length ports.new ≡ length ports.old }
+    ensures stopped { (k : ℕ) (d : ported.Port (End (carried.Carried T))) → k < length ports.old →
+        MayHaveGot Stop (slice_index_or ports.old k d) (slice_index_or ports.new k d) }
+{
+    for place in 0..ports.len() {
+        match ports[place].pipe.put(rt, Carried::Stop) {
+            Ok(()) => {}
+            Err(_) => {}
+        }
+    }
 }

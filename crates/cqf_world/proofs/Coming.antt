@@ -1,17 +1,14 @@
 -- Batches come onto their links, one by one.
-use Rattle.std.proofs.Common.{◌≡◌, ℕ, ◌+◌, ◌<◌, ◌++◌, take, List, get_or, length, map, set, sym, ap, ◌∙◌, refl, inl, inr, true, false, append-nil, append_assoc, eq-eqb, ne_eqb}
-use Rattle.std.specs.Prelude.{◌∷◌, [], ◌==◌, Some, filter, slice_get}
-use Rattle.std.proofs.lemmas.Option.{get_or_from_slice_get, slice_get_within}
-use Rattle.cqf_model.specs.declared.frames.Sent.{Sent}
-use Rattle.cqf_model.specs.declared.frames.Started.{Started}
-use Rattle.cqf_model.specs.Book.{started}
+use Rattle.std.proofs.Common.{◌≡◌, ℕ, ◌+◌, ◌<◌, ◌++◌, List, get_or, length, set, sym, ap, ◌∙◌, refl, inl, inr, true, false, append-nil, append_assoc, eq-eqb, ne_eqb}
+use Rattle.std.specs.Prelude.{◌∷◌, [], ◌==◌, filter}
 use Rattle.std.proofs.lemmas.Bool.{cases_eq, cond-false, cond-true}
-use Rattle.std.proofs.lemmas.List.{get_or-set_other, get_or-set_same, get_or_default, length-set, map-append, map-set, set-get_or, take_more}
+use Rattle.std.proofs.lemmas.List.{get_or-set_other, get_or-set_same, get_or_default, length-set}
 use Rattle.std.proofs.lemmas.List.Elements.{filter-append}
 use Rattle.cqf_model.specs.Domain.{Domain, enters}
 use Rattle.cqf_bridge.specs.Batch.{LinkBatch}
 use Rattle.cqf_world.specs.declared.parts.Line.{Line}
 use Rattle.cqf_world.specs.Parts.{AreComing, taken_of}
+use Rattle.cqf_world.proofs.Standing.{count_kept}
 
 -- before the first
 pub none_coming : (d : Domain) (lines : List Line) → AreComing d [] lines lines
@@ -46,11 +43,7 @@ pub one_coming : (d : Domain) (batches : List LinkBatch) (before after : List Li
     AreComing d batches before after → AreComing d (batches ++ batch ∷ []) before (set after place y)
 one_coming d batches before after batch x y place at inside there counted pushed so = record {
   as_many = length-set after place y ∙ so.as_many;
-  counts = map-set taken_of after place y
-      ∙ ap (set (map taken_of after) place) (counted ∙ ap taken_of there)
-      ∙ sym (map-set taken_of after place (get_or after place x))
-      ∙ ap (map taken_of) (set-get_or after place x)
-      ∙ so.counts;
+  counts = count_kept taken_of after place x y there counted ∙ so.counts;
   behind = λ link bridge z ends. elim (cases_eq link place) [
     | inl e ↦
         let own : (batch.link == link) ≡ true = eq-eqb batch.link link (sym at ∙ sym e) in
@@ -74,27 +67,3 @@ one_coming d batches before after batch x y place at inside there counted pushed
         ∙ append-nil (filter (λ (b : LinkBatch). b.link == link) batches)))
   ];
 }
-
--- a line with the same count leaves the counts
-pub counts_kept : (lines : List Line) (place : ℕ) (x y : Line) → x ≡ get_or lines place x → y.taken ≡ x.taken →
-    map taken_of (set lines place y) ≡ map taken_of lines
-counts_kept lines place x y there counted =
-    map-set taken_of lines place y
-    ∙ ap (set (map taken_of lines) place) (counted ∙ ap taken_of there)
-    ∙ sym (map-set taken_of lines place (get_or lines place x))
-    ∙ ap (map taken_of) (set-get_or lines place x)
-
--- a batch's frames, and one more
-pub batch_more : (cycle link place : ℕ) (frames : List Sent) (sent : Sent) (front list after : List Started) → slice_get frames place ≡ Some sent →
-    list ≡ front ++ map (started cycle link) (take place frames) → after ≡ list ++ started cycle link sent ∷ [] →
-    after ≡ front ++ map (started cycle link) (take (place + 1) frames)
-batch_more cycle link place frames sent front list after there so pushed =
-    let f = started cycle link in
-    let more : take (place + 1) frames ≡ take place frames ++ sent ∷ [] =
-    take_more frames place sent (slice_get_within frames place sent there)
-    ∙ ap (λ (x : Sent). take place frames ++ x ∷ []) (get_or_from_slice_get frames place sent sent there) in
-    pushed
-    ∙ ap (λ (xs : List Started). xs ++ f sent ∷ []) so
-    ∙ append_assoc front (map f (take place frames)) (f sent ∷ [])
-    ∙ ap (λ (xs : List Started). front ++ xs) (sym (map-append f (take place frames) (sent ∷ [])))
-    ∙ ap (λ (xs : List Sent). front ++ map f xs) (sym more)

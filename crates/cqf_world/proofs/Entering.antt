@@ -19,9 +19,10 @@ use Rattle.cqf_admission.specs.Admission.{Administration, Answers, is_entered, r
 use Rattle.cqf_admission.specs.Tables.{CycleTable}
 use Rattle.cqf_world.specs.declared.parts.Line.{Line}
 use Rattle.cqf_world.specs.declared.parts.Station.{Station}
-use Rattle.cqf_world.specs.Events.{act_of_command}
+use Rattle.cqf_admission.specs.Commands.{act_of_command}
 use Rattle.cqf_world.specs.Parts.{IsStation, IsWorld, links_taken}
 use Rattle.cqf_world.specs.World.{WorldState, cycle_of_bridge, sealed_run}
+use Rattle.cqf_world.proofs.Keeping.{given_entries}
 
 -- no command closes a cycle
 pub no_seal : (command : Command) → is_seal (act_of_command command) ≡ false
@@ -43,16 +44,7 @@ module _ (v : WorldState) (tables : List CycleTable) (stations : List Station) (
   -- so the world stays
   pub entries_grow : IsWorld (record v { entries = entries }) tables stations lines
   entries_grow = record {
-    given = record {
-      accepted = world.given.accepted;
-      legal = legal;
-      offers = world.given.offers;
-      background = world.given.background;
-      few_cycles = world.given.few_cycles;
-      of_bridges = world.given.of_bridges;
-      of_cycles = world.given.of_cycles;
-      in_order = world.given.in_order;
-    };
+    given = given_entries v entries world.given legal;
     pages = λ bridge cycle page book there is. world.pages bridge cycle page book there
         (record { sealed = omega arith; is_book = subst (λ (r : Run). IsOneThreadBook r book) run_same is.is_book });
     sealed = λ bridge. omega (arith, world.sealed bridge, counted);

@@ -1,8 +1,7 @@
 -- A bridge is given a table.
-use Rattle.std.proofs.Common.{◌≡◌, ℕ, ◌+◌, ◌<◌, List, length, map, get_or, set, sym, ap, ◌∙◌, arith, refl, inl, inr, subst}
+use Rattle.std.proofs.Common.{◌≡◌, ℕ, ◌+◌, ◌<◌, List, length, map, get_or, set, sym, ap, ◌∙◌, arith, refl, subst}
 use Rattle.std.specs.Prelude.{false}
-use Rattle.std.proofs.lemmas.Bool.{cases_eq}
-use Rattle.std.proofs.lemmas.List.{get_or-set_other, get_or-set_same, length-set, map-set, set-get_or}
+use Rattle.std.proofs.lemmas.List.{length-set, map-set}
 use Rattle.cqf_model.specs.Domain.{bridge_of}
 use Rattle.cqf_model.specs.History.{seals}
 use Rattle.cqf_admission.specs.Tables.{CycleTable}
@@ -11,7 +10,8 @@ use Rattle.cqf_world.specs.declared.parts.Station.{Station}
 use Rattle.cqf_world.specs.Events.{MayBeGiven}
 use Rattle.cqf_world.specs.Parts.{IsLine, IsRunning, IsStation, IsWorld, given_of, links_taken, sent_of}
 use Rattle.cqf_world.specs.World.{WorldState, cycle_of_bridge, sealed_run}
-use Rattle.cqf_world.proofs.Counts.{count_at, given_counts}
+use Rattle.cqf_world.proofs.Keeping.{given_counts}
+use Rattle.cqf_world.proofs.Standing.{count_kept, each_with, given_at, station_at}
 
 -- a station with one more table
 abbrev pub with_table : Station → Station
@@ -46,12 +46,11 @@ module _ (w : WorldState) (tables : List CycleTable) (stations : List Station) (
   pub may_be_given : (bridge : ℕ) (s : Station) → bridge < length stations → s ≡ get_or stations bridge s → s.given ≡ s.posted → s.posted < w.cycles →
       s.posted < length tables → MayBeGiven w bridge
   may_be_given bridge s inside there lacks of_run closed =
-      let st = subst (IsStation (sealed_run w) (seals w.entries) is.net bridge (cycle_of_bridge w bridge) (links_taken w bridge)) (sym there)
-      (is.station bridge s inside) in
+      let st = station_at w tables stations lines is bridge s inside there in
       record {
         inside = omega (arith, inside, is.all_stations);
         of_run = omega (arith, of_run, st.in_cycle);
-        lacks = count_at given_of w.given stations bridge s is.given_are inside ∙ ap given_of (sym there) ∙ lacks ∙ st.in_cycle;
+        lacks = given_at w tables stations lines is bridge s inside there ∙ lacks ∙ st.in_cycle;
         sealed = omega (arith, closed, st.in_cycle, is.all_tables);
       }
 
@@ -59,9 +58,8 @@ module _ (w : WorldState) (tables : List CycleTable) (stations : List Station) (
   pub counts_given : (bridge : ℕ) (s : Station) → bridge < length stations → s ≡ get_or stations bridge s → MayBeGiven w bridge →
       (s.given ≡ s.posted) × (s.posted < w.cycles) × (s.posted < length tables)
   counts_given bridge s inside there may =
-      let st = subst (IsStation (sealed_run w) (seals w.entries) is.net bridge (cycle_of_bridge w bridge) (links_taken w bridge)) (sym there)
-      (is.station bridge s inside) in (
-        ap given_of there ∙ sym (count_at given_of w.given stations bridge s is.given_are inside) ∙ may.lacks ∙ sym st.in_cycle,
+      let st = station_at w tables stations lines is bridge s inside there in (
+        sym (given_at w tables stations lines is bridge s inside there) ∙ may.lacks ∙ sym st.in_cycle,
         omega (arith, may.of_run, st.in_cycle),
         omega (arith, may.sealed, st.in_cycle, is.all_tables),
       )
@@ -69,17 +67,30 @@ module _ (w : WorldState) (tables : List CycleTable) (stations : List Station) (
   -- nothing else changes
   pub sent_stays : (bridge : ℕ) (s : Station) → s ≡ get_or stations bridge s → map sent_of (set stations bridge (with_table s)) ≡ w.sent
   sent_stays bridge s there =
-      map-set sent_of stations bridge (with_table s)
-      ∙ sym (map-set sent_of stations bridge s)
-      ∙ ap (λ (x : Station). map sent_of (set stations bridge x)) there
-      ∙ ap (map sent_of) (set-get_or stations bridge s)
-      ∙ sym is.sent_are
+      count_kept sent_of stations bridge s (with_table s) there refl ∙ sym is.sent_are
 
   -- the world goes on so
   pub goes_on_given : (bridge : ℕ) (s : Station) → bridge < length stations → s ≡ get_or stations bridge s → MayBeGiven w bridge →
       IsRunning (world_given w stations bridge s) tables (set stations bridge (with_table s)) lines
   goes_on_given bridge s inside there may =
       let same = sent_stays bridge s there in
+      let st = station_at w tables stations lines is bridge s inside there in
+      let c = counts_given bridge s inside there may in
+      let with_it : IsStation (sealed_run w) (seals w.entries) is.net bridge (cycle_of_bridge w bridge) (links_taken w bridge) (with_table s) = record {
+        in_cycle = st.in_cycle;
+        not_behind = st.not_behind;
+        with_table = omega (arith, st.with_table, c.0);
+        not_ahead = omega arith;
+        closed = omega (arith, c.2, is.all_tables);
+        number = st.number;
+        received = st.received;
+        follows = st.follows;
+        has_sent = st.has_sent;
+        starts = st.starts;
+        taken = st.taken;
+        incoming = st.incoming;
+        agenda = st.agenda;
+      } in
       record {
         net = is.net;
         compiled = is.compiled;
@@ -89,35 +100,8 @@ module _ (w : WorldState) (tables : List CycleTable) (stations : List Station) (
         all_stations = length-set stations bridge (with_table s) ∙ is.all_stations;
         given_are = refl;
         sent_are = refl;
-        station = λ other d in_stations. elim (cases_eq other bridge) [
-          | inl e ↦
-              let st = subst (IsStation (sealed_run w) (seals w.entries) is.net bridge (cycle_of_bridge w bridge) (links_taken w bridge)) (sym there)
-              (is.station bridge s inside) in
-              let c = counts_given bridge s inside there may in
-              subst (λ (k : ℕ). IsStation (sealed_run w) (seals w.entries) is.net k (cycle_of_bridge w k) (links_taken w k) (get_or (set stations bridge (with_table s)) k d))
-              (sym e)
-              (subst (IsStation (sealed_run w) (seals w.entries) is.net bridge (cycle_of_bridge w bridge) (links_taken w bridge))
-              (sym (get_or-set_same stations bridge (with_table s) d inside))
-              (record {
-                in_cycle = st.in_cycle;
-                not_behind = st.not_behind;
-                with_table = omega (arith, st.with_table, c.0);
-                not_ahead = omega arith;
-                closed = omega (arith, c.2, is.all_tables);
-                number = st.number;
-                received = st.received;
-                follows = st.follows;
-                has_sent = st.has_sent;
-                starts = st.starts;
-                taken = st.taken;
-                incoming = st.incoming;
-                agenda = st.agenda;
-              }))
-          | inr differ ↦
-              subst (IsStation (sealed_run w) (seals w.entries) is.net other (cycle_of_bridge w other) (links_taken w other))
-              (sym (get_or-set_other stations bridge other (with_table s) d differ))
-              (is.station other d (omega (arith, in_stations, length-set stations bridge (with_table s))))
-        ];
+        station = each_with (λ k. IsStation (sealed_run w) (seals w.entries) is.net k (cycle_of_bridge w k) (links_taken w k)) stations bridge (with_table s) inside
+            with_it (λ other d in_stations differ. is.station other d in_stations);
         all_lines = is.all_lines;
         taken_are = is.taken_are;
         line = λ link to x ends. subst (λ (sent : List ℕ). IsLine w.domain is.net link (cycle_of_bridge w to) (get_or sent to 0)
@@ -154,8 +138,7 @@ module _ (w : WorldState) (tables : List CycleTable) (stations : List Station) (
   -- and it is the same world but for what was given
   pub given_alone : world_given w stations bridge s ≡ record old { given = set old.given bridge (cycle_of_bridge old bridge + 1) }
   given_alone =
-      let st = subst (IsStation (sealed_run w) (seals w.entries) is.net bridge (cycle_of_bridge w bridge) (links_taken w bridge)) (sym here)
-      (is.station bridge s inside) in
+      let st = station_at w tables stations lines is bridge s inside here in
       let now_given : map given_of (set stations bridge (with_table s)) ≡ set w.given bridge (cycle_of_bridge w bridge + 1) =
       map-set given_of stations bridge (with_table s)
       ∙ ap (λ (n : ℕ). set (map given_of stations) bridge (n + 1)) st.in_cycle

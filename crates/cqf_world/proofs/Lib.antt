@@ -1,10 +1,12 @@
-mod Counts
+mod Keeping
+mod Standing
 mod Giving
 mod Entering
 mod Sealing
 mod Inboxes
 mod Taking
-mod Cutting
 mod Stepping
 mod Coming
 mod Posting
+mod Starting
+mod NewParts

@@ -1,21 +1,27 @@
 -- A bridge receives its cycle, and posts its page.
-use Rattle.std.proofs.Common.{◌≡◌, ℕ, ◌+◌, ◌<◌, ◌≤◌, Bool, List, get_or, length, map, sym, ap, ◌∙◌, arith, refl, inl, inr, subst, true, false, Contains, eq-eqb, eqb-true}
-use Rattle.std.specs.Prelude.{◌∷◌, [], ◌==◌, filter, nat_lt}
-use Rattle.std.proofs.lemmas.Bool.{cases_Bool, cond-false, cond-true, false≢true, lt-ltb, ltb-true}
-use Rattle.std.proofs.lemmas.List.{length-map}
-use Rattle.std.proofs.lemmas.Option.{slice_get_cases}
-use Rattle.cqf_lists.proofs.EachBelow.{get_or-singles}
+use Rattle.std.proofs.Common.{◌≡◌, ℕ, ◌+◌, ◌<◌, ◌≤◌, ◌++◌, Bool, List, get_or, length, map, set, sym, ap, ◌∙◌, arith, refl, inl, inr, subst, true, false, Contains, eq-eqb, eqb-true}
+use Rattle.std.specs.Prelude.{◌∷◌, [], ◌==◌, Some, filter, nat_lt, slice_get}
+use Rattle.std.proofs.lemmas.Bool.{cases_Bool, cases_eq, cases_lt, cond-false, cond-true, false≢true, le-ltb, lt-ltb, ltb-true}
+use Rattle.std.proofs.lemmas.List.{get_or-set_other, get_or-set_same, length-map, length-set, length_push}
+use Rattle.std.proofs.lemmas.Option.{same_Some, slice_get_cases, slice_get_within}
+use Rattle.cqf_lists.proofs.EachBelow.{filter_none, get_or-singles}
 use Rattle.cqf_lists.proofs.Members.{contains_cases, contains_here, contains_later, contains_none}
+use Rattle.cqf_lists.proofs.Places.{slice_get_behind, slice_get_front}
 use Rattle.cqf_model.specs.declared.frames.Dropped.{Dropped}
+use Rattle.cqf_model.specs.declared.frames.Offered.{Offered}
+use Rattle.cqf_model.specs.declared.frames.Page.{Page}
 use Rattle.cqf_model.specs.Book.{Contents, IsBook, background_in, page_of}
-use Rattle.cqf_model.specs.Domain.{enters}
+use Rattle.cqf_model.specs.Domain.{bridge_of, enters}
 use Rattle.cqf_model.specs.History.{seals, table_at}
 use Rattle.cqf_model.specs.Network.{compiled_lists}
 use Rattle.cqf_model.specs.Run.{Run}
 use Rattle.cqf_model.specs.Table.{table_of}
+use Rattle.cqf_laws_history.specs.HistoryLaws.{ThereAreSoManyTables}
 use Rattle.cqf_laws_pages.specs.Gathered.{offered_for}
 use Rattle.cqf_laws_pages.specs.PageLaws.{on_links_of}
 use Rattle.cqf_admission.specs.Tables.{CycleTable}
+use Rattle.cqf_book.specs.Pages.{IsNext, Posted, page_at, page_count, pages_of, with_page}
+use Rattle.cqf_book.proofs.Posting.{next_posted}
 use Rattle.cqf_bridge.specs.declared.faults.BridgeFault.{BridgeFault}
 use Rattle.cqf_bridge.specs.declared.faults.BridgeFault.TheVariants.{Memory}
 use Rattle.cqf_bridge.specs.Batch.{LinkBatch}
@@ -27,12 +33,13 @@ use Rattle.cqf_laws_bridge.specs.NoFaults.{ReceivesButForMemory, RunOfHistoryLos
 use Rattle.cqf_laws_course.proofs.LinkNumbers.{link_ending, link_into}
 use Rattle.cqf_world.specs.declared.parts.Line.{Line}
 use Rattle.cqf_world.specs.declared.parts.Station.{Station}
-use Rattle.cqf_world.specs.Agenda.{offers_at}
-use Rattle.cqf_world.specs.Events.{MayPost}
-use Rattle.cqf_world.specs.Parts.{IsRunning, IsStation, IsWorld, links_taken, sent_of, taken_of}
-use Rattle.cqf_world.specs.World.{WorldState, cycle_of_bridge, sealed_run, sent_by, taken_from}
-use Rattle.cqf_world.proofs.Counts.{count_at}
+use Rattle.cqf_agenda.specs.Agenda.{offers_at}
+use Rattle.cqf_world.specs.Events.{MayPost, Posts}
+use Rattle.cqf_world.specs.Parts.{IsLine, IsNextToPost, IsPageOf, IsRunAt, IsRunning, IsStation, IsWorld, MayReceiveItsCycle, PostsOut, ReceivesItsCycle, given_of, handed_to, links_taken, sent_of, taken_of}
+use Rattle.cqf_world.specs.World.{ArePagesOfTheBook, WorldState, contents_of_page, cycle_of_bridge, sealed_run, sent_by, taken_from}
+use Rattle.cqf_world.proofs.Keeping.{given_as}
 use Rattle.cqf_world.proofs.Inboxes.{link_listed}
+use Rattle.cqf_world.proofs.Standing.{count_at, count_kept, each_with, sent_at, station_at}
 
 -- a test keeps no more than there is
 kept_le : (p : ℕ → Bool) (ns : List ℕ) → length (filter p ns) ≤ length ns
@@ -60,13 +67,47 @@ all_kept p (k ∷ ns) each =
     cond-true (p k) (k ∷ filter p ns) (filter p ns) (each k (contains_here k ns))
     ∙ ap (λ (ms : List ℕ). k ∷ ms) (all_kept p ns (λ m h. each m (contains_later k ns m h)))
 
+-- a bridge that may receive its cycle, and is handed what it has taken and is offered
+module _ (s : Station) (t : CycleTable) (batches : List LinkBatch) (offers : List Offered) (after : BridgeState) (may : MayReceiveItsCycle s t)
+    (are_batches : batches ≡ s.taken.items) (are_offers : offers ≡ offers_at s.agenda s.posted) where
+  -- what is so of each run that has these offers is so of each that the cycle is a part of
+  handed_so : (run : Run) → IsRunAt s t run → IsRunOf s.bridge.domain s.bridge.number s.posted t.rows offers run
+  handed_so run at = subst (λ (xs : List Offered). IsRunOf s.bridge.domain s.bridge.number s.posted t.rows xs run) (sym are_offers) at
+
+  -- there is such a run
+  pub run_so : (run : Run) × IsRunOf s.bridge.domain s.bridge.number s.posted t.rows offers run
+  run_so = (may.run, handed_so may.run may.of_run)
+
+  -- it refuses for want of memory alone
+  pub memory_so : (fault : BridgeFault) → ((run : Run) → IsRunOf s.bridge.domain s.bridge.number s.posted t.rows offers run →
+      IsReceiveFault run s.bridge after s.posted (record { table_cycle = t.cycle; rows = t.rows; batches = batches }) fault) → fault ≡ Memory
+  memory_so fault h = may.memory_alone after fault (λ run at.
+      subst (λ (xs : List LinkBatch). IsReceiveFault run s.bridge after s.posted (record { table_cycle = t.cycle; rows = t.rows; batches = xs }) fault) are_batches
+      (h run (handed_so run at)))
+
+  -- or receives it
+  pub received_so : (drops : List Dropped) → ((run : Run) → IsRunOf s.bridge.domain s.bridge.number s.posted t.rows offers run →
+      ReceivesCycle run s.bridge after s.posted batches drops) → ReceivesItsCycle s (record s { bridge = after }) t drops
+  received_so drops h =
+      let receives : (run : Run) → IsRunAt s t run → ReceivesCycle run s.bridge after s.posted s.taken.items drops =
+      λ run at. subst (λ (xs : List LinkBatch). ReceivesCycle run s.bridge after s.posted xs drops) are_batches (h run (handed_so run at)) in
+      record { receives = receives; number = ap (λ (b : BridgeState). b.number) (receives may.run may.of_run).bridge; same = refl }
+
+-- the page of a bridge that has received its cycle is the next
+pub next_page : (s between : Station) (t : CycleTable) (dropped drops : List Dropped) (page : Page) (pages : Posted) → IsNextToPost pages s →
+    ReceivesItsCycle s between t dropped → IsPageOf between page drops → IsNext pages page
+next_page s between t dropped drops page pages next receives is_page =
+    let bridge : page.bridge ≡ s.bridge.number = is_page.of_bridge ∙ receives.number in
+    let cycle : page.cycle.0 ≡ s.posted = is_page.of_cycle ∙ ap (λ (k : Station). k.posted) receives.same in
+    (omega (arith, next.inside, bridge), omega (arith, next.of_cycles, cycle), cycle ∙ next.next ∙ ap (page_count pages) (sym bridge))
+
 module _ (v : WorldState) (tables : List CycleTable) (stations : List Station) (lines : List Line) (is : IsRunning v tables stations lines) (bridge : ℕ)
     (s : Station) (inside : bridge < length stations) (here : s ≡ get_or stations bridge s) where
   st : IsStation (sealed_run v) (seals v.entries) is.net bridge (cycle_of_bridge v bridge) (links_taken v bridge) s
-  st = subst (IsStation (sealed_run v) (seals v.entries) is.net bridge (cycle_of_bridge v bridge) (links_taken v bridge)) (sym here) (is.station bridge s inside)
+  st = station_at v tables stations lines is bridge s inside here
 
   sent_is : sent_by v bridge ≡ s.sent
-  sent_is = count_at sent_of v.sent stations bridge s is.sent_are inside ∙ ap sent_of (sym here)
+  sent_is = sent_at v tables stations lines is bridge s inside here
 
   taken_length : length s.taken.items ≡ length (links_taken v bridge)
   taken_length = ap length st.taken ∙ length-map (links_taken v bridge) (batch_of v.domain is.net.carried s.posted)
@@ -121,12 +162,11 @@ module _ (v : WorldState) (tables : List CycleTable) (stations : List Station) (
     offers_are : offers_at s.agenda s.posted ≡ offered_for v.domain v.offers s.bridge.number s.posted
     offers_are = st.agenda.offers_are s.posted ∙ ap (λ (b : ℕ). offered_for v.domain v.offers b s.posted) (sym st.number)
 
-    -- the call is a part of the run
-    pub of_run : OffersAreOfTheBridge → (x : CycleTable) →
-        IsRunOf s.bridge.domain s.bridge.number s.posted (get_or tables s.posted x).rows (offers_at s.agenda s.posted) (sealed_run v)
-    of_run offers x =
+    -- the cycle is a part of the run
+    of_run : OffersAreOfTheBridge → (t : CycleTable) → t ≡ get_or tables s.posted t → IsRunAt s t (sealed_run v)
+    of_run offers t at_cycle =
         let r = offers s.bridge.domain (sealed_run v) s.bridge.number s.posted half.of_run.domain accepted.given.offers in
-        record { domain = r.domain; table = sym (rows_are x); good = r.good; here = r.here ∙ sym offers_are }
+        record { domain = r.domain; table = sym (ap (λ (x : CycleTable). x.rows) at_cycle ∙ rows_are t); good = r.good; here = r.here ∙ sym offers_are }
 
     -- the batches are the network's
     batches_are : s.taken.items ≡ batches_into v.domain is.net.carried s.bridge.number s.posted
@@ -136,62 +176,322 @@ module _ (v : WorldState) (tables : List CycleTable) (stations : List Station) (
         ∙ ap (λ (b : ℕ). batches_into v.domain is.net.carried b s.posted) (sym st.number)
 
     -- the cycle is received, but for want of memory
-    pub memory_alone : OffersAreOfTheBridge → ReceivesButForMemory → RunOfHistoryLosesNothing → (x : CycleTable) (after : BridgeState) (fault : BridgeFault) →
-        ((run : Run) → IsRunOf s.bridge.domain s.bridge.number s.posted (get_or tables s.posted x).rows (offers_at s.agenda s.posted) run →
-        IsReceiveFault run s.bridge after s.posted
-        (record { table_cycle = (get_or tables s.posted x).cycle; rows = (get_or tables s.posted x).rows; batches = s.taken.items }) fault) → fault ≡ Memory
-    memory_alone offers but_for_memory loses x after fault h =
-        let cycle_is = (is.table s.posted x (omega (arith, within, is.all_tables))).0 in
-        let handed : record { table_cycle = (get_or tables s.posted x).cycle; rows = (get_or tables s.posted x).rows; batches = s.taken.items }
-        ≡ handed_in (sealed_run v) is.net s.bridge.number s.posted =
-        λ i. record { table_cycle = cycle_is i; rows = rows_are x i; batches = batches_are i } in
-        but_for_memory (sealed_run v) (seals v.entries) s.posted is.net s.bridge after fault is.compiled
-        (loses v.domain v.entries v.offers v.background (seals v.entries) is.net accepted.given.legal (omega arith) accepted.given.offers accepted.given.background
-        is.compiled) half (sym st.received) within
-        (subst (λ (k : Handed). IsReceiveFault (sealed_run v) s.bridge after s.posted k fault) handed (h (sealed_run v) (of_run offers x)))
+    pub may_receive : OffersAreOfTheBridge → ReceivesButForMemory → RunOfHistoryLosesNothing → (t : CycleTable) → t ≡ get_or tables s.posted t →
+        MayReceiveItsCycle s t
+    may_receive offers but_for_memory loses t at_cycle =
+        let cycle_is = (is.table s.posted t (omega (arith, within, is.all_tables))).0 in
+        let handed : handed_to s t ≡ handed_in (sealed_run v) is.net s.bridge.number s.posted =
+        λ i. record {
+          table_cycle = (ap (λ (x : CycleTable). x.cycle) at_cycle ∙ cycle_is) i;
+          rows = (ap (λ (x : CycleTable). x.rows) at_cycle ∙ rows_are t) i;
+          batches = batches_are i;
+        } in
+        record {
+          run = sealed_run v;
+          of_run = of_run offers t at_cycle;
+          memory_alone = λ after fault h.
+              but_for_memory (sealed_run v) (seals v.entries) s.posted is.net s.bridge after fault is.compiled
+              (loses v.domain v.entries v.offers v.background (seals v.entries) is.net accepted.given.legal (omega arith) accepted.given.offers accepted.given.background
+              is.compiled) half (sym st.received) within
+              (subst (λ (k : Handed). IsReceiveFault (sealed_run v) s.bridge after s.posted k fault) handed (h (sealed_run v) (of_run offers t at_cycle)));
+        }
 
-    module _ (x : CycleTable) (after : BridgeState) (drops : List Dropped) (offers : OffersAreOfTheBridge) (receiving : ReceivingFollows)
-        (receives : (run : Run) → IsRunOf s.bridge.domain s.bridge.number s.posted (get_or tables s.posted x).rows (offers_at s.agenda s.posted) run →
-        ReceivesCycle run s.bridge after s.posted s.taken.items drops) where
-      g : GivesTheDrops (sealed_run v) s.posted is.net s.bridge after drops
-      g = receiving (sealed_run v) (seals v.entries) s.posted is.net s.bridge after drops (record {
+    module _ (t : CycleTable) (at_cycle : t ≡ get_or tables s.posted t) (z : Station) (pages_after : Posted) (out : PostsOut s z t v.pages pages_after)
+        (offers : OffersAreOfTheBridge) (receiving : ReceivingFollows) where
+      abbrev page : Page
+      page = out.page
+
+      abbrev u : BridgeState
+      u = out.between.bridge
+
+      z_is : z ≡ record s { bridge = u; posted = s.posted + 1; starts = z.starts; taken = z.taken }
+      z_is = out.same ∙ ap (λ (k : Station). record k { posted = k.posted + 1; starts = z.starts; taken = z.taken }) out.receives.same
+
+      g : GivesTheDrops (sealed_run v) s.posted is.net s.bridge u out.drops
+      g = receiving (sealed_run v) (seals v.entries) s.posted is.net s.bridge u out.drops (record {
         compiled = is.compiled;
         has_sent = half;
         next = sym st.received;
-        receives = subst (λ (xs : List LinkBatch). ReceivesCycle (sealed_run v) s.bridge after s.posted xs drops) batches_are (receives (sealed_run v) (of_run offers x));
+        receives = subst (λ (xs : List LinkBatch). ReceivesCycle (sealed_run v) s.bridge u s.posted xs out.drops) batches_are
+            (out.receives.receives (sealed_run v) (of_run offers t at_cycle));
       })
 
+      of_bridge : page.bridge ≡ bridge
+      of_bridge = out.is_page.of_bridge ∙ out.receives.number ∙ st.number
+
+      of_cycle : page.cycle.0 ≡ cycle_of_bridge v bridge
+      of_cycle = out.is_page.of_cycle ∙ ap (λ (k : Station). k.posted) out.receives.same ∙ st.in_cycle
+
       -- the page is the book's
-      pub page_is : PageFollows → (book : Contents) → IsBook (sealed_run v) (compiled_lists v.domain) (seals v.entries) book →
-          record { starts = s.starts.items; background = after.background; drops = drops } ≡ page_of v.domain bridge s.posted book
+      page_is : PageFollows → (book : Contents) → IsBook (sealed_run v) (compiled_lists v.domain) (seals v.entries) book →
+          contents_of_page page ≡ page_of v.domain bridge s.posted book
       page_is page_follows book is_book =
-          let others : after.background ≡ on_links_of v.domain bridge (background_in v.domain is.net.backed s.posted) =
-          g.background ∙ half.background
+          let starts : page.starts.items ≡ s.starts.items = out.is_page.starts ∙ ap (λ (k : Station). k.starts.items) out.receives.same in
+          let others : page.background.items ≡ on_links_of v.domain bridge (background_in v.domain is.net.backed s.posted) =
+          out.is_page.background ∙ g.background ∙ half.background
           ∙ (λ i. on_links_of v.domain (st.number i) (background_in v.domain is.net.backed (st.received i))) in
-          let dropped = g.are_drops ∙ ap (λ (b : ℕ). drops_of_cycle (sealed_run v) is.net b s.posted) st.number in
-          (λ i. record { starts = st.starts sent_it i; background = others i; drops = dropped i })
+          let dropped = out.is_page.dropped ∙ g.are_drops ∙ ap (λ (b : ℕ). drops_of_cycle (sealed_run v) is.net b s.posted) st.number in
+          (λ i. record { starts = (starts ∙ st.starts sent_it) i; background = others i; drops = dropped i })
           ∙ sym (page_follows (sealed_run v) (seals v.entries) s.posted bridge is.net book is.compiled is_book (omega (arith, inside, is.all_stations)) within)
+
+      abbrev pages_now : Posted
+      pages_now = with_page v.pages page
+
+      in_pages : page.bridge < length v.pages.pages
+      in_pages = omega (arith, of_bridge, inside, is.all_stations, accepted.given.of_bridges, accepted.given.in_order.each_bridge)
+
+      -- the pages of the bridge, with one more, and those of another
+      pages_here : pages_of pages_now bridge ≡ pages_of v.pages bridge ++ page ∷ []
+      pages_here =
+          ap (pages_of pages_now) (sym of_bridge)
+          ∙ get_or-set_same v.pages.pages page.bridge (pages_of v.pages page.bridge ++ page ∷ []) [] in_pages
+          ∙ ap (λ (b : ℕ). pages_of v.pages b ++ page ∷ []) of_bridge
+
+      pages_there : (other : ℕ) → (other ≡ bridge → ⊥) → pages_of pages_now other ≡ pages_of v.pages other
+      pages_there other differ =
+          get_or-set_other v.pages.pages page.bridge other (pages_of v.pages page.bridge ++ page ∷ []) [] (λ e. differ (e ∙ of_bridge))
+
+      abbrev after : WorldState
+      after = record v { pages = pages_now }
+
+      cycle_here : cycle_of_bridge after bridge ≡ cycle_of_bridge v bridge + 1
+      cycle_here = ap length pages_here ∙ length_push (pages_of v.pages bridge) page
+
+      cycle_there : (other : ℕ) → (other ≡ bridge → ⊥) → cycle_of_bridge v other ≡ cycle_of_bridge after other
+      cycle_there other differ = ap length (sym (pages_there other differ))
+
+      -- each page is still the book's
+      pages_still : PageFollows → ThereAreSoManyTables → ArePagesOfTheBook after
+      pages_still page_follows count b cycle other book there of_history = elim (cases_eq b bridge) [
+        | inl e ↦
+            let at : slice_get (pages_of v.pages bridge ++ page ∷ []) cycle ≡ Some other =
+            ap (λ (row : List Page). slice_get row cycle) (sym pages_here) ∙ ap (λ (k : ℕ). page_at pages_now k cycle) (sym e) ∙ there in
+            elim (cases_lt cycle (cycle_of_bridge v bridge)) [
+              | inl l ↦
+                  accepted.pages b cycle other book
+                  (ap (λ (k : ℕ). page_at v.pages k cycle) e ∙ sym (slice_get_front (pages_of v.pages bridge) (page ∷ []) cycle l) ∙ at) of_history
+              | inr past ↦
+                  let more : cycle < length (pages_of v.pages bridge ++ page ∷ []) = slice_get_within (pages_of v.pages bridge ++ page ∷ []) cycle other at in
+                  let last : cycle ≡ cycle_of_bridge v bridge = omega (arith, past, more, length_push (pages_of v.pages bridge) page) in
+                  let same : page ≡ other =
+                  same_Some page other (sym (slice_get_behind (pages_of v.pages bridge) page [] cycle last) ∙ at) in
+                  let is_book = subst (λ (n : ℕ). IsBook (sealed_run v) (compiled_lists v.domain) n book) (count v.domain v.entries (seals v.entries)) of_history.is_book in
+                  ap contents_of_page (sym same) ∙ page_is page_follows book is_book
+                  ∙ (λ i. page_of v.domain (sym e i) ((st.in_cycle ∙ sym last) i) book)
+            ]
+        | inr differ ↦
+            accepted.pages b cycle other book (ap (λ (row : List Page). slice_get row cycle) (sym (pages_there b differ)) ∙ there) of_history
+      ]
+
+      -- the bridge in its next cycle has taken nothing
+      none_yet : links_taken after bridge ≡ []
+      none_yet = filter_none (λ l. nat_lt (cycle_of_bridge after bridge) (taken_from v l)) (links_into v.domain bridge)
+          (λ l held. le-ltb (cycle_of_bridge after bridge) (taken_from v l)
+          (omega (arith, may.has_taken l (link_into v.domain bridge l held).1, cycle_here)))
+
+      station_posted : IsStation (sealed_run v) (seals v.entries) is.net bridge (cycle_of_bridge after bridge) (links_taken after bridge) z
+      station_posted =
+          subst (IsStation (sealed_run v) (seals v.entries) is.net bridge (cycle_of_bridge after bridge) (links_taken after bridge)) (sym z_is)
+          (record {
+            in_cycle = omega (arith, st.in_cycle, cycle_here);
+            not_behind = omega (arith, sent_it);
+            with_table = st.with_table;
+            not_ahead = omega (arith, st.not_ahead);
+            closed = st.closed;
+            number = g.number ∙ st.number;
+            received = g.one_on;
+            follows = λ e. g.follows;
+            has_sent = λ e. absurd (omega (arith, e, sent_it));
+            starts = λ e. absurd (omega (arith, e, sent_it));
+            taken = out.none_taken ∙ ap (map (batch_of v.domain is.net.carried (s.posted + 1))) (sym none_yet);
+            incoming = st.incoming;
+            agenda = st.agenda;
+          })
+
+      -- a link into the bridge: a batch of the cycle before was taken from it
+      line_posted : (link : ℕ) (x : Line) → enters v.domain link bridge ≡ true →
+          IsLine v.domain is.net link (cycle_of_bridge after bridge) (sent_by v bridge) (sent_by v (bridge_of v.domain link)) (get_or lines link x)
+      line_posted link x ends =
+          let li = is.line link bridge x ends in
+          let in_lines : link < length lines = omega (arith, link_ending v.domain bridge link ends, is.all_lines) in
+          record {
+            at_least = omega (arith, may.has_taken link ends, count_at taken_of v.taken lines link x is.taken_are in_lines, cycle_here);
+            at_most = li.at_most;
+            not_more = li.not_more;
+            waiting = li.waiting;
+          }
+
+      given_still : map given_of (set stations bridge z) ≡ v.given
+      given_still = count_kept given_of stations bridge s z here (ap given_of z_is) ∙ sym is.given_are
+
+      sent_still : map sent_of (set stations bridge z) ≡ v.sent
+      sent_still = count_kept sent_of stations bridge s z here (ap sent_of z_is) ∙ sym is.sent_are
+
+      -- the world goes on
+      pub posted_goes_on : IsRunning after tables (set stations bridge z) lines
+      posted_goes_on = record {
+        net = is.net;
+        compiled = is.compiled;
+        within_run = is.within_run;
+        all_tables = is.all_tables;
+        table = is.table;
+        all_stations = length-set stations bridge z ∙ is.all_stations;
+        given_are = sym given_still;
+        sent_are = sym sent_still;
+        station = each_with (λ k. IsStation (sealed_run v) (seals v.entries) is.net k (cycle_of_bridge after k) (links_taken after k)) stations bridge z inside
+            station_posted (λ other d in_stations differ.
+            subst (λ (n : ℕ). IsStation (sealed_run v) (seals v.entries) is.net other n
+            (filter (λ l. nat_lt n (taken_from v l)) (links_into v.domain other)) (get_or stations other d)) (cycle_there other differ)
+            (is.station other d in_stations));
+        all_lines = is.all_lines;
+        taken_are = is.taken_are;
+        line = λ link to x ends. elim (cases_eq to bridge) [
+          | inl e ↦
+              subst (λ (k : ℕ). IsLine v.domain is.net link (cycle_of_bridge after k) (sent_by v k) (sent_by v (bridge_of v.domain link)) (get_or lines link x)) (sym e)
+              (line_posted link x (ap (enters v.domain link) (sym e) ∙ ends))
+          | inr differ ↦
+              subst (λ (n : ℕ). IsLine v.domain is.net link n (sent_by v to) (sent_by v (bridge_of v.domain link)) (get_or lines link x)) (cycle_there to differ)
+              (is.line link to x ends)
+        ];
+      }
 
 module _ (v : WorldState) (tables : List CycleTable) (stations : List Station) (lines : List Line) (old : WorldState) (old_same : v ≡ old)
     (world : IsWorld v tables stations lines) (old_on : old.stopped ≡ false) (bridge place : ℕ) (s : Station) (at : place ≡ bridge)
-    (at_place : s ≡ get_or stations place s) (there : place < length stations) where
-  run : IsRunning v tables stations lines
-  run = world.running (subst (λ (w : WorldState). w.stopped ≡ false) (sym old_same) old_on)
+    (at_place : s ≡ get_or stations place s) where
+  on : v.stopped ≡ false
+  on = subst (λ (w : WorldState). w.stopped ≡ false) (sym old_same) old_on
 
-  inside_v : bridge < length stations
-  inside_v = omega (arith, there, at)
+  run : IsRunning v tables stations lines
+  run = world.running on
 
   here_v : s ≡ get_or stations bridge s
   here_v = at_place ∙ ap (λ (k : ℕ). get_or stations k s) at
 
-  -- a bridge may post where the test says so
-  pub may_post_so : (s.sent ≡ s.posted → ⊥) → (length s.taken.items == s.incoming) ≡ true → MayPost old bridge
-  may_post_so sent all =
-      subst (λ (w : WorldState). MayPost w bridge) old_same
-      (may_post v tables stations lines run bridge s inside_v here_v sent (eqb-true (length s.taken.items) s.incoming all))
+  module _ (there : place < length stations) where
+    inside_v : bridge < length stations
+    inside_v = omega (arith, there, at)
 
-  -- and not where it says no
-  pub may_not_post : (length s.taken.items == s.incoming) ≡ false → MayPost old bridge → ⊥
-  may_not_post none may =
-      let c = counts_post v tables stations lines run bridge s inside_v here_v (subst (λ (w : WorldState). MayPost w bridge) (sym old_same) may) in
-      false≢true (sym none ∙ eq-eqb (length s.taken.items) s.incoming c.1)
+    -- a bridge may post where the test says so
+    pub may_post_so : (s.sent ≡ s.posted → ⊥) → (length s.taken.items == s.incoming) ≡ true → MayPost old bridge
+    may_post_so sent all =
+        subst (λ (w : WorldState). MayPost w bridge) old_same
+        (may_post v tables stations lines run bridge s inside_v here_v sent (eqb-true (length s.taken.items) s.incoming all))
+
+    -- and not where it says no
+    pub may_not_post : (length s.taken.items == s.incoming) ≡ false → MayPost old bridge → ⊥
+    may_not_post none may =
+        let c = counts_post v tables stations lines run bridge s inside_v here_v (subst (λ (w : WorldState). MayPost w bridge) (sym old_same) may) in
+        false≢true (sym none ∙ eq-eqb (length s.taken.items) s.incoming c.1)
+
+  module _ (old_may : MayPost old bridge) where
+    may_v : MayPost v bridge
+    may_v = subst (λ (w : WorldState). MayPost w bridge) (sym old_same) old_may
+
+    in_stations : bridge < length stations
+    in_stations = omega (arith, may_v.inside, run.all_stations)
+
+    of_station : IsStation (sealed_run v) (seals v.entries) run.net bridge (cycle_of_bridge v bridge) (links_taken v bridge) s
+    of_station = station_at v tables stations lines run bridge s in_stations here_v
+
+    within_v : s.posted < seals v.entries
+    within_v = within v tables stations lines run bridge s in_stations here_v world may_v
+
+    -- the table of its cycle is there
+    pub closed_so : s.posted < length tables
+    closed_so = omega (arith, within_v, run.all_tables)
+
+    -- the bridge may be called
+    pub early_so : s.posted < 100000
+    early_so = omega (arith, within_v, run.within_run, world.given.few_cycles)
+
+    -- its page is the next
+    pub next_so : IsNextToPost v.pages s
+    next_so = record {
+      inside = omega (arith, of_station.number, in_stations, run.all_stations, world.given.of_bridges);
+      of_cycles = omega (arith, within_v, run.within_run, world.given.of_cycles);
+      next = of_station.in_cycle ∙ ap (page_count v.pages) (sym of_station.number);
+    }
+
+    module _ (t : CycleTable) (tplace : ℕ) (tat : tplace ≡ s.posted) (at_tplace : t ≡ get_or tables tplace t) where
+      at_cycle : t ≡ get_or tables s.posted t
+      at_cycle = at_tplace ∙ ap (λ (k : ℕ). get_or tables k t) tat
+
+      pub may_receive_so : OffersAreOfTheBridge → ReceivesButForMemory → RunOfHistoryLosesNothing → MayReceiveItsCycle s t
+      may_receive_so offers but_for_memory loses =
+          may_receive v tables stations lines run bridge s in_stations here_v world may_v offers but_for_memory loses t at_cycle
+
+      module _ (z : Station) (pages_after : Posted) (out : PostsOut s z t v.pages pages_after) (offers : OffersAreOfTheBridge) (receiving : ReceivingFollows) where
+        abbrev now_posted : Posted
+        now_posted = with_page v.pages out.page
+
+        abbrev world_posted : Posted → WorldState
+        world_posted pages = record v { pages = pages; given = map given_of (set stations bridge z); sent = map sent_of (set stations bridge z); stopped = false }
+
+        runs_on : IsRunning (record v { pages = now_posted }) tables (set stations bridge z) lines
+        runs_on = posted_goes_on v tables stations lines run bridge s in_stations here_v world may_v t at_cycle z pages_after out offers receiving
+
+        is_after : record v { pages = now_posted } ≡ world_posted now_posted
+        is_after = λ i. record v { pages = now_posted; given = runs_on.given_are i; sent = runs_on.sent_are i; stopped = on i }
+
+        of_cycle_so : out.page.cycle.0 ≡ cycle_of_bridge v bridge
+        of_cycle_so = of_cycle v tables stations lines run bridge s in_stations here_v world may_v t at_cycle z pages_after out offers receiving
+
+        of_bridge_so : out.page.bridge ≡ bridge
+        of_bridge_so = of_bridge v tables stations lines run bridge s in_stations here_v world may_v t at_cycle z pages_after out offers receiving
+
+        is_next : IsNext v.pages out.page
+        is_next = (
+          omega (arith, of_bridge_so, in_stations, run.all_stations, world.given.of_bridges),
+          omega (arith, of_cycle_so, of_station.in_cycle, within_v, run.within_run, world.given.of_cycles),
+          of_cycle_so ∙ ap (page_count v.pages) (sym of_bridge_so),
+        )
+
+        -- so the world stays one
+        pub posted_world : PageFollows → ThereAreSoManyTables → IsWorld (world_posted pages_after) tables (set stations bridge z) lines
+        posted_world page_follows count =
+            subst (λ (p : Posted). IsWorld (world_posted p) tables (set stations bridge z) lines) (sym out.posted) (record {
+              given = given_as v v.entries now_posted (map given_of (set stations bridge z)) (map sent_of (set stations bridge z)) v.taken false world.given world.given.legal
+                  refl refl (next_posted v.pages out.page world.given.in_order is_next);
+              pages = pages_still v tables stations lines run bridge s in_stations here_v world may_v t at_cycle z pages_after out offers receiving page_follows count;
+              sealed = λ b. elim (cases_eq b bridge) [
+                | inl e ↦
+                    subst (λ (k : ℕ). cycle_of_bridge (record v { pages = now_posted }) k ≤ seals v.entries) (sym e)
+                    (omega (
+                      arith,
+                      cycle_here v tables stations lines run bridge s in_stations here_v world may_v t at_cycle z pages_after out offers receiving,
+                      within_v,
+                      of_station.in_cycle,
+                    ))
+                | inr differ ↦
+                    omega (
+                      arith,
+                      cycle_there v tables stations lines run bridge s in_stations here_v world may_v t at_cycle z pages_after out offers receiving b differ,
+                      world.sealed b,
+                    )
+              ];
+              running = λ still. subst (λ (w : WorldState). IsRunning w tables (set stations bridge z) lines) is_after runs_on;
+            })
+
+        -- and it is the same but for the page
+        pub posted_alone : Posts old (world_posted pages_after) bridge
+        posted_alone =
+            subst (λ (w : WorldState). Posts w (world_posted pages_after) bridge) old_same (record {
+              page = out.page;
+              of_bridge = of_bridge_so;
+              of_cycle = of_cycle_so;
+              posted = ap world_posted out.posted ∙ sym is_after;
+            })
+
+  -- where none is posted, no count changes
+  pub unposted_alone : (z : Station) (pages_after : Posted) → z.given ≡ s.given → z.sent ≡ s.sent → pages_after ≡ v.pages →
+      record v { pages = pages_after; given = map given_of (set stations bridge z); sent = map sent_of (set stations bridge z); stopped = true }
+      ≡ record old { stopped = true }
+  unposted_alone z pages_after given sent pages =
+      subst (λ (w : WorldState). record v { pages = pages_after; given = map given_of (set stations bridge z); sent = map sent_of (set stations bridge z); stopped = true }
+      ≡ record w { stopped = true }) old_same
+      (λ i. record v {
+        pages = pages i;
+        given = (count_kept given_of stations bridge s z here_v given ∙ sym run.given_are) i;
+        sent = (count_kept sent_of stations bridge s z here_v sent ∙ sym run.sent_are) i;
+        stopped = true;
+      })

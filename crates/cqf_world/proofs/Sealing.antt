@@ -37,7 +37,8 @@ use Rattle.cqf_world.specs.declared.parts.Line.{Line}
 use Rattle.cqf_world.specs.declared.parts.Station.{Station}
 use Rattle.cqf_world.specs.Parts.{ClosesCycle, IsRunning, IsStation, IsWorld, links_taken, sent_of, taken_of}
 use Rattle.cqf_world.specs.World.{ArePagesOfTheBook, WorldState, cycle_of_bridge, sealed_run, sent_by, taken_from}
-use Rattle.cqf_world.proofs.Counts.{count_at}
+use Rattle.cqf_world.proofs.Keeping.{given_entries}
+use Rattle.cqf_world.proofs.Standing.{count_at}
 
 -- a page of a cycle before the end of a shorter run is the same in the shorter run's book
 page_before : (d : Domain) (bridge cycle cycles : ℕ) (book : Contents) → cycle < cycles →
@@ -205,16 +206,7 @@ module _ (v : WorldState) (tables : List CycleTable) (stations : List Station) (
 
   pub sealed_world : IsWorld more (tables ++ table ∷ []) stations lines
   sealed_world = record {
-    given = record {
-      accepted = world.given.accepted;
-      legal = legal;
-      offers = world.given.offers;
-      background = world.given.background;
-      few_cycles = world.given.few_cycles;
-      of_bridges = world.given.of_bridges;
-      of_cycles = world.given.of_cycles;
-      in_order = world.given.in_order;
-    };
+    given = given_entries v entries world.given legal;
     pages = pages_still;
     sealed = λ bridge. omega (arith, world.sealed bridge, counted);
     running = λ still. sealed_goes_on;

@@ -3,7 +3,7 @@ use Rattle.std.proofs.Common.{◌≡◌, ℕ, suc, ◌+◌, ◌-◌, ◌<◌, �
 use Rattle.std.specs.Prelude.{◌∷◌, [], ◌==◌, filter, if◌then◌else◌, Option}
 use Rattle.std.specs.Option.{option_map_or}
 use Rattle.std.proofs.lemmas.Bool.{cases_eq, cond-true}
-use Rattle.std.proofs.lemmas.List.{get_or-map, get_or-set_other, get_or-set_same, length-map, length-set, map-set, set-get_or}
+use Rattle.std.proofs.lemmas.List.{get_or-map, get_or-set_other, get_or-set_same, length-map, length-set, map-set}
 use Rattle.std.proofs.lemmas.Option.{slice_get_cases}
 use Rattle.cqf_lists.proofs.Filters.{filter-map}
 use Rattle.cqf_lists.proofs.Made.{contains_if_there}
@@ -24,11 +24,12 @@ use Rattle.cqf_laws_bridge.specs.Follows.{batch_of, batches_from}
 use Rattle.cqf_laws_course.proofs.LinkNumbers.{link_ending}
 use Rattle.cqf_world.specs.declared.parts.Line.{Line}
 use Rattle.cqf_world.specs.declared.parts.Station.{Station}
-use Rattle.cqf_world.specs.Agenda.{background_at}
+use Rattle.cqf_agenda.specs.Agenda.{background_at}
 use Rattle.cqf_world.specs.Events.{MayStep}
 use Rattle.cqf_world.specs.Parts.{AreComing, IsLine, IsRunning, IsStation, IsWorld, SendsItsCycle, SendsOut, given_of, links_taken, sent_of, taken_of, under_way}
 use Rattle.cqf_world.specs.World.{WorldState, cycle_of_bridge, sealed_run, sent_by}
-use Rattle.cqf_world.proofs.Counts.{count_at, given_counts}
+use Rattle.cqf_world.proofs.Keeping.{given_counts}
+use Rattle.cqf_world.proofs.Standing.{count_kept, each_with, given_at, sent_at, station_at}
 
 -- what a bridge sends on a link that leaves it
 sent_on : (d : Domain) (carried : Carried) (bridge cycle l : ℕ) → l < length d.links →
@@ -66,13 +67,13 @@ one_longer d net link from upto le =
 module _ (v : WorldState) (tables : List CycleTable) (stations : List Station) (lines : List Line) (is : IsRunning v tables stations lines) (bridge : ℕ)
     (s : Station) (inside : bridge < length stations) (here : s ≡ get_or stations bridge s) where
   st : IsStation (sealed_run v) (seals v.entries) is.net bridge (cycle_of_bridge v bridge) (links_taken v bridge) s
-  st = subst (IsStation (sealed_run v) (seals v.entries) is.net bridge (cycle_of_bridge v bridge) (links_taken v bridge)) (sym here) (is.station bridge s inside)
+  st = station_at v tables stations lines is bridge s inside here
 
   sent_is : sent_by v bridge ≡ s.sent
-  sent_is = count_at sent_of v.sent stations bridge s is.sent_are inside ∙ ap sent_of (sym here)
+  sent_is = sent_at v tables stations lines is bridge s inside here
 
   given_is : get_or v.given bridge 0 ≡ s.given
-  given_is = count_at given_of v.given stations bridge s is.given_are inside ∙ ap given_of (sym here)
+  given_is = given_at v tables stations lines is bridge s inside here
 
   -- a bridge may send its cycle where its counts say so
   pub may_step : (s.given ≡ s.posted → ⊥) → s.sent ≡ s.posted → MayStep v bridge
@@ -223,22 +224,10 @@ module _ (v : WorldState) (tables : List CycleTable) (stations : List Station) (
         all_tables = is.all_tables;
         table = is.table;
         all_stations = length-set stations bridge z ∙ is.all_stations;
-        given_are = is.given_are
-            ∙ sym (map-set given_of stations bridge z
-            ∙ ap (set (map given_of stations) bridge) (ap given_of z_is ∙ ap given_of here)
-            ∙ sym (map-set given_of stations bridge (get_or stations bridge s))
-            ∙ ap (map given_of) (set-get_or stations bridge s));
+        given_are = is.given_are ∙ sym (count_kept given_of stations bridge s z here (ap given_of z_is));
         sent_are = refl;
-        station = λ other d in_stations. elim (cases_eq other bridge) [
-          | inl e ↦
-              subst (λ (k : ℕ). IsStation (sealed_run v) (seals v.entries) is.net k (cycle_of_bridge v k) (links_taken v k) (get_or stations_after k d)) (sym e)
-              (subst (IsStation (sealed_run v) (seals v.entries) is.net bridge (cycle_of_bridge v bridge) (links_taken v bridge))
-              (sym (get_or-set_same stations bridge z d inside)) station_sent)
-          | inr differ ↦
-              subst (IsStation (sealed_run v) (seals v.entries) is.net other (cycle_of_bridge v other) (links_taken v other))
-              (sym (get_or-set_other stations bridge other z d differ))
-              (is.station other d (omega (arith, in_stations, length-set stations bridge z)))
-        ];
+        station = each_with (λ k. IsStation (sealed_run v) (seals v.entries) is.net k (cycle_of_bridge v k) (links_taken v k)) stations bridge z inside
+            station_sent (λ other d in_stations differ. is.station other d in_stations);
         all_lines = coming.as_many ∙ is.all_lines;
         taken_are = is.taken_are ∙ sym coming.counts;
         line = line_coming;
@@ -247,8 +236,11 @@ module _ (v : WorldState) (tables : List CycleTable) (stations : List Station) (
 module _ (v : WorldState) (tables : List CycleTable) (stations : List Station) (lines : List Line) (old : WorldState) (old_same : v ≡ old)
     (world : IsWorld v tables stations lines) (old_on : old.stopped ≡ false) (bridge place : ℕ) (s : Station) (old_may : MayStep old bridge) (at : place ≡ bridge)
     (at_place : s ≡ get_or stations place s) where
+  on : v.stopped ≡ false
+  on = subst (λ (w : WorldState). w.stopped ≡ false) (sym old_same) old_on
+
   run : IsRunning v tables stations lines
-  run = world.running (subst (λ (w : WorldState). w.stopped ≡ false) (sym old_same) old_on)
+  run = world.running on
 
   may_v : MayStep v bridge
   may_v = subst (λ (w : WorldState). MayStep w bridge) (sym old_same) old_may
@@ -271,63 +263,56 @@ module _ (v : WorldState) (tables : List CycleTable) (stations : List Station) (
 
   pub backed_so : BackgroundIsOfTheBridge → AreBackedOf s.bridge.domain s.bridge.number s.posted (background_at s.agenda s.posted)
   backed_so of_bridge =
-      let st = run.station bridge s inside_v in
       let c = counts_step v tables stations lines run bridge s inside_v here_v may_v in
-      let x = subst (IsStation (sealed_run v) (seals v.entries) run.net bridge (cycle_of_bridge v bridge) (links_taken v bridge)) (sym here_v) st in
+      let x = station_at v tables stations lines run bridge s inside_v here_v in
       subst (AreBackedOf s.bridge.domain s.bridge.number s.posted) (sym (frames_are v tables stations lines run bridge s inside_v here_v may_v))
       (of_bridge s.bridge.domain (sealed_run v) s.bridge.number s.posted (x.follows c.1).of_run.domain world.given.background)
 
   module _ (z : Station) (w : List Line) (out : SendsOut v.domain s z lines w) (sending : SendingFollows) where
     abbrev world_sent : WorldState
-    world_sent = record v { given = map given_of (set stations bridge z); sent = map sent_of (set stations bridge z); taken = map taken_of w }
+    world_sent = record v {
+      given = map given_of (set stations bridge z);
+      sent = map sent_of (set stations bridge z);
+      taken = map taken_of w;
+      stopped = false;
+    }
 
     runs_on : IsRunning (record v { sent = map sent_of (set stations bridge z) }) tables (set stations bridge z) w
     runs_on = sent_goes_on v tables stations lines run bridge s inside_v here_v may_v z w out sending
 
-    given_still : map given_of (set stations bridge z) ≡ v.given
-    given_still = sym runs_on.given_are
-
-    taken_still : map taken_of w ≡ v.taken
-    taken_still = sym runs_on.taken_are
+    is_after : record v { sent = map sent_of (set stations bridge z) } ≡ world_sent
+    is_after = λ i. record v { given = runs_on.given_are i; sent = map sent_of (set stations bridge z); taken = runs_on.taken_are i; stopped = on i }
 
     -- so the world stays one
     pub sent_world : IsWorld world_sent tables (set stations bridge z) w
     sent_world = record {
-      given = given_counts v _ _ _ v.stopped world.given;
+      given = given_counts v _ _ _ false world.given;
       pages = world.pages;
       sealed = world.sealed;
-      running = λ still.
-          subst (λ (ns : List ℕ). IsRunning (record v { given = ns; sent = map sent_of (set stations bridge z); taken = map taken_of w }) tables (set stations bridge z) w)
-          (sym given_still)
-          (subst (λ (ns : List ℕ). IsRunning (record v { sent = map sent_of (set stations bridge z); taken = ns }) tables (set stations bridge z) w) (sym taken_still) runs_on);
+      running = λ still. subst (λ (k : WorldState). IsRunning k tables (set stations bridge z) w) is_after runs_on;
     }
 
     -- and it is the same but for what was sent
     pub sent_alone : world_sent ≡ record old { sent = set old.sent bridge (cycle_of_bridge old bridge + 1) }
     sent_alone =
-        let x = subst (IsStation (sealed_run v) (seals v.entries) run.net bridge (cycle_of_bridge v bridge) (links_taken v bridge)) (sym here_v) (run.station bridge s inside_v) in
+        let x = station_at v tables stations lines run bridge s inside_v here_v in
         let is_sent : sent_of z ≡ cycle_of_bridge v bridge + 1 =
         ap sent_of (z_is v tables stations lines run bridge s inside_v here_v may_v z w out sending) ∙ ap (λ (n : ℕ). n + 1) x.in_cycle in
         let now_sent : map sent_of (set stations bridge z) ≡ set v.sent bridge (cycle_of_bridge v bridge + 1) =
         map-set sent_of stations bridge z ∙ (λ i. set (sym run.sent_are i) bridge (is_sent i)) in
         subst (λ (k : WorldState). world_sent ≡ record k { sent = set k.sent bridge (cycle_of_bridge k bridge + 1) }) old_same
-        (λ i. record v { given = given_still i; sent = now_sent i; taken = taken_still i })
+        (sym is_after ∙ (λ i. record v { sent = now_sent i }))
 
   -- where it isn't, no count changes
   pub unsent_alone : (z : Station) (w : List Line) → z.given ≡ s.given → z.sent ≡ s.sent → map taken_of w ≡ map taken_of lines →
       record v { given = map given_of (set stations bridge z); sent = map sent_of (set stations bridge z); taken = map taken_of w; stopped = true }
       ≡ record old { stopped = true }
   unsent_alone z w given sent counts =
-      let one : (count : Station → ℕ) → count z ≡ count s → map count (set stations bridge z) ≡ map count stations =
-      λ count e. map-set count stations bridge z
-      ∙ ap (set (map count stations) bridge) (e ∙ ap count here_v)
-      ∙ sym (map-set count stations bridge (get_or stations bridge s))
-      ∙ ap (map count) (set-get_or stations bridge s) in
       subst (λ (k : WorldState). record v { given = map given_of (set stations bridge z); sent = map sent_of (set stations bridge z); taken = map taken_of w; stopped = true }
       ≡ record k { stopped = true }) old_same
       (λ i. record v {
-        given = (one given_of given ∙ sym run.given_are) i;
-        sent = (one sent_of sent ∙ sym run.sent_are) i;
+        given = (count_kept given_of stations bridge s z here_v given ∙ sym run.given_are) i;
+        sent = (count_kept sent_of stations bridge s z here_v sent ∙ sym run.sent_are) i;
         taken = (counts ∙ sym run.taken_are) i;
         stopped = true;
       })

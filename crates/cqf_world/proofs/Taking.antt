@@ -4,7 +4,7 @@ use Rattle.std.specs.Prelude.{◌∷◌, [], filter, nat_lt, Option}
 use Rattle.std.specs.List.{insert}
 use Rattle.std.specs.Option.{option_map_or}
 use Rattle.std.proofs.lemmas.Bool.{cases_eq, le-ltb, lt-ltb}
-use Rattle.std.proofs.lemmas.List.{get_or-set_other, get_or-set_same, length-map, length-set, map-set, set-get_or}
+use Rattle.std.proofs.lemmas.List.{get_or-set_other, get_or-set_same, length-map, length-set, map-set}
 use Rattle.std.proofs.lemmas.Option.{slice_get_cases}
 use Rattle.cqf_lists.proofs.EachBelow.{first_below, length-singles, same_below}
 use Rattle.cqf_lists.proofs.Filters.{filter-map, filter_alike}
@@ -23,8 +23,9 @@ use Rattle.cqf_world.specs.declared.parts.Station.{Station}
 use Rattle.cqf_world.specs.Events.{MayTake}
 use Rattle.cqf_world.specs.Parts.{IsLine, IsRunning, IsStation, IsWorld, Moves, given_of, links_taken, sent_of, taken_of, under_way}
 use Rattle.cqf_world.specs.World.{WorldState, cycle_of_bridge, sealed_run, sent_by, taken_from}
-use Rattle.cqf_world.proofs.Counts.{count_at, given_counts}
+use Rattle.cqf_world.proofs.Keeping.{given_counts}
 use Rattle.cqf_world.proofs.Inboxes.{before, end_inside, insert_map, kept_more, link_listed, links_ascend, same_parts}
+use Rattle.cqf_world.proofs.Standing.{count_at, count_kept, each_with, sent_at, station_at}
 
 -- a node is one bridge
 one_node : (n : Node) (a b : ℕ) → node_is n a ≡ true → node_is n b ≡ true → a ≡ b
@@ -49,13 +50,13 @@ module _ (v : WorldState) (tables : List CycleTable) (stations : List Station) (
   in_lines = omega (arith, link_ending v.domain bridge link ends, is.all_lines)
 
   st : IsStation (sealed_run v) (seals v.entries) is.net bridge (cycle_of_bridge v bridge) (links_taken v bridge) s
-  st = subst (IsStation (sealed_run v) (seals v.entries) is.net bridge (cycle_of_bridge v bridge) (links_taken v bridge)) (sym here) (is.station bridge s inside)
+  st = station_at v tables stations lines is bridge s inside here
 
   li : IsLine v.domain is.net link (cycle_of_bridge v bridge) (sent_by v bridge) (sent_by v (bridge_of v.domain link)) x
   li = subst (IsLine v.domain is.net link (cycle_of_bridge v bridge) (sent_by v bridge) (sent_by v (bridge_of v.domain link))) (sym there) (is.line link bridge x ends)
 
   sent_is : sent_by v bridge ≡ s.sent
-  sent_is = count_at sent_of v.sent stations bridge s is.sent_are inside ∙ ap sent_of (sym here)
+  sent_is = sent_at v tables stations lines is bridge s inside here
 
   taken_is : taken_from v link ≡ x.taken
   taken_is = count_at taken_of v.taken lines link x is.taken_are in_lines ∙ ap taken_of (sym there)
@@ -160,16 +161,8 @@ module _ (v : WorldState) (tables : List CycleTable) (stations : List Station) (
         ∙ sym (insert_map f kept (before link kept) link)
         ∙ ap (map f) (sym one_more)
 
-    -- what the stations were given and have sent is the same
     abbrev stations_after : List Station
     stations_after = set stations bridge z
-
-    count_same : (count : Station → ℕ) → count z ≡ count s → map count stations_after ≡ map count stations
-    count_same count e =
-        map-set count stations bridge z
-        ∙ ap (set (map count stations) bridge) (e ∙ ap count here)
-        ∙ sym (map-set count stations bridge (get_or stations bridge s))
-        ∙ ap (map count) (set-get_or stations bridge s)
 
     -- the bridge that took it
     station_taken : IsStation (sealed_run v) (seals v.entries) is.net bridge (cycle_of_bridge v bridge) (links_taken after bridge) z
@@ -212,20 +205,12 @@ module _ (v : WorldState) (tables : List CycleTable) (stations : List Station) (
       all_tables = is.all_tables;
       table = is.table;
       all_stations = length-set stations bridge z ∙ is.all_stations;
-      given_are = is.given_are ∙ sym (count_same given_of (ap given_of same));
-      sent_are = is.sent_are ∙ sym (count_same sent_of (ap sent_of same));
-      station = λ other d in_stations. elim (cases_eq other bridge) [
-        | inl e ↦
-            subst (λ (k : ℕ). IsStation (sealed_run v) (seals v.entries) is.net k (cycle_of_bridge v k) (links_taken after k) (get_or stations_after k d)) (sym e)
-            (subst (IsStation (sealed_run v) (seals v.entries) is.net bridge (cycle_of_bridge v bridge) (links_taken after bridge))
-            (sym (get_or-set_same stations bridge z d inside)) station_taken)
-        | inr differ ↦
-            subst (λ (ls : List ℕ). IsStation (sealed_run v) (seals v.entries) is.net other (cycle_of_bridge v other) ls (get_or stations_after other d))
-            (sym (others_same other differ))
-            (subst (IsStation (sealed_run v) (seals v.entries) is.net other (cycle_of_bridge v other) (links_taken v other))
-            (sym (get_or-set_other stations bridge other z d differ))
-            (is.station other d (omega (arith, in_stations, length-set stations bridge z))))
-      ];
+      given_are = is.given_are ∙ sym (count_kept given_of stations bridge s z here (ap given_of same));
+      sent_are = is.sent_are ∙ sym (count_kept sent_of stations bridge s z here (ap sent_of same));
+      station = each_with (λ k. IsStation (sealed_run v) (seals v.entries) is.net k (cycle_of_bridge v k) (links_taken after k)) stations bridge z inside
+          station_taken (λ other d in_stations differ.
+          subst (λ (ls : List ℕ). IsStation (sealed_run v) (seals v.entries) is.net other (cycle_of_bridge v other) ls (get_or stations other d))
+          (sym (others_same other differ)) (is.station other d in_stations));
       all_lines = length-set lines link y ∙ is.all_lines;
       taken_are = refl;
       line = λ m to d into. elim (cases_eq m link) [
@@ -243,13 +228,16 @@ module _ (v : WorldState) (tables : List CycleTable) (stations : List Station) (
 
 module _ (v : WorldState) (tables : List CycleTable) (stations : List Station) (lines : List Line) (old : WorldState) (old_same : v ≡ old)
     (world : IsWorld v tables stations lines) (old_on : old.stopped ≡ false) (link bridge place lplace : ℕ) (s : Station) (x : Line)
-    (old_ends : enters old.domain link bridge ≡ true) (at : place ≡ bridge) (lat : lplace ≡ link) (at_place : s ≡ get_or stations place s)
+    (d : Domain) (of_domain : d ≡ v.domain) (ends_d : enters d link bridge ≡ true) (at : place ≡ bridge) (lat : lplace ≡ link) (at_place : s ≡ get_or stations place s)
     (at_lplace : x ≡ get_or lines lplace x) where
+  on : v.stopped ≡ false
+  on = subst (λ (w : WorldState). w.stopped ≡ false) (sym old_same) old_on
+
   run : IsRunning v tables stations lines
-  run = world.running (subst (λ (w : WorldState). w.stopped ≡ false) (sym old_same) old_on)
+  run = world.running on
 
   ends_v : enters v.domain link bridge ≡ true
-  ends_v = subst (λ (w : WorldState). enters w.domain link bridge ≡ true) (sym old_same) old_ends
+  ends_v = ap (λ (k : Domain). enters k link bridge) (sym of_domain) ∙ ends_d
 
   in_stations : bridge < length stations
   in_stations = omega (arith, end_inside v.domain link bridge world.given.accepted ends_v, run.all_stations)
@@ -273,37 +261,35 @@ module _ (v : WorldState) (tables : List CycleTable) (stations : List Station) (
   pub few_so : MayTake old link → x.taken < 100000
   few_so may =
       let c = counts_so may in
-      let st = run.station bridge s in_stations in
-      omega (arith, c.0, c.1, ap sent_of here_v, ap given_of here_v, st.with_table, st.closed, run.within_run, world.given.few_cycles)
+      let st = station_at v tables stations lines run bridge s in_stations here_v in
+      omega (arith, c.0, c.1, st.with_table, st.closed, run.within_run, world.given.few_cycles)
 
   module _ (may : MayTake old link) (y : Line) (z : Station) (moves : Moves x y s z) where
     may_v : MayTake v link
     may_v = subst (λ (w : WorldState). MayTake w link) (sym old_same) may
 
     abbrev world_taken : WorldState
-    world_taken = record v { given = map given_of (set stations bridge z); sent = map sent_of (set stations bridge z); taken = map taken_of (set lines link y) }
+    world_taken = record v {
+      given = map given_of (set stations bridge z);
+      sent = map sent_of (set stations bridge z);
+      taken = map taken_of (set lines link y);
+      stopped = false;
+    }
 
     runs_on : IsRunning (record v { taken = map taken_of (set lines link y) }) tables (set stations bridge z) (set lines link y)
     runs_on =
         taken_goes_on v tables stations lines run link bridge s x ends_v in_stations here_v there_v may_v y z moves.batch moves.popped moves.counted moves.same moves.put
 
-    given_still : map given_of (set stations bridge z) ≡ v.given
-    given_still = sym runs_on.given_are
-
-    sent_still : map sent_of (set stations bridge z) ≡ v.sent
-    sent_still = sym runs_on.sent_are
+    is_after : record v { taken = map taken_of (set lines link y) } ≡ world_taken
+    is_after = λ i. record v { given = runs_on.given_are i; sent = runs_on.sent_are i; taken = map taken_of (set lines link y); stopped = on i }
 
     -- so the world stays one
     pub taken_world : IsWorld world_taken tables (set stations bridge z) (set lines link y)
     taken_world = record {
-      given = given_counts v _ _ _ v.stopped world.given;
+      given = given_counts v _ _ _ false world.given;
       pages = world.pages;
       sealed = world.sealed;
-      running = λ still.
-          subst (λ (ns : List ℕ). IsRunning (record v { given = ns; sent = map sent_of (set stations bridge z); taken = map taken_of (set lines link y) }) tables
-          (set stations bridge z) (set lines link y)) (sym given_still)
-          (subst (λ (ns : List ℕ). IsRunning (record v { sent = ns; taken = map taken_of (set lines link y) }) tables (set stations bridge z) (set lines link y))
-          (sym sent_still) runs_on);
+      running = λ still. subst (λ (w : WorldState). IsRunning w tables (set stations bridge z) (set lines link y)) is_after runs_on;
     }
 
     -- and it is the same but for what was taken
@@ -315,27 +301,17 @@ module _ (v : WorldState) (tables : List CycleTable) (stations : List Station) (
         map-set taken_of lines link y
         ∙ (λ i. set (sym run.taken_are i) link ((moves.counted ∙ ap (λ (n : ℕ). n + 1) (sym is_taken)) i)) in
         subst (λ (w : WorldState). world_taken ≡ record w { taken = set w.taken link (taken_from w link + 1) }) old_same
-        (λ i. record v { given = given_still i; sent = sent_still i; taken = now_taken i })
+        (sym is_after ∙ (λ i. record v { taken = now_taken i }))
 
   -- where it can't be moved, no count changes
   pub refused_alone : (y : Line) (z : Station) → y.taken ≡ x.taken → z ≡ record s { taken = z.taken } →
       record v { given = map given_of (set stations bridge z); sent = map sent_of (set stations bridge z); taken = map taken_of (set lines link y); stopped = true }
       ≡ record old { stopped = true }
   refused_alone y z counted same =
-      let one : (count : Station → ℕ) → count z ≡ count s → map count (set stations bridge z) ≡ map count stations =
-      λ count e. map-set count stations bridge z
-      ∙ ap (set (map count stations) bridge) (e ∙ ap count here_v)
-      ∙ sym (map-set count stations bridge (get_or stations bridge s))
-      ∙ ap (map count) (set-get_or stations bridge s) in
-      let of_line : map taken_of (set lines link y) ≡ map taken_of lines =
-      map-set taken_of lines link y
-      ∙ ap (set (map taken_of lines) link) (counted ∙ ap taken_of there_v)
-      ∙ sym (map-set taken_of lines link (get_or lines link x))
-      ∙ ap (map taken_of) (set-get_or lines link x) in
       subst (λ (w : WorldState). record v { given = map given_of (set stations bridge z); sent = map sent_of (set stations bridge z); taken = map taken_of (set lines link y); stopped = true } ≡ record w { stopped = true }) old_same
       (λ i. record v {
-        given = (one given_of (ap given_of same) ∙ sym run.given_are) i;
-        sent = (one sent_of (ap sent_of same) ∙ sym run.sent_are) i;
-        taken = (of_line ∙ sym run.taken_are) i;
+        given = (count_kept given_of stations bridge s z here_v (ap given_of same) ∙ sym run.given_are) i;
+        sent = (count_kept sent_of stations bridge s z here_v (ap sent_of same) ∙ sym run.sent_are) i;
+        taken = (count_kept taken_of lines link x y there_v counted ∙ sym run.taken_are) i;
         stopped = true;
       })

@@ -1,25 +1,18 @@
 -- The events of a world: when each is enabled, and what it does (profile).
-use Rattle.std.specs.Prelude.{ℕ, ◌≡◌, ◌+◌, ◌<◌, Result, Ok, Err, false, length, slice_set, string_bytes, true}
+use Rattle.std.specs.Prelude.{ℕ, ◌≡◌, ◌+◌, ◌<◌, Result, Ok, Err, false, length, slice_set, true}
 use Rattle.std.specs.declared.alloc.AllocError.{AllocError}
 use Rattle.cqf_model.specs.declared.frames.Page.{Page}
 use Rattle.cqf_model.specs.Domain.{bridge_of, enters}
-use Rattle.cqf_model.specs.History.{Act, Admits, Seals, Withdraws, reply_to, seals}
+use Rattle.cqf_model.specs.History.{Seals, reply_to, seals}
 use Rattle.cqf_laws_history.specs.StateLaws.{with_entry}
-use Rattle.cqf_admission.specs.declared.entries.Command.{Command}
-use Rattle.cqf_admission.specs.declared.entries.Command.TheVariants.{Admit, Withdraw}
 use Rattle.cqf_admission.specs.Admission.{calls}
-use Rattle.cqf_admission.specs.Asking.{asked_of}
+use Rattle.cqf_admission.specs.Commands.{act_of_command}
 use Rattle.cqf_book.specs.Pages.{with_page}
 use Rattle.cqf_world.specs.declared.events.Applied.{Applied}
 use Rattle.cqf_world.specs.declared.events.Applied.TheVariants.{Done, NotEnabled}
 use Rattle.cqf_world.specs.declared.events.Event.{Event}
 use Rattle.cqf_world.specs.declared.events.Event.TheVariants.{Call, Seal, Give, Step, Take, Post}
 use Rattle.cqf_world.specs.World.{WorldState, cycle_of_bridge, given_to, sent_by, taken_from}
-
--- what an administrator calls for
-abbrev pub act_of_command : Command → Act
-act_of_command (Admit request) = Admits (asked_of request)
-act_of_command (Withdraw name) = Withdraws (string_bytes name)
 
 -- a bridge lacks the table of its cycle, which is one of the run's and sealed
 pub record MayBeGiven (w : WorldState) (bridge : ℕ) : Type 0 where

@@ -1,4 +1,4 @@
-pub mod Agenda
+pub mod Beginning
 pub mod Events
 pub mod Parts
 pub mod World

@@ -3,6 +3,8 @@ use Rattle.std.specs.Prelude.{ℕ, ◌≡◌, ◌+◌, ◌-◌, ◌≤◌, ◌<�
 use Rattle.std.specs.Prelude.{false, filter, length, map, nat_lt, slice_index_or, true}
 use Rattle.std.specs.List.{flat_map, insert}
 use Rattle.cqf_lists.specs.Lists.{each_below}
+use Rattle.cqf_model.specs.declared.frames.Dropped.{Dropped}
+use Rattle.cqf_model.specs.declared.frames.Page.{Page}
 use Rattle.cqf_model.specs.Domain.{Domain, IsAccepted, bridge_of, enters}
 use Rattle.cqf_model.specs.declared.history.Reply.TheVariants.{Sealed}
 use Rattle.cqf_model.specs.History.{IsLegalHistory, Seals, seals, table_at}
@@ -12,15 +14,17 @@ use Rattle.cqf_model.specs.Network.{Network}
 use Rattle.cqf_model.specs.Run.{AreBackground, AreOffers, Run}
 use Rattle.cqf_laws_pages.specs.BridgeCycle.{IsCompiledNetwork}
 use Rattle.cqf_admission.specs.Tables.{CycleTable}
-use Rattle.cqf_book.specs.Pages.{ArePosted}
+use Rattle.cqf_book.specs.Pages.{ArePosted, Posted, page_count, with_page}
+use Rattle.cqf_bridge.specs.declared.faults.BridgeFault.{BridgeFault}
+use Rattle.cqf_bridge.specs.declared.faults.BridgeFault.TheVariants.{Memory}
 use Rattle.cqf_bridge.specs.Batch.{LinkBatch}
-use Rattle.cqf_bridge.specs.BridgeState.{SendsCycle}
-use Rattle.cqf_bridge.specs.Receiving.{links_into}
+use Rattle.cqf_bridge.specs.BridgeState.{BridgeState, SendsCycle}
+use Rattle.cqf_bridge.specs.Receiving.{Handed, IsReceiveFault, IsRunOf, ReceivesCycle, links_into}
 use Rattle.cqf_laws_bridge.specs.Cycles.{starts_of_batch}
 use Rattle.cqf_laws_bridge.specs.Follows.{FollowsTheNetwork, HasSentOfTheNetwork, batch_of, batches_from}
 use Rattle.cqf_world.specs.declared.parts.Line.{Line}
 use Rattle.cqf_world.specs.declared.parts.Station.{Station}
-use Rattle.cqf_world.specs.Agenda.{IsAgendaOf, background_at}
+use Rattle.cqf_agenda.specs.Agenda.{IsAgendaOf, background_at, offers_at}
 use Rattle.cqf_world.specs.World.{ArePagesOfTheBook, WorldState, cycle_of_bridge, sealed_run, sent_by, taken_from}
 
 -- what a world was given: an accepted domain, a legal history, offers and background frames of the domain, and pages of its bridges
@@ -141,3 +145,49 @@ pub record SendsOut (d : Domain) (before after : Station) (lines lines_after : L
   pub sends : SendsItsCycle before between batches
   pub coming : AreComing d batches lines lines_after
   pub counted : after ≡ record between { sent = before.posted + 1 }
+
+-- what a bridge is handed to receive its cycle: a table, and the batches that it has taken
+abbrev pub handed_to : Station → CycleTable → Handed
+handed_to s table = record { table_cycle = table.cycle; rows = table.rows; batches = s.taken.items }
+
+-- a run of which a bridge's cycle is a part, with the table, and with what the bridge is offered in the cycle
+abbrev pub IsRunAt : Station → CycleTable → Run → Type 0
+IsRunAt s table run = IsRunOf s.bridge.domain s.bridge.number s.posted table.rows (offers_at s.agenda s.posted) run
+
+-- a bridge may receive its cycle with the table: there is such a run, and for no cause but want of memory does it refuse to
+pub record MayReceiveItsCycle (s : Station) (table : CycleTable) : Type 0 where
+  pub run : Run
+  pub of_run : IsRunAt s table run
+  pub memory_alone : (after : BridgeState) (fault : BridgeFault) →
+      ((r : Run) → IsRunAt s table r → IsReceiveFault r s.bridge after s.posted (handed_to s table) fault) → fault ≡ Memory
+
+-- a bridge receives its cycle, with the table, with what it is offered in the cycle, and with the batches that it has taken
+pub record ReceivesItsCycle (before after : Station) (table : CycleTable) (drops : List Dropped) : Type 0 where
+  pub receives : (run : Run) → IsRunAt before table run → ReceivesCycle run before.bridge after.bridge before.posted before.taken.items drops
+  pub number : after.bridge.number ≡ before.bridge.number
+  pub same : after ≡ record before { bridge = after.bridge }
+
+-- the page of a bridge that has received its cycle, with what was dropped
+pub record IsPageOf (s : Station) (page : Page) (drops : List Dropped) : Type 0 where
+  pub of_bridge : page.bridge ≡ s.bridge.number
+  pub of_cycle : page.cycle.0 ≡ s.posted
+  pub starts : page.starts.items ≡ s.starts.items
+  pub background : page.background.items ≡ s.bridge.background
+  pub dropped : page.drops.items ≡ drops
+
+-- the page of a bridge's cycle is the next of the bridge
+pub record IsNextToPost (pages : Posted) (s : Station) : Type 0 where
+  pub inside : s.bridge.number < pages.bridges
+  pub of_cycles : s.posted < pages.cycles
+  pub next : s.posted ≡ page_count pages s.bridge.number
+
+-- a bridge receives its cycle, and posts its page; of the next cycle it has taken nothing
+pub record PostsOut (before after : Station) (table : CycleTable) (pages pages_after : Posted) : Type 0 where
+  pub between : Station
+  pub drops : List Dropped
+  pub page : Page
+  pub receives : ReceivesItsCycle before between table drops
+  pub is_page : IsPageOf between page drops
+  pub posted : pages_after ≡ with_page pages page
+  pub none_taken : after.taken.items ≡ []
+  pub same : after ≡ record between { posted = between.posted + 1; starts = after.starts; taken = after.taken }

@@ -2,7 +2,7 @@
 ghost use Rattle.std.specs.Prelude.{◌≡◌, ◌<◌, OnErr, OnOk};
 ghost use Rattle.cqf_model.specs.History.{seals};
 ghost use Rattle.cqf_admission.specs.Admission.{Answers};
-ghost use Rattle.cqf_world.specs.Events.{act_of_command};
+ghost use Rattle.cqf_admission.specs.Commands.{act_of_command};
 ghost use Rattle.cqf_world.specs.Parts.{ClosesCycle};
 
 use cqf_admission::{Admission, Command, SealFault, Table};

@@ -1,6 +1,6 @@
 //! What a world holds for its bridges and its links.
 
-use crate::agenda::Agenda;
+use cqf_agenda::Agenda;
 use cqf_bridge::{Batch, Bridge};
 use cqf_model::Started;
 use std::collections::VecDeque;

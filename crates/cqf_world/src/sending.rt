@@ -1,53 +1,16 @@
 //! A bridge sends its cycle, and its batches come onto the links.
-ghost use Rattle.std.specs.Prelude.{◌≡◌, ◌+◌, ◌<◌, ◌≤◌, ◌++◌, IfOk, OnErr, OnOk, false, length, map};
-ghost use Rattle.std.specs.List.{flat_map};
-ghost use Rattle.cqf_model.specs.Book.{started};
+ghost use Rattle.std.specs.Prelude.{◌≡◌, ◌<◌, IfOk, OnErr, OnOk, false, length, map};
 ghost use Rattle.cqf_bridge.specs.BridgeState.{AreBackedOf, IsNextToSend};
-ghost use Rattle.cqf_laws_bridge.specs.Cycles.{starts_of_batch};
-ghost use Rattle.cqf_world.specs.Agenda.{background_at};
+ghost use Rattle.cqf_agenda.specs.Agenda.{background_at};
 ghost use Rattle.cqf_world.specs.Parts.{AreComing, SendsItsCycle, SendsOut, taken_of};
 
 use crate::inbox::bridge_at_end;
 use crate::parts::{Line, Station};
 use cqf_bridge::{Batch, BridgeFault};
-use cqf_model::{Sent, Started};
+use cqf_paging::starts_of;
 use cqf_topology::Domain;
 use cqf_units::{Cycle, Memory};
 use std::alloc::{AllocError, Global};
-
-/// A frame that a link sent, as a page has it.
-fn as_started(cycle: Cycle, link: u8, sent: Sent) -> Started
-    ensures { result ≡ started cycle.0 link sent }
-{
-    Started {
-        cycle,
-        link,
-        frame: sent.frame,
-        octets: sent.octets,
-        start: sent.start,
-    }
-}
-
-/// Puts the frames of a batch behind what is listed.
-fn list_batch(batch: &Batch, starts: &mut Vec<Started>) -> Result<(), Memory>
-    ensures { OnOk result (starts.new.items ≡ starts.old.items ++ starts_of_batch batch.now) }
-{
-    for place in 0..batch.len() {
-        starts.push(as_started(batch.cycle(), batch.link(), batch.get(place)))?;
-    }
-    Ok(())
-}
-
-/// The frames of batches, as a page has them.
-fn starts_of(alloc: Global, batches: &[Batch]) -> Result<Vec<Started>, Memory>
-    ensures { IfOk result (λ starts. starts.items ≡ flat_map starts_of_batch batches.now) }
-{
-    let mut starts = Vec::new(alloc);
-    for batch in batches {
-        list_batch(batch, &mut starts)?;
-    }
-    Ok(starts)
-}
 
 /// Sends the cycle of a bridge, which keeps what its links send of streams' frames for its page. The batches are what it sends.
 pub(crate) fn send_cycle(alloc: Global, station: &mut Station) -> Result<Vec<Batch>, Memory>

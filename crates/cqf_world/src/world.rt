@@ -1,19 +1,26 @@
 //! The world.
-ghost use Rattle.std.specs.Prelude.{◌≡◌, ◌<◌, ◌≤◌, ◌↔◌, IfNone, IfOk, IfSome, OnErr, OnOk, false, length, map, true};
-ghost use Rattle.cqf_admission.specs.Admission.{recorded_of};
-ghost use Rattle.cqf_model.specs.Domain.{enters};
+ghost use Rattle.std.specs.Prelude.{◌≡◌, ◌<◌, ◌≤◌, IfOk, OnErr, OnOk, false, length, true};
+ghost use Rattle.cqf_admission.specs.Admission.{calls};
 ghost use Rattle.cqf_model.specs.History.{seals};
+ghost use Rattle.cqf_model.specs.Run.{AreBackground, AreOffers};
+ghost use Rattle.cqf_world.specs.Beginning.{new_world};
 ghost use Rattle.cqf_world.specs.World.{ArePagesOfTheBook};
-ghost use Rattle.cqf_world.specs.Events.{Answers, Happens, MayBeGiven, MayPost, MayStep, MayTake};
+ghost use Rattle.cqf_world.specs.Events.{Answers, Happens, IsEnabled, MayBeGiven, MayPost, MayStep, MayTake};
 
 use crate::calling::{ask, close_cycle};
 use crate::events::{Applied, Event};
 use crate::inbox::{bridge_at_end, is_quiet, move_batch};
+use crate::making::{new_lines, new_stations};
 use crate::parts::{Line, Station};
+use crate::receiving::post_page;
 use crate::sending::send_all;
 use cqf_admission::{Admission, Command, Table};
 use cqf_book::Pages;
-use cqf_laws_bridge::{longer_run_is_followed, new_bridge_follows, sending_follows};
+use cqf_compile::Plan;
+use cqf_laws_bridge::{
+    history_loses_nothing, longer_run_is_followed, new_bridge_follows, no_other_fault,
+    page_follows, receiving_follows, sending_follows,
+};
 use cqf_laws_definitions::closed_tables_stay;
 use cqf_laws_history::{state_follows_history, tables_are_orderly};
 use cqf_laws_network::{legal_network_exists, shorter_book_is_the_beginning};
@@ -22,6 +29,9 @@ use cqf_model::{Background, Offer, Refused};
 use cqf_units::Memory;
 use std::alloc::{AllocError, Global};
 use std::marker::Model;
+
+/// How many calls a history may have that aren't Seals.
+const MOST_CALLS: usize = 100_000;
 
 /// All that a running network holds: an admission and the tables of its Seals, the bridges with what they were given, the batches
 /// under way on the links between them, and the pages that were posted.
@@ -39,6 +49,7 @@ pub struct World<'a> {
     /// By number of link.
     lines: Vec<Line>,
     pages: Pages,
+    /// A growth was refused, or may yet be, while an event is carried out: whatever refuses one leaves the world stopped.
     stopped: bool,
 }
 
@@ -76,6 +87,46 @@ impl<'a> Model for World<'a> {
     }) w.tables.items w.stations.items w.lines.items };
 }
 
+impl<'a> World<'a> {
+    /// A world of the plan's domain that goes on for so many cycles, up to 100,000, with these offers and background frames. It
+    /// begins with the history of an admission for that domain that has no Seal, and with no page. `Memory` where a growth is
+    /// refused; then the admission is gone.
+    pub fn new(
+        alloc: Global,
+        plan: &Plan,
+        admission: Admission,
+        offers: &'a [Offer],
+        background: &'a [Background],
+        cycles: u32,
+    ) -> Result<World<'a>, Memory>
+        requires domain { admission.domain ≡ plan.now }
+        requires no_seal { seals admission.entries ≡ 0 }
+        requires offers { AreOffers plan.now offers.now }
+        requires few_offers { length offers.now ≤ 1000000 }
+        requires background { AreBackground plan.now background.now }
+        requires few_background { length background.now ≤ 1000000 }
+        requires few_cycles { cycles ≤ 100000 }
+        ensures { IfOk result (λ world. world ≡ new_world admission offers.now background.now cycles) }
+    {
+        new_bridge_follows();
+        legal_network_exists();
+        let _legal = admission.history();
+        let domain = plan.domain();
+        Ok(World {
+            alloc,
+            offers,
+            background,
+            cycles,
+            admission,
+            tables: Vec::new(alloc),
+            stations: new_stations(alloc, plan, offers, background)?,
+            lines: new_lines(alloc, domain)?,
+            pages: Pages::new(alloc, domain.bridges(), cycles)?,
+            stopped: false,
+        })
+    }
+}
+
 impl World<'_> {
     /// The admission, with the history so far. It takes no memory.
     pub fn admission(&self) -> &Admission
@@ -99,11 +150,9 @@ impl World<'_> {
         ensures yes { result ≡ true → MayBeGiven self.now bridge }
         ensures no { result ≡ false → ¬ MayBeGiven self.now bridge }
     {
-        let place = usize::from(bridge);
-        if place >= self.stations.len() {
+        let Some(station) = self.stations.get(usize::from(bridge)) else {
             return false;
-        }
-        let station = &self.stations[place];
+        };
         let cycle = station.posted;
         if station.given != cycle || cycle >= self.cycles {
             return false;
@@ -122,21 +171,23 @@ impl World<'_> {
     }
 
     /// Makes an administrator's call.
-    fn call(&mut self, seat: u16, command: &Command) -> Result<Applied, Memory>
-        requires { self.old.stopped ≡ false }
-        ensures { Answers self.old self.new (Event.Call seat command.now) result }
+    fn call(&mut self, seat: u16, command: &Command) -> Result<(), Memory>
+        requires goes_on { self.old.stopped ≡ false }
+        requires may { calls self.old.entries < 100000 }
+        ensures ok { OnOk result (Happens self.old self.new (Event.Call seat command.now)) }
+        ensures err { OnErr result (self.new ≡ record self.old { stopped = true }) }
     {
         state_follows_history();
         closed_tables_stay();
         let answer = ask(&mut self.admission, seat, command);
         let _legal = self.admission.history();
         match answer {
-            Err(Refused::HistoryFull) => Ok(Applied::NotEnabled),
+            Err(Refused::HistoryFull) => unreachable!(),
             Err(Refused::Memory) => {
                 self.stopped = true;
                 Err(AllocError)
             }
-            _ => Ok(Applied::Done),
+            _ => Ok(()),
         }
     }
 
@@ -162,42 +213,39 @@ impl World<'_> {
         closed
     }
 
-    /// Whether the bridge in which a link ends may take a batch from it, and which bridge that is.
-    fn may_take(&self, link: u8) -> Option<u8>
+    /// Whether the bridge in which a link ends may take a batch from it.
+    fn may_take(&self, link: u8) -> bool
         requires { self.now.stopped ≡ false }
-        ensures some { IfSome result (λ bridge. MayTake self.now link) }
-        ensures ends { IfSome result (λ bridge. enters self.now.domain link bridge ≡ true) }
-        ensures none { IfNone result (¬ MayTake self.now link) }
+        ensures yes { result ≡ true → MayTake self.now link }
+        ensures no { result ≡ false → ¬ MayTake self.now link }
     {
-        let bridge = bridge_at_end(self.admission.domain(), link)?;
+        let Some(bridge) = bridge_at_end(self.admission.domain(), link) else {
+            return false;
+        };
         let station = &self.stations[usize::from(bridge)];
         let line = &self.lines[usize::from(link)];
         if station.sent == station.posted || line.taken != station.posted {
-            return None;
+            return false;
         }
-        if is_quiet(line) {
-            return None;
-        }
-        Some(bridge)
+        !is_quiet(line)
     }
 
     /// Takes it: the oldest one under way.
-    fn take(&mut self, link: u8, bridge: u8) -> Result<(), Memory>
+    fn take(&mut self, link: u8) -> Result<(), Memory>
         requires goes_on { self.old.stopped ≡ false }
         requires may { MayTake self.old link }
-        requires ends { enters self.old.domain link bridge ≡ true }
         ensures ok { OnOk result (Happens self.old self.new (Event.Take link)) }
         ensures err { OnErr result (self.new ≡ record self.old { stopped = true }) }
     {
+        let Some(bridge) = bridge_at_end(self.admission.domain(), link) else {
+            unreachable!()
+        };
+        self.stopped = true;
         let station = &mut self.stations[usize::from(bridge)];
         let line = &mut self.lines[usize::from(link)];
-        match move_batch(line, station) {
-            Ok(()) => Ok(()),
-            Err(refused) => {
-                self.stopped = true;
-                Err(refused)
-            }
-        }
+        move_batch(line, station)?;
+        self.stopped = false;
+        Ok(())
     }
 
     /// Whether a bridge may send its cycle.
@@ -206,11 +254,9 @@ impl World<'_> {
         ensures yes { result ≡ true → MayStep self.now bridge }
         ensures no { result ≡ false → ¬ MayStep self.now bridge }
     {
-        let place = usize::from(bridge);
-        if place >= self.stations.len() {
+        let Some(station) = self.stations.get(usize::from(bridge)) else {
             return false;
-        }
-        let station = &self.stations[place];
+        };
         if station.given == station.posted {
             return false;
         }
@@ -226,19 +272,16 @@ impl World<'_> {
     {
         new_bridge_follows();
         sending_follows();
+        self.stopped = true;
         let station = &mut self.stations[usize::from(bridge)];
-        match send_all(
+        send_all(
             self.alloc,
             self.admission.domain(),
             station,
             &mut self.lines,
-        ) {
-            Ok(()) => Ok(()),
-            Err(refused) => {
-                self.stopped = true;
-                Err(refused)
-            }
-        }
+        )?;
+        self.stopped = false;
+        Ok(())
     }
 
     /// Whether a bridge may receive its cycle, and post its page.
@@ -247,14 +290,103 @@ impl World<'_> {
         ensures yes { result ≡ true → MayPost self.now bridge }
         ensures no { result ≡ false → ¬ MayPost self.now bridge }
     {
-        let place = usize::from(bridge);
-        if place >= self.stations.len() {
+        let Some(station) = self.stations.get(usize::from(bridge)) else {
             return false;
-        }
-        let station = &self.stations[place];
+        };
         if station.sent == station.posted {
             return false;
         }
         station.taken.as_slice().len() == station.incoming
+    }
+
+    /// Receives it, and posts the page.
+    fn post(&mut self, bridge: u8) -> Result<(), Memory>
+        requires goes_on { self.old.stopped ≡ false }
+        requires may { MayPost self.old bridge }
+        ensures ok { OnOk result (Happens self.old self.new (Event.Post bridge)) }
+        ensures err { OnErr result (self.new ≡ record self.old { stopped = true }) }
+    {
+        tables_are_orderly();
+        history_loses_nothing();
+        new_bridge_follows();
+        receiving_follows();
+        no_other_fault();
+        page_follows();
+        self.stopped = true;
+        let station = &mut self.stations[usize::from(bridge)];
+        let table = &self.tables[station.posted as usize];
+        post_page(self.alloc, station, table, &mut self.pages)?;
+        self.stopped = false;
+        Ok(())
+    }
+
+    /// Whether there may be a call more.
+    fn may_call(&self) -> bool
+        ensures yes { result ≡ true → calls self.now.entries < 100000 }
+        ensures no { result ≡ false → 100000 ≤ calls self.now.entries }
+    {
+        let sealed = self.admission.next_cycle().0 as usize;
+        self.admission.history().len() < MOST_CALLS + sealed
+    }
+
+    /// Whether the next cycle may be closed to changes.
+    fn may_seal(&self) -> bool
+        ensures yes { result ≡ true → seals self.now.entries < self.now.cycles }
+        ensures no { result ≡ false → self.now.cycles ≤ seals self.now.entries }
+    {
+        self.admission.next_cycle().0 < self.cycles
+    }
+
+    /// Whether an event may happen: none after a growth was refused, nor to a bridge or on a link that the domain lacks.
+    fn is_enabled(&self, event: &Event) -> bool
+        ensures yes { result ≡ true → IsEnabled self.now event.now }
+        ensures no { result ≡ false → ¬ IsEnabled self.now event.now }
+    {
+        if self.stopped {
+            return false;
+        }
+        match event {
+            Event::Call(_, _) => self.may_call(),
+            Event::Seal(_) => self.may_seal(),
+            Event::Give(bridge) => self.may_give(*bridge),
+            Event::Step(bridge) => self.may_step(*bridge),
+            Event::Take(link) => self.may_take(*link),
+            Event::Post(bridge) => self.may_post(*bridge),
+        }
+    }
+
+    /// Does what an event does that may happen.
+    fn carry_out(&mut self, event: Event) -> Result<(), Memory>
+        requires { IsEnabled self.old event }
+        ensures ok { OnOk result (Happens self.old self.new event) }
+        ensures err { OnErr result (self.new ≡ record self.old { stopped = true }) }
+    {
+        match event {
+            Event::Call(seat, command) => self.call(seat, &command),
+            Event::Seal(seat) => self.seal(seat),
+            Event::Give(bridge) => {
+                self.give(bridge);
+                Ok(())
+            }
+            Event::Step(bridge) => self.step(bridge),
+            Event::Take(link) => self.take(link),
+            Event::Post(bridge) => self.post(bridge),
+        }
+    }
+
+    /// Applies an event, where it may happen now; the crate's page has the table of events, and `specs/Events.antt` says it in full
+    /// (profile).
+    ///
+    /// [`Applied::NotEnabled`] where it may not, as for a bridge or a link that the domain lacks; then nothing is changed, and no
+    /// memory was taken. `Memory` where a growth is refused: the history and the pages are as they were, and no event may happen
+    /// any more.
+    pub fn apply(&mut self, event: Event) -> Result<Applied, Memory>
+        ensures { Answers self.old self.new event result }
+    {
+        if !self.is_enabled(&event) {
+            return Ok(Applied::NotEnabled);
+        }
+        self.carry_out(event)?;
+        Ok(Applied::Done)
     }
 }

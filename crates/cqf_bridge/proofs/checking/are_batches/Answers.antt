@@ -1,7 +1,8 @@
 use Rattle.std.proofs.Common.{◌∙◌, sym, subst, Contains}
 use Rattle.std.proofs.lemmas.List.Elements.{Contains-get_or}
 use Rattle.cqf_bridge.specs.Taking.{IsBatchOf}
-use Rattle.cqf_bridge.proofs.Coming.{are_batches_of, batch_enters, enters_inside, not_batches_of, one_more_place}
+use Rattle.cqf_model.proofs.LinkEnds.{enters_inside}
+use Rattle.cqf_bridge.proofs.Coming.{are_batches_of, batch_enters, not_batches_of, one_more_place}
 use Rattle.cqf_bridge.proofs.checking.are_batches.Goals as goal
 
 pub is_batch_of-requires-clause-inside : goal.is_batch_of-requires-clause-inside

@@ -1,6 +1,6 @@
 use Rattle.std.proofs.Common.{◌<◌, arith, length, ap, List, ℕ}
+use Rattle.cqf_lists.proofs.Numbers.{kept_length}
 use Rattle.cqf_model.specs.Domain.{enters}
-use Rattle.cqf_bridge.proofs.Coming.{picked_length}
 use Rattle.cqf_bridge.proofs.checking.incoming_links.Goals as goal
 
 pub push-requires : goal.push-requires
@@ -9,7 +9,7 @@ push-requires c =
     omega (
       arith,
       ap (λ (ls : List ℕ). length ls) c.loop-link.invariant,
-      picked_length (λ k. enters c.args.domain.now k c.args.number) c.loop-link.link,
+      kept_length (λ k. enters c.args.domain.now k c.args.number) c.loop-link.link,
       c.loop-link-test.true,
       c.links-link-end.ensures,
       c.cycle_time-time.ensures.accepted.few_links,

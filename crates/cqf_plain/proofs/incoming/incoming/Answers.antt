@@ -1,16 +1,17 @@
-use Rattle.std.proofs.Common.{◌∙◌, ◌++◌, ℕ, List, Contains, ap, map, subst}
+use Rattle.std.proofs.Common.{◌∙◌, ◌++◌, ℕ, List, Contains, ap, length, map, subst}
 use Rattle.std.specs.List.{flat_map}
+use Rattle.cqf_lists.proofs.Numbers.{kept_number}
+use Rattle.cqf_model.specs.Domain.{enters}
 use Rattle.cqf_model.specs.Traffic.{Received, offer_received}
 use Rattle.cqf_laws_pages.specs.Gathered.{IsInOrderOf}
 use Rattle.cqf_bridge.specs.Taking.{received_as}
 use Rattle.cqf_plain.specs.Incoming.{brought_by, sent_since}
-use Rattle.cqf_plain.proofs.Gathering.{into_inside}
 use Rattle.cqf_plain.proofs.incoming.incoming.Goals as goal
 
 pub gather_links-requires-clause-inside : goal.gather_links-requires-clause-inside
 gather_links-requires-clause-inside c = λ l held.
-    into_inside c.args.domain.now c.args.number l
-    (subst (λ (ls : List ℕ). Contains ls l) (c.as_slice.ensures.value ∙ c.incoming_links-links.ensures) held)
+    (kept_number (λ m. enters c.args.domain.now m c.args.number) (length c.args.domain.now.links) l
+    (subst (λ (ls : List ℕ). Contains ls l) (c.as_slice.ensures.value ∙ c.incoming_links-links.ensures) held)).0
 
 pub returns : goal.returns
 returns c =

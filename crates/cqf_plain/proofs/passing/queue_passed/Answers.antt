@@ -1,42 +1,34 @@
-use Rattle.std.proofs.Common.{◌∙◌, refl}
-use Rattle.cqf_plain.proofs.GoingOn.{next_waits, passed_class, passed_early, passed_in_order, passed_in_time, passed_port}
+use Rattle.std.proofs.Common.{◌∙◌, ◌<◌, ap, refl, sym, subst, arith, length, List}
+use Rattle.cqf_plain.specs.Clock.{AreWatched}
+use Rattle.cqf_plain.specs.Passing.{AreWatchedBut}
+use Rattle.cqf_plain.specs.Ports.{LinkPort}
+use Rattle.cqf_plain.proofs.GoingOn.{all_wait}
+use Rattle.cqf_plain.proofs.Marks.{none_marked}
 use Rattle.cqf_plain.proofs.passing.queue_passed.Goals as goal
 
--- its port is there
-pub queue_frame-requires-clause-inside : goal.queue_frame-requires-clause-inside
-queue_frame-requires-clause-inside c =
-    passed_port c.args.frames.now c.args.ports.now.items c.requires.frames c.loop-passed.passed-index _ _ c.loop-passed-test.true refl
-    c.loop-passed.ports.items c.loop-passed.clock.due c.loop-passed.invariant.come
+-- no link is marked at first
+pub put_passed-requires-clause-unmarked : goal.put_passed-requires-clause-unmarked
+put_passed-requires-clause-unmarked c = none_marked 256 _ refl
 
--- it is of a class
-pub queue_frame-requires-clause-gate : goal.queue_frame-requires-clause-gate
-queue_frame-requires-clause-gate c =
-    passed_class c.args.frames.now c.args.ports.now.items c.requires.frames c.loop-passed.passed-index _ _ c.loop-passed-test.true refl
-    c.loop-passed.ports.items c.loop-passed.clock.due c.loop-passed.invariant.come
+-- each frame's link has a port
+pub tell_marked-requires-clause-inside : goal.tell_marked-requires-clause-inside
+tell_marked-requires-clause-inside c = λ x h.
+    subst (λ (ps : List LinkPort). x.link < length ps) (sym c.as_slice.ensures.value)
+    (omega (arith, c.in_ok-put_passed.ensures.come.one_each, c.requires.frames.inside x h))
 
--- it is early enough
-pub queue_frame-requires-clause-early : goal.queue_frame-requires-clause-early
-queue_frame-requires-clause-early c =
-    passed_early c.args.frames.now c.args.ports.now.items c.requires.frames c.loop-passed.passed-index _ _ c.loop-passed-test.true refl
-    c.loop-passed.ports.items c.loop-passed.clock.due c.loop-passed.invariant.come
+-- the clock was told of one for each
+pub tell_marked-requires-clause-told : goal.tell_marked-requires-clause-told
+tell_marked-requires-clause-told c =
+    c.requires.told ∙ sym c.in_ok-put_passed.ensures.come.one_each ∙ ap (λ (ps : List LinkPort). length ps) (sym c.as_slice.ensures.value)
 
--- it isn't late
-pub queue_frame-requires-clause-in_time : goal.queue_frame-requires-clause-in_time
-queue_frame-requires-clause-in_time c =
-    passed_in_time c.args.frames.now c.args.ports.now.items c.requires.frames c.loop-passed.passed-index _ _ c.loop-passed-test.true refl
-    c.loop-passed.ports.items c.loop-passed.clock.due c.loop-passed.invariant.come
+-- all others are watched
+pub tell_marked-requires-clause-watched : goal.tell_marked-requires-clause-watched
+tell_marked-requires-clause-watched c =
+    subst (AreWatchedBut c.put_passed.new.marks c.args.clock.now.due) (sym c.as_slice.ensures.value)
+    (c.in_ok-put_passed.ensures.watched c.args.clock.now.due c.requires.watched)
 
--- nor out of order
-pub queue_frame-requires-clause-in_order : goal.queue_frame-requires-clause-in_order
-queue_frame-requires-clause-in_order c =
-    passed_in_order c.args.frames.now c.args.ports.now.items c.requires.frames c.loop-passed.passed-index _ _ c.loop-passed-test.true refl
-    c.loop-passed.ports.items c.loop-passed.clock.due c.loop-passed.invariant.come
-
--- it has come
-pub loop-passed-preserved : goal.loop-passed-preserved
-loop-passed-preserved c = record {
-  come = next_waits c.args.frames.now c.args.ports.now.items c.requires.frames c.loop-passed.passed-index _ _ c.loop-passed-test.true refl
-      c.loop-passed.ports.items c.loop-passed.clock.due c.loop-passed.invariant.come
-      c.queue_frame.new.ports.items c.queue_frame.new.clock.due c.in_ok-queue_frame.ensures.queued;
-  told = c.queue_frame.ensures.told ∙ c.loop-passed.invariant.told;
-}
+-- so all wait, and are watched
+pub returns-clause-come : goal.returns-clause-come
+returns-clause-come c =
+    all_wait c.args.frames.now c.args.ports.now.items c.put_passed.new.ports.items c.tell_marked.new.clock.due c.in_ok-put_passed.ensures.come
+    (subst (AreWatched c.tell_marked.new.clock.due) c.as_slice.ensures.value c.in_ok-tell_marked.ensures.watched)

@@ -1,7 +1,7 @@
 -- The frames of the pieces so far are counted, and their octets summed.
 use Rattle.std.proofs.Common.{◌≡◌}
 use Rattle.std.specs.Slice.Iter.{chunks_rest, chunks_size}
-use Rattle.cqf_report.specs.LinkSums.{frames_on, octets_on}
+use Rattle.cqf_model.specs.OnLinks.{frames_on, octets_on}
 use Rattle.cqf_report.proofs.LinkPieces.{IsSoFar}
 use Rattle.cqf_report.proofs.links.sums_of_link.Given as goal
 

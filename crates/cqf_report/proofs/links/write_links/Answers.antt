@@ -4,8 +4,9 @@ use Rattle.std.proofs.lemmas.List.{get_or_default}
 use Rattle.cqf_lists.specs.Lists.{each_below}
 use Rattle.cqf_model.specs.Domain.{Domain}
 use Rattle.cqf_model.specs.Book.{contents_of}
+use Rattle.cqf_model.specs.OnLinks.{frames_on, octets_on}
 use Rattle.cqf_report.specs.Books.{name_of_link}
-use Rattle.cqf_report.specs.LinkSums.{frames_on, link_fields, link_header, links_text, most_on, octets_on}
+use Rattle.cqf_report.specs.LinkSums.{link_fields, link_header, links_text, most_on}
 use Rattle.cqf_report.specs.Written.{HasWritten, line_of}
 use Rattle.cqf_report.proofs.LinkLines.{one_line_more}
 use Rattle.cqf_report.proofs.WrittenLemmas.{handed-out}

@@ -8,7 +8,7 @@ use Rattle.cqf_worker.proofs.rows.put_each.Goals as goal
 
 -- nothing was put yet
 pub loop-item-init : goal.loop-item-init
-loop-item-init g c = (sym (with_none c.args.ins.now), refl, search rules)
+loop-item-init g c = (sym (with_none c.args.ports.now), refl, search rules)
 
 -- the next pipe has as many items as it had
 pub put-requires : goal.put-requires
@@ -16,13 +16,13 @@ put-requires g c =
     let items = c.loop-item.yielded in
     let rest = into_iter_items c.next.new.self in
     let all : items ++ c.in-Some.item ∷ rest ≡ c.args.items.items = ap (λ xs. items ++ xs) (sym c.in-Some.ensures.steps.0) ∙ c.loop-item.invariant.2 in
-    let below : c.loop-item.place < length c.args.ins.now =
+    let below : c.loop-item.place < length c.args.ports.now =
     omega (arith, ap length all, length-append items (c.in-Some.item ∷ rest), c.loop-item.invariant.1, c.requires.count) in
     record {
       room = omega (
         arith,
-        c.requires.room c.loop-item.place c.index-ins-place.result below,
-        ap (λ e. length e.items) (next_same c.args.ins.now c.loop-item.ins (map Item items) c.loop-item.place c.index-ins-place.result
+        c.requires.room c.loop-item.place c.index-ports-place.result below,
+        ap (λ p. length p.pipe.items) (next_same c.args.ports.now c.loop-item.ports (map Item items) c.loop-item.place c.index-ports-place.result
             c.loop-item.invariant.0 (length-map items Item ∙ c.loop-item.invariant.1)),
       );
     }
@@ -33,11 +33,11 @@ loop-item-preserved g c =
     let items = c.loop-item.yielded in
     let rest = into_iter_items c.next.new.self in
     let all : items ++ c.in-Some.item ∷ rest ≡ c.args.items.items = ap (λ xs. items ++ xs) (sym c.in-Some.ensures.steps.0) ∙ c.loop-item.invariant.2 in
-    let below : c.loop-item.place < length c.args.ins.now =
+    let below : c.loop-item.place < length c.args.ports.now =
     omega (arith, ap length all, length-append items (c.in-Some.item ∷ rest), c.loop-item.invariant.1, c.requires.count) in (
-      one_more c.args.ins.now c.loop-item.ins (map Item items) c.loop-item.place c.index-ins-place.result c.put.new.self (Item c.in-Some.item)
+      one_more c.args.ports.now c.loop-item.ports (map Item items) c.loop-item.place c.index-ports-place.result c.put.new.self (Item c.in-Some.item)
           c.loop-item.invariant.0 (length-map items Item ∙ c.loop-item.invariant.1) below c.in-Ok.ensures.pipe c.in-Ok.ensures.ok
-          ∙ ap (with_each c.args.ins.now) (sym (map-append Item items (c.in-Some.item ∷ []))),
+          ∙ ap (with_each c.args.ports.now) (sym (map-append Item items (c.in-Some.item ∷ []))),
       omega (arith, length-append items (c.in-Some.item ∷ []), c.loop-item.invariant.1),
       append_assoc items (c.in-Some.item ∷ []) rest ∙ all,
     )
@@ -46,5 +46,5 @@ loop-item-preserved g c =
 pub returns-in-Err-clause-some : goal.returns-in-Err-clause-some
 returns-in-Err-clause-some g c = (
   map Item c.loop-item.yielded,
-  none_more c.loop-item.ins c.loop-item.place c.index-ins-place.result c.put.new.self c.in-Err.ensures.pipe c.in-Err.ensures.err ∙ c.loop-item.invariant.0,
+  none_more c.loop-item.ports c.loop-item.place c.index-ports-place.result c.put.new.self c.in-Err.ensures.pipe c.in-Err.ensures.err ∙ c.loop-item.invariant.0,
 )

@@ -5,4 +5,4 @@ use Rattle.cqf_worker.proofs.rows.take_each.Given as goal
 
 -- an item was taken at each of the places below
 abbrev pub invariant-loop-place : goal.invariant-loop-place
-invariant-loop-place g l = (l.outs ≡ with_each l.fn.outs (map Item l.items.items)) × (length l.items.items ≡ l.place) × (l.place-end ≡ length l.fn.outs)
+invariant-loop-place g l = (l.ports ≡ with_each l.fn.ports (map Item l.items.items)) × (length l.items.items ≡ l.place) × (l.place-end ≡ length l.fn.ports)

@@ -1,7 +1,9 @@
 use Rattle.std.proofs.Common.{rules, ◌≡◌, ◌∙◌, ◌<◌, ℕ, arith, false, length, refl}
 use Rattle.cqf_model.specs.Domain.{enters}
 use Rattle.cqf_laws_course.proofs.LinkNumbers.{link_ending}
-use Rattle.cqf_world.proofs.Coming.{counts_kept, one_coming, passed_by}
+use Rattle.cqf_world.specs.Parts.{taken_of}
+use Rattle.cqf_world.proofs.Coming.{one_coming, passed_by}
+use Rattle.cqf_world.proofs.Standing.{count_kept}
 use Rattle.cqf_world.proofs.sending.put_all.Goals as goal
 
 pub loop-batch-preserved-in-Continue-1 : goal.loop-batch-preserved-in-Continue-1
@@ -19,7 +21,7 @@ loop-batch-preserved-in-Continue-1 c =
 
 pub returns-in_err-push_back-clause-counts : goal.returns-in_err-push_back-clause-counts
 returns-in_err-push_back-clause-counts c =
-    counts_kept c.loop-batch.lines.items c.from.result c.index_mut.result.now _ c.index_mut.ensures.value refl ∙ c.loop-batch.invariant.counts
+    count_kept taken_of c.loop-batch.lines.items c.from.result c.index_mut.result.now _ c.index_mut.ensures.value refl ∙ c.loop-batch.invariant.counts
 
 pub loop-batch-preserved : goal.loop-batch-preserved
 loop-batch-preserved c =

@@ -1,5 +1,8 @@
-use Rattle.std.proofs.Common.{◌∙◌, arith, map, refl, sym, subst}
+use Rattle.std.proofs.Common.{◌∙◌, ◌+◌, ap, arith, filter, map, refl, sym, subst}
+use Rattle.cqf_model.specs.declared.topology.Row.{Row}
+use Rattle.cqf_model.specs.Table.{is_held}
 use Rattle.cqf_admission.specs.Admission.{recorded_of}
+use Rattle.cqf_admission.specs.Rows.{HeldRows}
 use Rattle.cqf_admission.specs.Tables.{AreInOrder}
 use Rattle.cqf_admission.proofs.CallLemmas.{sealed_leaves}
 use Rattle.cqf_admission.proofs.admission.Admission.seal.Goals as goal
@@ -9,24 +12,24 @@ invariant_of-self-2 c =
     let laws = c.state_follows_history.ensures in
     (sealed_leaves laws.goes_on laws.counted laws.lets_go laws.closes laws.held c.args.seat
     (record { cycle = c.self.inside.sealed; rows = c.self.inside.held.rows }) c.self.invariant c.self.view_is
-    (omega (arith, c.if-self-ge-MOST_SEALS.false)) c.reserve.ensures.items c.enter.ensures c.let_go.ensures refl refl).running
+    (omega (arith, c.if-self-ge-MOST_SEALS.false)) c.reserve.ensures.items c.enter.ensures (c.let_go.ensures ∙ ap (λ (h : HeldRows). filter (λ (row : Row). is_held row (c.self.inside.sealed + 1)) h.rows) c.share.ensures.same) refl refl).running
 
 pub new-requires : goal.new-requires
 new-requires c =
     let held = c.state_follows_history.ensures.held c.self.inside.domain
     (map recorded_of c.self.inside.history.items) c.self.inside.held.rows c.self.inside.next c.self.invariant.legal c.self.invariant.state in
-    subst AreInOrder (sym (c.in-Ok.ensures ∙ c.rows.ensures)) (record { numbers = held.numbers; names = held.names })
+    subst AreInOrder (sym c.in-Ok.ensures.rows) (record { numbers = held.numbers; names = held.names })
 
 pub returns-clause-closes : goal.returns-clause-closes
 returns-clause-closes c =
     let laws = c.state_follows_history.ensures in
     (sealed_leaves laws.goes_on laws.counted laws.lets_go laws.closes laws.held c.args.seat c.new.result c.self.invariant c.self.view_is
-    (omega (arith, c.if-self-ge-MOST_SEALS.false)) c.reserve.ensures.items c.enter.ensures c.let_go.ensures c.new.ensures.cycle
-    (c.new.ensures.rows ∙ c.in-Ok.ensures ∙ c.rows.ensures)).closes
+    (omega (arith, c.if-self-ge-MOST_SEALS.false)) c.reserve.ensures.items c.enter.ensures (c.let_go.ensures ∙ ap (λ (h : HeldRows). filter (λ (row : Row). is_held row (c.self.inside.sealed + 1)) h.rows) c.share.ensures.same) c.new.ensures.cycle
+    (c.new.ensures.rows ∙ c.in-Ok.ensures.rows)).closes
 
 pub returns-clause-lets_go : goal.returns-clause-lets_go
 returns-clause-lets_go c =
     let laws = c.state_follows_history.ensures in
     (sealed_leaves laws.goes_on laws.counted laws.lets_go laws.closes laws.held c.args.seat c.new.result c.self.invariant c.self.view_is
-    (omega (arith, c.if-self-ge-MOST_SEALS.false)) c.reserve.ensures.items c.enter.ensures c.let_go.ensures c.new.ensures.cycle
-    (c.new.ensures.rows ∙ c.in-Ok.ensures ∙ c.rows.ensures)).lets_go
+    (omega (arith, c.if-self-ge-MOST_SEALS.false)) c.reserve.ensures.items c.enter.ensures (c.let_go.ensures ∙ ap (λ (h : HeldRows). filter (λ (row : Row). is_held row (c.self.inside.sealed + 1)) h.rows) c.share.ensures.same) c.new.ensures.cycle
+    (c.new.ensures.rows ∙ c.in-Ok.ensures.rows)).lets_go

@@ -32,7 +32,10 @@ invariant_of-self c =
       columns,
       sums_from_totals now.names.keys now.rows.items now.costs.items now.masks.items c.sums_of-self-inside.result columns
           (rw (c.as_slice.ensures.value, c.as_slice-then-gone.ensures.value) at c.sums_of-self-inside.ensures),
+      λ same. absurd cc,
     )
 
 pub invariant_of-self-else-gone : goal.invariant_of-self-else-gone
-invariant_of-self-else-gone c = (c.loop-place.invariant.0.columns, c.loop-place.invariant.1 c.if-gone.false)
+invariant_of-self-else-gone c =
+    let kept = c.loop-place.invariant.1 c.if-gone.false in
+    (c.loop-place.invariant.0.columns, kept.0, kept.1)

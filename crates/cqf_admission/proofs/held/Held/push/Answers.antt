@@ -31,6 +31,7 @@ invariant_of-self c =
       columns,
       sums_from_totals _ _ _ _ c.sums_with-self-inside.result columns
           (rw (c.as_slice.ensures.value, c.as_slice-2.ensures.value) at c.sums_with-self-inside.ensures),
+      λ same. absurd cc,
     )
 
 pub sums_with-self-inside-requires-clause-more : goal.sums_with-self-inside-requires-clause-more

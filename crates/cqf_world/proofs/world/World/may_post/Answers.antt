@@ -1,17 +1,19 @@
-use Rattle.std.proofs.Common.{rules, ◌<◌, ◌∙◌, length, nat_eq, sym, ap, ℕ}
+use Rattle.std.proofs.Common.{rules, ◌≡◌, ◌<◌, ◌∙◌, get_or, length, nat_eq, sym, ap, ℕ}
 use Rattle.cqf_world.proofs.Posting.{may_not_post, may_post_so}
 use Rattle.cqf_world.proofs.world.World.may_post.Goals as goal
 
 pub returns-clause-yes : goal.returns-clause-yes
 returns-clause-yes c = λ all.
-    let there : c.from-place.result < length c.self.inside.stations.items = search rules in
+    let there : c.from.result < length c.self.inside.stations.items = search rules in
+    let is : c.in-Some.station.now ≡ get_or c.self.inside.stations.items c.from.result c.in-Some.station.now = search rules in
     may_post_so _ c.self.inside.tables.items c.self.inside.stations.items c.self.inside.lines.items _ c.self.view_is c.self.invariant c.requires c.args.bridge
-    c.from-place.result c.index-station.result.now c.from-place.ensures c.index-station.ensures there c.if-station.false
-    (ap (λ (n : ℕ). nat_eq n c.index-station.result.now.incoming) (sym (ap length c.as_slice.ensures.value)) ∙ all)
+    c.from.result c.in-Some.station.now c.from.ensures is there c.if-station.false
+    (ap (λ (n : ℕ). nat_eq n c.in-Some.station.now.incoming) (sym (ap length c.as_slice.ensures.value)) ∙ all)
 
 pub returns-clause-no : goal.returns-clause-no
 returns-clause-no c = λ none may.
-    let there : c.from-place.result < length c.self.inside.stations.items = search rules in
+    let there : c.from.result < length c.self.inside.stations.items = search rules in
+    let is : c.in-Some.station.now ≡ get_or c.self.inside.stations.items c.from.result c.in-Some.station.now = search rules in
     may_not_post _ c.self.inside.tables.items c.self.inside.stations.items c.self.inside.lines.items _ c.self.view_is c.self.invariant c.requires c.args.bridge
-    c.from-place.result c.index-station.result.now c.from-place.ensures c.index-station.ensures there
-    (ap (λ (n : ℕ). nat_eq n c.index-station.result.now.incoming) (sym (ap length c.as_slice.ensures.value)) ∙ none) may
+    c.from.result c.in-Some.station.now c.from.ensures is there
+    (ap (λ (n : ℕ). nat_eq n c.in-Some.station.now.incoming) (sym (ap length c.as_slice.ensures.value)) ∙ none) may

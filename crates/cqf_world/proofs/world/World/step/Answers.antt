@@ -2,6 +2,7 @@ use Rattle.std.proofs.Common.{subst}
 use Rattle.cqf_model.specs.Domain.{Domain}
 use Rattle.cqf_world.specs.Parts.{SendsOut}
 use Rattle.cqf_world.proofs.Stepping.{backed_so, early_so, goes_on_so, next_so, sent_alone, sent_world, unsent_alone}
+use Rattle.cqf_world.proofs.Keeping.{on_err}
 use Rattle.cqf_world.proofs.world.World.step.Goals as goal
 
 pub send_all-requires-clause-early : goal.send_all-requires-clause-early
@@ -24,26 +25,26 @@ send_all-requires-clause-backed c =
     backed_so _ c.self.inside.tables.items c.self.inside.stations.items c.self.inside.lines.items _ c.self.view_is c.self.invariant c.requires.goes_on
     c.args.bridge c.from.result c.index_mut-station.result.now c.requires.may c.from.ensures c.index_mut-station.ensures.value c.new_bridge_follows.ensures.background
 
-pub invariant_of-self : goal.invariant_of-self
-invariant_of-self c =
+pub invariant_of-self-2 : goal.invariant_of-self-2
+invariant_of-self-2 c =
     let out : SendsOut c.self.inside.admission.domain c.index_mut-station.result.now c.send_all.new.station c.self.inside.lines.items c.send_all.new.lines.items =
     subst (λ (d : Domain). SendsOut d c.index_mut-station.result.now c.send_all.new.station c.self.inside.lines.items c.send_all.new.lines.items) c.domain.ensures
-    c.in-Ok.ensures.ok in
+    c.in_ok-send_all.ensures.ok in
     rw c.from.ensures (sent_world _ c.self.inside.tables.items c.self.inside.stations.items c.self.inside.lines.items _ c.self.view_is c.self.invariant c.requires.goes_on
     c.args.bridge c.from.result c.index_mut-station.result.now c.requires.may c.from.ensures c.index_mut-station.ensures.value
     c.send_all.new.station c.send_all.new.lines.items out c.sending_follows.ensures)
 
-pub returns-in-Ok-clause-ok : goal.returns-in-Ok-clause-ok
-returns-in-Ok-clause-ok c =
+pub returns-clause-ok : goal.returns-clause-ok
+returns-clause-ok c =
     let out : SendsOut c.self.inside.admission.domain c.index_mut-station.result.now c.send_all.new.station c.self.inside.lines.items c.send_all.new.lines.items =
     subst (λ (d : Domain). SendsOut d c.index_mut-station.result.now c.send_all.new.station c.self.inside.lines.items c.send_all.new.lines.items) c.domain.ensures
-    c.in-Ok.ensures.ok in
+    c.in_ok-send_all.ensures.ok in
     rw c.from.ensures (sent_alone _ c.self.inside.tables.items c.self.inside.stations.items c.self.inside.lines.items _ c.self.view_is c.self.invariant c.requires.goes_on
     c.args.bridge c.from.result c.index_mut-station.result.now c.requires.may c.from.ensures c.index_mut-station.ensures.value
     c.send_all.new.station c.send_all.new.lines.items out c.sending_follows.ensures)
 
-pub returns-in-Err-clause-err : goal.returns-in-Err-clause-err
-returns-in-Err-clause-err c =
-    rw c.from.ensures (unsent_alone _ c.self.inside.tables.items c.self.inside.stations.items c.self.inside.lines.items _ c.self.view_is c.self.invariant c.requires.goes_on
+pub returns-in_err-send_all-clause-err : goal.returns-in_err-send_all-clause-err
+returns-in_err-send_all-clause-err c =
+    rw c.from.ensures (on_err _ (unsent_alone _ c.self.inside.tables.items c.self.inside.stations.items c.self.inside.lines.items _ c.self.view_is c.self.invariant c.requires.goes_on
     c.args.bridge c.from.result c.index_mut-station.result.now c.requires.may c.from.ensures c.index_mut-station.ensures.value
-    c.send_all.new.station c.send_all.new.lines.items c.in-Err.ensures.err_station c.in-Err.ensures.err_sent c.in-Err.ensures.err_lines)
+    c.send_all.new.station c.send_all.new.lines.items c.in_err-send_all.ensures.err_station c.in_err-send_all.ensures.err_sent c.in_err-send_all.ensures.err_lines))

@@ -1,0 +1,53 @@
+//! Whether a run may be given some offers or background frames: what a call that runs a domain asks of its caller.
+ghost use Rattle.std.specs.Prelude.{◌≡◌, true};
+ghost use Rattle.cqf_model.specs.Run.{AreBackground, AreOffers, IsBackground, IsOffer};
+
+use cqf_model::{Background, Offer};
+use cqf_topology::Domain;
+
+/// Whether an offer may be handed to a run of the domain.
+fn is_offer(domain: &Domain, offer: &Offer) -> bool
+    ensures { result ≡ true → IsOffer domain.now offer.now }
+{
+    let here = offer.bridge < domain.bridges();
+    let fits = offer.octets >= 64 && offer.octets <= 1522;
+    let early = offer.at.0 < 1_000_000_000_000;
+    here && fits && early
+}
+
+/// Whether offers may be handed to a run of the domain: each is at one of its bridges, of 64 to 1,522 octets, and before
+/// 1,000,000,000,000 ns.
+pub fn are_offers(domain: &Domain, offers: &[Offer]) -> bool
+    ensures { result ≡ true → AreOffers domain.now offers.now }
+{
+    for offer in offers {
+        if !is_offer(domain, offer) {
+            return false;
+        }
+    }
+    true
+}
+
+/// Whether a background frame may be handed to a run of the domain.
+fn is_background(domain: &Domain, frame: &Background) -> bool
+    ensures { result ≡ true → IsBackground domain.now frame.now }
+{
+    let here = frame.link < domain.links();
+    let class = frame.class <= 5;
+    let fits = frame.octets >= 64 && frame.octets <= 1522;
+    let early = frame.at.0 < 1_000_000_000_000;
+    here && class && fits && early
+}
+
+/// Whether background frames may be handed to a run of the domain: each is on one of its links, of class 0 to 5, of 64 to
+/// 1,522 octets, and before 1,000,000,000,000 ns.
+pub fn are_background(domain: &Domain, frames: &[Background]) -> bool
+    ensures { result ≡ true → AreBackground domain.now frames.now }
+{
+    for frame in frames {
+        if !is_background(domain, frame) {
+            return false;
+        }
+    }
+    true
+}

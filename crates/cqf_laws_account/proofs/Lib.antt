@@ -1,0 +1,7 @@
+mod ThreeKeys
+mod Gathering
+mod Ordered
+mod Closed
+mod Together
+mod Sealed
+mod Seats

@@ -1,0 +1,50 @@
+-- The history of a desk at which administrators make what is asked of them, and one more seat seals (profile).
+use Rattle.std.specs.Prelude.{ℕ, ◌≡◌, ◌+◌, ◌<◌, List, All, Contains, Some, drop, false, length, map, replicate, slice_get, take}
+use Rattle.cqf_model.specs.Domain.{Domain}
+use Rattle.cqf_model.specs.History.{Act, IsLegalHistory, Recorded, Seals, is_seal, seals}
+use Rattle.cqf_desk.specs.Closing.{IsOfSeats, calls_by}
+use Rattle.cqf_desk.specs.Desk.{Sitting}
+use Rattle.cqf_laws_account.specs.Sealing.{cycle_tables}
+
+-- what is called for in entries, in order
+abbrev pub acts_of : List Recorded → List Act
+acts_of entries = map (λ (e : Recorded). e.act) entries
+
+-- among the seats, each administrator's has called for what was asked of the administrator, and the next one has sealed so many cycles
+pub record AreSeated (asked : List (List Act)) (cycles : ℕ) (seats : List Sitting) : Type 0 where
+  pub calls : (admin : ℕ) (acts : List Act) → slice_get asked admin ≡ Some acts →
+      (s : Sitting) × Contains seats s × (s.number ≡ admin) × (acts_of s.calls ≡ acts)
+  pub conductor : Sitting
+  pub among : Contains seats conductor
+  pub next : conductor.number ≡ length asked
+  pub sealed : acts_of conductor.calls ≡ replicate cycles Seals
+  pub tables : length conductor.tables ≡ cycles
+
+-- no Seal is asked of an administrator
+abbrev pub AsksForNoSeal : List (List Act) → Type 0
+AsksForNoSeal asked = (acts : List Act) (act : Act) → Contains asked acts → Contains acts act → is_seal act ≡ false
+
+-- a legal history with its opening part, behind which each administrator's entries call for what was asked of the administrator, all of
+-- it and in order, the next seat's entries are one Seal a cycle, and no others are there
+pub record IsHistoryOf (d : Domain) (opening : List Recorded) (asked : List (List Act)) (cycles : ℕ) (entries : List Recorded) : Type 0 where
+  pub legal : IsLegalHistory d entries
+  pub begins : take (length opening) entries ≡ opening
+  pub calls : (admin : ℕ) (acts : List Act) → slice_get asked admin ≡ Some acts → acts_of (calls_by admin (drop (length opening) entries)) ≡ acts
+  pub seals : acts_of (calls_by (length asked) (drop (length opening) entries)) ≡ replicate cycles Seals
+  pub known : All (λ (e : Recorded). e.seat < length asked + 1) (drop (length opening) entries)
+
+-- the history has just as many Seals, and the conductor's tables are those of its cycles
+pub record ClosesItsCycles (d : Domain) (entries : List Recorded) (cycles : ℕ) (conductor : Sitting) : Type 0 where
+  pub sealed : seals entries ≡ cycles
+  pub tables : conductor.tables ≡ cycle_tables d entries cycles
+
+-- the history that such seats bear out is of what was asked
+abbrev pub SeatsGiveTheHistory : Type 0
+SeatsGiveTheHistory = (d : Domain) (opening : List Recorded) (asked : List (List Act)) (cycles : ℕ) (seats : List Sitting) (entries : List Recorded) →
+    IsOfSeats opening d (length asked + 1) seats entries → AreSeated asked cycles seats → IsHistoryOf d opening asked cycles entries
+
+-- and the conductor has the tables of its cycles, where the opening part has no Seal
+abbrev pub ConductorHasTheTables : Type 0
+ConductorHasTheTables = (d : Domain) (opening : List Recorded) (asked : List (List Act)) (cycles : ℕ) (seats : List Sitting) (entries : List Recorded) →
+    IsOfSeats opening d (length asked + 1) seats entries → (seated : AreSeated asked cycles seats) → AsksForNoSeal asked → seals opening ≡ 0 →
+    ClosesItsCycles d entries cycles seated.conductor

@@ -1,3 +1,0 @@
-pub mod Line
-pub mod Edge
-pub mod Run

@@ -1,0 +1,111 @@
+-- Ends of pipes at each of which one item more is put, in turn, passing over those whose other end is gone.
+use Rattle.std.proofs.Common.{ℕ, ◌≡◌, ◌<◌, ◌≤◌, ◌+◌, ◌∷◌, ◌++◌, [], Bool, List, length, get_or, set, refl, sym, ap, ◌∙◌, arith, inl, inr}
+use Rattle.std.specs.Prelude.{All, true, false}
+use Rattle.std.proofs.lemmas.Bool.{cases_eq}
+use Rattle.std.proofs.lemmas.List.{get_or_default, get_or-set_other, get_or-set_same, length-set}
+use Rattle.std.proofs.Math.Seq.{map-set_same}
+use Rattle.cqf_worker.specs.Handing.{GivesEach, GivesFew, pipes_of}
+use Rattle.cqf_worker.specs.PipeEnds.{End}
+
+-- the first ends, so many, have the item more where all have it; those behind are as they were
+pub record HandsOn {T : Type 0} (x : T) (before after : List (End T)) (count : ℕ) (all : Bool) : Type 0 where
+  pub many : length after ≡ length before
+  pub pipes : pipes_of after ≡ pipes_of before
+  pub behind : (place : ℕ) (d : End T) → count ≤ place → get_or after place d ≡ get_or before place d
+  pub few : GivesFew before after
+  pub given : all ≡ true → (place : ℕ) (d : End T) → place < count → (get_or after place d).items ≡ (get_or before place d).items ++ x ∷ []
+
+-- an end at which at most one item more was put
+pub record IsHanded {T : Type 0} (x : T) (before after : End T) (given : Bool) : Type 0 where
+  pub pipe : after.pipe ≡ before.pipe
+  pub few : length after.items ≤ length before.items + 1
+  pub has : given ≡ true → after.items ≡ before.items ++ x ∷ []
+
+-- the item that was put is known by what it equals
+pub handed_as : {T : Type 0} (x y : T) (before after : End T) (given : Bool) → y ≡ x → after.pipe ≡ before.pipe →
+    length after.items ≤ length before.items + 1 → (given ≡ true → after.items ≡ before.items ++ y ∷ []) → IsHanded x before after given
+handed_as {T} x y before after given same pipe few has = record {
+  pipe = pipe;
+  few = few;
+  has = λ is. has is ∙ ap (λ (z : T). before.items ++ z ∷ []) same;
+}
+
+-- whether all have it, by whether those before have and whether this one has
+abbrev pub HaveAll : Bool → Bool → Bool → Type 0
+HaveAll all given more = more ≡ true → (all ≡ true) × (given ≡ true)
+
+module _ {T : Type 0} (x : T) where
+  -- at first nothing was put
+  pub hands_none : (before : List (End T)) → HandsOn x before before 0 true
+  hands_none before = record {
+    many = refl;
+    pipes = refl;
+    behind = λ place d h. refl;
+    few = λ place d inside. omega arith;
+    given = λ all place d h. absurd (omega (arith, h));
+  }
+
+  -- the same where it isn't asked whether all have it
+  pub hands_some : (before : List (End T)) → HandsOn x before before 0 false
+  hands_some before = record {
+    many = refl;
+    pipes = refl;
+    behind = λ place d h. refl;
+    few = λ place d inside. omega arith;
+    given = λ all place d h. absurd (omega (arith, h));
+  }
+
+  module _ (before after : List (End T)) (count : ℕ) (all : Bool) (d end : End T) (given more : Bool) (so_far : HandsOn x before after count all)
+      (below : count < length before) (handed : IsHanded x (get_or after count d) end given) (have : HaveAll all given more) where
+    -- the end at a place, with the next one put there
+    at_next : (e : End T) → get_or (set after count end) count e ≡ end
+    at_next e = get_or-set_same after count end e (omega (arith, below, so_far.many))
+
+    -- no end has more than one item more
+    few_next : GivesFew before (set after count end)
+    few_next place e inside =
+        elim (cases_eq place count) [
+          | inl here ↦
+              let now : get_or (set after count end) place e ≡ end = ap (λ (k : ℕ). get_or (set after count end) k e) here ∙ at_next e in
+              let was : get_or after count d ≡ get_or before place e =
+              so_far.behind count d (omega arith) ∙ get_or_default before count d e below ∙ ap (λ (k : ℕ). get_or before k e) (sym here) in
+              omega (arith, ap (λ (z : End T). length z.items) now, ap (λ (z : End T). length z.items) was, handed.few)
+          | inr other ↦
+              let same : get_or (set after count end) place e ≡ get_or after place e = get_or-set_other after count place end e other in
+              omega (arith, ap (λ (z : End T). length z.items) same, so_far.few place e inside)
+        ]
+
+    -- each of those so far has its item where all have
+    given_next : more ≡ true → (place : ℕ) (e : End T) → place < count + 1 → (get_or (set after count end) place e).items ≡ (get_or before place e).items ++ x ∷ []
+    given_next is place e inside =
+        elim (cases_eq place count) [
+          | inl here ↦
+              let now : get_or (set after count end) place e ≡ end = ap (λ (k : ℕ). get_or (set after count end) k e) here ∙ at_next e in
+              let was : get_or after count d ≡ get_or before place e =
+              so_far.behind count d (omega arith) ∙ get_or_default before count d e below ∙ ap (λ (k : ℕ). get_or before k e) (sym here) in
+              ap (λ (z : End T). z.items) now ∙ handed.has (have is).1 ∙ ap (λ (z : End T). z.items ++ x ∷ []) was
+          | inr other ↦
+              ap (λ (z : End T). z.items) (get_or-set_other after count place end e other)
+              ∙ so_far.given (have is).0 place e (omega (arith, inside, other))
+        ]
+
+    -- so it goes on
+    pub hands_next : HandsOn x before (set after count end) (count + 1) more
+    hands_next = record {
+      many = length-set after count end ∙ so_far.many;
+      pipes = map-set_same (λ (z : End T). z.pipe) after count end d handed.pipe ∙ so_far.pipes;
+      behind = λ place e h. get_or-set_other after count place end e (λ same. omega (arith, same, h)) ∙ so_far.behind place e (omega (arith, h));
+      few = few_next;
+      given = given_next;
+    }
+
+  -- in the end, so it is of all
+  pub hands_all : (before after : List (End T)) (count : ℕ) (all : Bool) → HandsOn x before after count all → length before ≤ count → all ≡ true →
+      GivesEach x before after
+  hands_all before after count all h upto is place d inside = h.given is place d (omega (arith, inside, upto))
+
+  -- the next end still has room
+  pub room_next : (before after : List (End T)) (count : ℕ) (all : Bool) (d : End T) → HandsOn x before after count all →
+      All (λ (e : End T). length e.items < 1000000) before → count < length before → length (get_or after count d).items < 1000000
+  room_next before after count all d h room below =
+      omega (arith, room count d below, ap (λ (e : End T). length e.items) (h.behind count d (omega arith)))

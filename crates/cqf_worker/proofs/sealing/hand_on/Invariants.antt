@@ -1,0 +1,8 @@
+use Rattle.std.proofs.Common.{◌≡◌, length}
+use Rattle.cqf_worker.specs.declared.carried.Carried.TheVariants.{Item}
+use Rattle.cqf_worker.proofs.HandedTables.{HandsOn}
+use Rattle.cqf_worker.proofs.sealing.hand_on.Given as goal
+
+-- the ends before a place were handed the table
+abbrev pub invariant-loop-place : goal.invariant-loop-place
+invariant-loop-place g l = HandsOn (Item l.fn.table) l.fn.tables l.tables l.place l.all × (l.place-end ≡ length l.fn.tables)

@@ -1,0 +1,25 @@
+use Rattle.std.proofs.Common.{refl, arith, false}
+use Rattle.std.proofs.lemmas.Bool.{false≢true}
+use Rattle.cqf_worker.specs.declared.carried.Carried.TheVariants.{Stop}
+use Rattle.cqf_worker.proofs.HandedTables.{hands_next, hands_some, room_next}
+use Rattle.cqf_worker.proofs.sealing.stop_tables.Goals as goal
+
+-- nobody was told yet
+pub loop-place-init : goal.loop-place-init
+loop-place-init g c = (hands_some Stop c.args.tables.now, refl)
+
+-- the next pipe has room
+pub hand-requires : goal.hand-requires
+hand-requires g c = record {
+  room = room_next Stop c.args.tables.now c.loop-place.tables c.loop-place.place false c.index-tables-place.result c.loop-place.invariant.0
+      c.requires.room (omega arith);
+}
+
+-- the next one was told
+pub loop-place-preserved : goal.loop-place-preserved
+loop-place-preserved g c = (
+  hands_next Stop c.args.tables.now c.loop-place.tables c.loop-place.place false c.index-tables-place.result c.hand.new.end c.hand.result false
+      c.loop-place.invariant.0 (omega arith)
+      (record { pipe = c.hand.ensures.pipe; few = c.hand.ensures.few; has = c.hand.ensures.given }) (λ is. absurd (false≢true is)),
+  c.loop-place.invariant.1,
+)

@@ -1,0 +1,43 @@
+-- What the conductor of a run hands to the workers: the table of each cycle, at the end of a pipe for each (profile).
+use Rattle.std.specs.Prelude.{ℕ, ◌≡◌, ◌+◌, ◌≤◌, ◌<◌, ◌++◌, List, [], ◌∷◌, Bool, true, length, map, replicate, slice_index_or}
+use Rattle.cqf_model.specs.History.{Seals}
+use Rattle.cqf_admission.specs.Tables.{CycleTable}
+use Rattle.cqf_desk.specs.Desk.{Sitting}
+use Rattle.cqf_laws_account.specs.Seated.{acts_of}
+use Rattle.cqf_worker.specs.PipeEnds.{End, PipeId}
+use Rattle.cqf_worker.specs.declared.carried.Carried.{Carried}
+use Rattle.cqf_worker.specs.declared.carried.Carried.TheVariants.{Item}
+
+-- a conductor's end of a worker's pipe for tables
+abbrev pub TableEnd : Type 0
+TableEnd = End (Carried CycleTable)
+
+-- whose pipes ends are
+abbrev pub pipes_of : {T : Type 0} → List (End T) → List (PipeId T)
+pipes_of ends = map (λ end. end.pipe) ends
+
+-- at each end there is one item more, and this one
+abbrev pub GivesEach : {T : Type 0} → T → List (End T) → List (End T) → Type 0
+GivesEach {T} x before after = (place : ℕ) (d : End T) → place < length before →
+    (slice_index_or after place d).items ≡ (slice_index_or before place d).items ++ x ∷ []
+
+-- at no end there is more than one item more
+abbrev pub GivesFew : {T : Type 0} → List (End T) → List (End T) → Type 0
+GivesFew {T} before after = (place : ℕ) (d : End T) → place < length before →
+    length (slice_index_or after place d).items ≤ length (slice_index_or before place d).items + 1
+
+-- one cycle is closed: the seat has its Seal and its table, and where all have it, each end has that table
+pub record SealsOne (old new : Sitting) (before after : List TableEnd) (all : Bool) : Type 0 where
+  pub number : new.number ≡ old.number
+  pub acts : acts_of new.calls ≡ acts_of old.calls ++ Seals ∷ []
+  pub table : CycleTable
+  pub tables : new.tables ≡ old.tables ++ table ∷ []
+  pub given : all ≡ true → GivesEach (Item table) before after
+
+-- so many cycles are closed, and each of the pipes was given their tables, in order
+pub record HasSealed (cycles : ℕ) (seat done : Sitting) (before after : List TableEnd) : Type 0 where
+  pub number : done.number ≡ seat.number
+  pub acts : acts_of done.calls ≡ replicate cycles Seals
+  pub many : length done.tables ≡ cycles
+  pub pipes : pipes_of after ≡ pipes_of before
+  pub given : (place : ℕ) (d : TableEnd) → place < length after → (slice_index_or after place d).items ≡ map Item done.tables

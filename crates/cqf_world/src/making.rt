@@ -1,0 +1,72 @@
+//! What a world holds at its beginning.
+ghost use Rattle.std.specs.Prelude.{◌≡◌, ◌^◌, ◌<◌, IfOk, length};
+ghost use Rattle.cqf_world.specs.Beginning.{AreNewLines, AreNewStations, IsNewStation};
+
+use crate::parts::{Line, Station};
+use cqf_agenda::Agenda;
+use cqf_bridge::{Bridge, incoming_links};
+use cqf_compile::Plan;
+use cqf_model::{Background, Offer};
+use cqf_topology::Domain;
+use cqf_units::Memory;
+use std::alloc::Global;
+use std::collections::VecDeque;
+
+/// A bridge of the plan that has done nothing.
+fn new_station(
+    alloc: Global,
+    plan: &Plan,
+    offers: &[Offer],
+    background: &[Background],
+    bridge: u8,
+) -> Result<Station, Memory>
+    requires inside { bridge < length plan.now.bridges }
+    requires few_offers { length offers.now < 2 ^ 32 }
+    requires few_background { length background.now < 2 ^ 32 }
+    ensures { IfOk result (IsNewStation plan.now offers.now background.now bridge) }
+{
+    let domain = plan.domain();
+    Ok(Station {
+        bridge: Bridge::new(alloc, plan, bridge)?,
+        agenda: Agenda::new(alloc, domain, offers, background, bridge)?,
+        incoming: incoming_links(domain, bridge).len(),
+        given: 0,
+        sent: 0,
+        posted: 0,
+        starts: Vec::new(alloc),
+        taken: Vec::new(alloc),
+    })
+}
+
+/// The bridges of the plan, which have done nothing, by number.
+pub(crate) fn new_stations(
+    alloc: Global,
+    plan: &Plan,
+    offers: &[Offer],
+    background: &[Background],
+) -> Result<Vec<Station>, Memory>
+    requires few_offers { length offers.now < 2 ^ 32 }
+    requires few_background { length background.now < 2 ^ 32 }
+    ensures { IfOk result (λ stations.
+        AreNewStations plan.now offers.now background.now (length plan.now.bridges) stations.items) }
+{
+    let mut stations = Vec::new(alloc);
+    for bridge in 0..plan.domain().bridges() {
+        stations.push(new_station(alloc, plan, offers, background, bridge)?)?;
+    }
+    Ok(stations)
+}
+
+/// The links of a domain, by number, with no batch under way.
+pub(crate) fn new_lines(alloc: Global, domain: &Domain) -> Result<Vec<Line>, Memory>
+    ensures { IfOk result (λ lines. AreNewLines (length domain.now.links) lines.items) }
+{
+    let mut lines = Vec::new(alloc);
+    for _link in 0..domain.links() {
+        lines.push(Line {
+            taken: 0,
+            waiting: VecDeque::new(alloc),
+        })?;
+    }
+    Ok(lines)
+}
