@@ -46,13 +46,7 @@ fn make_page(alloc: Global, station: &mut Station, drops: Vec<Dropped>) -> Resul
     ensures same { station.new ≡ record station.old { starts = station.new.starts } }
 {
     let starts = replace(&mut station.starts, Vec::new(alloc));
-    page_with(
-        alloc,
-        &station.bridge,
-        Cycle(station.posted),
-        starts,
-        drops,
-    )
+    page_with(alloc, &station.bridge, Cycle(station.posted), starts, drops)
 }
 
 /// Posts a page that is the next of its bridge.
