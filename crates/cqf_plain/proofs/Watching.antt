@@ -101,7 +101,7 @@ none_ran end before due watched from = record {
 
 -- the next one runs
 pub one_ran : LegalPartIsLegal → (end : ℕ) (before now after : List LinkPort) (due rest due_after : BTreeSet Due) (x : Due) →
-    IsRunning end before now due → IsEarliest end due rest x → StartsOn (x.0 + 1) x.1 now after rest due_after → IsRunning end before after due_after
+    IsRunning end before now due → IsEarliest end due rest x → StartsOn end x.1 now after rest due_after → IsRunning end before after due_after
 one_ran part end before now after due rest due_after x running first starts =
     let inside = running.watched.inside x.0 x.1 first.was_due in
     let p = starts.p in
@@ -122,7 +122,7 @@ one_ran part end before now after due rest due_after x running first starts =
               starts_on = starts.runs.starts_on ∙ ap (λ (q : LinkPort). q.starts ++ starts.runs.made) e
                   ∙ ap (λ (xs : List Transmission). xs ++ starts.runs.made) a.starts_on ∙ append_assoc (port_at before l).starts a.made starts.runs.made;
               no_further = elim starts.runs.most [
-                | inl upto ↦ omega (arith, upto, first.early)
+                | inl upto ↦ omega (arith, upto)
                 | inr stayed ↦ omega (arith, stayed, ap (λ (q : LinkPort). q.reached) e, a.no_further)
               ];
             }))
@@ -173,7 +173,7 @@ by_first end x (Some y) early low h = h y refl
 
 -- the port that ran starts again only later
 pub less_is_left : (end : ℕ) (now after : List LinkPort) (due rest due_after : BTreeSet Due) (x : Due) → x.1 < 256 →
-    IsEarliest end due rest x → StartsOn (x.0 + 1) x.1 now after rest due_after → left_behind end due_after < left_behind end due
+    IsEarliest end due rest x → StartsOn end x.1 now after rest due_after → left_behind end due_after < left_behind end due
 less_is_left end now after due rest due_after x low first starts =
     subst (λ (o : Option Due). left_behind end due_after < option_map_or (left_of end) o 0) (sym first.first)
     (by_first end x (slice_get due_after.keys 0) first.early low (λ y h. less_left end x y first.early low
@@ -182,10 +182,10 @@ less_is_left end now after due rest due_after x low first starts =
       | inr again ↦ inl (later starts.is_set.next y.0 again.1 starts.is_set.is_next)
     ])))
   where
-    -- it has run past its instant
+    -- it has run to the end, which is past its instant
     later : (next : Option ℕ) (t : ℕ) → next ≡ Some t → MatchOption next (StartsNever starts.p) (StartsNextAt starts.p) → x.0 < t
     later None t e h = absurd (none-some t e)
-    later (Some u) t e h = omega (arith, h.from_now, starts.runs.least, same_Some u t e)
+    later (Some u) t e h = omega (arith, h.from_now, starts.runs.least, same_Some u t e, first.early)
 
 -- a frame is queued
 pub one_queued : LegalPartIsLegal → (link : ℕ) (frame : QueuedFrame) (before after : List LinkPort) (due due_after : BTreeSet Due) →

@@ -56,22 +56,25 @@ fn tell_port(
     Ok(())
 }
 
-/// Puts all that the ports have started into two lists, by link: the starts of streams' frames, and of background frames.
+/// Puts all that the ports have started into two lists, by link: the starts of streams' frames, and of background frames. Each
+/// port is let go once it is told, so that it isn't held beside the lists.
 fn tell_all(
-    ports: &[EgressPort],
+    ports: Vec<EgressPort>,
     cycle_time: Nanos,
     starts: &mut Vec<Started>,
     background: &mut Vec<Started>,
 ) -> Result<(), Memory>
     requires lasting { 0 < cycle_time.0 }
-    requires few { length ports.now ≤ 64 }
-    requires fits { (l : ℕ) → l < length ports.now → AreNumberable cycle_time.0 (port_at ports.now l) }
+    requires few { length ports.items ≤ 64 }
+    requires fits { (l : ℕ) → l < length ports.items → AreNumberable cycle_time.0 (port_at ports.items l) }
     requires none { starts.old.items ≡ [] }
     requires no_background { background.old.items ≡ [] }
-    ensures { OnOk result (TellsAll cycle_time.0 ports.now (length ports.now) starts.new.items background.new.items) }
+    ensures { OnOk result (TellsAll cycle_time.0 ports.items (length ports.items) starts.new.items background.new.items) }
 {
-    for place in 0..ports.len() {
-        tell_port(&ports[place], place as u8, cycle_time, starts, background)?;
+    let mut link = 0;
+    for port in ports {
+        tell_port(&port, link, cycle_time, starts, background)?;
+        link += 1;
     }
     Ok(())
 }
@@ -79,14 +82,14 @@ fn tell_all(
 /// The starts of streams' frames, and of background frames, each by cycle, then link, then instant.
 pub(crate) fn told_starts(
     alloc: Global,
-    ports: &[EgressPort],
+    ports: Vec<EgressPort>,
     cycle_time: Nanos,
 ) -> Result<(Vec<Started>, Vec<Started>), Memory>
     requires lasting { 0 < cycle_time.0 }
-    requires few { length ports.now ≤ 64 }
-    requires fits { (l : ℕ) → l < length ports.now → AreNumberable cycle_time.0 (port_at ports.now l) }
-    ensures { IfOk result (λ lists. (d : Domain) (cycles : ℕ) → d.cycle_time ≡ cycle_time.0 → AreOf d cycles ports.now
-        → TellsBook d cycles ports.now lists.0.items lists.1.items) }
+    requires few { length ports.items ≤ 64 }
+    requires fits { (l : ℕ) → l < length ports.items → AreNumberable cycle_time.0 (port_at ports.items l) }
+    ensures { IfOk result (λ lists. (d : Domain) (cycles : ℕ) → d.cycle_time ≡ cycle_time.0 → AreOf d cycles ports.items
+        → TellsBook d cycles ports.items lists.0.items lists.1.items) }
 {
     let mut starts = Vec::new(alloc);
     let mut background = Vec::new(alloc);

@@ -54,6 +54,15 @@ impl Clock {
         }
     }
 
+    /// Forgets what it was told of a link last, where that isn't due any more.
+    pub(crate) fn forget(&mut self, link: u8)
+        requires { link < length self.old.told.items }
+        ensures due { self.new.due ≡ self.old.due }
+        ensures length { length self.new.told.items ≡ length self.old.told.items }
+    {
+        self.told[usize::from(link)] = None;
+    }
+
     /// Is told when the port of a link starts next.
     pub(crate) fn tell(&mut self, link: u8, next: Option<Nanos>) -> Result<(), Memory>
         requires { link < length self.old.told.items }

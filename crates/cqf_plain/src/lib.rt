@@ -1,10 +1,10 @@
 //! The network on one thread: all ports on one clock, in order of time.
 //!
 //! Each cycle has two phases (IEEE 802.1Q, Annex T). First the ports send it (`transmit`): they get its background frames
-//! (`backing`), and then the port whose next start is the earliest starts, again and again, up to the cycle's end (`steps`,
-//! `clock`). Then the bridges take what came to them since the cycle began (`relay`, `incoming`, `at_bridge`), and what passes
-//! there comes to the ports (`passing`). At the end the book is what the ports have started (`book`), and the offers that were
-//! dropped.
+//! (`backing`), and then the port whose next start is the earliest runs up to the cycle's end, again and again, until none is
+//! due before it (`steps`, `clock`). Then the bridges take what came to them since the cycle began (`relay`, `incoming`,
+//! `at_bridge`), and what passes there comes to the ports (`passing`). At the end the book is what the ports have started
+//! (`book`), and the offers that were dropped.
 #![tactic(auto)]
 
 mod at_bridge;

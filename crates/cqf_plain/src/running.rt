@@ -34,7 +34,7 @@ fn book_of(alloc: Global, domain: &Domain, course: Course) -> Result<Book, Memor
 {
     run_laws();
     let Course { ports, drops, .. } = course;
-    let (starts, background) = told_starts(alloc, ports.as_slice(), domain.cycle_time())?;
+    let (starts, background) = told_starts(alloc, ports, domain.cycle_time())?;
     Ok(Book {
         starts,
         background,
@@ -78,6 +78,8 @@ fn run_numbered(
         Ok(()) => {}
         Err(fault) => return Err(fault),
     }
+    // what was offered is over, and makes room for the book
+    drop(edge);
     match book_of(alloc, plan.domain(), course) {
         Ok(book) => Ok(book),
         Err(_) => Err(RunFault::Memory),

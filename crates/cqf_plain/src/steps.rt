@@ -27,13 +27,14 @@ fn start_next(
     ensures small { link < 256 }
     ensures starts { OnOk result (StartsOn until.0 link ports.old.items ports.new.items clock.old.due clock.new.due) }
 {
+    clock.forget(link);
     let port = &mut ports[usize::from(link)];
     port.run_to(until)?;
     clock.tell(link, port.next_start())
 }
 
-/// All ports run to an instant, in order of time: each time the one whose next start is the earliest, of several at one
-/// instant the one of the least link.
+/// All ports run to an instant, in order of their next starts: each time the one whose next start is the earliest, of several
+/// at one instant the one of the least link. What a port starts changes nothing at another, so it runs to the end at once.
 pub(crate) fn run_all(
     ports: &mut Vec<EgressPort>,
     clock: &mut Clock,
@@ -47,8 +48,8 @@ pub(crate) fn run_all(
     ensures run { OnOk result (AllRunTo end.0 ports.old.items ports.new.items clock.new.due) }
 {
     legal_part_is_legal();
-    'starts: while let Some((instant, link)) = clock.take_before(end) {
-        start_next(ports, clock, link, Nanos(instant + 1))?;
+    'starts: while let Some((_, link)) = clock.take_before(end) {
+        start_next(ports, clock, link, end)?;
     }
     Ok(())
 }

@@ -10,6 +10,7 @@ pub mod FirstRows
 pub mod NameLemmas
 pub mod LinkCounts
 pub mod LinkPieces
+pub mod LinkLists
 pub mod LinkMost
 pub mod LinkLines
 pub mod LinkOrders

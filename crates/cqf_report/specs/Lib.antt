@@ -11,3 +11,4 @@ pub mod OtherColumns
 pub mod TableLaws
 pub mod HistoryText
 pub mod LinkSums
+pub mod ByLink

@@ -1,9 +1,11 @@
 //! The sums of streams' frames by link, written as a text.
 
-ghost use Rattle.std.specs.Prelude.{ℕ, ◌≡◌, ◌≤◌, ◌<◌, ◌^◌, ◌++◌, ◌==◌, ◌&&◌, List, IfOk, Some, length, map, max, sum_by, slice_index, slice_set};
+ghost use Rattle.std.specs.Prelude.{ℕ, ◌≡◌, ◌≤◌, ◌<◌, ◌^◌, ◌++◌, [], List, IfOk, OnOk, Some, length, map, max, sum, sum_by, slice_index, slice_set};
 ghost use Rattle.cqf_model.specs.Book.{contents_of};
+ghost use Rattle.cqf_model.specs.declared.frames.Started.{Started as AStarted};
 ghost use Rattle.cqf_model.specs.OnLinks.{frames_on, octets_on};
 ghost use Rattle.cqf_report.specs.Written.{HasWritten, IsPlain, line_of};
+ghost use Rattle.cqf_report.specs.ByLink.{AddsOctets, AreByLink, lists_of};
 ghost use Rattle.cqf_report.specs.LinkSums.{AreInOrder, are_of_one_batch, link_header, links_text, most_on, sums_fields};
 
 use crate::lines::{open_writer, write_line, written_text};
@@ -32,54 +34,75 @@ struct Sums {
     octets: u128,
 }
 
-/// How many starts of a piece are on the link.
-fn frames_of_piece(rt: &(impl Threads + Sync), piece: &[Started], link: u8) -> usize
-    requires { length piece.now ≤ 1048576 }
-    ensures { result ≡ frames_on link piece.now }
+/// An empty list of octets for each of the links 0 to 255.
+fn no_octets(alloc: Global) -> Result<Vec<Vec<u32>>, Memory>
+    ensures { IfOk result (λ by_link. AreByLink [] 256 (lists_of by_link.items)) }
 {
-    piece
-        .par_iter()
-        .filter(
-            |start: &&Started| -> bool
-                ensures { result ≡ (start.now.now.link == link) }
-            { start.link == link },
-        )
-        .count(rt)
+    let mut by_link = Vec::with_capacity(alloc, LINKS)?;
+    for _link in 0..LINKS {
+        by_link.push(Vec::new(alloc))?;
+    }
+    Ok(by_link)
 }
 
-/// How many octets the starts of a piece that are on the link have together.
-fn octets_of_piece(rt: &(impl Threads + Sync), piece: &[Started], link: u8) -> u64
+/// Puts octets behind those of a link.
+fn list_octets(by_link: &mut Vec<Vec<u32>>, link: u8, octets: u32) -> Result<(), Memory>
+    requires { length by_link.old.items ≡ 256 }
+    ensures { OnOk result (AddsOctets (lists_of by_link.old.items) (lists_of by_link.new.items) link octets) }
+{
+    by_link[usize::from(link)].push(octets)?;
+    Ok(())
+}
+
+/// The octets of the starts on each of the links 0 to 255, in their order: one look at each start.
+fn octets_by_link(alloc: Global, starts: &[Started]) -> Result<Vec<Vec<u32>>, Memory>
+    ensures { IfOk result (λ by_link. AreByLink starts.now 256 (lists_of by_link.items)) }
+{
+    let mut by_link = no_octets(alloc)?;
+    for start in starts {
+        list_octets(&mut by_link, start.link, start.octets)?;
+    }
+    Ok(by_link)
+}
+
+/// The sum of a piece of a link's octets, which many threads share.
+fn sum_of_piece(rt: &(impl Threads + Sync), piece: &[u32]) -> u64
     requires { length piece.now ≤ 1048576 }
-    ensures { result ≡ octets_on link piece.now }
+    ensures { result ≡ sum piece.now }
 {
     piece
         .par_iter()
-        .filter(
-            |start: &&Started| -> bool
-                ensures { result ≡ (start.now.now.link == link) }
-            { start.link == link },
-        )
         .map(
-            |start: &Started| -> u64
-                ensures octets { result ≡ start.now.octets }
+            |octets: &u32| -> u64
+                ensures same { result ≡ octets.now }
                 ensures short { result < 2 ^ 32 }
-            { u64::from(start.octets) },
+            { u64::from(*octets) },
         )
         .sum(rt)
 }
 
-/// The frames of the starts that are on the link, in pieces that many threads share.
-fn sums_of_link(rt: &(impl Threads + Sync), starts: &[Started], link: u8) -> Sums
-    ensures frames { result.frames ≡ frames_on link starts.now }
-    ensures octets { result.octets ≡ octets_on link starts.now }
+/// The sums of the octets of a link's starts, in pieces.
+fn sums_of(rt: &(impl Threads + Sync), listed: &[u32]) -> Sums
+    ensures frames { result.frames ≡ length listed.now }
+    ensures octets { result.octets ≡ sum listed.now }
 {
-    let mut frames: u128 = 0;
     let mut octets: u128 = 0;
-    for piece in starts.chunks(PIECE) {
-        frames += frames_of_piece(rt, piece, link) as u128;
-        octets += u128::from(octets_of_piece(rt, piece, link));
+    for piece in listed.chunks(PIECE) {
+        octets += u128::from(sum_of_piece(rt, piece));
     }
-    Sums { frames, octets }
+    Sums {
+        frames: listed.len() as u128,
+        octets,
+    }
+}
+
+/// The sums of a link's starts, by the octets that are listed for each link.
+fn sums_of_link(rt: &(impl Threads + Sync), by_link: &[Vec<u32>], link: u8) -> Sums
+    requires { length by_link.now ≡ 256 }
+    ensures frames { (starts : List AStarted) → AreByLink starts 256 (lists_of by_link.now) → result.frames ≡ frames_on link starts }
+    ensures octets { (starts : List AStarted) → AreByLink starts 256 (lists_of by_link.now) → result.octets ≡ octets_on link starts }
+{
+    sums_of(rt, by_link[usize::from(link)].as_slice())
 }
 
 /// The octets of starts, all together.
@@ -182,10 +205,11 @@ pub fn write_links(
     let starts = book.starts.as_slice();
     let names = LinkNames::new(alloc, domain)?;
     let most = most_by_link(alloc, starts)?;
+    let by_link = octets_by_link(alloc, starts)?;
     let mut writer = open_writer(alloc);
     write_header(&mut writer)?;
     for link in 0..domain.links() {
-        let sums = sums_of_link(rt, starts, link);
+        let sums = sums_of_link(rt, by_link.as_slice(), link);
         write_sums(
             &mut writer,
             names.name_of(link),

@@ -1,7 +1,6 @@
-use Rattle.std.proofs.Common.{List, ℕ, ◌<◌, ◌≤◌, ◌≡◌, length, subst, sym}
-use Rattle.cqf_model.specs.Domain.{Domain}
-use Rattle.cqf_plain.specs.Ports.{LinkPort, port_at}
-use Rattle.cqf_plain.specs.Telling.{AreNumberable, AreOf, TellsBook}
+use Rattle.std.proofs.Common.{ℕ, ◌<◌, length, subst, sym}
+use Rattle.cqf_plain.specs.Ports.{port_at}
+use Rattle.cqf_plain.specs.Telling.{AreNumberable}
 use Rattle.cqf_plain.proofs.Ending.{all_numberable, book_at_end, few_ports}
 use Rattle.cqf_plain.proofs.running.book_of.Goals as goal
 
@@ -9,19 +8,17 @@ use Rattle.cqf_plain.proofs.running.book_of.Goals as goal
 pub told_starts-requires-clause-fits : goal.told_starts-requires-clause-fits
 told_starts-requires-clause-fits c =
     let part = c.requires.part in
-    subst (λ (ps : List LinkPort). (l : ℕ) → l < length ps → AreNumberable c.cycle_time.result.0 (port_at ps l)) (sym c.as_slice.ensures.value)
-    (subst (λ (t : ℕ). (l : ℕ) → l < length c.args.course.ports.items → AreNumberable t (port_at c.args.course.ports.items l))
+    subst (λ (t : ℕ). (l : ℕ) → l < length c.args.course.ports.items → AreNumberable t (port_at c.args.course.ports.items l))
     (sym c.cycle_time.ensures.value)
     (all_numberable c.args.domain.now part.1 part.2 c.args.course.next_frame c.args.course.next_offer c.args.course.ports.items c.args.course.clock.due
-    c.args.course.drops.items part.0 part.3))
+    c.args.course.drops.items part.0 part.3)
 
 -- there are at most 64 ports
 pub told_starts-requires-clause-few : goal.told_starts-requires-clause-few
 told_starts-requires-clause-few c =
     let part = c.requires.part in
-    subst (λ (ps : List LinkPort). length ps ≤ 64) (sym c.as_slice.ensures.value)
-    (few_ports c.args.domain.now part.1 part.2 c.args.course.next_frame c.args.course.next_offer c.args.course.ports.items c.args.course.clock.due
-    c.args.course.drops.items part.0 part.3)
+    few_ports c.args.domain.now part.1 part.2 c.args.course.next_frame c.args.course.next_offer c.args.course.ports.items c.args.course.clock.due
+    c.args.course.drops.items part.0 part.3
 
 -- what they tell is the book
 pub returns : goal.returns
@@ -29,6 +26,4 @@ returns c = λ run frames offers ended.
     book_at_end c.args.domain.now frames offers c.args.course.next_frame c.args.course.next_offer c.args.course.ports.items c.args.course.clock.due
     c.args.course.drops.items run ended c.run_laws.ensures c.cycle_time.result.0 c.in_ok-starts.starts.items c.in_ok-starts.background.items
     c.cycle_time.ensures.value
-    (subst (λ (ps : List LinkPort). (e : Domain) (cycles : ℕ) → e.cycle_time ≡ c.cycle_time.result.0 → AreOf e cycles ps →
-    TellsBook e cycles ps c.in_ok-starts.starts.items c.in_ok-starts.background.items)
-    c.as_slice.ensures.value c.in_ok-starts.ensures)
+    c.in_ok-starts.ensures

@@ -8,13 +8,13 @@ use Rattle.cqf_plain.proofs.steps.run_all.Goals as goal
 pub starts-smaller : goal.starts-smaller
 starts-smaller c =
     less_is_left c.args.end.0 c.starts.ports.items c.start_next.new.ports.items c.starts.clock.due c.take_before.new.self.due c.start_next.new.clock.due
-    (c.in-Some.instant, c.in-Some.link) c.start_next.ensures.small c.in-Some.ensures.some c.in_ok-start_next.ensures.starts
+    (c.in-Some.field-0-0, c.in-Some.link) c.start_next.ensures.small c.in-Some.ensures.some c.in_ok-start_next.ensures.starts
 
 -- it has run on
 pub starts-preserved : goal.starts-preserved
 starts-preserved c = record {
   running = one_ran c.legal_part_is_legal.ensures.part c.args.end.0 c.args.ports.now.items c.starts.ports.items c.start_next.new.ports.items
-      c.starts.clock.due c.take_before.new.self.due c.start_next.new.clock.due (c.in-Some.instant, c.in-Some.link) c.starts.invariant.running
+      c.starts.clock.due c.take_before.new.self.due c.start_next.new.clock.due (c.in-Some.field-0-0, c.in-Some.link) c.starts.invariant.running
       c.in-Some.ensures.some c.in_ok-start_next.ensures.starts;
   told = c.start_next.ensures.told ∙ ap (λ (xs : List (Option ℕ)). length xs) c.take_before.ensures.told ∙ c.starts.invariant.told;
 }

@@ -1,0 +1,10 @@
+use Rattle.cqf_report.proofs.LinkLists.{AreByLink-next, AreByLink-none}
+use Rattle.cqf_report.proofs.links.no_octets.Goals as goal
+
+pub loop-link-init : goal.loop-link-init
+loop-link-init c = AreByLink-none c.in_ok-by_link.by_link.items c.in_ok-by_link.ensures.items
+
+pub loop-link-preserved : goal.loop-link-preserved
+loop-link-preserved c =
+    AreByLink-next c.loop-link._link c.loop-link.by_link.items c.push.new.self.items c.new.result c.loop-link.invariant c.new.ensures.items
+    c.in_ok-push.ensures.items
