@@ -6,6 +6,7 @@
 //! - `cqf compile` reads a domain and its streams, and writes the gate list of each port and the gates of each stream.
 //! - `cqf run --cycles N` reads a domain, its streams, a script of admissions and withdrawals, offers, and background frames
 //!   where there are any, and writes the history of the calls and the book of every transmission and drop over N cycles.
+//!   With `--threads` each bridge and each administrator has a thread of its own.
 //! - `cqf report --cycles N` reads the same, and writes what each link carries.
 //!
 //! Without a word after the program's name the words stand in the first line of the input:

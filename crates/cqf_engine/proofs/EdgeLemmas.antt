@@ -1,8 +1,8 @@
 -- What was read and written so far.
-use Rattle.std.proofs.Common.{◌≡◌, ◌≤◌, ◌+◌, ◌++◌, ◌∙◌, ◌-◌, ℕ, List, [], Bool, true, false, Option, length, arith, refl, sym, ap, take, drop, take-append-drop, append_assoc, length-take, subst}
+use Rattle.std.proofs.Common.{◌≡◌, ◌≤◌, ◌+◌, ◌++◌, ◌∙◌, ◌-◌, ℕ, List, [], Bool, false, Option, length, arith, refl, sym, ap, take, drop, take-append-drop, append_assoc, length-take, subst}
 use Rattle.std.proofs.Math.Seq.{take-add}
 use Rattle.std.specs.Io.KnownBytes.{Appends, Consumes, Keeps}
-use Rattle.std.proofs.KnownBytes.{Appends-kept, Appends-nil, Appends-trans, Consumes-kept, Consumes-nil, Consumes-trans}
+use Rattle.std.proofs.KnownBytes.{Appends-kept, Appends-nil, Appends-trans, Consumes-nil, Consumes-trans}
 use Rattle.std.proofs.lemmas.Grind.{common_steps}
 use Rattle.std.proofs.lemmas.List.{append-nil}
 use Rattle.cqf_engine.specs.Edge.{HasRead, HasTold, Writing}

@@ -1,12 +1,13 @@
 -- From what each step of a run says to what the run comes to.
-use Rattle.std.proofs.Common.{◌≡◌, ◌≢◌, ◌⊎◌, ◌≤◌, ◌∙◌, ℕ, zero, suc, List, [], ◌∷◌, Bool, false, Option, Some, None, length, arith, codes, inl, inr, sym, subst, refl}
+use Rattle.std.proofs.Common.{◌≡◌, ◌≢◌, ◌⊎◌, ◌≤◌, ◌∙◌, ℕ, zero, suc, List, [], ◌∷◌, Bool, true, false, Option, Some, None, length, arith, codes, inl, inr, sym, subst, refl}
 use Rattle.std.specs.Str.{IsUtf8}
-use Rattle.std.specs.Io.KnownBytes.{IsAtEnd}
+use Rattle.std.specs.Io.KnownBytes.{IsAtEnd, Keeps}
 use Rattle.cqf_stop.specs.Stops.{EndsWith, line_of}
 use Rattle.clap.specs.Words.{Row, Text, first_of, subcommand_of}
 use Rattle.cqf_words.specs.Words.{EndsWords, IsJob, IsJobOf, IsNumberIn, Mean, cqf_app}
 use Rattle.cqf_engine.specs.Edge.{HasTold, IsHeard, Marks, Reading, Writing}
-use Rattle.cqf_engine.specs.Run.{first_line, input_of, words_of, Ends, EndsInput, EndsRead, HandsOver, HasCause, HasRun, IsBehindWords, IsOutput, IsRefusal, IsStopped, IsToldOutput, IsTooLong, IsWithin, Tells}
+use Rattle.cqf_engine.specs.Run.{first_line, input_of, words_of, Ends, EndsInput, EndsRead, HandsOver, HasCause, HasFault, HasRun, IsBehindWords, IsEnd, IsFailure, IsInputFault, IsOutput, IsOutputFault, IsRefusal, IsRunFault, IsStopped, IsToldOutput, IsTooLong, IsWithin, Tells}
+use Rattle.cqf_threads_command.specs.ThreadsOutput.{EndsThreads, IsThreadsOutput}
 use Rattle.cqf_engine.proofs.EdgeLemmas.{Appends-whole}
 use Rattle.cqf_stop.specs.declared.stops.Stop.{Stop}
 use Rattle.cqf_engine.specs.declared.heard.Broken.{Broken}
@@ -22,6 +23,7 @@ HasCause-given (word ∷ words) bytes stop some e = record {
   refused = λ one. absurd (elim e.statuses [ inl zero_is ↦ omega arith | inr other ↦ elim other [ inl two ↦ omega arith | inr three ↦ omega arith ] ]);
   misused = λ two. record { status = two; short = λ none. absurd (some none); cause = inr ((λ none. absurd (some none)), e.mistake two, e.no_job (λ three. omega arith)) };
   memory = e.memory;
+  failed = λ four. absurd (elim e.statuses [ inl zero_is ↦ omega arith | inr other ↦ elim other [ inl two ↦ omega arith | inr three ↦ omega arith ] ]);
 }
 
 -- words that mean no job stop the run before anything is read
@@ -33,7 +35,6 @@ IsStopped-by_words words input stop some sound e =
       statuses = omega arith;
       cause = λ _. HasCause-given words input.bytes stop some e;
       fault = λ four. absurd (omega arith);
-      fault_line = λ four. absurd (omega arith);
       sound = λ _. sound;
       whole = λ one. absurd (elim e.statuses [ inl zero_is ↦ omega arith | inr other ↦ elim other [ inl two ↦ omega arith | inr three ↦ omega arith ] ]);
       at_end = λ none _. absurd (some none);
@@ -47,6 +48,7 @@ HasCause-by_line bytes stop short text e = record {
   refused = λ one. absurd (elim e.statuses [ inl zero_is ↦ omega arith | inr other ↦ elim other [ inl two ↦ omega arith | inr three ↦ omega arith ] ]);
   misused = λ two. record { status = two; short = λ none. short; cause = inr ((λ none. text), e.mistake two, e.no_job (λ three. omega arith)) };
   memory = e.memory;
+  failed = λ four. absurd (elim e.statuses [ inl zero_is ↦ omega arith | inr other ↦ elim other [ inl two ↦ omega arith | inr three ↦ omega arith ] ]);
 }
 
 -- a first line that isn't text stops it
@@ -57,6 +59,7 @@ HasCause-by_bytes bytes stop short no_text e = record {
   refused = λ one. absurd (elim e.statuses [ inl two ↦ omega arith | inr three ↦ omega arith ]);
   misused = λ two. record { status = two; short = λ none. short; cause = inl (refl, no_text, e.line_is two) };
   memory = e.memory;
+  failed = λ four. absurd (elim e.statuses [ inl two ↦ omega arith | inr three ↦ omega arith ]);
 }
 
 -- a read that was broken off ends the input
@@ -98,14 +101,15 @@ EndsInput-long input stop long sound ended =
       memory = ended.memory;
     }
 
--- why a read that ends before the input does stops it
+-- why a read that ends before the input does, and not since the reader failed, stops it
 HasCause-read : (words : List (List ℕ)) (input : Reading) (stop : Stop) → EndsInput input stop → (words ≢ [] → (job : Job) × Mean words job)
-    → HasCause words input.bytes stop
-HasCause-read words input stop e means = record {
+    → stop.status ≢ 4 → HasCause words input.bytes stop
+HasCause-read words input stop e means not_four = record {
   help = λ zero_is. absurd (elim e.statuses [ inl one ↦ omega arith | inr other ↦ elim other [ inl three ↦ omega arith | inr four ↦ omega arith ] ]);
   refused = λ one. record { status = one; length_first = inl (e.long one, e.long_line one, means) };
   misused = λ two. absurd (elim e.statuses [ inl one ↦ omega arith | inr other ↦ elim other [ inl three ↦ omega arith | inr four ↦ omega arith ] ]);
   memory = e.memory;
+  failed = λ four. absurd (not_four four);
 }
 
 -- a read that ends before the input does stops it
@@ -121,22 +125,20 @@ IsStopped-by_input words input stop e means =
     ] in
     record {
       statuses = elim e.statuses [ inl one ↦ omega arith | inr rest ↦ elim rest [ inl three ↦ omega arith | inr four ↦ omega arith ] ];
-      cause = λ _. HasCause-read words input stop e means;
-      fault = e.fault;
-      fault_line = e.fault_line;
+      cause = HasCause-read words input stop e means;
+      fault = λ four. inl (e.fault four, e.fault_line four);
       sound = λ few. elim e.statuses [ inl one ↦ e.sound one | inr rest ↦ absurd (elim rest [ inl three ↦ omega arith | inr four ↦ omega arith ]) ];
       whole = λ one. inl (e.long one);
       at_end = λ _ either. absurd (other either);
     }
 
 -- a cause stops it, once all is read
-pub IsStopped-by_cause : (words : List (List ℕ)) (input : Reading) (stop : Stop) → input.failed ≡ false → IsAtEnd input.after → stop.status ≤ 3
+pub IsStopped-by_cause : (words : List (List ℕ)) (input : Reading) (stop : Stop) → input.failed ≡ false → IsAtEnd input.after → stop.status ≤ 4
     → HasCause words input.bytes stop → IsStopped words input stop
 IsStopped-by_cause words input stop sound at_end few cause = record {
-  statuses = omega arith;
+  statuses = few;
   cause = λ _. cause;
-  fault = λ four. absurd (omega arith);
-  fault_line = λ four. absurd (omega arith);
+  fault = λ four. inr (sound, at_end, cause.failed four);
   sound = λ _. sound;
   whole = λ _. inr at_end;
   at_end = λ _ _. at_end;
@@ -147,23 +149,53 @@ refusal_statuses : (job : Job) (input : List ℕ) (stop : Stop) → IsRefusal jo
 refusal_statuses (Port until rate) input stop h = h.statuses
 refusal_statuses (Line cycles) input stop h = h.statuses
 refusal_statuses Compile input stop h = h.statuses
-refusal_statuses (Run cycles) input stop h = h.statuses
+refusal_statuses (Run cycles threads) input stop h = h.statuses
 refusal_statuses (Report cycles) input stop h = h.statuses
-
--- so its status is at most 3
-pub refusal_few : (job : Job) (input : List ℕ) (stop : Stop) → IsRefusal job input stop → stop.status ≤ 3
-refusal_few job input stop h = elim (refusal_statuses job input stop h) [ inl one ↦ omega arith | inr three ↦ omega arith ]
 
 -- a refused input with status 3 is told with no text
 refusal_memory : (job : Job) (input : List ℕ) (stop : Stop) → IsRefusal job input stop → stop.status ≡ 3 → stop.text.items ≡ []
 refusal_memory (Port until rate) input stop h = h.memory
 refusal_memory (Line cycles) input stop h = h.memory
 refusal_memory Compile input stop h = h.memory
-refusal_memory (Run cycles) input stop h = h.memory
+refusal_memory (Run cycles threads) input stop h = h.memory
 refusal_memory (Report cycles) input stop h = h.memory
 
+-- a job that fails has status 4
+failure_status : (job : Job) (input : List ℕ) (stop : Stop) → IsFailure job input stop → stop.status ≡ 4
+failure_status (Port until rate) input stop h = absurd h
+failure_status (Line cycles) input stop h = absurd h
+failure_status Compile input stop h = absurd h
+failure_status (Run cycles true) input stop h = h.0
+failure_status (Run cycles false) input stop h = absurd h
+failure_status (Report cycles) input stop h = absurd h
+
+-- a job that ends without its output has a status of at most 4
+pub end_few : (job : Job) (input : List ℕ) (stop : Stop) → IsEnd job input stop → stop.status ≤ 4
+end_few job input stop (inl h) = elim (refusal_statuses job input stop h) [ inl one ↦ omega arith | inr three ↦ omega arith ]
+end_few job input stop (inr h) = let four : stop.status ≡ 4 = failure_status job input stop h in omega arith
+
+-- the end of a run on threads is that of its job
+pub IsEnd-threads : (cycles : ℕ) (job : Job) (input : List ℕ) (stop : Stop) → job ≡ Run cycles true → EndsThreads cycles input stop → IsEnd job input stop
+IsEnd-threads cycles job input stop same e =
+    let of_run : IsEnd (Run cycles true) input stop = elim e.statuses [
+      | inl one ↦ inl (record { statuses = inl one; line = e.refused; memory = e.memory })
+      | inr other ↦ elim other [
+        | inl three ↦ inl (record { statuses = inr three; line = e.refused; memory = e.memory })
+        | inr four ↦ inr (four, e.fault four)
+      ]
+    ] in
+    subst (λ (j : Job). IsEnd j input stop) (sym same) of_run
+
+-- its output is that of its job
+pub IsOutput-threads : (cycles : ℕ) (job : Job) (input output : List ℕ) → job ≡ Run cycles true → IsThreadsOutput cycles input output → IsOutput job input output
+IsOutput-threads cycles job input output same h = subst (λ (j : Job). IsOutput j input output) (sym same) h
+
+-- its number of cycles is within its limit
+pub threads_within : (cycles : ℕ) (job : Job) → job ≡ Run cycles true → IsWithin job → cycles ≤ 100000
+threads_within cycles job same h = subst (λ (j : Job). IsWithin j) same h
+
 -- an input that is refused stops it
-pub HasCause-by_refusal : (words : List (List ℕ)) (bytes : List ℕ) (job : Job) (stop : Stop) → length bytes ≤ 67108864
+HasCause-by_refusal : (words : List (List ℕ)) (bytes : List ℕ) (job : Job) (stop : Stop) → length bytes ≤ 67108864
     → (words ≡ [] → IsUtf8 (first_line bytes)) → Mean (words_of words bytes) job → IsRefusal job (input_of words bytes) stop → HasCause words bytes stop
 HasCause-by_refusal words bytes job stop short text means h =
     let statuses = refusal_statuses job (input_of words bytes) stop h in
@@ -172,7 +204,27 @@ HasCause-by_refusal words bytes job stop short text means h =
       refused = λ one. record { status = one; length_first = inr (short, text, (job, means, h)) };
       misused = λ two. absurd (elim statuses [ inl one ↦ omega arith | inr three ↦ omega arith ]);
       memory = refusal_memory job (input_of words bytes) stop h;
+      failed = λ four. absurd (elim statuses [ inl one ↦ omega arith | inr three ↦ omega arith ]);
     }
+
+-- a job that fails stops it
+HasCause-by_failure : (words : List (List ℕ)) (bytes : List ℕ) (job : Job) (stop : Stop) → length bytes ≤ 67108864
+    → (words ≡ [] → IsUtf8 (first_line bytes)) → Mean (words_of words bytes) job → IsFailure job (input_of words bytes) stop → HasCause words bytes stop
+HasCause-by_failure words bytes job stop short text means h =
+    let four : stop.status ≡ 4 = failure_status job (input_of words bytes) stop h in
+    record {
+      help = λ zero_is. absurd (omega arith);
+      refused = λ one. absurd (omega arith);
+      misused = λ two. absurd (omega arith);
+      memory = λ three. absurd (omega arith);
+      failed = λ _. record { short = short; text = text; job = job; means = means; fails = h };
+    }
+
+-- a job that ends without its output stops it
+pub HasCause-by_end : (words : List (List ℕ)) (bytes : List ℕ) (job : Job) (stop : Stop) → length bytes ≤ 67108864
+    → (words ≡ [] → IsUtf8 (first_line bytes)) → Mean (words_of words bytes) job → IsEnd job (input_of words bytes) stop → HasCause words bytes stop
+HasCause-by_end words bytes job stop short text means (inl h) = HasCause-by_refusal words bytes job stop short text means h
+HasCause-by_end words bytes job stop short text means (inr h) = HasCause-by_failure words bytes job stop short text means h
 
 -- words that are given are the run's
 means_given : (words : List (List ℕ)) (bytes : List ℕ) (job : Job) → words ≢ [] → Mean words job → Mean (words_of words bytes) job
@@ -184,13 +236,13 @@ input_given : (words : List (List ℕ)) (bytes : List ℕ) → words ≢ [] → 
 input_given [] bytes some = absurd (some refl)
 input_given (word ∷ words) bytes some = refl
 
--- an input that is refused stops a run of words that are given
+-- a job that ends without its output stops a run of words that are given
 pub IsStopped-by_given : (words : List (List ℕ)) (input : Reading) (job : Job) (stop : Stop) → words ≢ [] → input.failed ≡ false → IsAtEnd input.after
-    → length input.bytes ≤ 67108864 → Mean words job → IsRefusal job input.bytes stop → IsStopped words input stop
+    → length input.bytes ≤ 67108864 → Mean words job → IsEnd job input.bytes stop → IsStopped words input stop
 IsStopped-by_given words input job stop some sound at_end short means h =
-    IsStopped-by_cause words input stop sound at_end (refusal_few job input.bytes stop h)
-    (HasCause-by_refusal words input.bytes job stop short (λ none. absurd (some none)) (means_given words input.bytes job some means)
-    (subst (λ (bytes : List ℕ). IsRefusal job bytes stop) (input_given words input.bytes some) h))
+    IsStopped-by_cause words input stop sound at_end (end_few job input.bytes stop h)
+    (HasCause-by_end words input.bytes job stop short (λ none. absurd (some none)) (means_given words input.bytes job some means)
+    (subst (λ (bytes : List ℕ). IsEnd job bytes stop) (input_given words input.bytes some) h))
 
 -- a run of words that are given is done
 pub HasRun-given : (words : List (List ℕ)) (input : Reading) (output : List ℕ) (job : Job) → words ≢ [] → input.failed ≡ false → IsAtEnd input.after
@@ -225,14 +277,14 @@ Ends-told words input output faults text status heard behind_words is_output sou
       at_end = λ two. absurd (not_two two);
       misused = λ two. absurd (not_two two);
       memory = λ three. absurd (elim h.statuses [ inl zero_is ↦ omega arith | inr four ↦ omega arith ]);
-      fault = λ four. inr (record {
+      fault = λ four. inr (inl (record {
         refused = (h.fault four).0;
         sound = sound;
         text = text;
         is_output = is_output;
         told = h.told;
         line = (h.fault four).1;
-      });
+      }));
       sound = λ _. sound;
       accepted = λ not_four. elim h.statuses [ inl zero_is ↦ (h.done zero_is).0 | inr four ↦ absurd (not_four four) ];
     }
@@ -250,6 +302,26 @@ Ends-helped words input output faults stop status heard behind_words s help h =
     Ends-told words input output faults stop.text.items status heard behind_words
     (inr ((s.cause (λ four. omega arith)).help help, (λ none. s.at_end none (inl help)))) (s.sound (omega arith)) h
 
+-- a run that is stopped with status 4 ends with the fault of the reader, or of the run
+fault_told : (words : List (List ℕ)) (input : Reading) (output faults : Writing) (stop : Stop) → HasFault words input stop
+    → Keeps output.before output.after → output.refused ≡ false → HasTold faults stop.text.items
+    → IsInputFault input output faults ⊎ (IsOutputFault words input output faults ⊎ IsRunFault words input output faults)
+fault_told words input output faults stop (inl h) quiet accepted line = inl (record {
+  failed = h.0;
+  quiet = quiet;
+  accepted = accepted;
+  line = subst (λ text. HasTold faults text) h.1 line;
+})
+fault_told words input output faults stop (inr h) quiet accepted line = inr (inr (record {
+  sound = h.0;
+  at_end = h.1;
+  stop = stop;
+  failed = h.2;
+  quiet = quiet;
+  accepted = accepted;
+  line = line;
+}))
+
 -- a run that is stopped, and not for help, ends as it was stopped
 pub Ends-barred : (words : List (List ℕ)) (input : Reading) (output faults : Writing) (stop : Stop) (status : ℕ) → IsHeard input → IsBehindWords words input
     → IsStopped words input stop → stop.status ≢ 0 → status ≡ stop.status → Tells stop output faults status → Ends words input output faults status
@@ -265,12 +337,8 @@ Ends-barred words input output faults stop status heard behind_words s no_help s
   at_end = λ two none. s.at_end none (inr (sym same ∙ two));
   misused = λ two. (stop, (s.cause (λ four. omega arith)).misused (sym same ∙ two), t.line no_help (λ three. omega arith));
   memory = λ three. t.memory_line (sym same ∙ three);
-  fault = λ four. inl (record {
-    failed = s.fault (sym same ∙ four);
-    quiet = (t.quiet no_help).0;
-    accepted = (t.quiet no_help).1;
-    line = subst (λ text. HasTold faults text) (s.fault_line (sym same ∙ four)) (t.line no_help (λ three. omega arith));
-  });
+  fault = λ four. fault_told words input output faults stop (s.fault (sym same ∙ four)) (t.quiet no_help).0 (t.quiet no_help).1
+      (t.line no_help (λ three. omega arith));
   sound = λ few. s.sound (omega arith);
   accepted = λ _. (t.quiet no_help).1;
 }
@@ -300,7 +368,7 @@ job_within : (job : Job) (name : Text) (rows : List Row) → IsJobOf job name ro
 job_within (Port until rate) name rows is = number_within 1 100000000 until (first_of (codes "until") rows) is.1
 job_within (Line cycles) name rows is = number_within 1 100000 cycles (first_of (codes "cycles") rows) is.1
 job_within Compile name rows is = tt
-job_within (Run cycles) name rows is = number_within 1 100000 cycles (first_of (codes "cycles") rows) is.1
+job_within (Run cycles threads) name rows is = number_within 1 100000 cycles (first_of (codes "cycles") rows) is.1
 job_within (Report cycles) name rows is = number_within 1 100000 cycles (first_of (codes "cycles") rows) is.1
 
 found_within : (job : Job) (found : Option (Text × List Row)) → IsJob job found → IsWithin job

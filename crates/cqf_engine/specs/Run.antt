@@ -14,6 +14,7 @@ use Rattle.cqf_port_command.specs.PortOutput.{IsPortOutput, port_input}
 use Rattle.cqf_report_command.specs.ReportOutput.{IsReportOutput}
 use Rattle.cqf_run_command.specs.RunOutput.{IsRunOutput}
 use Rattle.cqf_scenario.specs.Scenario.{scenario_input}
+use Rattle.cqf_threads_command.specs.ThreadsOutput.{IsThreadsOutput, TellsFault}
 use Rattle.cqf_words.specs.Words.{AreMistaken, AskForHelp, Mean}
 use Rattle.cqf_stop.specs.declared.stops.Stop.{Stop}
 use Rattle.cqf_words.specs.declared.words.Job.{Job}
@@ -24,15 +25,21 @@ abbrev pub IsWithin : Job → Type 0
 IsWithin (Port until rate) = until ≤ 100000000
 IsWithin (Line cycles) = cycles ≤ 100000
 IsWithin Compile = ⊤
-IsWithin (Run cycles) = cycles ≤ 100000
+IsWithin (Run cycles threads) = cycles ≤ 100000
 IsWithin (Report cycles) = cycles ≤ 100000
+
+-- whether the job is a run on threads
+abbrev pub is_threaded : Job → Bool
+is_threaded (Run cycles threads) = threads
+is_threaded job = false
 
 -- the output of a job for its input
 abbrev pub IsOutput : Job → List ℕ → List ℕ → Type 0
 IsOutput (Port until rate) input output = IsPortOutput until rate input output
 IsOutput (Line cycles) input output = IsLineOutput cycles input output
 IsOutput Compile input output = compiled_input input ≡ Ok output
-IsOutput (Run cycles) input output = IsRunOutput cycles input output
+IsOutput (Run cycles false) input output = IsRunOutput cycles input output
+IsOutput (Run cycles true) input output = IsThreadsOutput cycles input output
 IsOutput (Report cycles) input output = IsReportOutput cycles input output
 
 -- the input of a job is refused, with the line of its first fault
@@ -40,8 +47,17 @@ abbrev pub IsRefusal : Job → List ℕ → Stop → Type 0
 IsRefusal (Port until rate) input stop = IsRefused (port_input input) stop
 IsRefusal (Line cycles) input stop = IsRefused (line_input input) stop
 IsRefusal Compile input stop = IsRefused (compiled_input input) stop
-IsRefusal (Run cycles) input stop = IsRefused (scenario_input cycles input) stop
+IsRefusal (Run cycles threads) input stop = IsRefused (scenario_input cycles input) stop
 IsRefusal (Report cycles) input stop = IsRefused (scenario_input cycles input) stop
+
+-- a run on threads fails, with the line of its fault: its input isn't refused. No other job fails
+abbrev pub IsFailure : Job → List ℕ → Stop → Type 0
+IsFailure (Run cycles true) input stop = (stop.status ≡ 4) × TellsFault (scenario_input cycles input) stop.text.items
+IsFailure job input stop = ⊥
+
+-- how a job ends without its output
+abbrev pub IsEnd : Job → List ℕ → Stop → Type 0
+IsEnd job input stop = IsRefusal job input stop ⊎ IsFailure job input stop
 
 -- the byte is a space
 abbrev pub is_space : ℕ → Bool
@@ -92,6 +108,14 @@ pub record IsMisuse (words : List (List ℕ)) (bytes : List ℕ) (stop : Stop) :
   pub cause : ((words ≡ []) × ¬ IsUtf8 (first_line bytes) × (stop.text.items ≡ line_of (codes "cqf: words")))
       ⊎ ((words ≡ [] → IsUtf8 (first_line bytes)) × AreMistaken (words_of words bytes) × ((job : Job) → ¬ Mean (words_of words bytes) job))
 
+-- a run on threads fails: the words mean that job, and this is the line of its fault. The stop has status 4
+pub record IsFailedRun (words : List (List ℕ)) (bytes : List ℕ) (stop : Stop) : Type 0 where
+  pub short : length bytes ≤ 67108864
+  pub text : words ≡ [] → IsUtf8 (first_line bytes)
+  pub job : Job
+  pub means : Mean (words_of words bytes) job
+  pub fails : IsFailure job (input_of words bytes) stop
+
 -- all that the program reads was read: too many bytes, or what there was
 abbrev pub IsAll : Reading → Type 0
 IsAll input = IsTooLong input.bytes ⊎ IsAtEnd input.after
@@ -121,13 +145,18 @@ pub record HasCause (words : List (List ℕ)) (bytes : List ℕ) (stop : Stop) :
   pub refused : stop.status ≡ 1 → IsRefusedRun words bytes stop
   pub misused : stop.status ≡ 2 → IsMisuse words bytes stop
   pub memory : stop.status ≡ 3 → stop.text.items ≡ []
+  pub failed : stop.status ≡ 4 → IsFailedRun words bytes stop
+
+-- why a run ends with status 4 before it is done: the reader failed; or all was read, and a run on threads failed
+abbrev pub HasFault : List (List ℕ) → Reading → Stop → Type 0
+HasFault words input stop = ((input.failed ≡ true) × (stop.text.items ≡ line_of (codes "cqf: input fault")))
+    ⊎ ((input.failed ≡ false) × IsAtEnd input.after × IsFailedRun words input.bytes stop)
 
 -- how a run ends before it is done, for what its reader gave
 pub record IsStopped (words : List (List ℕ)) (input : Reading) (stop : Stop) : Type 0 where
   pub statuses : stop.status ≤ 4
   pub cause : stop.status ≢ 4 → HasCause words input.bytes stop
-  pub fault : stop.status ≡ 4 → input.failed ≡ true
-  pub fault_line : stop.status ≡ 4 → stop.text.items ≡ line_of (codes "cqf: input fault")
+  pub fault : stop.status ≡ 4 → HasFault words input stop
   pub sound : stop.status ≤ 2 → input.failed ≡ false
   pub whole : stop.status ≡ 1 → IsAll input
   pub at_end : words ≡ [] → (stop.status ≡ 0) ⊎ (stop.status ≡ 2) → IsAtEnd input.after
@@ -175,9 +204,21 @@ pub record IsOutputFault (words : List (List ℕ)) (input : Reading) (output fau
   pub told : HasTold output text
   pub line : HasTold faults (line_of (codes "cqf: output fault"))
 
+-- a run on threads failed, behind an input that was read to its end: nothing is on the output, and the line that tells so is on the
+-- writer of faults
+pub record IsRunFault (words : List (List ℕ)) (input : Reading) (output faults : Writing) : Type 0 where
+  pub sound : input.failed ≡ false
+  pub at_end : IsAtEnd input.after
+  pub stop : Stop
+  pub failed : IsFailedRun words input.bytes stop
+  pub quiet : Keeps output.before output.after
+  pub accepted : output.refused ≡ false
+  pub line : HasTold faults stop.text.items
+
 -- what the engine leaves, by its status. With status 0 it wrote the run's output and nothing else, or the help that was
 -- asked for. With status 1, 2 and 3 it wrote nothing on its output, and on the writer of faults the text of the first
--- cause: all of it, where that writer refused nothing. With status 4 the reader failed, or the output refused a write
+-- cause: all of it, where that writer refused nothing. With status 4 the reader failed, or the output refused a write, or a
+-- run on threads failed
 pub record Ends (words : List (List ℕ)) (input : Reading) (output faults : Writing) (status : ℕ) : Type 0 where
   pub statuses : status ≤ 4
   pub heard : IsHeard input
@@ -190,6 +231,6 @@ pub record Ends (words : List (List ℕ)) (input : Reading) (output faults : Wri
   pub at_end : status ≡ 2 → words ≡ [] → IsAtEnd input.after
   pub misused : status ≡ 2 → (stop : Stop) × IsMisuse words input.bytes stop × HasTold faults stop.text.items
   pub memory : status ≡ 3 → HasTold faults (line_of (codes "cqf: out of memory"))
-  pub fault : status ≡ 4 → IsInputFault input output faults ⊎ IsOutputFault words input output faults
+  pub fault : status ≡ 4 → IsInputFault input output faults ⊎ (IsOutputFault words input output faults ⊎ IsRunFault words input output faults)
   pub sound : status ≤ 2 → input.failed ≡ false
   pub accepted : status ≢ 4 → output.refused ≡ false

@@ -3,10 +3,12 @@
 //! - [`engine`] runs it, and gives the exit status. [`tell`] ends a run before it has begun.
 //! - [`Heard`] is a reader that remembers what it gave and whether it failed, [`Told`] a writer that remembers whether it
 //!   refused anything. The engine runs over these, so that its caller knows why a run ended as it did.
-//! - [`read_input`] reads all that a reader gives, and [`answer`] is the output of a job for an input: the parts of a run.
+//! - [`read_input`] reads all that a reader gives, and [`answer`] is the output of a job for an input, unless that is a run on
+//!   threads: the parts of a run.
 //!
 //! `specs/Edge.antt` says what a reader gave (`Reading`) and what became of a writer (`Writing`, `HasTold`). `specs/Run.antt`
-//! says what a run comes to (`IsDone`, `IsRefusedRun`, `IsMisuse`), and what the engine leaves, by its status (`Ends`).
+//! says what a run comes to (`IsDone`, `IsRefusedRun`, `IsMisuse`, `IsFailedRun`), and what the engine leaves, by its status
+//! (`Ends`).
 //!
 //! ```text
 //! let mut input = Heard::new(alloc, b"links = []\n".as_slice());

@@ -1,8 +1,8 @@
 //! A run of the program, from its words and its input to its output or its end.
-ghost use Rattle.std.specs.Prelude.{◌≡◌, ◌≢◌, ◌≤◌, [], false, IfOk, IfErr, map, length};
+ghost use Rattle.std.specs.Prelude.{◌≡◌, ◌≢◌, ◌≤◌, [], false, IfOk, IfErr, MatchOption, map, length, true};
 ghost use Rattle.std.specs.List.{slice_split};
 ghost use Rattle.cqf_engine.specs.Edge.{IsHeard, IsUnheard, reading, writing};
-ghost use Rattle.cqf_engine.specs.Run.{IsWithin, IsOutput, IsRefusal, IsBehindWords, Ends, HandsOver, HasCause, HasRun, IsDone, IsStopped, Tells, is_space, first_line, behind_first_line};
+ghost use Rattle.cqf_engine.specs.Run.{IsWithin, IsOutput, IsEnd, IsRefusal, IsBehindWords, Ends, HandsOver, HasCause, HasRun, IsDone, IsStopped, Tells, is_space, is_threaded, first_line, behind_first_line};
 
 use crate::heard::Heard;
 use crate::inputs::read_input;
@@ -15,20 +15,23 @@ use cqf_report_command::report_output;
 use cqf_run_command::run_output;
 use cqf_stop::{DONE, FAULT, NO_MEMORY, Stop, USAGE};
 use cqf_text::split_line;
+use cqf_threads_command::threads_output;
 use cqf_words::{Job, read_words};
 use std::alloc::{AllocError, Global};
 use std::io::{Read, Write};
+use std::sync::Wait;
 use std::thread::Threads;
 
-/// The output of the job for its input; `rt` is for the threads of `report`. `Err` with status 1 and the line of the first fault of the input, and with
-/// status 3 for want of memory.
+/// The output of a job for its input, unless it is a run on threads; `rt` is for the threads of `report`. `Err` with status 1
+/// and the line of the first fault of the input, and with status 3 for want of memory.
 pub fn answer(
     rt: &(impl Threads + Sync),
     alloc: Global,
     job: &Job,
     input: &[u8],
 ) -> Result<Vec<u8>, Stop>
-    requires { IsWithin job.now }
+    requires within { IsWithin job.now }
+    requires unthreaded { is_threaded job.now ≡ false }
     ensures ok { IfOk result (λ output. IsOutput job.now input.now output.items) }
     ensures err { IfErr result (IsRefusal job.now input.now) }
 {
@@ -36,8 +39,43 @@ pub fn answer(
         Job::Port { until, rate } => port_output(alloc, until, rate, input),
         Job::Line { cycles } => line_output(alloc, cycles, input),
         Job::Compile => compile_output(alloc, input),
-        Job::Run { cycles } => run_output(alloc, cycles, input),
+        Job::Run {
+            cycles,
+            threads: false,
+        } => run_output(alloc, cycles, input),
+        Job::Run { threads: true, .. } => unreachable!(),
         Job::Report { cycles } => report_output(rt, alloc, cycles, input),
+    }
+}
+
+/// The number of cycles of a run on threads, if the job is one.
+fn threaded_cycles(job: &Job) -> Option<u32>
+    ensures { MatchOption result (is_threaded job.now ≡ false) (λ cycles. job.now ≡ Job.Run cycles true) }
+{
+    match *job {
+        Job::Run {
+            cycles,
+            threads: true,
+        } => Some(cycles),
+        _ => None,
+    }
+}
+
+/// The output of any job for its input; `rt` is for the threads of a run and of `report`. `Err` with status 1 and the line of
+/// the first fault of the input, with status 3 for want of memory, and with status 4 where a run on threads fails.
+fn output_of(
+    rt: &(impl Threads + Wait + Sync),
+    alloc: Global,
+    job: &Job,
+    input: &[u8],
+) -> Result<Vec<u8>, Stop>
+    requires { IsWithin job.now }
+    ensures ok { IfOk result (λ output. IsOutput job.now input.now output.items) }
+    ensures err { IfErr result (IsEnd job.now input.now) }
+{
+    match threaded_cycles(job) {
+        Some(cycles) => threads_output(rt, alloc, cycles, input),
+        None => answer(rt, alloc, job, input),
     }
 }
 
@@ -50,7 +88,7 @@ fn split_words(alloc: Global, line: &str) -> Result<Vec<&str>, AllocError>
 
 /// The run of words that are given.
 fn run_given<R: Read>(
-    rt: &(impl Threads + Sync),
+    rt: &(impl Threads + Wait + Sync),
     alloc: Global,
     words: &[&str],
     input: &mut Heard<R>,
@@ -69,7 +107,7 @@ fn run_given<R: Read>(
     if let Err(stop) = read_input(alloc, input) {
         return Err(stop);
     }
-    answer(rt, alloc, &job, input.bytes())
+    output_of(rt, alloc, &job, input.bytes())
 }
 
 /// The first line of the bytes, and what stands behind it.
@@ -84,11 +122,11 @@ fn split_first_line(bytes: &[u8]) -> (&[u8], &[u8])
 }
 
 /// The run of the words in the first line.
-fn run_line(rt: &(impl Threads + Sync), alloc: Global, bytes: &[u8]) -> Result<Vec<u8>, Stop>
+fn run_line(rt: &(impl Threads + Wait + Sync), alloc: Global, bytes: &[u8]) -> Result<Vec<u8>, Stop>
     requires { length bytes.now ≤ 67108864 }
     ensures ok { IfOk result (λ output. IsDone [] bytes.now output.items) }
     ensures err { IfErr result (HasCause [] bytes.now) }
-    ensures status { IfErr result (λ stop. stop.status ≤ 3) }
+    ensures status { IfErr result (λ stop. stop.status ≤ 4) }
 {
     let (line, rest) = split_first_line(bytes);
     let Ok(line) = std::str::from_utf8(line) else {
@@ -101,12 +139,12 @@ fn run_line(rt: &(impl Threads + Sync), alloc: Global, bytes: &[u8]) -> Result<V
         Ok(job) => job,
         Err(stop) => return Err(stop),
     };
-    answer(rt, alloc, &job, rest)
+    output_of(rt, alloc, &job, rest)
 }
 
 /// The run of words that the input begins with.
 fn run_taken<R: Read>(
-    rt: &(impl Threads + Sync),
+    rt: &(impl Threads + Wait + Sync),
     alloc: Global,
     input: &mut Heard<R>,
 ) -> Result<Vec<u8>, Stop>
@@ -123,7 +161,7 @@ fn run_taken<R: Read>(
 
 /// The run of words that are given, or where none are of those in the first line of the input.
 fn run<R: Read>(
-    rt: &(impl Threads + Sync),
+    rt: &(impl Threads + Wait + Sync),
     alloc: Global,
     words: &[&str],
     input: &mut Heard<R>,
@@ -170,10 +208,11 @@ pub fn tell<O: Write, F: Write>(stop: &Stop, output: &mut Told<O>, faults: &mut 
 }
 
 /// Runs the program: the words without the program's name, and where there are none the words of the input's first
-/// line. `rt` is for threads. The exit status: 0 done, 1 refused input, 2 usage, 3 want of memory, 4 a read or a write failed. What is
-/// asked for goes to `output`, and the line of a fault to `faults`.
+/// line. `rt` is for threads. The exit status: 0 done, 1 refused input, 2 usage, 3 want of memory, 4 a read, a write or a run on
+/// threads failed. What is asked for goes to `output`, and the line of a fault to `faults`. A run on threads waits until all of
+/// them have ended.
 pub fn engine<R: Read, O: Write, F: Write>(
-    rt: &(impl Threads + Sync),
+    rt: &(impl Threads + Wait + Sync),
     alloc: Global,
     words: &[&str],
     input: &mut Heard<R>,

@@ -1,17 +1,25 @@
-//! Texts of domains that the tests of several crates read, and what they ask of a run's offers. Only tests use this crate.
+//! Texts of domains that the tests of several crates read, and what they ask for, offer and expect. Only tests use this crate.
 //!
 //! - [`line`] is a domain of three bridges in a line, [`one_link`] one of a single bridge, and [`ring`] one whose first
 //!   and last bridge have links to each other too; [`fork`] is a line that branches.
 //! - [`line_and_link`] and [`one_link_with`] are changed forms of them; a test makes others with `replacen`.
 //! - [`are_offers`] and [`are_background`] tell what a run of a domain may be given.
+//! - [`request`], [`offers_of`] and [`background_of`] make what is asked for and offered of plain values, and [`are_begun`] and
+//!   [`are_dropped`] tell whether a book has such values.
 //!
 //! All have a cycle time of 125,000 ns, and links of 1,000 Mb/s with a delay of 500 ns. The guard time is 5,000 ns.
 #![tactic(auto)]
 
+mod asked;
 mod given;
+mod offered;
+mod told;
 
+pub use asked::{Asked, request};
 pub use given::{are_background, are_offers};
+pub use offered::{Backing, Offering, background_of, offers_of};
 use std::alloc::{AllocError, Global};
+pub use told::{Begun, Fell, are_begun, are_dropped};
 
 /// Bridges a, b and c, and station s.
 const LINE: &str = r#"cycle = 125000

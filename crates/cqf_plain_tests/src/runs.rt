@@ -1,19 +1,15 @@
 //! Runs of the network on one thread, with values by hand.
 use cqf_admission::{Admission, Table};
 use cqf_compile::{Plan, compile};
-use cqf_fixtures::{are_background, are_offers, fork, line, one_link, one_link_with, ring};
-use cqf_model::{Background, Book, Dropped, Offer, Reason, Started};
+use cqf_fixtures::{
+    Asked, Backing, Begun, Fell, Offering, are_background, are_begun, are_dropped, are_offers,
+    background_of, fork, line, offers_of, one_link, one_link_with, request, ring,
+};
+use cqf_model::{Background, Book, Offer, Reason};
 use cqf_plain::{RunFault, run};
-use cqf_topology::{Domain, Request};
-use cqf_units::{Memory, Name, Nanos};
-use std::alloc::{AllocError, Global};
+use cqf_topology::Domain;
+use std::alloc::Global;
 use std::test::Fail;
-
-/// A stream: its name, its octets a cycle, and its branches.
-type Asked = (&'static str, u32, &'static [&'static [&'static str]]);
-
-/// A start: its cycle, its link, its frame, its octets and its instant.
-type Begun = (u32, u8, u32, u32, u64);
 
 /// What is run, and what comes of it.
 struct Case {
@@ -21,15 +17,12 @@ struct Case {
     streams: &'static [Asked],
     /// The cycle before which the first stream is withdrawn.
     withdrawn: Option<u32>,
-    /// Instant, bridge, name and octets.
-    offers: &'static [(u64, u8, &'static str, u32)],
-    /// Instant, link, class and octets.
-    background: &'static [(u64, u8, u8, u32)],
+    offers: &'static [Offering],
+    background: &'static [Backing],
     cycles: u32,
     starts: &'static [Begun],
     background_starts: &'static [Begun],
-    /// Cycle, bridge, frame, octets and reason.
-    drops: &'static [(u32, u8, u32, u32, Reason)],
+    drops: &'static [Fell],
 }
 
 /// The stream x over the line of three bridges.
@@ -44,37 +37,10 @@ fn plan_of(alloc: Global, text: &str) -> Result<Plan, Fail> {
     Ok(compile(alloc, &domain)?)
 }
 
-/// The names of some nodes.
-fn names(alloc: Global, nodes: &[&str]) -> Result<Vec<String>, Memory> {
-    let mut list = Vec::new(alloc);
-    for node in nodes {
-        list.push(String::from_str(alloc, node)?)?;
-    }
-    Ok(list)
-}
-
-/// A request for a stream.
-fn request(
-    alloc: Global,
-    name: &str,
-    octets: u32,
-    branches: &[&[&str]],
-) -> Result<Request, Memory> {
-    let mut paths = Vec::new(alloc);
-    for nodes in branches {
-        paths.push(names(alloc, nodes)?)?;
-    }
-    Ok(Request {
-        name: String::from_str(alloc, name)?,
-        octets,
-        paths,
-    })
-}
-
 /// Admits streams.
 fn admit_all(alloc: Global, asked: &mut Admission, streams: &[Asked]) -> Result<(), Fail> {
-    for (name, octets, branches) in streams {
-        let wanted = request(alloc, name, *octets, branches)?;
+    for stream in streams {
+        let wanted = request(alloc, stream)?;
         asked.admit(0, &wanted)?;
     }
     Ok(())
@@ -113,34 +79,6 @@ fn tables_of(
     tables
 }
 
-/// Offers of these values.
-fn offers_of(alloc: Global, rows: &[(u64, u8, &str, u32)]) -> Result<Vec<Offer>, Fail> {
-    let mut offers = Vec::new(alloc);
-    for (at, bridge, name, octets) in rows {
-        offers.push(Offer {
-            at: Nanos(*at),
-            bridge: *bridge,
-            stream: Name::new(name.as_bytes()).ok_or(AllocError)?,
-            octets: *octets,
-        })?;
-    }
-    Ok(offers)
-}
-
-/// Background frames of these values.
-fn background_of(alloc: Global, rows: &[(u64, u8, u8, u32)]) -> Result<Vec<Background>, Memory> {
-    let mut background = Vec::new(alloc);
-    for (at, link, class, octets) in rows {
-        background.push(Background {
-            at: Nanos(*at),
-            link: *link,
-            class: *class,
-            octets: *octets,
-        })?;
-    }
-    Ok(background)
-}
-
 /// Runs the network, where it may be run.
 fn run_it(
     alloc: Global,
@@ -155,34 +93,6 @@ fn run_it(
         return Err(RunFault::Memory);
     }
     run(alloc, plan, tables, offers, background, cycles)
-}
-
-/// Whether starts have these values.
-fn are_begun(starts: &[Started], rows: &[Begun]) -> bool {
-    starts.len() == rows.len()
-        && starts.iter().zip(rows).all(|(start, row)| {
-            (
-                start.cycle.0,
-                start.link,
-                start.frame,
-                start.octets,
-                start.start.0,
-            ) == *row
-        })
-}
-
-/// Whether drops have these values.
-fn are_dropped(drops: &[Dropped], rows: &[(u32, u8, u32, u32, Reason)]) -> bool {
-    drops.len() == rows.len()
-        && drops.iter().zip(rows).all(|(drop, row)| {
-            (
-                drop.cycle.0,
-                drop.bridge,
-                drop.frame,
-                drop.octets,
-                drop.reason,
-            ) == *row
-        })
 }
 
 /// Whether the book of a run is the expected one.

@@ -4,6 +4,7 @@ use cqf_engine::{Heard, Told, engine};
 use std::alloc::Global;
 use std::io;
 use std::io::{ErrorKind, Read, Write};
+use std::sync::Wait;
 use std::thread::Threads;
 
 const OFFERS: &str = "at,bridge,stream,octets\n124999,a,x,64\n";
@@ -14,7 +15,7 @@ const LINE: [&str; 3] = ["line", "--cycles", "3"];
 
 /// Whether a run ends with this status and leaves these texts on its output and on its writer of faults.
 fn leaves<R: Read + Drop>(
-    rt: &(impl Threads + Sync),
+    rt: &(impl Threads + Wait + Sync),
     alloc: Global,
     words: &[&str],
     input: R,
@@ -91,6 +92,13 @@ const RUN: &str =
     %%\nstreams = [{ name = \"x\", octets = 1500, path = [\"a\", \"s\"] }]\n\
     %%\n0 admit x\n%%\nat,bridge,stream,octets\n0,a,x,64\n";
 
+/// The same on threads.
+const RUN_ON_THREADS: &str =
+    "run --cycles 2 --threads\ncycle = 125000\nguard = 5000\nbridges = [\"a\"]\nstations = [\"s\"]\n\
+    links = [{ from = \"a\", to = \"s\", rate = 1000, delay = 500 }]\n\
+    %%\nstreams = [{ name = \"x\", octets = 1500, path = [\"a\", \"s\"] }]\n\
+    %%\n0 admit x\n%%\nat,bridge,stream,octets\n0,a,x,64\n";
+
 const HISTORY_AND_BOOK: &str = "0 admit x accepted 0 0\n1 seal\n1 seal\n%%\n\
     what,cycle,where,frame,octets,detail\nstart,1,a>s,1,64,125000\n";
 
@@ -105,6 +113,13 @@ const CASES: &[(&[&str], &str, u8, (&str, &str))] = &[
         (BOOK, ""),
     ),
     (&[], RUN, 0, (HISTORY_AND_BOOK, "")),
+    (&[], RUN_ON_THREADS, 0, (HISTORY_AND_BOOK, "")),
+    (
+        &["run", "--cycles", "2", "--threads"],
+        "%%\n%%\n",
+        1,
+        ("", "cqf: parts\n"),
+    ),
     (
         &["report", "--cycles", "2"],
         "%%\n%%\n",
@@ -145,7 +160,12 @@ fn first_words_that_are_no_text_are_misuse(rt: HostRuntime) {
 }
 
 /// Whether a run of these words ends with status 4 and its line where the read of this number fails.
-fn is_input_fault(rt: &(impl Threads + Sync), alloc: Global, words: &[&str], after: u8) -> bool {
+fn is_input_fault(
+    rt: &(impl Threads + Wait + Sync),
+    alloc: Global,
+    words: &[&str],
+    after: u8,
+) -> bool {
     leaves(
         rt,
         alloc,
@@ -180,7 +200,7 @@ fn a_reader_that_never_ends_is_left(rt: HostRuntime) {
 }
 
 /// Whether a run of `line` with this output ends with status 4 and its line.
-fn fails_on<O: Write + Drop>(rt: &(impl Threads + Sync), alloc: Global, output: O) -> bool {
+fn fails_on<O: Write + Drop>(rt: &(impl Threads + Wait + Sync), alloc: Global, output: O) -> bool {
     let mut input = Heard::new(alloc, OFFERS.as_bytes());
     let mut output = Told::new(output);
     let mut faults = Told::new(Vec::new(alloc));
@@ -197,7 +217,7 @@ fn a_writer_that_fails_is_told(rt: HostRuntime) {
 }
 
 /// The status of a run of `line` that is refused, where nothing of that can be told.
-fn status_untold(rt: &(impl Threads + Sync), alloc: Global) -> u8 {
+fn status_untold(rt: &(impl Threads + Wait + Sync), alloc: Global) -> u8 {
     let mut input = Heard::new(alloc, b"%%\n".as_slice());
     let mut output = Told::new(Vec::new(alloc));
     let mut faults = Told::new(Closed);
@@ -210,7 +230,7 @@ fn a_writer_of_faults_that_fails_changes_no_status(rt: HostRuntime) {
 }
 
 /// The status of a run of these words, whose reader and output fail, and how much is told of it.
-fn end_of_misuse(rt: &(impl Threads + Sync), alloc: Global, words: &[&str]) -> (u8, usize) {
+fn end_of_misuse(rt: &(impl Threads + Wait + Sync), alloc: Global, words: &[&str]) -> (u8, usize) {
     let mut input = Heard::new(alloc, Breaks { after: 0 });
     let mut output = Told::new(Closed);
     let mut faults = Told::new(Vec::new(alloc));

@@ -30,6 +30,8 @@ mod starts;
 #[cfg(test)]
 mod stops;
 #[cfg(test)]
+mod threads_command;
+#[cfg(test)]
 mod whole_runs;
 #[cfg(test)]
 mod words;

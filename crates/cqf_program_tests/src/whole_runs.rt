@@ -4,6 +4,7 @@ use cqf_engine::{Heard, Told, engine};
 use std::alloc::Global;
 use std::io;
 use std::io::{ErrorKind, Read, Write};
+use std::sync::Wait;
 use std::thread::Threads;
 
 /// A frame of one stream goes along three bridges, and the words stand in the first line.
@@ -39,7 +40,7 @@ const SUMS: &str = "link,frames,octets,most\na>b,1,64,64\nb>c,1,64,64\nc>s,1,64,
 /// Whether a run over this input ends with this status and leaves these texts on its output and on its writer of faults. Where
 /// no text of faults is given, there is one exactly where the status isn't 0.
 fn ends<R: Read + Drop>(
-    rt: &(impl Threads + Sync),
+    rt: &(impl Threads + Wait + Sync),
     alloc: Global,
     words: &[&str],
     input: R,
@@ -182,7 +183,7 @@ impl Write for Narrow {
 /// Whether a run over the input leaves just the front of this text, where its output takes so many bytes; it ends with status 4 and
 /// its line where that isn't all of it.
 fn leaves_front(
-    rt: &(impl Threads + Sync),
+    rt: &(impl Threads + Wait + Sync),
     alloc: Global,
     words: &[&str],
     narrow: (usize, bool),
@@ -206,7 +207,7 @@ fn leaves_front(
 
 /// Whether a run whose output refuses at any place leaves just the front of this text up to there.
 fn leaves_each_front(
-    rt: &(impl Threads + Sync),
+    rt: &(impl Threads + Wait + Sync),
     alloc: Global,
     words: &[&str],
     text: &[u8],

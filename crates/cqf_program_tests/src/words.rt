@@ -40,7 +40,26 @@ const CASES: &[(&[&str], Option<Job>, u8)] = &[
     (&["compile"], Some(Job::Compile), DONE),
     (
         &["run", "--cycles", "1"],
-        Some(Job::Run { cycles: 1 }),
+        Some(Job::Run {
+            cycles: 1,
+            threads: false,
+        }),
+        DONE,
+    ),
+    (
+        &["run", "--cycles", "1", "--threads"],
+        Some(Job::Run {
+            cycles: 1,
+            threads: true,
+        }),
+        DONE,
+    ),
+    (
+        &["run", "--threads", "--cycles", "100000"],
+        Some(Job::Run {
+            cycles: 100_000,
+            threads: true,
+        }),
         DONE,
     ),
     (
@@ -50,6 +69,19 @@ const CASES: &[(&[&str], Option<Job>, u8)] = &[
     ),
     (&["run"], None, USAGE),
     (&["run", "--cycles", "100001"], None, USAGE),
+    // the flag is of `run` alone, takes no value, stands once and in full
+    (&["run", "--threads"], None, USAGE),
+    (&["line", "--cycles", "3", "--threads"], None, USAGE),
+    (&["report", "--cycles", "3", "--threads"], None, USAGE),
+    (&["--threads", "run", "--cycles", "3"], None, USAGE),
+    (&["run", "--cycles", "3", "--threads", "true"], None, USAGE),
+    (&["run", "--cycles", "3", "--threads=true"], None, USAGE),
+    (
+        &["run", "--threads", "--cycles", "3", "--threads"],
+        None,
+        USAGE,
+    ),
+    (&["run", "--cycles", "3", "--thread"], None, USAGE),
     (&["report", "--cycles", "0"], None, USAGE),
     (&["port", "--until", "0"], None, USAGE),
     (&["port", "--until", "100000001"], None, USAGE),
@@ -92,6 +124,11 @@ const HELP: &[(&[&str], &str)] = &[
     (&["compile", "--help"], "Usage: cqf compile\n"),
     (&["port", "--help"], "a gate list    80 120000\n"),
     (&["run", "--help"], "a script       0 admit x\n"),
+    (
+        &["run", "--help"],
+        "Usage: cqf run [OPTIONS] --cycles <N>\n",
+    ),
+    (&["run", "--help"], "--threads "),
     (&["report", "--help"], "Usage: cqf report --cycles <N>\n"),
 ];
 

@@ -1,23 +1,32 @@
 //! The command `run`: the history and the book of a scenario.
-ghost use Rattle.std.specs.Prelude.{◌≡◌, ◌≤◌, IfErr, IfOk};
+ghost use Rattle.std.specs.Prelude.{◌≡◌, ◌≤◌, IfErr, IfOk, map};
+ghost use Rattle.cqf_admission.specs.Admission.{recorded_of};
 ghost use Rattle.cqf_model.specs.Book.{contents_of};
 ghost use Rattle.cqf_run_command.specs.RunOutput.{IsRunOutput, run_text};
 ghost use Rattle.cqf_scenario.specs.Scenario.{scenario_input};
 ghost use Rattle.cqf_stop.specs.Stops.{IsRefused};
 
+use cqf_admission::Entry;
+use cqf_model::Book;
 use cqf_report::{append_book, write_history};
-use cqf_scenario::{Simulated, simulate};
+use cqf_scenario::simulate;
 use cqf_stop::Stop;
+use cqf_topology::Domain;
 use cqf_units::Memory;
 use std::alloc::Global;
 
-/// The text of the history and of the book, with the line between them.
-fn text_of_run(alloc: Global, made: &Simulated) -> Result<Vec<u8>, Memory>
-    ensures { IfOk result (λ text. text.items ≡ run_text made.now.admission.domain made.now.admission.entries (contents_of made.now.book)) }
+/// The text of a history and of a book of the domain, with a line `%%` between them. The error is want of memory.
+pub fn write_run(
+    alloc: Global,
+    domain: &Domain,
+    history: &[Entry],
+    book: &Book,
+) -> Result<Vec<u8>, Memory>
+    ensures { IfOk result (λ text. text.items ≡ run_text domain.now (map recorded_of history.now) (contents_of book.now)) }
 {
-    let mut text = write_history(alloc, made.admission.history())?;
+    let mut text = write_history(alloc, history)?;
     text.extend_from_slice(b"%%\n".as_slice())?;
-    let text = append_book(alloc, text, made.admission.domain(), &made.book)?;
+    let text = append_book(alloc, text, domain, book)?;
     Ok(text)
 }
 
@@ -33,7 +42,8 @@ pub fn run_output(alloc: Global, cycles: u32, input: &[u8]) -> Result<Vec<u8>, S
     ensures err { IfErr result (IsRefused (scenario_input cycles input.now)) }
 {
     let made = simulate(alloc, cycles, input)?;
-    match text_of_run(alloc, &made) {
+    let (domain, history) = (made.admission.domain(), made.admission.history());
+    match write_run(alloc, domain, history, &made.book) {
         Ok(text) => Ok(text),
         Err(_) => Err(Stop::memory(alloc)),
     }

@@ -2,6 +2,7 @@
 //!
 //! - [`run_output`] is the command's output for its input, the history and the book of the input's scenario, or the end of
 //!   the run with the line of the input's first fault.
+//! - [`write_run`] gives the text of any history and its book.
 //!
 //! `specs/RunOutput.antt` says what it is that a text `IsRunOutput`.
 //!
@@ -13,4 +14,4 @@
 
 mod command;
 
-pub use command::run_output;
+pub use command::{run_output, write_run};

@@ -28,7 +28,7 @@ no_port-until rows text same none (Port until rate) job =
     none until (subst P (sym same) job.1)
 no_port-until rows text same none (Line cycles) job = omega (arith, marked (codes "port") (codes "line") job.0)
 no_port-until rows text same none Compile job = omega (arith, marked (codes "port") (codes "compile") job)
-no_port-until rows text same none (Run cycles) job = omega (arith, marked (codes "port") (codes "run") job.0)
+no_port-until rows text same none (Run cycles threads) job = omega (arith, marked (codes "port") (codes "run") job.0)
 no_port-until rows text same none (Report cycles) job = omega (arith, marked (codes "port") (codes "report") job.0)
 
 -- nor with no rate
@@ -37,7 +37,7 @@ pub no_port-rate : (rows : List Row) (text : Option Text) → text ≡ first_of 
 no_port-rate rows text same none (Port until rate) job = none rate (same ∙ job.2)
 no_port-rate rows text same none (Line cycles) job = omega (arith, marked (codes "port") (codes "line") job.0)
 no_port-rate rows text same none Compile job = omega (arith, marked (codes "port") (codes "compile") job)
-no_port-rate rows text same none (Run cycles) job = omega (arith, marked (codes "port") (codes "run") job.0)
+no_port-rate rows text same none (Run cycles threads) job = omega (arith, marked (codes "port") (codes "run") job.0)
 no_port-rate rows text same none (Report cycles) job = omega (arith, marked (codes "port") (codes "report") job.0)
 
 -- with no number of cycles there is no job of a command that takes them alone
@@ -46,7 +46,7 @@ pub no_cycles : (name : Text) (rows : List Row) → name ≢ codes "port" → na
 no_cycles name rows not_port not_compile none (Port until rate) job = not_port job.0
 no_cycles name rows not_port not_compile none (Line cycles) job = none cycles job.1
 no_cycles name rows not_port not_compile none Compile job = not_compile job
-no_cycles name rows not_port not_compile none (Run cycles) job = none cycles job.1
+no_cycles name rows not_port not_compile none (Run cycles threads) job = none cycles job.1
 no_cycles name rows not_port not_compile none (Report cycles) job = none cycles job.1
 
 -- a number of a value is one of its text

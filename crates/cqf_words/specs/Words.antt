@@ -1,9 +1,9 @@
 -- What the words of a command line mean (profile): clap's reading of them, for the command that is written out here.
-use Rattle.std.specs.Prelude.{ℕ, ◌≡◌, ◌≢◌, ◌⊎◌, ◌≤◌, true, List, [], ◌∷◌, Option, Some, None, codes}
+use Rattle.std.specs.Prelude.{ℕ, ◌≡◌, ◌≢◌, ◌⊎◌, ◌≤◌, Bool, true, false, List, [], ◌∷◌, Option, Some, None, codes}
 use Rattle.std.specs.Str.Parse.{IsNumeral, digits_value, without_leading_plus}
 use Rattle.clap.specs.Words.{App, Row, Rule, Text, first_of, fault_of, new_app, new_rule, subcommand_of, with_rule, with_subcommand, IsAmong}
 use Rattle.clap.specs.Simple.{on_top}
-use Rattle.clap.specs.declared.builder.action.ArgAction.TheVariants.{Set}
+use Rattle.clap.specs.declared.builder.action.ArgAction.TheVariants.{Set, SetTrue}
 use Rattle.clap.specs.declared.builder.value_parser.ValueParser.TheVariants.{Unsigned}
 use Rattle.clap.specs.declared.error.kind.ErrorKind.{ErrorKind}
 use Rattle.clap.specs.declared.error.kind.ErrorKind.TheVariants.{DisplayHelp, DisplayVersion, OutOfMemory}
@@ -32,6 +32,10 @@ rate_rule = record (new_rule (codes "rate")) {
   value_names = 1;
 }
 
+-- a flag `--NAME`
+abbrev pub flag_rule : Text → Rule
+flag_rule name = record (new_rule name) { long = Some name; action = Some SetTrue }
+
 -- `port --until N [--rate RATE]`
 abbrev pub port_app : App
 port_app = with_rule (with_rule (new_app (codes "port")) (number_rule (codes "until") 1 100000000)) rate_rule
@@ -44,9 +48,9 @@ line_app = with_rule (new_app (codes "line")) (number_rule (codes "cycles") 1 10
 abbrev pub compile_app : App
 compile_app = new_app (codes "compile")
 
--- `run --cycles N`
+-- `run --cycles N [--threads]`
 abbrev pub run_app : App
-run_app = with_rule (new_app (codes "run")) (number_rule (codes "cycles") 1 100000)
+run_app = with_rule (with_rule (new_app (codes "run")) (number_rule (codes "cycles") 1 100000)) (flag_rule (codes "threads"))
 
 -- `report --cycles N`
 abbrev pub report_app : App
@@ -75,6 +79,11 @@ rate_text Mb10 = codes "10"
 rate_text Mb100 = codes "100"
 rate_text Mb1000 = codes "1000"
 
+-- a flag is given just where its value is `true`
+abbrev pub IsGiven : Bool → Option Text → Type 0
+IsGiven true value = value ≡ Some (codes "true")
+IsGiven false value = value ≢ Some (codes "true")
+
 -- the job of a command with its values
 abbrev pub IsJobOf : Job → Text → List Row → Type 0
 IsJobOf (Port until rate) name rows = (name ≡ codes "port")
@@ -83,8 +92,9 @@ IsJobOf (Port until rate) name rows = (name ≡ codes "port")
 IsJobOf (Line cycles) name rows = (name ≡ codes "line")
     × IsNumberIn 1 100000 cycles (first_of (codes "cycles") rows)
 IsJobOf Compile name rows = name ≡ codes "compile"
-IsJobOf (Run cycles) name rows = (name ≡ codes "run")
+IsJobOf (Run cycles threads) name rows = (name ≡ codes "run")
     × IsNumberIn 1 100000 cycles (first_of (codes "cycles") rows)
+    × IsGiven threads (first_of (codes "threads") rows)
 IsJobOf (Report cycles) name rows = (name ≡ codes "report")
     × IsNumberIn 1 100000 cycles (first_of (codes "cycles") rows)
 

@@ -5,7 +5,7 @@ ghost use Rattle.cqf_units.specs.declared.timing.Rate.{Rate};
 ghost use Rattle.clap.specs.declared.builder.command.Command.TheViews.{out-Command};
 ghost use Rattle.clap.specs.Words.{app_of, first_of, found_of, kind_of, rows_of, rule_of, subcommand_rows_of};
 ghost use Rattle.cqf_words.specs.declared.words.Job.{Job};
-ghost use Rattle.cqf_words.specs.Words.{cqf_app, compile_app, first_app, line_app, named_app, port_app, report_app, run_app, number_rule, rate_rule, rate_text, IsJob, IsJobOf, IsNumberIn, Mean, EndsBy, EndsWords};
+ghost use Rattle.cqf_words.specs.Words.{cqf_app, compile_app, first_app, line_app, named_app, port_app, report_app, run_app, flag_rule, number_rule, rate_rule, rate_text, IsGiven, IsJob, IsJobOf, IsNumberIn, Mean, EndsBy, EndsWords};
 
 use clap::error::ErrorKind;
 use clap::{Arg, ArgAction, ArgMatches, Command, value_parser};
@@ -44,7 +44,13 @@ const RUN_INPUT: &str = r#"Standard input has four parts, which lines of %% divi
 The output is the history of the calls, a line of %%, and the book of every
 transmission and drop. A run keeps its input, the table of each cycle, all
 frames under way and its book in memory, so one of 100000 cycles and millions
-of transmissions takes gigabytes, and tells nothing before it ends."#;
+of transmissions takes gigabytes, and tells nothing before it ends.
+
+With --threads each bridge and each administrator of the script has a thread of
+its own. The lines of the script before its first seal are done before they
+start. Each administrator does its later lines in order while the bridges run,
+and later lines seal are passed over, since the cycles are closed meanwhile. So
+the history may differ from run to run. The book is always that of the history."#;
 
 /// What the help of `report` says of standard input and of its work.
 const REPORT_INPUT: &str =
@@ -61,8 +67,8 @@ pub enum Job {
     Line { cycles: u32 },
     /// The configuration of a domain and its streams.
     Compile,
-    /// The history and the book of a scenario.
-    Run { cycles: u32 },
+    /// The history and the book of a scenario, on one thread or on threads of its bridges and administrators.
+    Run { cycles: u32, threads: bool },
     /// The sums by link of a scenario's book.
     Report { cycles: u32 },
 }
@@ -108,6 +114,17 @@ fn cycles_option<'a>(alloc: Global) -> Arg<'a>
         .value_parser(value_parser!(u64).range(1..100_001))
 }
 
+/// The flag `--threads`.
+fn threads_flag<'a>(alloc: Global) -> Arg<'a>
+    ensures rule { rule_of result ≡ flag_rule (codes "threads") }
+    ensures own { result.global ≡ false }
+{
+    Arg::new(alloc, "threads")
+        .long("threads")
+        .action(ArgAction::SetTrue)
+        .help("a thread for each bridge and each administrator of the script")
+}
+
 /// `port --until N [--rate RATE]`.
 fn port_command<'a>(alloc: Global) -> Result<Command<'a>, AllocError>
     ensures app { IfOk result (λ command. app_of command ≡ port_app) }
@@ -141,7 +158,7 @@ fn compile_command<'a>(alloc: Global) -> Command<'a>
         .after_help(COMPILE_INPUT)
 }
 
-/// `run --cycles N`.
+/// `run --cycles N [--threads]`.
 fn run_command<'a>(alloc: Global) -> Result<Command<'a>, AllocError>
     ensures app { IfOk result (λ command. app_of command ≡ run_app) }
     ensures local { IfOk result (λ command. (out-Command command).has_globals ≡ false) }
@@ -149,7 +166,8 @@ fn run_command<'a>(alloc: Global) -> Result<Command<'a>, AllocError>
     Command::new(alloc, "run")
         .about("the history and the book of a domain, its streams, a script and offers")
         .after_help(RUN_INPUT)
-        .arg(cycles_option(alloc))
+        .arg(cycles_option(alloc))?
+        .arg(threads_flag(alloc))
 }
 
 /// `report --cycles N`.
@@ -274,7 +292,17 @@ fn cycles_of(values: &ArgMatches<'_>) -> Option<u32>
     }
 }
 
-/// The job of a command that takes a number of cycles and nothing else, by its name and its values.
+/// Whether the flag is given.
+fn is_given(values: &ArgMatches<'_>, id: &str) -> bool
+    ensures { IsGiven result (first_of id.now (rows_of (found_of values.now))) }
+{
+    match text_of(values, id) {
+        Some("true") => true,
+        _ => false,
+    }
+}
+
+/// The job of a command that takes a number of cycles, by its name and its values.
 fn cycles_job(name: &str, values: &ArgMatches<'_>) -> Option<Job>
     requires not_port { name.now ≢ codes "port" }
     requires not_compile { name.now ≢ codes "compile" }
@@ -286,7 +314,10 @@ fn cycles_job(name: &str, values: &ArgMatches<'_>) -> Option<Job>
     };
     match name {
         "line" => Some(Job::Line { cycles }),
-        "run" => Some(Job::Run { cycles }),
+        "run" => Some(Job::Run {
+            cycles,
+            threads: is_given(values, "threads"),
+        }),
         "report" => Some(Job::Report { cycles }),
         _ => None,
     }

@@ -8,3 +8,9 @@ mod Wiring
 mod Unwiring
 mod HandedTables
 mod SealedCycles
+mod Zipped
+mod Joining
+mod Seating
+mod Preparing
+mod Apart
+mod Accounts

@@ -1,9 +1,11 @@
 -- The links of a bridge, of its ports and of its batches.
-use Rattle.std.proofs.Common.{ℕ, ◌≡◌, ◌<◌, ◌∷◌, [], List, AllPairs, length, map, refl, sym, ap, ◌∙◌, arith, inl, inr, subst, Contains}
-use Rattle.std.specs.Prelude.{filter, if◌then◌else◌, true}
+use Rattle.std.proofs.Common.{ℕ, ◌≡◌, ◌<◌, ◌∷◌, [], Bool, List, AllPairs, length, map, refl, sym, ap, ◌∙◌, arith, subst, Contains}
+use Rattle.std.specs.Prelude.{false, filter, if◌then◌else◌, true}
 use Rattle.std.specs.List.{zip}
-use Rattle.std.proofs.lemmas.Bool.{cases_Bool, cond-false, cond-true}
+use Rattle.std.proofs.lemmas.Bool.{cond-true}
 use Rattle.std.proofs.lemmas.List.{length-map}
+use Rattle.std.proofs.lemmas.List.Kept.{AllPairs-filter}
+use Rattle.cqf_lists.specs.Lists.{each_below}
 use Rattle.cqf_lists.proofs.EachBelow.{contains_below}
 use Rattle.cqf_lists.proofs.Filters.{filter-map}
 use Rattle.cqf_lists.proofs.Made.{contains_if_there}
@@ -11,7 +13,7 @@ use Rattle.cqf_lists.proofs.Members.{contains_here, contains_one}
 use Rattle.cqf_lists.proofs.Pairs.{pairs_below, pairs_none, pairs_one}
 use Rattle.cqf_model.specs.declared.frames.Backed.{Backed}
 use Rattle.cqf_model.specs.declared.frames.Dropped.{Dropped}
-use Rattle.cqf_model.specs.Domain.{Domain, enters}
+use Rattle.cqf_model.specs.Domain.{Domain, enters, leaves}
 use Rattle.cqf_model.specs.Port.{Transmission}
 use Rattle.cqf_model.specs.Run.{Run}
 use Rattle.cqf_bridge.specs.Batch.{LinkBatch}
@@ -31,19 +33,30 @@ link_listed d bridge l ends =
     contains_below (λ k. if enters d k bridge then k ∷ [] else []) (length d.links) l l (link_ending d bridge l ends)
     (subst (λ (ks : List ℕ). Contains ks l) (sym (cond-true (enters d l bridge) (l ∷ []) [] ends)) (contains_here l []))
 
--- these links ascend
-pub links_ascend : (d : Domain) (bridge : ℕ) → AllPairs (λ (a b : ℕ). a < b) (links_into d bridge)
-links_ascend d bridge = pairs_below (λ (a b : ℕ). a < b) (λ k. if enters d k bridge then k ∷ [] else []) (length d.links)
-    (λ k below. elim (cases_Bool (enters d k bridge)) [
-      | inl t ↦ subst (AllPairs (λ (a b : ℕ). a < b)) (sym (cond-true (enters d k bridge) (k ∷ []) [] t)) (pairs_one (λ (a b : ℕ). a < b) k)
-      | inr f ↦ subst (AllPairs (λ (a b : ℕ). a < b)) (sym (cond-false (enters d k bridge) (k ∷ []) [] f)) (pairs_none (λ (a b : ℕ). a < b))
-    ])
+-- numbers that pass a test ascend
+numbers_ascend : (test : ℕ → Bool) (n : ℕ) → AllPairs (λ (a b : ℕ). a < b) (each_below (λ k. if test k then k ∷ [] else []) n)
+numbers_ascend test n =
+    pairs_below (λ (a b : ℕ). a < b) (λ k. if test k then k ∷ [] else []) n (λ k below. one (test k) k)
     (λ j k x y less below cx cy. omega (
       arith,
       less,
-      contains_one j x (contains_if_there (enters d j bridge) (j ∷ []) x cx).1,
-      contains_one k y (contains_if_there (enters d k bridge) (k ∷ []) y cy).1,
+      contains_one j x (contains_if_there (test j) (j ∷ []) x cx).1,
+      contains_one k y (contains_if_there (test k) (k ∷ []) y cy).1,
     ))
+  where
+    -- one number, or none
+    one : (b : Bool) (k : ℕ) → AllPairs (λ (a c : ℕ). a < c) (if b then k ∷ [] else [])
+    one true k = pairs_one (λ (a c : ℕ). a < c) k
+    one false k = pairs_none (λ (a c : ℕ). a < c)
+
+-- so do the links that end in a bridge
+pub links_ascend : (d : Domain) (bridge : ℕ) → AllPairs (λ (a b : ℕ). a < b) (links_into d bridge)
+links_ascend d bridge = numbers_ascend (λ k. enters d k bridge) (length d.links)
+
+-- and those that leave it and end in another
+pub onward_ascend : (d : Domain) (bridge : ℕ) → AllPairs (λ (a b : ℕ). a < b) (links_onward d bridge)
+onward_ascend d bridge =
+    AllPairs-filter (λ (a b : ℕ). a < b) (ends_in_bridge d) (links_from d bridge) (numbers_ascend (λ k. leaves d k bridge) (length d.links))
 
 -- the batches that ports make are of the ports' links
 batch_links : (cycle : ℕ) (backed : List Backed) (ports : List PortRecord) (made : List (List Transmission)) → length made ≡ length ports →

@@ -8,3 +8,7 @@ pub mod Laying
 pub mod Closing
 pub mod Commands
 pub mod Handing
+pub mod Faults
+pub mod Running
+pub mod Conducting
+pub mod Account

@@ -1,5 +1,7 @@
-//! What bridges hand one another when each runs on a thread of its own.
+//! A network under administration, with a thread for each bridge and each administrator.
 //!
+//! - [`conduct`] runs it, and gives an [`Account`], the history of all calls and the book of every transmission and drop, or else a
+//!   [`ConductFault`].
 //! - [`pipe`] gives the two ends of a channel between two threads: one puts items, the other takes them in that order. Both
 //!   ends together tell how many items are still under way.
 //! - [`Carried`] is what such a pipe carries in a run: an item, or that none comes any more.
@@ -10,12 +12,20 @@
 //! into.put(rt, 1), into.put(rt, 2), into.put(rt, 3)      Ok, each time
 //! out.take(rt), out.take(rt)                             Some(1), Some(2)
 //! into.close(out)                                        1: the item 3 is under way
+//!
+//! conduct(rt, alloc, &domain, admission, &offers, &[], 5, admins, &Free)
+//!                                                        an Account: what the compiled gate lists demand for its history
 //! ```
 #![tactic(auto)]
 
+mod account;
 mod calling;
 mod carried;
 mod closing;
+mod conducting;
+#[cfg(test)]
+mod failing;
+mod faults;
 mod laying;
 mod pace;
 mod pipe_ends;
@@ -24,8 +34,12 @@ mod ports;
 mod rows;
 mod sealing;
 mod stepping;
+mod threads;
 mod worker;
 
+pub use account::Account;
 pub use carried::Carried;
+pub use conducting::conduct;
+pub use faults::ConductFault;
 pub use pace::{Free, Pace};
 pub use pipe_ends::{PipeIn, PipeOut, pipe};

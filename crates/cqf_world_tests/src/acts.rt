@@ -1,6 +1,6 @@
 //! Events, and what a world answers to them.
 use cqf_admission::Command;
-use cqf_topology::Request;
+use cqf_fixtures::{Asked, request};
 use cqf_units::Memory;
 use cqf_world::{Applied, Event, World};
 use std::alloc::Global;
@@ -17,33 +17,13 @@ pub(crate) enum Act {
     Post(u8),
 }
 
-/// The nodes of the line, in order.
-const LINE_NODES: &[&str] = &["a", "b", "c", "s"];
-
-/// The line as a branch.
-fn line_branch(alloc: Global) -> Result<Vec<String>, Memory> {
-    let mut branch = Vec::new(alloc);
-    for node in LINE_NODES {
-        branch.push(String::from_str(alloc, node)?)?;
-    }
-    Ok(branch)
-}
-
-/// A request for the stream `x` over the line, of 1,500 octets a cycle.
-fn request_x(alloc: Global) -> Result<Request, Memory> {
-    let mut paths = Vec::new(alloc);
-    paths.push(line_branch(alloc)?)?;
-    Ok(Request {
-        name: String::from_str(alloc, "x")?,
-        octets: 1500,
-        paths,
-    })
-}
+/// The stream `x` over the line.
+const X: Asked = ("x", 1500, &[&["a", "b", "c", "s"]]);
 
 /// The event itself.
 fn event_of(alloc: Global, act: Act) -> Result<Event, Memory> {
     match act {
-        Act::Admit => Ok(Event::Call(0, Command::Admit(request_x(alloc)?))),
+        Act::Admit => Ok(Event::Call(0, Command::Admit(request(alloc, &X)?))),
         Act::Withdraw => Ok(Event::Call(0, Command::Withdraw(String::from_str(alloc, "x")?))),
         Act::Seal => Ok(Event::Seal(1)),
         Act::Give(bridge) => Ok(Event::Give(bridge)),

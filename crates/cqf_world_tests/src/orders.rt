@@ -1,9 +1,9 @@
 //! The events of one run in many orders.
 use crate::acts::{Act, happens};
-use crate::making::{Backing, Offering, add_background, add_offers, begin, plan_of};
+use crate::making::{begin, plan_of};
 use crate::written::{Written, are_written};
 use cqf_compile::Plan;
-use cqf_fixtures::line;
+use cqf_fixtures::{Backing, Offering, background_of, line, offers_of};
 use cqf_model::{Background, Offer, Reason};
 use cqf_world::World;
 use std::alloc::Global;
@@ -39,7 +39,12 @@ const OTHERS: &[Act] = &[
 ];
 
 /// What is offered: a frame, one at another bridge, one behind the withdrawal, and one when nothing is held of the stream any more.
-const OFFERS: &[Offering] = &[(0, 0, 64), (0, 1, 64), (125000, 0, 64), (500000, 0, 64)];
+const OFFERS: &[Offering] = &[
+    (0, 0, "x", 64),
+    (0, 1, "x", 64),
+    (125000, 0, "x", 64),
+    (500000, 0, "x", 64),
+];
 
 /// Two background frames, of classes 0 and 5.
 const BACKGROUND: &[Backing] = &[(0, 1, 0, 1522), (125000, 0, 5, 1522)];
@@ -167,14 +172,14 @@ fn each_order_gives_them(
 
 /// Whether it does so on the line.
 fn line_gives_them(alloc: Global) -> bool {
-    let mut offers = Vec::new(alloc);
-    let mut background = Vec::new(alloc);
+    let Ok(offers) = offers_of(alloc, OFFERS) else {
+        return false;
+    };
+    let Ok(background) = background_of(alloc, BACKGROUND) else {
+        return false;
+    };
     match plan_of(alloc, line()) {
-        Some(plan) => {
-            add_offers(OFFERS, &mut offers)
-                && add_background(BACKGROUND, &mut background)
-                && each_order_gives_them(alloc, &plan, offers.as_slice(), background.as_slice())
-        }
+        Some(plan) => each_order_gives_them(alloc, &plan, offers.as_slice(), background.as_slice()),
         None => false,
     }
 }

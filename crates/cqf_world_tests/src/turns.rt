@@ -1,9 +1,9 @@
 //! Events in turn, and out of turn.
 use crate::acts::{Act, all_happen, none_happens};
-use crate::making::{add_offers, begin, plan_of};
+use crate::making::{begin, plan_of};
 use crate::written::{Written, are_written};
 use cqf_compile::Plan;
-use cqf_fixtures::{line, one_link};
+use cqf_fixtures::{line, offers_of, one_link};
 use cqf_model::{Offer, Receipt, Refused, Reply};
 use cqf_units::Cycle;
 use cqf_world::World;
@@ -233,12 +233,11 @@ fn passes_over(alloc: Global, plan: &Plan, offers: &[Offer], trial: Trial) -> bo
 
 /// Whether it goes so on the line, where 64 octets are offered at the first instant.
 fn line_passes(alloc: Global, trial: Trial) -> bool {
-    let mut offers = Vec::new(alloc);
+    let Ok(offers) = offers_of(alloc, &[(0, 0, "x", 64)]) else {
+        return false;
+    };
     match plan_of(alloc, line()) {
-        Some(plan) => {
-            add_offers(&[(0, 0, 64)], &mut offers)
-                && passes_over(alloc, &plan, offers.as_slice(), trial)
-        }
+        Some(plan) => passes_over(alloc, &plan, offers.as_slice(), trial),
         None => false,
     }
 }

@@ -1,13 +1,8 @@
 //! Pages that a world has posted, beside those that are expected.
 use cqf_book::Pages;
-use cqf_model::{Dropped, Page, Reason, Started};
+use cqf_fixtures::{Begun, Fell, are_begun, are_dropped};
+use cqf_model::Page;
 use cqf_units::Cycle;
-
-/// A start: its cycle, its link, its frame, its octets and its instant.
-pub(crate) type Begun = (u32, u8, u32, u32, u64);
-
-/// A drop: its cycle, its bridge, its frame, its octets and its reason.
-pub(crate) type Fell = (u32, u8, u32, u32, Reason);
 
 /// A page that isn't empty: its bridge and its cycle, and what stands on it.
 pub(crate) struct Written {
@@ -16,34 +11,6 @@ pub(crate) struct Written {
     pub(crate) starts: &'static [Begun],
     pub(crate) background: &'static [Begun],
     pub(crate) drops: &'static [Fell],
-}
-
-/// Whether starts have these values.
-fn are_begun(starts: &[Started], rows: &[Begun]) -> bool {
-    starts.len() == rows.len()
-        && starts.iter().zip(rows).all(|(start, row)| {
-            (
-                start.cycle.0,
-                start.link,
-                start.frame,
-                start.octets,
-                start.start.0,
-            ) == *row
-        })
-}
-
-/// Whether drops have these values.
-fn are_dropped(drops: &[Dropped], rows: &[Fell]) -> bool {
-    drops.len() == rows.len()
-        && drops.iter().zip(rows).all(|(drop, row)| {
-            (
-                drop.cycle.0,
-                drop.bridge,
-                drop.frame,
-                drop.octets,
-                drop.reason,
-            ) == *row
-        })
 }
 
 /// Whether a page is of the bridge and cycle, and has these starts and drops.

@@ -1,8 +1,8 @@
 use Rattle.std.proofs.Common.{List, ℕ, map, subst}
-use Rattle.std.proofs.lemmas.Result.{IfOk-weaker}
+use Rattle.std.proofs.lemmas.Result.{IfErr-weaker, IfOk-weaker}
 use Rattle.cqf_engine.specs.Edge.{reading}
-use Rattle.cqf_engine.specs.Run.{IsOutput}
-use Rattle.cqf_engine.proofs.RunLemmas.{HasRun-given, IsStopped-by_words, IsWithin-means}
+use Rattle.cqf_engine.specs.Run.{IsEnd, IsOutput}
+use Rattle.cqf_engine.proofs.RunLemmas.{HasRun-given, IsStopped-by_given, IsStopped-by_words, IsWithin-means}
 use Rattle.cqf_engine.proofs.runs.run_given.Goals as goal
 
 pub returns-in-Err-clause-err : goal.returns-in-Err-clause-err
@@ -10,12 +10,20 @@ returns-in-Err-clause-err g c = IsStopped-by_words (map (λ word. word.now) c.ar
     c.in-Err.stop c.requires.given c.requires.unheard.sound c.in-Err.ensures.err
 
 pub returns-clause-ok : goal.returns-clause-ok
-returns-clause-ok g c = IfOk-weaker c.answer.result _ _
+returns-clause-ok g c = IfOk-weaker c.output_of.result _ _
     (λ output h. HasRun-given (map (λ word. word.now) c.args.words.now)
     (reading g.R.Read.remaining c.args.input.now c.read_input.new.input) output.items c.in-Ok.job
     c.requires.given c.in_default.ensures.sound c.in_default.ensures.end c.in_default.ensures.short c.in-Ok.ensures.ok
     (subst (λ (input : List ℕ). IsOutput c.in-Ok.job input output.items) c.bytes.ensures h))
-    c.answer.ensures.ok
+    c.output_of.ensures.ok
 
-pub answer-requires-after_bounds : goal.answer-requires-after_bounds
-answer-requires-after_bounds g c = λ _ _. IsWithin-means (map (λ word. word.now) c.args.words.now) c.in-Ok.job c.in-Ok.ensures.ok
+pub output_of-requires-after_bounds : goal.output_of-requires-after_bounds
+output_of-requires-after_bounds g c = λ _ _. IsWithin-means (map (λ word. word.now) c.args.words.now) c.in-Ok.job c.in-Ok.ensures.ok
+
+pub returns-clause-err : goal.returns-clause-err
+returns-clause-err g c = IfErr-weaker c.output_of.result _ _
+    (λ stop h. IsStopped-by_given (map (λ word. word.now) c.args.words.now)
+    (reading g.R.Read.remaining c.args.input.now c.read_input.new.input) c.in-Ok.job stop
+    c.requires.given c.in_default.ensures.sound c.in_default.ensures.end c.in_default.ensures.short c.in-Ok.ensures.ok
+    (subst (λ (input : List ℕ). IsEnd c.in-Ok.job input stop) c.bytes.ensures h))
+    c.output_of.ensures.err

@@ -16,5 +16,5 @@ returns-in-Err-clause-err g c =
     (subst IsUtf8 c.split_first_line.ensures.line c.in-Ok.ensures.cases.1)
     (subst (λ (words : List (List ℕ)). EndsWords words c.in-Err.stop) same c.in-Err.ensures.err)
 
-pub answer-requires-after_bounds : goal.answer-requires-after_bounds
-answer-requires-after_bounds g c = λ _ _. IsWithin-means (map (λ word. word.now) c.as_slice.result.now) c.in-Ok-read_words.job c.in-Ok-read_words.ensures.ok
+pub output_of-requires-after_bounds : goal.output_of-requires-after_bounds
+output_of-requires-after_bounds g c = λ _ _. IsWithin-means (map (λ word. word.now) c.as_slice.result.now) c.in-Ok-read_words.job c.in-Ok-read_words.ensures.ok

@@ -1,0 +1,44 @@
+//! Flags that threads raise, and read until others are up.
+use std::sync::atomic::{AtomicU64, Ordering};
+
+/// How often a thread reads two flags before it gives up: 200,000,000 reads in all.
+const ROUNDS: u32 = 100_000_000;
+
+/// A flag, which is down at first and is never lowered.
+#[derive(Drop)]
+pub(crate) struct Flag {
+    raised: AtomicU64,
+}
+
+impl Flag {
+    /// A flag that is down.
+    pub(crate) fn new() -> Flag {
+        Flag {
+            raised: AtomicU64::new(0),
+        }
+    }
+
+    /// Raises it.
+    pub(crate) fn raise(&self) {
+        self.raised.store(1, Ordering::SeqCst);
+    }
+
+    /// Whether it is up.
+    pub(crate) fn is_up(&self) -> bool {
+        self.raised.load(Ordering::SeqCst) == 1
+    }
+}
+
+/// Reads two flags until both are up. Where they aren't in the end, the flag of those who gave up is raised: whoever waits from then
+/// on gives up at once.
+pub(crate) fn wait_for_both(one: &Flag, other: &Flag, gave_up: &Flag) {
+    if gave_up.is_up() {
+        return;
+    }
+    for _round in 0..ROUNDS {
+        if one.is_up() && other.is_up() {
+            return;
+        }
+    }
+    gave_up.raise();
+}

@@ -1,0 +1,31 @@
+//! Streams that are asked for.
+
+use cqf_topology::Request;
+use cqf_units::Memory;
+use std::alloc::Global;
+
+/// A stream: its name, its octets a cycle, and its branches.
+pub type Asked = (&'static str, u32, &'static [&'static [&'static str]]);
+
+/// The names of some nodes.
+fn names(alloc: Global, nodes: &[&str]) -> Result<Vec<String>, Memory> {
+    let mut list = Vec::new(alloc);
+    for node in nodes {
+        list.push(String::from_str(alloc, node)?)?;
+    }
+    Ok(list)
+}
+
+/// A request for a stream. `Memory` where a growth is refused.
+pub fn request(alloc: Global, asked: &Asked) -> Result<Request, Memory> {
+    let (name, octets, branches) = *asked;
+    let mut paths = Vec::new(alloc);
+    for nodes in branches {
+        paths.push(names(alloc, nodes)?)?;
+    }
+    Ok(Request {
+        name: String::from_str(alloc, name)?,
+        octets,
+        paths,
+    })
+}

@@ -1,0 +1,73 @@
+-- A run on threads before they begin, and when all have ended (profile).
+use Rattle.std.specs.Prelude.{ℕ, ◌≡◌, ◌+◌, ◌++◌, List, [], ◌∷◌, All, length, map, replicate}
+use Rattle.cqf_model.specs.declared.frames.Background.{Background}
+use Rattle.cqf_model.specs.declared.frames.Offer.{Offer}
+use Rattle.cqf_model.specs.Book.{contents_of}
+use Rattle.cqf_model.specs.Domain.{Domain}
+use Rattle.cqf_model.specs.History.{Recorded}
+use Rattle.cqf_admission.specs.declared.entries.Command.{Command}
+use Rattle.cqf_book.specs.Pages.{Posted}
+use Rattle.cqf_book.specs.Shares.{IsBookOfShares, Own, new_shares}
+use Rattle.cqf_desk.specs.Closing.{IsClosed}
+use Rattle.cqf_desk.specs.Desk.{Counter, Sitting, fresh_seats}
+use Rattle.cqf_worker.specs.declared.account.Account.{Account}
+use Rattle.cqf_worker.specs.declared.conducting.Prepared.{Prepared}
+use Rattle.cqf_worker.specs.declared.threads.Administrator.{Administrator}
+use Rattle.cqf_worker.specs.declared.threads.Ended.{Ended}
+use Rattle.cqf_worker.specs.declared.worker.Worker.{Worker}
+use Rattle.cqf_worker.specs.Closing.{share_at}
+use Rattle.cqf_worker.specs.Handing.{TableEnd}
+use Rattle.cqf_worker.specs.Laying.{traffic_of}
+use Rattle.cqf_worker.specs.Wires.{AreFed, AreGiven, AreWired, AreWorkersOf, Wiring, pipe_of_tables, tables_pipe}
+
+-- a book of so many cycles in which nothing stands, and a share for each of its bridges
+pub record AreBooked (d : Domain) (cycles : ℕ) (book : Posted) (shares : List Own) : Type 0 where
+  pub empty : book ≡ record { bridges = length d.bridges; cycles = cycles; pages = replicate (length d.bridges) [] }
+  pub one_each : shares ≡ new_shares (length d.bridges)
+
+-- what an administrator is to make, and with which seat
+abbrev pub commands_of : Administrator → List Command
+commands_of a = a.commands.items
+
+abbrev pub seat_of : Administrator → Sitting
+seat_of a = a.seat
+
+-- each administrator has its commands and the seat of its number, and the conductor has the next seat; nobody has called yet
+pub record AreSeatedFor (admins : List (List Command)) (administrators : List Administrator) (conductor : Sitting) : Type 0 where
+  pub commands : map commands_of administrators ≡ admins
+  pub seats : map seat_of administrators ≡ fresh_seats (length admins)
+  pub next : conductor ≡ record { number = length admins; calls = []; tables = [] }
+
+-- the workers of all bridges, which have done nothing, with pipes between them, and an end of each one's pipe for tables
+pub record AreLaidFor (d : Domain) (offers : List Offer) (background : List Background) (those : List Worker) (ends : List TableEnd) : Type 0 where
+  pub many : length those ≡ length d.bridges
+  pub workers : AreWorkersOf (traffic_of d offers background) those
+  pub wired : (wiring : Wiring) × AreWired wiring those
+  pub tables : map pipe_of_tables ends ≡ map tables_pipe those
+  pub nothing_put : All (λ (end : TableEnd). end.items ≡ []) ends
+
+-- a run that is ready to begin
+pub record IsPrepared (d : Domain) (opening : List Recorded) (offers : List Offer) (background : List Background) (cycles : ℕ)
+    (admins : List (List Command)) (p : Prepared) : Type 0 where
+  pub desk : p.desk ≡ record { opening = record { domain = d; entries = opening }; seats = length admins + 1 }
+  pub book : p.book ≡ record { bridges = length d.bridges; cycles = cycles; pages = replicate (length d.bridges) [] }
+  pub laid : AreLaidFor d offers background p.ready.workers.items p.ready.tables.items
+  pub seated : AreSeatedFor admins p.ready.administrators.items p.ready.conductor
+
+-- all seats in the end: the administrators', and behind them the conductor's
+abbrev pub all_seats : Ended → List Sitting
+all_seats e = e.seats.items ++ e.sealed.seat ∷ []
+
+-- all pipes are closed: what was taken from each is the beginning of what was put there, and the shares are those of the workers
+pub record AreShut (ends : List TableEnd) (those : List Worker) (shares : List Own) : Type 0 where
+  pub fed : AreFed those
+  pub given : AreGiven ends those
+  pub own : shares ≡ map share_at those
+
+-- its pipes, its desk and its book are closed: what was taken from each pipe is the beginning of what was put there, the history is that
+-- of the seats, and the book that of the shares
+pub record IsSettled (desk : Counter) (book : Posted) (e : Ended) (account : Account) : Type 0 where
+  pub fed : AreFed e.workers.items
+  pub given : AreGiven e.sealed.tables.items e.workers.items
+  pub history : IsClosed desk (all_seats e) account.history
+  pub book_of : IsBookOfShares book (map share_at e.workers.items) (contents_of account.book)

@@ -1,0 +1,11 @@
+//! What a run on threads gives.
+
+use cqf_desk::History;
+use cqf_model::Book;
+
+/// What a run on threads gives: the history of all calls, and the book of every transmission and drop (profile).
+#[derive(Debug, Drop)]
+pub struct Account {
+    pub history: History,
+    pub book: Book,
+}

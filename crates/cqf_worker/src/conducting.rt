@@ -1,0 +1,287 @@
+//! The conductor: a whole run on threads.
+ghost use Rattle.std.specs.Prelude.{◌≡◌, ◌≤◌, ◌+◌, IfOk, Ok, length, map};
+ghost use Rattle.cqf_book.specs.Shares.{IsBookOfShares, new_shares};
+ghost use Rattle.cqf_desk.specs.Closing.{IsClosed};
+ghost use Rattle.cqf_desk.specs.Desk.{fresh_seats};
+ghost use Rattle.cqf_model.specs.Book.{contents_of};
+ghost use Rattle.cqf_model.specs.History.{seals};
+ghost use Rattle.cqf_model.specs.Run.{AreBackground, AreOffers};
+ghost use Rattle.cqf_worker.specs.Account.{IsAccount};
+ghost use Rattle.cqf_worker.specs.Conducting.{AreBooked, AreLaidFor, AreSeatedFor, AreShut, IsPrepared, IsSettled};
+ghost use Rattle.cqf_worker.specs.Wires.{AreWired, Wiring, pipe_of_tables, tables_pipe};
+
+use crate::account::Account;
+use crate::carried::Carried;
+use crate::closing::{ClosingFault, close_pipes};
+use crate::faults::{ConductFault, Faults};
+use crate::laying::{Laid, lay};
+use crate::pace::Pace;
+use crate::pipe_ends::PipeIn;
+use crate::sealing::Sealed;
+use crate::threads::{Administrator, Ended, Ready, run_threads};
+use crate::worker::Worker;
+use cqf_admission::{Admission, Command, Table};
+use cqf_book::{BookClose, CycleBook, Pages, Share};
+use cqf_compile::compile;
+use cqf_desk::{CloseFault, Desk, History, Seat};
+use cqf_laws_account::{bridges_apart_give_the_book, seats_give_the_history};
+use cqf_laws_book::book_of_history_says_the_shift;
+use cqf_laws_bridge::history_loses_nothing;
+use cqf_model::{Background, Book, Offer};
+use cqf_topology::Domain;
+use std::alloc::Global;
+use std::sync::Wait;
+use std::thread::Threads;
+
+/// A run that is ready to begin: its desk, its book, and what its threads begin with.
+#[derive(Drop)]
+pub(crate) struct Prepared {
+    pub(crate) desk: Desk,
+    pub(crate) book: CycleBook,
+    pub(crate) ready: Ready,
+}
+
+/// A desk of the admission with a seat for each administrator and one for the conductor.
+fn open_desk(
+    alloc: Global,
+    admission: Admission,
+    admins: usize,
+) -> Result<(Desk, Vec<Seat>), ConductFault>
+    ensures desk { IfOk result (λ made. made.0 ≡ record { opening = admission; seats = admins + 1 }) }
+    ensures seats { IfOk result (λ made. made.1.items ≡ fresh_seats (admins + 1)) }
+{
+    if admins >= usize::from(u16::MAX) {
+        return Err(ConductFault::Spawn);
+    }
+    let Ok(seats) = u16::try_from(admins + 1) else {
+        return Err(ConductFault::Spawn);
+    };
+    match Desk::new(alloc, admission, seats) {
+        Ok(made) => Ok(made),
+        Err(_) => Err(ConductFault::Memory),
+    }
+}
+
+/// Gives each administrator its seat, and the conductor the one behind them.
+fn seat_each(
+    alloc: Global,
+    seats: Vec<Seat>,
+    admins: Vec<Vec<Command>>,
+) -> Result<(Vec<Administrator>, Seat), ConductFault>
+    requires { seats.items ≡ fresh_seats (length admins.items + 1) }
+    ensures { IfOk result (λ seated. AreSeatedFor (map (λ c. c.items) admins.items) seated.0.items seated.1) }
+{
+    let mut left = seats.into_iter();
+    let mut administrators = Vec::new(alloc);
+    for commands in admins {
+        let Some(seat) = left.next() else {
+            unreachable!()
+        };
+        let administrator = Administrator { seat, commands };
+        let Ok(()) = administrators.push(administrator) else {
+            return Err(ConductFault::Memory);
+        };
+    }
+    let Some(conductor) = left.next() else {
+        unreachable!()
+    };
+    Ok((administrators, conductor))
+}
+
+/// An empty book of the domain's bridges, and a share for each.
+pub(crate) fn open_book(
+    alloc: Global,
+    domain: &Domain,
+    cycles: u32,
+) -> Result<(CycleBook, Vec<Share>), ConductFault>
+    requires { cycles ≤ 100000 }
+    ensures { IfOk result (λ made. AreBooked domain.now cycles made.0 made.1.items) }
+{
+    let _accepted = domain.cycle_time();
+    let Ok(pages) = Pages::new(alloc, domain.bridges(), cycles) else {
+        return Err(ConductFault::Memory);
+    };
+    match CycleBook::new(alloc, pages) {
+        Ok(made) => Ok(made),
+        Err(_) => Err(ConductFault::Memory),
+    }
+}
+
+/// The workers of the domain's bridges, with pipes between them.
+pub(crate) fn lay_all(
+    alloc: Global,
+    domain: &Domain,
+    offers: &[Offer],
+    background: &[Background],
+    shares: Vec<Share>,
+) -> Result<Laid, ConductFault>
+    requires shares { shares.items ≡ new_shares (length domain.now.bridges) }
+    requires offers { AreOffers domain.now offers.now }
+    requires few_offers { length offers.now ≤ 1000000 }
+    requires background { AreBackground domain.now background.now }
+    requires few_background { length background.now ≤ 1000000 }
+    ensures { IfOk result (λ laid. AreLaidFor domain.now offers.now background.now laid.workers.items laid.tables.items) }
+{
+    let Ok(plan) = compile(alloc, domain) else {
+        return Err(ConductFault::Memory);
+    };
+    match lay(alloc, &plan, offers, background, shares) {
+        Ok(laid) => Ok(laid),
+        Err(_) => Err(ConductFault::Memory),
+    }
+}
+
+/// Makes all that a run begins with.
+fn prepare(
+    alloc: Global,
+    domain: &Domain,
+    admission: Admission,
+    offers: &[Offer],
+    background: &[Background],
+    cycles: u32,
+    admins: Vec<Vec<Command>>,
+) -> Result<Prepared, ConductFault>
+    requires domain { admission.domain ≡ domain.now }
+    requires short { cycles ≤ 100000 }
+    requires offers { AreOffers domain.now offers.now }
+    requires few_offers { length offers.now ≤ 1000000 }
+    requires background { AreBackground domain.now background.now }
+    requires few_background { length background.now ≤ 1000000 }
+    ensures { IfOk result (IsPrepared domain.now admission.entries offers.now background.now cycles (map (λ c. c.items) admins.items)) }
+{
+    let (desk, seats) = open_desk(alloc, admission, admins.len())?;
+    let (administrators, conductor) = seat_each(alloc, seats, admins)?;
+    let (book, shares) = open_book(alloc, domain, cycles)?;
+    let Laid { workers, tables } = lay_all(alloc, domain, offers, background, shares)?;
+    let ready = Ready {
+        workers,
+        tables,
+        administrators,
+        conductor,
+    };
+    Ok(Prepared { desk, book, ready })
+}
+
+/// Closes a desk.
+fn close_desk(desk: Desk, seats: Vec<Seat>) -> Result<History, ConductFault>
+    ensures { IfOk result (λ history. IsClosed desk seats.items history) }
+{
+    match desk.close(seats) {
+        Ok(history) => Ok(history),
+        Err(CloseFault::Memory) => Err(ConductFault::Memory),
+        Err(_) => Err(ConductFault::DeskDisagrees),
+    }
+}
+
+/// Closes a book.
+fn close_book(book: CycleBook, shares: Vec<Share>) -> Result<Book, ConductFault>
+    ensures { IfOk result (λ closed. IsBookOfShares book shares.items (contents_of closed)) }
+{
+    match book.close(shares) {
+        Ok(book) => Ok(book),
+        Err(BookClose::Memory) => Err(ConductFault::Memory),
+        Err(_) => Err(ConductFault::BookDisagrees),
+    }
+}
+
+/// An account of a history and a book, or the fault that is told first.
+fn account_of(
+    history: Result<History, ConductFault>,
+    book: Result<Book, ConductFault>,
+) -> Result<Account, ConductFault>
+    ensures { IfOk result (λ account. (history ≡ Ok account.history) × (book ≡ Ok account.book)) }
+{
+    match (history, book) {
+        (Ok(history), Ok(book)) => Ok(Account { history, book }),
+        (Err(one), Err(other)) => {
+            let mut faults = Faults::none();
+            faults.note(one);
+            faults.note(other);
+            Err(faults.told().unwrap_or(one))
+        }
+        (Err(fault), Ok(_)) => Err(fault),
+        (Ok(_), Err(fault)) => Err(fault),
+    }
+}
+
+/// Closes the pipes of a run.
+fn shut_pipes(
+    alloc: Global,
+    tables: Vec<PipeIn<Carried<Table>>>,
+    workers: Vec<Worker>,
+) -> Result<Vec<Share>, ConductFault>
+    requires wired { (wiring : Wiring) × AreWired wiring workers.items }
+    requires tables { map pipe_of_tables tables.items ≡ map tables_pipe workers.items }
+    ensures { IfOk result (λ shares. AreShut tables.items workers.items shares.items) }
+{
+    match close_pipes(alloc, tables, workers) {
+        Ok(shares) => Ok(shares),
+        Err(ClosingFault::Memory) => Err(ConductFault::Memory),
+        Err(ClosingFault::ChannelLost) => Err(ConductFault::ChannelLost),
+    }
+}
+
+/// The account of a run whose threads have ended: it closes its pipes, its desk and its book.
+fn settle(alloc: Global, desk: Desk, book: CycleBook, ended: Ended) -> Result<Account, ConductFault>
+    requires wired { (wiring : Wiring) × AreWired wiring ended.workers.items }
+    requires tables { map pipe_of_tables ended.sealed.tables.items ≡ map tables_pipe ended.workers.items }
+    ensures { IfOk result (IsSettled desk book ended) }
+{
+    let Ended {
+        workers,
+        mut seats,
+        sealed,
+    } = ended;
+    let Sealed { seat, tables } = sealed;
+    let shares = shut_pipes(alloc, tables, workers)?;
+    let Ok(()) = seats.push(seat) else {
+        return Err(ConductFault::Memory);
+    };
+    let history = close_desk(desk, seats);
+    let closed = close_book(book, shares);
+    let account = account_of(history, closed)?;
+    Ok(account)
+}
+
+/// Runs a network under administration: a thread for each bridge of the domain, one for each administrator, and the calling one,
+/// which closes the cycles. Administrator i makes its commands in order with seat i, while the bridges run; the cycles are closed
+/// with the next seat. What comes of it is one history and one book, and the book is the one that the compiled gate lists demand for
+/// that history, whatever turns the threads took (IEEE 802.1Q, Annex T; history and book: profile).
+///
+/// The admission is for that domain and has no Seal yet. `cycles` is at most 100,000; there are at most 1,000,000 offers, each at a
+/// bridge of the domain, and 1,000,000 background frames, each on a link of it. Before each command and before each step of a bridge
+/// the pace is asked, while no lock is held. It waits until all threads have ended.
+///
+/// Refused with the first fault in the order that [`ConductFault`] tells; then the history and the book are gone.
+pub fn conduct<R: Threads + Wait + Sync, P: Pace>(
+    rt: &R,
+    alloc: Global,
+    domain: &Domain,
+    admission: Admission,
+    offers: &[Offer],
+    background: &[Background],
+    cycles: u32,
+    admins: Vec<Vec<Command>>,
+    pace: &P,
+) -> Result<Account, ConductFault>
+    requires domain { admission.domain ≡ domain.now }
+    requires unsealed { seals admission.entries ≡ 0 }
+    requires short { cycles ≤ 100000 }
+    requires offers { AreOffers domain.now offers.now }
+    requires few_offers { length offers.now ≤ 1000000 }
+    requires background { AreBackground domain.now background.now }
+    requires few_background { length background.now ≤ 1000000 }
+    ensures { IfOk result (IsAccount domain.now admission.entries offers.now background.now cycles (map (λ c. c.items) admins.items)) }
+{
+    seats_give_the_history();
+    bridges_apart_give_the_book();
+    book_of_history_says_the_shift();
+    history_loses_nothing();
+    let _accepted = domain.cycle_time();
+    let Prepared { desk, book, ready } = prepare(
+        alloc, domain, admission, offers, background, cycles, admins,
+    )?;
+    let ended = run_threads(rt, alloc, pace, &desk, &book, cycles, ready)?;
+    let account = settle(alloc, desk, book, ended)?;
+    Ok(account)
+}

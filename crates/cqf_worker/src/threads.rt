@@ -1,0 +1,383 @@
+//! The threads of a run: one a bridge, one an administrator, and the conductor's own.
+ghost use Rattle.std.specs.Prelude.{◌≡◌, ◌≤◌, [], All, IfOk, Ok, map};
+ghost use Rattle.std.specs.List.{AllZip};
+ghost use Rattle.cqf_worker.specs.Faults.{IsClean, Tells};
+ghost use Rattle.cqf_worker.specs.Running.{Answers, CallsOf, HasOneMore, IsEnded, IsReady, MayWork};
+ghost use Rattle.cqf_worker.specs.Workers.{Works};
+
+use crate::calling::{CallFault, make_calls};
+use crate::carried::Carried;
+use crate::faults::{ConductFault, Faults};
+use crate::pace::Pace;
+use crate::pipe_ends::PipeIn;
+use crate::sealing::{Sealed, SealingFault, seal_all};
+use crate::worker::{Worker, WorkerFault, work};
+use cqf_admission::{Command, Table};
+use cqf_book::CycleBook;
+use cqf_bridge::BridgeFault;
+use cqf_desk::{Desk, Seat};
+use std::alloc::Global;
+use std::snapshot::Snapshot;
+use std::sync::Wait;
+use std::thread;
+use std::thread::{Promise, PromisedHandle, Scope, Threads};
+
+/// An administrator with its seat at the desk and the commands that it is to make.
+#[derive(Drop)]
+pub(crate) struct Administrator {
+    pub(crate) seat: Seat,
+    pub(crate) commands: Vec<Command>,
+}
+
+/// What the threads of a run begin with: the workers of all bridges and the ends at which their tables are put, both by number,
+/// the administrators by number, and the conductor's seat.
+#[derive(Drop)]
+pub(crate) struct Ready {
+    pub(crate) workers: Vec<Worker>,
+    pub(crate) tables: Vec<PipeIn<Carried<Table>>>,
+    pub(crate) administrators: Vec<Administrator>,
+    pub(crate) conductor: Seat,
+}
+
+/// What they have in the end: the workers again, the administrators' seats, both by number, and what the conductor has.
+#[derive(Drop)]
+pub(crate) struct Ended {
+    pub(crate) workers: Vec<Worker>,
+    pub(crate) seats: Vec<Seat>,
+    pub(crate) sealed: Sealed,
+}
+
+/// Why a worker gave up, with the number of its bridge.
+#[derive(Clone, Copy, Debug, Drop)]
+pub(crate) struct GaveUp {
+    pub(crate) bridge: u8,
+    pub(crate) fault: WorkerFault,
+}
+
+/// That a worker's thread gives what its work promises, and names its own bridge where it gives up.
+#[derive(Drop)]
+pub(crate) struct OfWorker {
+    cycles: u32,
+    worker: Snapshot<Worker>,
+}
+
+impl Promise<Result<Worker, GaveUp>> for OfWorker {
+    ghost use Rattle.cqf_worker.specs.Running.{Answers};
+
+    ghost kept_by = { λ p r. Answers p.cycles p.worker.value r };
+}
+
+/// That an administrator's thread makes its commands with its seat.
+#[derive(Drop)]
+struct OfAdministrator {
+    administrator: Snapshot<Administrator>,
+}
+
+impl Promise<Result<Seat, CallFault>> for OfAdministrator {
+    ghost use Rattle.std.specs.Prelude.{IfOk};
+    ghost use Rattle.cqf_worker.specs.Running.{CallsOf};
+
+    ghost kept_by = { λ p r. IfOk r (CallsOf p.administrator.value) };
+}
+
+/// A worker's thread.
+pub(crate) type Working = PromisedHandle<Result<Worker, GaveUp>, OfWorker>;
+
+/// An administrator's thread.
+type Calling = PromisedHandle<Result<Seat, CallFault>, OfAdministrator>;
+
+/// Goes through all cycles with a worker. Where it gives up it names its bridge.
+fn work_all<R: Wait, P: Pace>(
+    rt: &R,
+    alloc: Global,
+    pace: &P,
+    book: &CycleBook,
+    cycles: u32,
+    worker: Worker,
+) -> Result<Worker, GaveUp>
+    requires few { cycles ≤ 100000 }
+    requires new { MayWork worker }
+    ensures { Answers cycles worker result }
+{
+    let bridge = worker.bridge.number();
+    match work(rt, alloc, pace, book, cycles, worker) {
+        Ok(done) => Ok(done),
+        Err(fault) => Err(GaveUp { bridge, fault }),
+    }
+}
+
+/// Starts a thread for each worker. Where one can't be started, or memory is refused, the workers that aren't started are let go of.
+pub(crate) fn start_workers<'s, E, R: Threads + Wait + Sync, P: Pace>(
+    alloc: Global,
+    scope: &'s Scope<'s, E>,
+    rt: &'s R,
+    pace: &'s P,
+    book: &'s CycleBook,
+    cycles: u32,
+    workers: Vec<Worker>,
+) -> Result<Vec<Working>, ConductFault>
+    requires few { cycles ≤ 100000 }
+    requires new { All MayWork workers.items }
+    ensures of { IfOk result (λ handles. map (λ h. h.promise.worker.value) handles.items ≡ workers.items) }
+    ensures cycles { IfOk result (λ handles. All (λ h. h.promise.cycles ≡ cycles) handles.items) }
+{
+    let mut handles = Vec::new(alloc);
+    for worker in workers {
+        let promise = OfWorker {
+            cycles,
+            worker: Snapshot::of(&worker),
+        };
+        let Ok(handle) = scope.spawn_with(
+            promise,
+            move || -> Result<Worker, GaveUp>
+                requires { (cycles ≤ 100000) × MayWork worker }
+                ensures { Answers cycles worker result }
+            { work_all(rt, alloc, pace, book, cycles, worker) },
+        ) else {
+            return Err(ConductFault::Spawn);
+        };
+        let Ok(()) = handles.push(handle) else {
+            return Err(ConductFault::Memory);
+        };
+    }
+    Ok(handles)
+}
+
+/// Makes all of an administrator's commands.
+fn call_all<R: Wait, P: Pace>(
+    rt: &R,
+    pace: &P,
+    desk: &Desk,
+    administrator: Administrator,
+) -> Result<Seat, CallFault>
+    requires { administrator.seat.calls ≡ [] }
+    ensures { IfOk result (CallsOf administrator) }
+{
+    let Administrator { seat, commands } = administrator;
+    let number = usize::from(seat.number());
+    make_calls(rt, pace, desk, number, seat, commands)
+}
+
+/// Starts a thread for each administrator, in the same way.
+fn start_administrators<'s, E, R: Threads + Wait + Sync, P: Pace>(
+    alloc: Global,
+    scope: &'s Scope<'s, E>,
+    rt: &'s R,
+    pace: &'s P,
+    desk: &'s Desk,
+    administrators: Vec<Administrator>,
+) -> Result<Vec<Calling>, ConductFault>
+    requires fresh { All (λ a. a.seat.calls ≡ []) administrators.items }
+    ensures of { IfOk result (λ handles. map (λ h. h.promise.administrator.value) handles.items ≡ administrators.items) }
+{
+    let mut handles = Vec::new(alloc);
+    for administrator in administrators {
+        let promise = OfAdministrator {
+            administrator: Snapshot::of(&administrator),
+        };
+        let Ok(handle) = scope.spawn_with(
+            promise,
+            move || -> Result<Seat, CallFault>
+                requires { administrator.seat.calls ≡ [] }
+                ensures { IfOk result (CallsOf administrator) }
+            { call_all(rt, pace, desk, administrator) },
+        ) else {
+            return Err(ConductFault::Spawn);
+        };
+        let Ok(()) = handles.push(handle) else {
+            return Err(ConductFault::Memory);
+        };
+    }
+    Ok(handles)
+}
+
+/// Notes why a bridge's worker gave up: a fault of its bridge with that bridge's number.
+fn note_worker(faults: &mut Faults, why: GaveUp)
+    ensures some { IsClean faults.new → ⊥ }
+    ensures bridge { (reason : BridgeFault) → why.fault ≡ WorkerFault.Bridge reason → Tells faults.old faults.new (ConductFault.Bridge why.bridge reason) }
+{
+    match why.fault {
+        WorkerFault::Bridge(reason) => faults.note(ConductFault::Bridge(why.bridge, reason)),
+        WorkerFault::Memory => faults.note(ConductFault::Memory),
+        WorkerFault::Book(_) => faults.note(ConductFault::BookDisagrees),
+        WorkerFault::Stopped => faults.note_stop(),
+    }
+}
+
+/// Notes why an administrator gave up.
+fn note_caller(faults: &mut Faults, fault: CallFault)
+    ensures { IsClean faults.new → ⊥ }
+{
+    match fault {
+        CallFault::HistoryFull => faults.note(ConductFault::DeskDisagrees),
+        CallFault::Memory => faults.note(ConductFault::Memory),
+    }
+}
+
+/// Notes why the conductor gave up.
+fn note_conductor(faults: &mut Faults, fault: SealingFault)
+    ensures { IsClean faults.new → ⊥ }
+{
+    match fault {
+        SealingFault::Memory => faults.note(ConductFault::Memory),
+        SealingFault::CyclesSpent => faults.note(ConductFault::DeskDisagrees),
+        SealingFault::Lost => faults.note_stop(),
+    }
+}
+
+/// Waits for a worker's thread. Where it notes no fault, the worker stands behind the others.
+fn join_worker<R: Threads + Wait>(
+    rt: &R,
+    handle: Working,
+    workers: &mut Vec<Worker>,
+    faults: &mut Faults,
+)
+    ensures before { IsClean faults.new → IsClean faults.old }
+    ensures done { IsClean faults.new → HasOneMore (Works handle.promise.cycles handle.promise.worker.value) workers.old.items workers.new.items }
+{
+    match handle.join(rt) {
+        Ok(worker) => {
+            let Ok(()) = workers.push(worker) else {
+                return faults.note(ConductFault::Memory);
+            };
+        }
+        Err(why) => note_worker(faults, why),
+    }
+}
+
+/// Waits for all workers' threads. Where nothing has gone wrong in the end, each has done its part.
+pub(crate) fn join_workers<R: Threads + Wait>(
+    rt: &R,
+    alloc: Global,
+    handles: Vec<Working>,
+    faults: &mut Faults,
+) -> Vec<Worker>
+    ensures before { IsClean faults.new → IsClean faults.old }
+    ensures done { IsClean faults.new → AllZip (λ h done. Works h.promise.cycles h.promise.worker.value done) handles.items result.items }
+{
+    let mut workers = Vec::new(alloc);
+    for handle in handles {
+        join_worker(rt, handle, &mut workers, faults);
+    }
+    workers
+}
+
+/// Waits for an administrator's thread, in the same way.
+fn join_administrator<R: Threads + Wait>(
+    rt: &R,
+    handle: Calling,
+    seats: &mut Vec<Seat>,
+    faults: &mut Faults,
+)
+    ensures before { IsClean faults.new → IsClean faults.old }
+    ensures done { IsClean faults.new → HasOneMore (CallsOf handle.promise.administrator.value) seats.old.items seats.new.items }
+{
+    match handle.join(rt) {
+        Ok(seat) => {
+            let Ok(()) = seats.push(seat) else {
+                return faults.note(ConductFault::Memory);
+            };
+        }
+        Err(fault) => note_caller(faults, fault),
+    }
+}
+
+/// Waits for all administrators' threads.
+fn join_administrators<R: Threads + Wait>(
+    rt: &R,
+    alloc: Global,
+    handles: Vec<Calling>,
+    faults: &mut Faults,
+) -> Vec<Seat>
+    ensures before { IsClean faults.new → IsClean faults.old }
+    ensures done { IsClean faults.new → AllZip (λ h done. CallsOf h.promise.administrator.value done) handles.items result.items }
+{
+    let mut seats = Vec::new(alloc);
+    for handle in handles {
+        join_administrator(rt, handle, &mut seats, faults);
+    }
+    seats
+}
+
+/// Starts all threads, closes the cycles while they run, and waits for them.
+fn run_in<'s, E, R: Threads + Wait + Sync, P: Pace>(
+    alloc: Global,
+    scope: &'s Scope<'s, E>,
+    rt: &'s R,
+    pace: &'s P,
+    desk: &'s Desk,
+    book: &'s CycleBook,
+    cycles: u32,
+    ready: Ready,
+) -> Result<Ended, ConductFault>
+    requires { IsReady cycles ready }
+    ensures { IfOk result (IsEnded cycles ready) }
+{
+    let Ready {
+        workers,
+        tables,
+        administrators,
+        conductor,
+    } = ready;
+    let working = start_workers(alloc, scope, rt, pace, book, cycles, workers)?;
+    let calling = start_administrators(alloc, scope, rt, pace, desk, administrators)?;
+    let mut faults = Faults::none();
+    let sealed = seal_all(rt, alloc, desk, conductor, tables, cycles);
+    let seats = join_administrators(rt, alloc, calling, &mut faults);
+    let workers = join_workers(rt, alloc, working, &mut faults);
+    let ended = all_ended(faults, workers, seats, sealed)?;
+    Ok(ended)
+}
+
+/// What the threads have in the end, if nothing has gone wrong.
+fn all_ended(
+    mut faults: Faults,
+    workers: Vec<Worker>,
+    seats: Vec<Seat>,
+    sealed: Result<Sealed, SealingFault>,
+) -> Result<Ended, ConductFault>
+    ensures { IfOk result (λ all. IsClean faults × (all.workers ≡ workers) × (all.seats ≡ seats) × (sealed ≡ Ok all.sealed)) }
+{
+    match sealed {
+        Ok(sealed) => match faults.told() {
+            Some(fault) => Err(fault),
+            None => Ok(Ended {
+                workers,
+                seats,
+                sealed,
+            }),
+        },
+        Err(fault) => {
+            note_conductor(&mut faults, fault);
+            match faults.told() {
+                Some(told) => Err(told),
+                None => unreachable!(),
+            }
+        }
+    }
+}
+
+/// Runs the threads: each worker goes through all cycles and each administrator makes its commands on a thread of its own, while
+/// this one closes the cycles and hands their tables on. It returns when all threads have ended: `Spawn` where a thread couldn't be
+/// started, and else the first fault in its order, if there is one. It waits for threads, pipes and locks.
+pub(crate) fn run_threads<R: Threads + Wait + Sync, P: Pace>(
+    rt: &R,
+    alloc: Global,
+    pace: &P,
+    desk: &Desk,
+    book: &CycleBook,
+    cycles: u32,
+    ready: Ready,
+) -> Result<Ended, ConductFault>
+    requires { IsReady cycles ready }
+    ensures { IfOk result (IsEnded cycles ready) }
+{
+    thread::scope(
+        thread::scope_env(),
+        rt,
+        move |scope| -> Result<Ended, ConductFault>
+            requires { IsReady cycles ready }
+            ensures { IfOk result (IsEnded cycles ready) }
+        { run_in(alloc, scope, rt, pace, desk, book, cycles, ready) },
+    )
+}
