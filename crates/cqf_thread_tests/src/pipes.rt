@@ -1,7 +1,7 @@
 //! Pipes, with values by hand.
 ghost use Rattle.std.specs.Prelude.{◌≡◌, ◌≤◌, length};
 
-use cqf_worker::{PipeIn, PipeOut, pipe};
+use cqf_pipe::{PipeIn, PipeOut, pipe};
 use std::alloc::Global;
 use std::sync::Wait;
 use std::sync::atomic::{AtomicU64, Ordering};

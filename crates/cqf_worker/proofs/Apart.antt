@@ -36,7 +36,7 @@ use Rattle.cqf_worker.specs.declared.carried.Carried.TheVariants.{Item}
 use Rattle.cqf_worker.specs.declared.worker.Worker.{Worker}
 use Rattle.cqf_worker.specs.Closing.{share_at}
 use Rattle.cqf_worker.specs.Handing.{TableEnd}
-use Rattle.cqf_worker.specs.PipeEnds.{PipeId}
+use Rattle.cqf_pipe.specs.PipeEnds.{PipeId}
 use Rattle.cqf_worker.specs.Rows.{wire_of, wires_of}
 use Rattle.cqf_worker.specs.Wires.{AreFed, AreGiven, AreOn, AreWired, AreWorkersOf, BatchPort, IsBeginning, Wiring, pipe_of_tables, tables_pipe}
 use Rattle.cqf_worker.specs.Workers.{HasGoneThrough, Works, batches_at, course_of, ends_in_bridge, item_in, items_in, link_of, links_onward, rows_in}

@@ -4,7 +4,7 @@ use Rattle.std.specs.Prelude.{drop, take}
 use Rattle.std.proofs.lemmas.List.{append-nil, drop_all, take_all, set-get_or}
 use Rattle.std.proofs.lemmas.List.Elements.{All-cons, All-head, All-nil, All-tail}
 use Rattle.cqf_worker.specs.declared.ports.Port.{Port}
-use Rattle.cqf_worker.specs.PipeEnds.{End}
+use Rattle.cqf_pipe.specs.PipeEnds.{End}
 use Rattle.cqf_worker.specs.Rows.{MayHaveGot, wires_of, with_each, with_item_at}
 
 module _ {T : Type 0} where

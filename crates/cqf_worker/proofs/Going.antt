@@ -28,7 +28,7 @@ use Rattle.cqf_laws_course.specs.Courses.{Traffic, taken_in}
 use Rattle.cqf_worker.specs.declared.carried.Carried.{Carried}
 use Rattle.cqf_worker.specs.declared.carried.Carried.TheVariants.{Item}
 use Rattle.cqf_worker.specs.declared.worker.Worker.{Worker}
-use Rattle.cqf_worker.specs.PipeEnds.{End}
+use Rattle.cqf_pipe.specs.PipeEnds.{End}
 use Rattle.cqf_worker.specs.Rows.{wires_of, with_each}
 use Rattle.cqf_worker.specs.Stepping.{GoesOn, HasPorts, MayGoOn, onward}
 use Rattle.cqf_worker.specs.Workers.{HasCarried, HasGoneThrough, IsUnused, IsWorkerOf, Works, batches_at, contents_on, course_of, ends_in_bridge, items_in, link_of, links_onward, rows_in}

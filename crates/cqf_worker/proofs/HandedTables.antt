@@ -5,7 +5,7 @@ use Rattle.std.proofs.lemmas.Bool.{cases_eq}
 use Rattle.std.proofs.lemmas.List.{get_or_default, get_or-set_other, get_or-set_same, length-set}
 use Rattle.std.proofs.Math.Seq.{map-set_same}
 use Rattle.cqf_worker.specs.Handing.{GivesEach, GivesFew, pipes_of}
-use Rattle.cqf_worker.specs.PipeEnds.{End}
+use Rattle.cqf_pipe.specs.PipeEnds.{End}
 
 -- the first ends, so many, have the item more where all have it; those behind are as they were
 pub record HandsOn {T : Type 0} (x : T) (before after : List (End T)) (count : ℕ) (all : Bool) : Type 0 where

@@ -1,4 +1,3 @@
-mod PipeSteps
 mod Each
 mod Batches
 mod Onward

@@ -18,7 +18,7 @@ use Rattle.cqf_worker.specs.declared.carried.Carried.{Carried}
 use Rattle.cqf_worker.specs.declared.closing.Parts.{Parts}
 use Rattle.cqf_worker.specs.declared.worker.Worker.{Worker}
 use Rattle.cqf_worker.specs.Closing.{AreFedBy, AreGivenBy, ArePartsOf, HasLostOne, HaveMore, IsFedBy, IsPartner, share_at, tables_at}
-use Rattle.cqf_worker.specs.PipeEnds.{AreLeft, End, PipeId}
+use Rattle.cqf_pipe.specs.PipeEnds.{AreLeft, End, PipeId}
 use Rattle.cqf_worker.specs.Wires.{AreFed, AreGiven, AreOn, BatchPort, IsOn, LackEnds, Wiring, count_on, ins_at, outs_at, pipe_of_tables, tables_pipe}
 
 -- lists end to end with one more list behind

@@ -22,7 +22,7 @@ use Rattle.cqf_laws_course.specs.Courses.{Traffic}
 use Rattle.cqf_worker.specs.declared.carried.Carried.{Carried}
 use Rattle.cqf_worker.specs.declared.worker.Worker.{Worker}
 use Rattle.cqf_worker.specs.Laying.{AreBare, AreLaid, ArePorts, HasIn, HasOut, IsBare, IsLaid, LaysFirst, LaysLink, LaysPipe, first_into, first_onward}
-use Rattle.cqf_worker.specs.PipeEnds.{End, PipeId}
+use Rattle.cqf_pipe.specs.PipeEnds.{End, PipeId}
 use Rattle.cqf_worker.specs.Wires.{AreOn, AreWired, AreWorkersOf, BatchPort, IsOn, Wiring, pipe_of_tables, tables_pipe}
 use Rattle.cqf_worker.specs.Workers.{IsUnused, IsWorkerOf, ends_in_bridge, is_bridge, link_of}
 

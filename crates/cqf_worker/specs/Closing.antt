@@ -7,7 +7,7 @@ use Rattle.cqf_bridge.specs.Batch.{LinkBatch}
 use Rattle.cqf_worker.specs.declared.carried.Carried.{Carried}
 use Rattle.cqf_worker.specs.declared.closing.Parts.{Parts}
 use Rattle.cqf_worker.specs.declared.worker.Worker.{Worker}
-use Rattle.cqf_worker.specs.PipeEnds.{End}
+use Rattle.cqf_pipe.specs.PipeEnds.{End}
 use Rattle.cqf_worker.specs.Wires.{BatchPort, IsBeginning, count_on, ins_at, outs_at}
 
 -- what a worker has

@@ -4,7 +4,7 @@ use Rattle.cqf_model.specs.History.{Seals}
 use Rattle.cqf_admission.specs.Tables.{CycleTable}
 use Rattle.cqf_desk.specs.Desk.{Sitting}
 use Rattle.cqf_laws_account.specs.Seated.{acts_of}
-use Rattle.cqf_worker.specs.PipeEnds.{End, PipeId}
+use Rattle.cqf_pipe.specs.PipeEnds.{End, PipeId}
 use Rattle.cqf_worker.specs.declared.carried.Carried.{Carried}
 use Rattle.cqf_worker.specs.declared.carried.Carried.TheVariants.{Item}
 

@@ -1,5 +1,3 @@
-pub mod PipeRule
-pub mod PipeEnds
 pub mod Rows
 pub mod Workers
 pub mod Stepping

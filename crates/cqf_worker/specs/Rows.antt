@@ -1,7 +1,7 @@
 -- Items that are put at several ports, or taken there, one at each (profile).
 use Rattle.std.specs.Prelude.{ℕ, ◌≡◌, ◌⊎◌, List, [], ◌∷◌, ◌++◌, map}
 use Rattle.cqf_worker.specs.declared.ports.Port.{Port}
-use Rattle.cqf_worker.specs.PipeEnds.{End, PipeId}
+use Rattle.cqf_pipe.specs.PipeEnds.{End, PipeId}
 
 module _ {T : Type 0} where
   -- a port's link and pipe, which stay whatever is put or taken

@@ -19,7 +19,7 @@ use Rattle.cqf_worker.specs.declared.carried.Carried.{Carried}
 use Rattle.cqf_worker.specs.declared.carried.Carried.TheVariants.{Item}
 use Rattle.cqf_worker.specs.declared.ports.Port.{Port}
 use Rattle.cqf_worker.specs.declared.worker.Worker.{Worker}
-use Rattle.cqf_worker.specs.PipeEnds.{End}
+use Rattle.cqf_pipe.specs.PipeEnds.{End}
 use Rattle.cqf_worker.specs.Rows.{with_each, with_item}
 use Rattle.cqf_worker.specs.Workers.{ends_in_bridge, link_of, links_onward}
 

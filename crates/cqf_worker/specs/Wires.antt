@@ -6,7 +6,7 @@ use Rattle.cqf_laws_course.specs.Courses.{Traffic}
 use Rattle.cqf_worker.specs.declared.carried.Carried.{Carried}
 use Rattle.cqf_worker.specs.declared.ports.Port.{Port}
 use Rattle.cqf_worker.specs.declared.worker.Worker.{Worker}
-use Rattle.cqf_worker.specs.PipeEnds.{End, PipeId}
+use Rattle.cqf_pipe.specs.PipeEnds.{End, PipeId}
 use Rattle.cqf_worker.specs.Workers.{IsWorkerOf}
 
 -- an end of a pipe of batches, with the number of its link

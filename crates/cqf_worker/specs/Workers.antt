@@ -21,7 +21,7 @@ use Rattle.cqf_worker.specs.declared.carried.Carried.{Carried}
 use Rattle.cqf_worker.specs.declared.carried.Carried.TheVariants.{Item, Stop}
 use Rattle.cqf_worker.specs.declared.ports.Port.{Port}
 use Rattle.cqf_worker.specs.declared.worker.Worker.{Worker}
-use Rattle.cqf_worker.specs.PipeEnds.{End}
+use Rattle.cqf_pipe.specs.PipeEnds.{End}
 use Rattle.cqf_worker.specs.Rows.{wires_of}
 
 -- whether a link ends in a bridge, and not in a station

@@ -18,7 +18,7 @@ ghost use Rattle.cqf_worker.specs.Wires.{
 };
 
 use crate::carried::Carried;
-use crate::pipe_ends::{PipeIn, PipeOut};
+use cqf_pipe::{PipeIn, PipeOut};
 use crate::ports::Port;
 use crate::worker::Worker;
 use cqf_admission::Table;

@@ -16,7 +16,7 @@ use crate::closing::{ClosingFault, close_pipes};
 use crate::faults::{ConductFault, Faults};
 use crate::laying::{Laid, lay};
 use crate::pace::Pace;
-use crate::pipe_ends::PipeIn;
+use cqf_pipe::PipeIn;
 use crate::sealing::Sealed;
 use crate::threads::{Administrator, Ended, Ready, run_threads};
 use crate::worker::Worker;

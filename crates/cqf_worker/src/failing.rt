@@ -8,7 +8,7 @@ use crate::conducting::{lay_all, open_book};
 use crate::faults::{ConductFault, Faults};
 use crate::laying::Laid;
 use crate::pace::Free;
-use crate::pipe_ends::PipeIn;
+use cqf_pipe::PipeIn;
 use crate::threads::{join_workers, start_workers};
 use crate::worker::Worker;
 use cqf_admission::{Admission, Table};

@@ -6,7 +6,7 @@ ghost use Rattle.cqf_worker.specs.Laying.{AreBare, HasIn, HasOut, IsBare, LaysFi
 ghost use Rattle.cqf_worker.specs.Wires.{AreWired, AreWorkersOf, Wiring, pipe_of_tables, tables_pipe};
 
 use crate::carried::Carried;
-use crate::pipe_ends::{PipeIn, PipeOut, pipe};
+use cqf_pipe::{PipeIn, PipeOut, pipe};
 use crate::ports::Port;
 use crate::worker::Worker;
 use cqf_admission::Table;

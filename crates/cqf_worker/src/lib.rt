@@ -2,17 +2,11 @@
 //!
 //! - [`conduct`] runs it, and gives an [`Account`], the history of all calls and the book of every transmission and drop, or else a
 //!   [`ConductFault`].
-//! - [`pipe`] gives the two ends of a channel between two threads: one puts items, the other takes them in that order. Both
-//!   ends together tell how many items are still under way.
+//! - [`pipe`] gives the two ends of a channel between two threads.
 //! - [`Carried`] is what such a pipe carries in a run: an item, or that none comes any more.
 //! - [`Pace`] is what a run's threads do before each step, and [`Free`] lets them go on at once.
 //!
 //! ```text
-//! let (mut into, mut out) = pipe(alloc)?;
-//! into.put(rt, 1), into.put(rt, 2), into.put(rt, 3)      Ok, each time
-//! out.take(rt), out.take(rt)                             Some(1), Some(2)
-//! into.close(out)                                        1: the item 3 is under way
-//!
 //! conduct(rt, alloc, &domain, admission, &offers, &[], 5, admins, &Free)
 //!                                                        an Account: what the compiled gate lists demand for its history
 //! ```
@@ -28,8 +22,6 @@ mod failing;
 mod faults;
 mod laying;
 mod pace;
-mod pipe_ends;
-mod pipe_rule;
 mod ports;
 mod rows;
 mod sealing;
@@ -40,6 +32,6 @@ mod worker;
 pub use account::Account;
 pub use carried::Carried;
 pub use conducting::conduct;
+pub use cqf_pipe::{PipeIn, PipeOut, pipe};
 pub use faults::ConductFault;
 pub use pace::{Free, Pace};
-pub use pipe_ends::{PipeIn, PipeOut, pipe};

@@ -3,11 +3,11 @@ ghost use Rattle.std.specs.Prelude.{◌≡◌, ◌<◌, ℕ, All, List, IfOk, If
 ghost use Rattle.cqf_worker.specs.declared.carried.Carried.TheVariants.{Item, Stop};
 ghost use Rattle.cqf_worker.specs.declared.carried.Carried as carried;
 ghost use Rattle.cqf_worker.specs.declared.ports.Port as ported;
-ghost use Rattle.cqf_worker.specs.PipeEnds.{End};
+ghost use Rattle.cqf_pipe.specs.PipeEnds.{End};
 ghost use Rattle.cqf_worker.specs.Rows.{MayHaveGot, with_each};
 
 use crate::carried::Carried;
-use crate::pipe_ends::{PipeIn, PipeOut};
+use cqf_pipe::{PipeIn, PipeOut};
 use crate::ports::Port;
 use cqf_units::Memory;
 use std::alloc::Global;

@@ -4,7 +4,7 @@ ghost use Rattle.cqf_worker.specs.declared.carried.Carried.TheVariants.{Item};
 ghost use Rattle.cqf_worker.specs.Handing.{GivesEach, GivesFew, HasSealed, SealsOne, pipes_of};
 
 use crate::carried::Carried;
-use crate::pipe_ends::PipeIn;
+use cqf_pipe::PipeIn;
 use cqf_admission::{SealFault, Table};
 use cqf_desk::{Desk, Seat};
 use cqf_units::Memory;

@@ -12,7 +12,7 @@ ghost use Rattle.cqf_worker.specs.Workers.{ends_in_bridge, link_of, links_onward
 
 use crate::carried::Carried;
 use crate::pace::Pace;
-use crate::pipe_ends::{PipeIn, PipeOut};
+use cqf_pipe::{PipeIn, PipeOut};
 use crate::ports::Port;
 use crate::rows::{put_each, take_each};
 use crate::worker::{Worker, WorkerFault};

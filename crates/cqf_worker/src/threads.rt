@@ -9,7 +9,7 @@ use crate::calling::{CallFault, make_calls};
 use crate::carried::Carried;
 use crate::faults::{ConductFault, Faults};
 use crate::pace::Pace;
-use crate::pipe_ends::PipeIn;
+use cqf_pipe::PipeIn;
 use crate::sealing::{Sealed, SealingFault, seal_all};
 use crate::worker::{Worker, WorkerFault, work};
 use cqf_admission::{Command, Table};

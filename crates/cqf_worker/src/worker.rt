@@ -5,7 +5,7 @@ ghost use Rattle.cqf_worker.specs.Workers.{IsWorkerOf, Works};
 
 use crate::carried::Carried;
 use crate::pace::Pace;
-use crate::pipe_ends::{PipeIn, PipeOut};
+use cqf_pipe::{PipeIn, PipeOut};
 use crate::ports::Port;
 use crate::rows::stop_each;
 use crate::stepping::work_cycle;

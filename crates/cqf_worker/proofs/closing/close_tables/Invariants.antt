@@ -3,7 +3,7 @@ use Rattle.std.specs.Vec.Iter.{into_iter_items}
 use Rattle.cqf_admission.specs.Tables.{CycleTable}
 use Rattle.cqf_worker.specs.declared.carried.Carried.{Carried}
 use Rattle.cqf_worker.specs.Closing.{AreGivenBy}
-use Rattle.cqf_worker.specs.PipeEnds.{End}
+use Rattle.cqf_pipe.specs.PipeEnds.{End}
 use Rattle.cqf_worker.proofs.closing.close_tables.Given as goal
 
 -- the pipes so far are closed, each with the end at its place

@@ -4,8 +4,8 @@ use Rattle.atomic_table.specs.declared.badge.Badge.{Badge}
 use Rattle.atomic_table.specs.Seated.{TableId}
 use Rattle.crossbeam_channel.specs.Claims.{Pass, view}
 use Rattle.crossbeam_channel.specs.declared.flavors.array.Key.{Key}
-use Rattle.cqf_worker.specs.declared.pipe_rule.Log.{Log}
-use Rattle.cqf_worker.specs.PipeRule.{log}
+use Rattle.cqf_pipe.specs.declared.pipe_rule.Log.{Log}
+use Rattle.cqf_pipe.specs.PipeRule.{log}
 
 -- which pipe it is
 pub record PipeId (T : Type 0) : Type 0 where

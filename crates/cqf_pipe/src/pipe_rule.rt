@@ -17,7 +17,7 @@ pub(crate) struct InOrder;
 
 impl<T> Protocol<T, Log<T>> for InOrder {
     ghost use Rattle.std.specs.Prelude.{true, []};
-    ghost use Rattle.cqf_worker.specs.PipeRule.{Piped, log};
+    ghost use Rattle.cqf_pipe.specs.PipeRule.{Piped, log};
 
     ghost holds = { Piped };
 
@@ -29,7 +29,7 @@ pub(crate) struct Roles;
 
 impl<T> Split<Log<T>> for Roles {
     ghost use Rattle.std.specs.Prelude.{true, false, []};
-    ghost use Rattle.cqf_worker.specs.PipeRule.{log};
+    ghost use Rattle.cqf_pipe.specs.PipeRule.{log};
 
     ghost left = { λ v. log true false v.put [] };
 
@@ -38,7 +38,7 @@ impl<T> Split<Log<T>> for Roles {
 
 impl<T> Join<Log<T>> for Roles {
     ghost use Rattle.std.specs.Prelude.{true, false, []};
-    ghost use Rattle.cqf_worker.specs.PipeRule.{log};
+    ghost use Rattle.cqf_pipe.specs.PipeRule.{log};
 
     ghost both = { λ v w. log true true v.put w.taken };
 
@@ -49,7 +49,7 @@ impl<T> Join<Log<T>> for Roles {
 pub(crate) struct Puts;
 
 impl<T> Outcome<T, Log<T>> for Puts {
-    ghost use Rattle.cqf_worker.specs.PipeRule.{IsPut};
+    ghost use Rattle.cqf_pipe.specs.PipeRule.{IsPut};
 
     ghost then = { IsPut };
 }
@@ -62,7 +62,7 @@ impl<T> Lesson<T, Log<T>> for Puts {
 pub(crate) struct Takes;
 
 impl<T> Outcome<T, Log<T>> for Takes {
-    ghost use Rattle.cqf_worker.specs.PipeRule.{IsTaken};
+    ghost use Rattle.cqf_pipe.specs.PipeRule.{IsTaken};
 
     ghost then = { IsTaken };
 }
@@ -75,7 +75,7 @@ impl<T> Lesson<T, Log<T>> for Takes {
 pub(crate) struct Total;
 
 impl<T> Lesson<T, Log<T>> for Total {
-    ghost use Rattle.cqf_worker.specs.PipeRule.{IsRest};
+    ghost use Rattle.cqf_pipe.specs.PipeRule.{IsRest};
 
     ghost fact = { IsRest };
 }

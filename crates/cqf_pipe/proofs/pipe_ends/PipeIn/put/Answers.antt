@@ -1,6 +1,6 @@
 use Rattle.std.proofs.Common.{ap, arith, length}
-use Rattle.cqf_worker.proofs.PipeSteps.{sends}
-use Rattle.cqf_worker.proofs.pipe_ends.PipeIn.put.Goals as goal
+use Rattle.cqf_pipe.proofs.PipeSteps.{sends}
+use Rattle.cqf_pipe.proofs.pipe_ends.PipeIn.put.Goals as goal
 
 -- the pass may put, and one more is within the million
 pub send_as-requires-clause-rule : goal.send_as-requires-clause-rule

@@ -5,8 +5,8 @@ use lib.ListN.{get_elem?}
 use Rattle.std.proofs.lemmas.List.{length-append}
 use Rattle.crossbeam_channel.specs.Fifo.{Pushes, Pops, Forks, Merges, Learns}
 use Rattle.atomic_table.proofs.Lists.{at_set, at_snoc}
-use Rattle.cqf_worker.specs.declared.pipe_rule.Log.{Log}
-use Rattle.cqf_worker.specs.PipeRule.{Fits, IsPut, IsRest, IsTaken, Piped, log}
+use Rattle.cqf_pipe.specs.declared.pipe_rule.Log.{Log}
+use Rattle.cqf_pipe.specs.PipeRule.{Fits, IsPut, IsRest, IsTaken, Piped, log}
 
 module _ {T : Type 0} where
   -- what stands at a place of a list with one more, and stood at none before, stands at its end

@@ -2,7 +2,7 @@
 use Rattle.std.specs.Prelude.{ℕ, ◌≡◌, ◌≤◌, ◌++◌, List, [], ◌∷◌, Bool, true, length}
 use mathlib.Core.Option.{some}
 use lib.ListN.{get_elem?}
-use Rattle.cqf_worker.specs.declared.pipe_rule.Log.{Log}
+use Rattle.cqf_pipe.specs.declared.pipe_rule.Log.{Log}
 
 module _ {T : Type 0} where
   -- a view: whether it may put and take, and what it has put and taken

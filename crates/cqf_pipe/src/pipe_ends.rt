@@ -1,6 +1,6 @@
 //! The two ends of a pipe.
 ghost use Rattle.std.specs.Prelude.{◌≡◌, ◌<◌, ◌++◌, [], ◌∷◌, IfErr, IfNone, IfOk, IfSome, OnOk, length};
-ghost use Rattle.cqf_worker.specs.PipeEnds.{AreLeft};
+ghost use Rattle.cqf_pipe.specs.PipeEnds.{AreLeft};
 
 use crate::pipe_rule::{InOrder, Log, Puts, Receiver, Roles, Sender, Takes, Token, Total};
 use cqf_units::Memory;
@@ -24,7 +24,7 @@ impl<T: Drop> Model for PipeIn<T> {
     ghost use Rattle.std.specs.Prelude.{◌≡◌, ◌≤◌, length};
     ghost use Rattle.crossbeam_channel.specs.Claims.{IsSeatAt};
     ghost use Rattle.crossbeam_channel.specs.Ends.{sends_on};
-    ghost use Rattle.cqf_worker.specs.PipeEnds.{End, IsPutter, pipe_of, put_by};
+    ghost use Rattle.cqf_pipe.specs.PipeEnds.{End, IsPutter, pipe_of, put_by};
 
     ghost Value = { End T };
 
@@ -45,7 +45,7 @@ impl<T: Drop> Model for PipeOut<T> {
     ghost use Rattle.std.specs.Prelude.{◌≡◌, ◌≤◌, length};
     ghost use Rattle.crossbeam_channel.specs.Claims.{IsSeatAt};
     ghost use Rattle.crossbeam_channel.specs.Ends.{receives_on};
-    ghost use Rattle.cqf_worker.specs.PipeEnds.{End, IsTaker, pipe_of, taken_by};
+    ghost use Rattle.cqf_pipe.specs.PipeEnds.{End, IsTaker, pipe_of, taken_by};
 
     ghost Value = { End T };
 

@@ -1,6 +1,6 @@
 use Rattle.std.proofs.Common.{ap}
-use Rattle.cqf_worker.proofs.PipeSteps.{receives}
-use Rattle.cqf_worker.proofs.pipe_ends.PipeOut.take.Goals as goal
+use Rattle.cqf_pipe.proofs.PipeSteps.{receives}
+use Rattle.cqf_pipe.proofs.pipe_ends.PipeOut.take.Goals as goal
 
 -- the pass may take
 pub recv_as-requires-clause-rule : goal.recv_as-requires-clause-rule

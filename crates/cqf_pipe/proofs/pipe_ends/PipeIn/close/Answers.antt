@@ -1,6 +1,6 @@
 use Rattle.std.proofs.Common.{ap}
-use Rattle.cqf_worker.proofs.PipeSteps.{merges}
-use Rattle.cqf_worker.proofs.pipe_ends.PipeIn.close.Goals as goal
+use Rattle.cqf_pipe.proofs.PipeSteps.{merges}
+use Rattle.cqf_pipe.proofs.pipe_ends.PipeIn.close.Goals as goal
 
 -- one pass may put, and the other take
 pub absorb-requires-clause-rule : goal.absorb-requires-clause-rule

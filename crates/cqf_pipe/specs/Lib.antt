@@ -1,0 +1,2 @@
+pub mod PipeRule
+pub mod PipeEnds
