@@ -1,18 +1,22 @@
 -- Held streams by name and by number.
-use Rattle.std.proofs.Common.{◌≡◌, ℕ, ◌+◌, ◌-◌, ◌<◌, ◌≤◌, Bool, true, false, cond, List, Some, None, [], ◌∷◌, ◌++◌, nat_eq, get_or, length, position, refl, ap}
+use Rattle.std.proofs.Common.{◌≡◌, ◌≢◌, ℕ, Option, ◌+◌, ◌-◌, ◌<◌, ◌≤◌, Bool, true, false, cond, List, Some, None, [], ◌∷◌, ◌++◌, nat_eq, get_or, length, position, refl, ap}
 use Rattle.std.proofs.Common.{◌∙◌, sym, arith, drop, take, subst, length-append}
-use Rattle.std.specs.Prelude.{map, filter, slice_set, zero, suc, not, nat_lt, remove}
+use Rattle.std.specs.Prelude.{map, filter, slice_set, zero, suc, not, nat_le, nat_lt, remove, IfSome, ◌&&◌}
+use Rattle.std.specs.Option.{option_map_or}
 use Rattle.std.specs.List.{list_any, prefix_len}
 use Rattle.std.specs.Cmp.Lexicographic.{pointwise}
 use Rattle.std.proofs.lemmas.List.{length-map, length-take-le, take-map, drop-map, map-append}
+use Rattle.std.proofs.lemmas.Bool.{le-leb}
 use Rattle.std.proofs.lemmas.List.Edits.{length-remove}
+use Rattle.std.proofs.lemmas.List.Elements.{All-head, All-push, All-tail}
 use Rattle.cqf_units.specs.declared.reservations.Cycle.{Cycle}
 use Rattle.cqf_model.proofs.Texts.{pointwise-is_text}
 use Rattle.cqf_model.specs.declared.topology.Row.{Row}
 use Rattle.cqf_model.specs.Domain.{is_text}
 use Rattle.cqf_units.specs.Timing.{cost_of}
 use Rattle.cqf_lists.proofs.Any.{list_any-map}
-use Rattle.cqf_admission.specs.Rows.{HaveColumns, ended, ended_at, mask_of}
+use Rattle.cqf_model.specs.Table.{is_held, residence}
+use Rattle.cqf_admission.specs.Rows.{AreLasting, HaveColumns, IsLasting, ended, ended_at, mask_of}
 
 -- how many fail before the first that passes, of a mapped list
 prefix_len-map : {X Y : Type 0} (p : Y → Bool) (f : X → Y) (xs : List X) → prefix_len p (map f xs) ≡ prefix_len (λ x. p (f x)) xs
@@ -151,3 +155,32 @@ module _ (p : Row → Bool) (all : List Row) (place : ℕ) (names : List (List �
           few = omega (arith, s.columns.few, ap (λ (rs : List Row). length rs) rows_less, length-remove rows (place - 1) inside);
         };
       }
+
+-- rows that are held for good from a cycle on are so from a later one on
+lasting_later : (cycle later : ℕ) (rows : List Row) → cycle ≤ later → AreLasting cycle rows → AreLasting later rows
+lasting_later cycle later rows le lasting k row inside = let h = lasting k row inside in (omega (arith, le, h.0), h.1)
+
+-- with a row more rows are held for good from a cycle on of which that is known of both
+pub lasting_pushed : (rows : List Row) (row : Row) (before after : Option Cycle) (all : List Row) → IfSome before (λ c. AreLasting c.0 rows) →
+    IfSome after (λ a. IsLasting a.0 row × IfSome before (λ b. b.0 ≤ a.0) × (before ≢ None)) → all ≡ rows ++ row ∷ [] → IfSome after (λ a. AreLasting a.0 all)
+lasting_pushed rows row before None all known with is = with
+lasting_pushed rows row None (Some a) all known with is = absurd (with.2 refl)
+lasting_pushed rows row (Some b) (Some a) all known with is =
+    subst (AreLasting a.0) (sym is) (All-push (IsLasting a.0) rows row (lasting_later b.0 a.0 rows with.1 known) with.0)
+
+-- a row that is held for good is held
+lasting_held : (cycle : ℕ) (row : Row) → IsLasting cycle row → is_held row cycle ≡ true
+lasting_held cycle row lasting =
+    ap (λ (w : Option Cycle). nat_le row.admitted.0 cycle && option_map_or (λ (c : Cycle). nat_lt cycle (c.0 + residence row)) w true) lasting.1
+    ∙ ap (λ (b : Bool). b && true) (le-leb row.admitted.0 cycle lasting.0)
+
+-- so none of them goes, in that cycle or a later one
+stay : (cycle : ℕ) (rows : List Row) → AreLasting cycle rows → filter (λ (row : Row). is_held row cycle) rows ≡ rows
+stay cycle [] lasting = refl
+stay cycle (row ∷ rows) lasting =
+    ap (λ (b : Bool). cond b (row ∷ filter (λ (r : Row). is_held r cycle) rows) (filter (λ (r : Row). is_held r cycle) rows))
+    (lasting_held cycle row (All-head (IsLasting cycle) row rows lasting))
+    ∙ ap (λ (rs : List Row). row ∷ rs) (stay cycle rows (All-tail (IsLasting cycle) row rows lasting))
+
+pub lasting_stay : (from cycle : ℕ) (rows : List Row) → from ≤ cycle → AreLasting from rows → filter (λ (row : Row). is_held row cycle) rows ≡ rows
+lasting_stay from cycle rows le lasting = stay cycle rows (lasting_later from cycle rows le lasting)

@@ -3,8 +3,8 @@ use Rattle.std.proofs.Common.{◌≡◌, ◌≢◌, ℕ, ◌<◌, Bool, true, co
 use Rattle.std.specs.declared.cmp.Ordering.TheVariants.{Equal, Greater, Less}
 use Rattle.std.specs.List.Sorted.{IsBinarySearchResult, IsNonDecreasingBy, IsSearchInRange}
 use Rattle.std.specs.Ordering.{nat_cmp, ordering_index}
-use Rattle.std.specs.Prelude.{AllPairs, Contains, MatchResult, find}
-use Rattle.std.proofs.lemmas.Bool.{both_ways, cases_Bool, cases_lt, eq-eqb, eqb-true}
+use Rattle.std.specs.Prelude.{AllPairs, Contains, MatchResult, find, nat_lt, suc}
+use Rattle.std.proofs.lemmas.Bool.{both_ways, cases_Bool, cases_lt, eq-eqb, eqb-true, leb-true}
 use Rattle.std.proofs.lemmas.Bool.Decides.{nat_tests}
 use Rattle.std.proofs.lemmas.Cmp.{ranked}
 use Rattle.std.proofs.lemmas.List.Elements.{All-map, Contains-get_or}
@@ -51,6 +51,12 @@ the_row_of rows number order row = (
       find_only (λ (r : Row). r.no == number) (λ (a b : Row). a.no < b.no)
       (λ a b t u less. absurd (omega (arith, less, eqb-true a.no number t, eqb-true b.no number u))) rows row order.numbers w.0 (eq-eqb row.no number w.1),
 )
+
+-- a row that stands at a place and has the number is the row of that number
+pub row_at : (rows : List Row) (number : ℕ) (order : AreInOrder rows) (place : ℕ) (row : Row) → true ≡ nat_lt place (length rows) →
+    row ≡ get_or rows place row → row.no ≡ number → row_of rows number ≡ Some row
+row_at rows number order place row inside there is =
+    (the_row_of rows number order row).1 (subst (Contains rows) (sym there) (Contains-get_or rows place row (leb-true (suc place) (length rows) (sym inside))), is)
 
 module _ (rows : List Row) (number : ℕ) (order : AreInOrder rows) where
   -- rows by number compare with a number in that order, as a search asks

@@ -1,5 +1,5 @@
 -- The rows of streams that are held, and the columns that are kept beside them.
-use Rattle.std.specs.Prelude.{ℕ, ◌≡◌, ◌≤◌, ◌^◌, List, [], ◌∷◌, if◌then◌else◌, nat_lt, ◌+◌, ◌<◌, bit_or, fold, length, map, slice_index_or, Some, zero, suc}
+use Rattle.std.specs.Prelude.{ℕ, ◌≡◌, ◌≤◌, All, None, ◌^◌, List, [], ◌∷◌, if◌then◌else◌, nat_lt, ◌+◌, ◌<◌, bit_or, fold, length, map, slice_index_or, Some, zero, suc}
 use Rattle.cqf_units.specs.Timing.{cost_of}
 use Rattle.cqf_units.specs.declared.reservations.Cycle.{Cycle}
 use Rattle.cqf_model.specs.declared.topology.Row.{Row}
@@ -49,3 +49,10 @@ pub record AreTotals (costs masks sums : List ℕ) : Type 0 where
 abbrev pub AreMoreBy : List ℕ → ℕ → ℕ → List ℕ → List ℕ → Type 0
 AreMoreBy sums mask octets costs masks =
     (l : ℕ) → l < 64 → masked_total l costs masks ≡ slice_index_or sums l 0 + (if has_bit mask l then octets else 0)
+
+-- a row that is held from a cycle on for good: its stream is live by then and isn't withdrawn; and rows that all are
+abbrev pub IsLasting : ℕ → Row → Type 0
+IsLasting cycle row = (row.admitted.0 ≤ cycle) × (row.withdrawn ≡ None)
+
+abbrev pub AreLasting : ℕ → List Row → Type 0
+AreLasting cycle rows = All (IsLasting cycle) rows

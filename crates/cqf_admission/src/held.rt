@@ -1,10 +1,10 @@
 //! The streams that are held, by number and by name, with their costs and their links in columns.
-ghost use Rattle.std.specs.Prelude.{◌≡◌, ◌+◌, ◌<◌, ◌≤◌, ◌^◌, [], ◌∷◌, ◌++◌, length, filter, if◌then◌else◌, position, false, OnOk, IfOk};
+ghost use Rattle.std.specs.Prelude.{◌≡◌, ◌≢◌, ◌+◌, ◌<◌, ◌≤◌, ◌^◌, [], ◌∷◌, ◌++◌, length, filter, if◌then◌else◌, position, false, true, None, OnOk, IfOk, IfSome};
 ghost use Rattle.std.specs.Arc.{arc_value};
 ghost use Rattle.std.specs.List.{list_any};
 ghost use Rattle.cqf_model.specs.Domain.{is_text};
 ghost use Rattle.cqf_model.specs.Table.{is_held, link_cost};
-ghost use Rattle.cqf_admission.specs.Rows.{AreMoreBy, AreTotals, ended_at};
+ghost use Rattle.cqf_admission.specs.Rows.{AreLasting, AreMoreBy, AreTotals, IsLasting, ended_at};
 ghost use Rattle.cqf_lanes.specs.Kernels.{has_bit, masked_total};
 
 use crate::listed::Listed;
@@ -30,13 +30,15 @@ pub(crate) struct Held {
     /// Rows as tables share them, and whether they are these rows: whether nothing has changed since they were listed.
     shared: Arc<Listed>,
     is_shared: bool,
+    /// A cycle from which on all rows are held for good: none, where a stream is withdrawn.
+    lasting: Option<Cycle>,
 }
 
 impl Model for Held {
     ghost use Rattle.std.specs.Arc.{arc_value};
-    ghost use Rattle.std.specs.Prelude.{◌≡◌, ◌-◌, min, true, vec_len, vec_capacity};
+    ghost use Rattle.std.specs.Prelude.{◌≡◌, ◌-◌, IfSome, min, true, vec_len, vec_capacity};
     ghost use Rattle.indexmap.specs.IndexSet.{spare};
-    ghost use Rattle.cqf_admission.specs.Rows.{AreSums, HaveColumns, HeldRows};
+    ghost use Rattle.cqf_admission.specs.Rows.{AreLasting, AreSums, HaveColumns, HeldRows};
 
     ghost Value = { HeldRows };
 
@@ -47,7 +49,7 @@ impl Model for Held {
     } };
 
     ghost invariant = { λ h. HaveColumns h.names.keys h.rows.items h.costs.items h.masks.items × AreSums h.rows.items h.sums
-        × (h.is_shared ≡ true → arc_value h.shared ≡ h.rows.items) };
+        × (h.is_shared ≡ true → arc_value h.shared ≡ h.rows.items) × IfSome h.lasting (λ cycle. AreLasting cycle.0 h.rows.items) };
 }
 
 /// What a link's streams cost of it, where that is a sum and, if the mask has the link's bit, the octets.
@@ -95,6 +97,31 @@ fn sums_of(costs: &[u32], masks: &[u64]) -> [u64; 64]
     sums
 }
 
+/// Whether the row is held from the cycle on for good.
+fn is_lasting(row: &Row, cycle: Cycle) -> bool
+    ensures { result ≡ true → IsLasting cycle.0 row.now }
+{
+    row.withdrawn.is_none() && row.admitted.0 <= cycle.0
+}
+
+/// Whether all rows are.
+fn are_lasting(rows: &[Row], cycle: Cycle) -> bool
+    ensures { result ≡ true → AreLasting cycle.0 rows.now }
+{
+    rows.iter().all(|row| is_lasting(row, cycle))
+}
+
+/// From which cycle on rows are held for good with one more, by what is known of them.
+fn lasting_with(rows: Option<Cycle>, row: &Row) -> Option<Cycle>
+    ensures { IfSome result (λ after. IsLasting after.0 row.now × IfSome rows (λ before. before.0 ≤ after.0) × (rows ≢ None)) }
+{
+    let Some(from) = rows else { return None };
+    if row.withdrawn.is_some() {
+        return None;
+    }
+    Some(Cycle(from.0.max(row.admitted.0)))
+}
+
 impl Held {
     /// No streams, unless memory runs out.
     pub(crate) fn new(alloc: Global) -> Result<Held, Memory>
@@ -115,6 +142,7 @@ impl Held {
             sums,
             shared,
             is_shared: true,
+            lasting: Some(Cycle(0)),
         })
     }
 
@@ -164,6 +192,7 @@ impl Held {
     {
         let octets = cost(Octets(row.octets)).0;
         let mask = mask_of_row(&row);
+        self.lasting = lasting_with(self.lasting, &row);
         self.names.insert(row.name.copied()).unwrap();
         self.rows.push(row).unwrap();
         self.costs.push(octets).unwrap();
@@ -186,12 +215,29 @@ impl Held {
         let row = &mut self.rows[place];
         row.withdrawn = Some(cycle);
         self.is_shared = false;
+        self.lasting = None;
     }
 
     /// Lets go of the streams that aren't held in a cycle.
     pub(crate) fn let_go(&mut self, cycle: Cycle)
         ensures { self.new.rows ≡ filter (λ row. is_held row cycle.0) self.old.rows }
     {
+        if let Some(from) = self.lasting {
+            if from.0 <= cycle.0 {
+                return;
+            }
+        }
+        self.sweep(cycle);
+        if are_lasting(self.rows.as_slice(), cycle) {
+            self.lasting = Some(cycle);
+        }
+    }
+
+    /// Looks through all rows for those that aren't held in the cycle.
+    fn sweep(&mut self, cycle: Cycle)
+        ensures { self.new.rows ≡ filter (λ row. is_held row cycle.0) self.old.rows }
+    {
+        self.lasting = None;
         let mut place = self.rows.len();
         let mut gone = false;
         while place > 0 {
@@ -236,6 +282,7 @@ impl Held {
             sums: self.sums,
             shared: Arc::try_clone(&self.shared)?,
             is_shared: self.is_shared,
+            lasting: None,
         })
     }
 }

@@ -1,6 +1,6 @@
 //! The table of a cycle.
 ghost use Rattle.std.specs.Arc.{arc_value};
-ghost use Rattle.std.specs.Prelude.{◌≡◌, IfOk, option_copied};
+ghost use Rattle.std.specs.Prelude.{◌≡◌, IfOk, IfSome, Some, option_copied};
 ghost use Rattle.cqf_model.specs.Table.{row_named, row_of};
 ghost use Rattle.cqf_admission.specs.Tables.{AreInOrder, IsRowNamed, IsRowOf};
 
@@ -83,11 +83,23 @@ impl Table {
     }
 }
 
+/// The row that stands at the place of its number, as each does while no stream has gone.
+fn row_in_place(rows: &[Row], no: u32) -> Option<&Row>
+    requires { AreInOrder rows.now }
+    ensures { IfSome result (λ row. row_of rows.now no ≡ Some row.now) }
+{
+    let row = rows.get(no as usize)?;
+    if row.no == no { Some(row) } else { None }
+}
+
 /// Of rows that stand by number the one whose stream has the number.
 fn row_with_number(rows: &[Row], no: u32) -> Option<&Row>
     requires { AreInOrder rows.now }
     ensures { option_copied result ≡ row_of rows.now no }
 {
+    if let Some(row) = row_in_place(rows, no) {
+        return Some(row);
+    }
     match rows.binary_search_by_key(&no, |row| row.no) {
         Ok(place) => Some(&rows[place]),
         Err(_) => None,

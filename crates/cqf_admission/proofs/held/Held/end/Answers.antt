@@ -13,7 +13,7 @@ invariant_of-self c =
     let masks = c.self.inside.masks.items in
     let after = columns_ended names rows costs masks c.args.place c.args.cycle _ c.self.invariant.0
     (set-ended rows c.args.place c.index_mut-row.result.now c.args.cycle inside c.index_mut-row.ensures.value) in
-    (after, sums_stay names names rows _ costs masks c.self.inside.sums c.self.invariant.0 after c.self.invariant.1, λ same. absurd cc)
+    (after, sums_stay names names rows _ costs masks c.self.inside.sums c.self.invariant.0 after c.self.invariant.1, λ same. absurd cc, tt)
 
 pub returns : goal.returns
 returns c =

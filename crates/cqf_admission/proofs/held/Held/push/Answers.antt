@@ -6,7 +6,7 @@ use Rattle.cqf_model.specs.Domain.{is_text}
 use Rattle.cqf_admission.specs.Rows.{HeldRows}
 use Rattle.cqf_admission.proofs.ColumnLemmas.{columns_pushed}
 use Rattle.cqf_admission.proofs.SumLemmas.{more_by, sums_from_totals}
-use Rattle.cqf_admission.proofs.HeldLemmas.{name_among}
+use Rattle.cqf_admission.proofs.HeldLemmas.{lasting_pushed, name_among}
 use Rattle.cqf_admission.proofs.held.Held.push.Goals as goal
 
 pub invariant_of-self : goal.invariant_of-self
@@ -32,6 +32,7 @@ invariant_of-self c =
       sums_from_totals _ _ _ _ c.sums_with-self-inside.result columns
           (rw (c.as_slice.ensures.value, c.as_slice-2.ensures.value) at c.sums_with-self-inside.ensures),
       λ same. absurd cc,
+      lasting_pushed rows c.args.row c.self.inside.lasting c.lasting_with-self-inside.result _ c.self.invariant.3 c.lasting_with-self-inside.ensures items,
     )
 
 pub sums_with-self-inside-requires-clause-more : goal.sums_with-self-inside-requires-clause-more
