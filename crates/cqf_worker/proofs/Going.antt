@@ -34,6 +34,7 @@ use Rattle.cqf_worker.specs.Stepping.{GoesOn, HasPorts, MayGoOn, onward}
 use Rattle.cqf_worker.specs.Workers.{HasCarried, HasGoneThrough, IsUnused, IsWorkerOf, Works, batches_at, contents_on, course_of, ends_in_bridge, items_in, link_of, links_onward, rows_in}
 use Rattle.cqf_worker.proofs.Batches.{BatchPort, batch_count, batches_more, counts_more, first_at, first_member, items_more, links_same, one_at, taken_last}
 use Rattle.cqf_worker.proofs.Each.{all_more, wires_same}
+use Rattle.cqf_worker.proofs.Stopping.{CarriesItems, each_carries, items_alone}
 use Rattle.cqf_worker.proofs.Onward.{link_listed, links_ascend, new_links, onward_links, ports_received, ports_sent}
 use Rattle.cqf_worker.proofs.OneMore.{IsNextCycle, PutsMore, TakesMore, stands_behind, worked_on}
 
@@ -361,3 +362,15 @@ pub room_left : (t : Traffic) (number cycle : ℕ) (now after : Worker) (items :
     after.outs.items ≡ with_each now.outs.items items → All (λ (port : BatchPort). length port.pipe.items < 1000000) after.outs.items
 room_left t number cycle now after items at early more k d below =
     omega (arith, early, subst (All (IsWithin (cycle + 1))) (sym more) (within_more now.outs.items cycle items at.gone.has_put) k d below)
+
+-- at its ports it has put batches alone
+pub batches_then : (t : Traffic) (number cycle : ℕ) (now : Worker) → StandsAt t number cycle now → All CarriesItems now.outs.items
+batches_then t number cycle now at place d below =
+    let so_many = at.gone.has_put place d below in
+    items_alone _ (so_many.0 ∙ sym so_many.1)
+
+-- and where it stops in a cycle
+pub batches_left : (t : Traffic) (number cycle : ℕ) (now after : Worker) (items : List LinkBatch) → StandsAt t number cycle now →
+    after.outs.items ≡ with_each now.outs.items (map Item items) → All CarriesItems after.outs.items
+batches_left t number cycle now after items at more =
+    subst (All CarriesItems) (sym more) (each_carries now.outs.items items (batches_then t number cycle now at))

@@ -1,34 +1,52 @@
 -- Ends of pipes at each of which one item more is put, in turn, passing over those whose other end is gone.
 use Rattle.std.proofs.Common.{ℕ, ◌≡◌, ◌<◌, ◌≤◌, ◌+◌, ◌∷◌, ◌++◌, [], Bool, List, length, get_or, set, refl, sym, ap, ◌∙◌, arith, inl, inr}
 use Rattle.std.specs.Prelude.{All, true, false}
-use Rattle.std.proofs.lemmas.Bool.{cases_eq}
+use Rattle.std.proofs.lemmas.Bool.{cases_Bool, cases_eq}
 use Rattle.std.proofs.lemmas.List.{get_or_default, get_or-set_other, get_or-set_same, length-set}
 use Rattle.std.proofs.Math.Seq.{map-set_same}
-use Rattle.cqf_worker.specs.Handing.{GivesEach, GivesFew, pipes_of}
+use Rattle.cqf_worker.specs.Handing.{GivesEach, GivesSome, pipes_of}
 use Rattle.cqf_pipe.specs.PipeEnds.{End}
+use Rattle.cqf_worker.specs.Rows.{MayGet, with_item}
 
 -- the first ends, so many, have the item more where all have it; those behind are as they were
 pub record HandsOn {T : Type 0} (x : T) (before after : List (End T)) (count : ℕ) (all : Bool) : Type 0 where
   pub many : length after ≡ length before
   pub pipes : pipes_of after ≡ pipes_of before
   pub behind : (place : ℕ) (d : End T) → count ≤ place → get_or after place d ≡ get_or before place d
-  pub few : GivesFew before after
+  pub some : GivesSome x before after
   pub given : all ≡ true → (place : ℕ) (d : End T) → place < count → (get_or after place d).items ≡ (get_or before place d).items ++ x ∷ []
 
 -- an end at which at most one item more was put
 pub record IsHanded {T : Type 0} (x : T) (before after : End T) (given : Bool) : Type 0 where
-  pub pipe : after.pipe ≡ before.pipe
-  pub few : length after.items ≤ length before.items + 1
+  pub got : MayGet x before after
   pub has : given ≡ true → after.items ≡ before.items ++ x ∷ []
 
 -- the item that was put is known by what it equals
-pub handed_as : {T : Type 0} (x y : T) (before after : End T) (given : Bool) → y ≡ x → after.pipe ≡ before.pipe →
-    length after.items ≤ length before.items + 1 → (given ≡ true → after.items ≡ before.items ++ y ∷ []) → IsHanded x before after given
-handed_as {T} x y before after given same pipe few has = record {
-  pipe = pipe;
-  few = few;
-  has = λ is. has is ∙ ap (λ (z : T). before.items ++ z ∷ []) same;
+pub handed_as : {T : Type 0} (x y : T) (before after : End T) (given : Bool) → y ≡ x → (given ≡ true → after ≡ with_item before y) →
+    (given ≡ false → after ≡ before) → IsHanded x before after given
+handed_as {T} x y before after given same has gone = record {
+  got = elim (cases_Bool given) [
+    | inl is ↦ inr (has is ∙ ap (λ (z : T). with_item before z) same)
+    | inr is ↦ inl (gone is)
+  ];
+  has = λ is. ap (λ (e : End T). e.items) (has is) ∙ ap (λ (z : T). before.items ++ z ∷ []) same;
 }
+
+-- the end stays that pipe's
+same_pipe : {T : Type 0} (x : T) (before after : End T) → MayGet x before after → after.pipe ≡ before.pipe
+same_pipe {T} x before after may =
+    elim may [
+      | inl same ↦ ap (λ (e : End T). e.pipe) same
+      | inr more ↦ ap (λ (e : End T). e.pipe) more
+    ]
+
+-- ends by what they equal
+got_as : {T : Type 0} (x : T) (before after was now : End T) → before ≡ was → now ≡ after → MayGet x before after → MayGet x was now
+got_as {T} x before after was now is_was is_now may =
+    elim may [
+      | inl same ↦ inl (is_now ∙ same ∙ is_was)
+      | inr more ↦ inr (is_now ∙ more ∙ ap (λ (e : End T). with_item e x) is_was)
+    ]
 
 -- whether all have it, by whether those before have and whether this one has
 abbrev pub HaveAll : Bool → Bool → Bool → Type 0
@@ -41,7 +59,7 @@ module _ {T : Type 0} (x : T) where
     many = refl;
     pipes = refl;
     behind = λ place d h. refl;
-    few = λ place d inside. omega arith;
+    some = λ place d inside. inl refl;
     given = λ all place d h. absurd (omega (arith, h));
   }
 
@@ -51,7 +69,7 @@ module _ {T : Type 0} (x : T) where
     many = refl;
     pipes = refl;
     behind = λ place d h. refl;
-    few = λ place d inside. omega arith;
+    some = λ place d inside. inl refl;
     given = λ all place d h. absurd (omega (arith, h));
   }
 
@@ -61,18 +79,19 @@ module _ {T : Type 0} (x : T) where
     at_next : (e : End T) → get_or (set after count end) count e ≡ end
     at_next e = get_or-set_same after count end e (omega (arith, below, so_far.many))
 
-    -- no end has more than one item more
-    few_next : GivesFew before (set after count end)
-    few_next place e inside =
+    -- each end has the item more, or nothing
+    some_next : GivesSome x before (set after count end)
+    some_next place e inside =
         elim (cases_eq place count) [
           | inl here ↦
               let now : get_or (set after count end) place e ≡ end = ap (λ (k : ℕ). get_or (set after count end) k e) here ∙ at_next e in
               let was : get_or after count d ≡ get_or before place e =
               so_far.behind count d (omega arith) ∙ get_or_default before count d e below ∙ ap (λ (k : ℕ). get_or before k e) (sym here) in
-              omega (arith, ap (λ (z : End T). length z.items) now, ap (λ (z : End T). length z.items) was, handed.few)
+              got_as x (get_or after count d) end (get_or before place e) (get_or (set after count end) place e) was now handed.got
           | inr other ↦
               let same : get_or (set after count end) place e ≡ get_or after place e = get_or-set_other after count place end e other in
-              omega (arith, ap (λ (z : End T). length z.items) same, so_far.few place e inside)
+              got_as x (get_or before place e) (get_or after place e) (get_or before place e) (get_or (set after count end) place e) refl same
+              (so_far.some place e inside)
         ]
 
     -- each of those so far has its item where all have
@@ -93,9 +112,9 @@ module _ {T : Type 0} (x : T) where
     pub hands_next : HandsOn x before (set after count end) (count + 1) more
     hands_next = record {
       many = length-set after count end ∙ so_far.many;
-      pipes = map-set_same (λ (z : End T). z.pipe) after count end d handed.pipe ∙ so_far.pipes;
+      pipes = map-set_same (λ (z : End T). z.pipe) after count end d (same_pipe x (get_or after count d) end handed.got) ∙ so_far.pipes;
       behind = λ place e h. get_or-set_other after count place end e (λ same. omega (arith, same, h)) ∙ so_far.behind place e (omega (arith, h));
-      few = few_next;
+      some = some_next;
       given = given_next;
     }
 

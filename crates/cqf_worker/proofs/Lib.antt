@@ -2,6 +2,7 @@ mod Each
 mod Batches
 mod Onward
 mod OneMore
+mod Stopping
 mod Going
 mod Wiring
 mod Unwiring

@@ -1,6 +1,6 @@
 -- Cycles that a conductor closes, one after the other.
-use Rattle.std.proofs.Common.{ℕ, ◌≡◌, ◌<◌, ◌≤◌, ◌+◌, ◌-◌, ◌∷◌, ◌++◌, [], Bool, List, Some, length, get_or, map, refl, sym, ap, ◌∙◌, arith}
-use Rattle.std.specs.Prelude.{All, true, replicate, slice_get}
+use Rattle.std.proofs.Common.{ℕ, ◌≡◌, ◌<◌, ◌≤◌, ◌+◌, ◌-◌, ◌∷◌, ◌++◌, [], Bool, List, Some, length, get_or, map, refl, sym, ap, subst, ◌∙◌, arith, inl, inr}
+use Rattle.std.specs.Prelude.{All, true, drop, replicate, slice_get, take}
 use Rattle.std.proofs.lemmas.List.{length-append, length-map, map-append, replicate-append-replicate}
 use Rattle.std.proofs.lemmas.Option.{same_Some}
 use Rattle.cqf_lists.proofs.Places.{slice_get_behind}
@@ -9,8 +9,11 @@ use Rattle.cqf_admission.specs.Tables.{CycleTable}
 use Rattle.cqf_desk.specs.Desk.{Sitting, with_seal}
 use Rattle.cqf_laws_account.specs.Seated.{acts_of}
 use Rattle.cqf_worker.specs.declared.carried.Carried.{Carried}
-use Rattle.cqf_worker.specs.declared.carried.Carried.TheVariants.{Item}
-use Rattle.cqf_worker.specs.Handing.{GivesEach, GivesFew, HasSealed, SealsOne, TableEnd, pipes_of}
+use Rattle.cqf_worker.specs.declared.carried.Carried.TheVariants.{Item, Stop}
+use Rattle.cqf_worker.specs.Handing.{GivesEach, GivesSome, GivesTable, HasSealed, SealsOne, TableEnd, pipes_of}
+use Rattle.cqf_worker.specs.Stops.{AreItemsThenStop}
+use Rattle.cqf_worker.proofs.Each.{written_back}
+use Rattle.cqf_worker.proofs.Stopping.{HasItems, item_or_none, items_then_stop}
 
 -- the newest table is the one that the Seal closed
 pub seals_one : (old new : Sitting) (table last : CycleTable) (before after : List TableEnd) (all : Bool) → new ≡ with_seal old table →
@@ -35,7 +38,7 @@ pub record IsSealing (seat : Sitting) (ends : List TableEnd) (count : ℕ) (now 
   pub acts : acts_of now.calls ≡ replicate count Seals
   pub many : length now.tables ≡ count
   pub pipes : pipes_of after ≡ pipes_of ends
-  pub few : (place : ℕ) (d : TableEnd) → place < length after → length (get_or after place d).items ≤ count
+  pub put : (place : ℕ) (d : TableEnd) → place < length after → HasItems (get_or after place d) × (length (get_or after place d).items ≤ count)
   pub given : all ≡ true → (place : ℕ) (d : TableEnd) → place < length after → (get_or after place d).items ≡ map Item now.tables
 
 -- none at first
@@ -46,33 +49,105 @@ seals_none seat ends no_calls no_tables nothing = record {
   acts = ap acts_of no_calls;
   many = ap length no_tables;
   pipes = refl;
-  few = λ place d inside. omega (arith, ap length (nothing place d inside));
+  put = λ place d inside. (([], nothing place d inside), omega (arith, ap length (nothing place d inside)));
   given = λ all place d inside. nothing place d inside ∙ sym (ap (map Item) no_tables);
 }
 
+-- ends of the same pipes are as many
+as_many : (before after : List TableEnd) → pipes_of after ≡ pipes_of before → length after ≡ length before
+as_many before after pipes =
+    sym (length-map after (λ (e : TableEnd). e.pipe)) ∙ ap length pipes ∙ length-map before (λ (e : TableEnd). e.pipe)
+
+-- behind so many cycles a table was put for some, or none
+table_put : (seat : Sitting) (ends : List TableEnd) (count : ℕ) (now : Sitting) (after later : List TableEnd) (all : Bool) →
+    IsSealing seat ends count now after all → pipes_of later ≡ pipes_of after → GivesTable after later → (place : ℕ) (d : TableEnd) → place < length later →
+    HasItems (get_or later place d) × (length (get_or later place d).items ≤ count + 1)
+table_put seat ends count now after later all s pipes gives place d inside =
+    let below : place < length after = omega (arith, inside, as_many after later pipes) in
+    let was = s.put place d below in
+    elim gives [
+      | inl same ↦
+          let is : get_or later place d ≡ get_or after place d = ap (λ (es : List TableEnd). get_or es place d) same in
+          (subst HasItems (sym is) was.0, omega (arith, ap (λ (e : TableEnd). length e.items) is, was.1))
+      | inr some ↦
+          let one = item_or_none (get_or after place d) (get_or later place d) some.0 was.0 (some.1 place d below) in
+          (one.0, omega (arith, one.1, was.1))
+    ]
+
+-- so there is room for a Stop
+pub stop_room : (seat : Sitting) (ends : List TableEnd) (count cycles : ℕ) (now : Sitting) (after later : List TableEnd) (all : Bool) →
+    IsSealing seat ends count now after all → pipes_of later ≡ pipes_of after → GivesTable after later → count < cycles → cycles ≤ 100000 →
+    All (λ (e : TableEnd). length e.items < 1000000) later
+stop_room seat ends count cycles now after later all s pipes gives more few place d inside =
+    omega (arith, (table_put seat ends count now after later all s pipes gives place d inside).1, more, few)
+
+-- and with it tables were put, and then at most one Stop
+then_stopped : (seat : Sitting) (ends : List TableEnd) (count : ℕ) (now : Sitting) (after later last : List TableEnd) (all : Bool) →
+    IsSealing seat ends count now after all → pipes_of later ≡ pipes_of after → GivesTable after later → pipes_of last ≡ pipes_of later →
+    GivesSome Stop later last → All (λ (e : TableEnd). AreItemsThenStop e.items) last
+then_stopped seat ends count now after later last all s pipes gives same stopped place d inside =
+    let below : place < length later = omega (arith, inside, as_many later last same) in
+    items_then_stop (get_or later place d) (get_or last place d) (table_put seat ends count now after later all s pipes gives place d below).0
+    (stopped place d below)
+
+-- the same of ends that are written back
+pub told_stop : (seat : Sitting) (ends : List TableEnd) (count : ℕ) (now : Sitting) (after first later before last : List TableEnd) (n : ℕ) (all : Bool) →
+    IsSealing seat ends count now after all → n ≡ length after → first ≡ after → pipes_of later ≡ pipes_of first → GivesTable first later →
+    before ≡ take n (later ++ drop (length later) after) → pipes_of last ≡ pipes_of before → GivesSome Stop before last →
+    All (λ (e : TableEnd). AreItemsThenStop e.items) (take n (last ++ drop (length last) (take n (later ++ drop (length later) after))))
+told_stop seat ends count now after first later before last n all s many is pipes gives was same stopped =
+    let pipes_then : pipes_of later ≡ pipes_of after = pipes ∙ ap pipes_of is in
+    let back : take n (later ++ drop (length later) after) ≡ later = written_back later after n (as_many after later pipes_then) many in
+    let told : before ≡ later = was ∙ back in
+    let pipes_last : pipes_of last ≡ pipes_of later = same ∙ ap pipes_of told in
+    let back_again : take n (last ++ drop (length last) (take n (later ++ drop (length later) after))) ≡ last =
+    ap (λ (old : List TableEnd). take n (last ++ drop (length last) old)) back
+    ∙ written_back last later n (as_many later last pipes_last) (many ∙ sym (as_many after later pipes_then)) in
+    subst (All (λ (e : TableEnd). AreItemsThenStop e.items)) (sym back_again)
+    (then_stopped seat ends count now after later last all s pipes_then (subst (λ (old : List TableEnd). GivesTable old later) is gives) pipes_last
+    (subst (λ (old : List TableEnd). GivesSome Stop old last) told stopped))
+
+-- where all cycles are closed there is none
+pub none_stopped : (seat : Sitting) (ends : List TableEnd) (count : ℕ) (now : Sitting) (after : List TableEnd) (all : Bool) →
+    IsSealing seat ends count now after all → All (λ (e : TableEnd). AreItemsThenStop e.items) after
+none_stopped seat ends count now after all s place d inside =
+    let items : HasItems (get_or after place d) = (s.put place d inside).0 in
+    (items.0, inl items.1)
+
 -- then one more
 pub seals_next : (seat : Sitting) (ends : List TableEnd) (count : ℕ) (now next : Sitting) (after later : List TableEnd) (all given more : Bool) →
-    IsSealing seat ends count now after all → pipes_of later ≡ pipes_of after → GivesFew after later → SealsOne now next after later given →
+    IsSealing seat ends count now after all → pipes_of later ≡ pipes_of after → GivesTable after later → SealsOne now next after later given →
     (more ≡ true → (all ≡ true) × (given ≡ true)) → IsSealing seat ends (count + 1) next later more
-seals_next seat ends count now next after later all given more s pipes few one have =
-    let as_many : length later ≡ length after =
-    sym (length-map later (λ (e : TableEnd). e.pipe)) ∙ ap length pipes ∙ length-map after (λ (e : TableEnd). e.pipe) in
+seals_next seat ends count now next after later all given more s pipes gives one have =
+    let same : length later ≡ length after = as_many after later pipes in
     record {
       number = one.number ∙ s.number;
       acts = one.acts ∙ ap (λ (acts : List Act). acts ++ Seals ∷ []) s.acts ∙ replicate-append-replicate count 1 Seals;
       many = ap length one.tables ∙ length-append now.tables (one.table ∷ []) ∙ ap (λ (n : ℕ). n + 1) s.many;
       pipes = pipes ∙ s.pipes;
-      few = λ place d inside. omega (arith, few place d (omega (arith, inside, as_many)), s.few place d (omega (arith, inside, as_many)));
+      put = table_put seat ends count now after later all s pipes gives;
       given = λ is place d inside.
-          one.given (have is).1 place d (omega (arith, inside, as_many))
-          ∙ ap (λ (xs : List (Carried CycleTable)). xs ++ Item one.table ∷ []) (s.given (have is).0 place d (omega (arith, inside, as_many)))
+          one.given (have is).1 place d (omega (arith, inside, same))
+          ∙ ap (λ (xs : List (Carried CycleTable)). xs ++ Item one.table ∷ []) (s.given (have is).0 place d (omega (arith, inside, same)))
           ∙ sym (ap (map Item) one.tables ∙ map-append Item now.tables (one.table ∷ []));
     }
+
+-- the same of ends that are written back
+pub seals_back : (seat : Sitting) (ends : List TableEnd) (count : ℕ) (now next : Sitting) (after first later : List TableEnd) (n : ℕ) (all given more : Bool) →
+    IsSealing seat ends count now after all → n ≡ length after → first ≡ after → pipes_of later ≡ pipes_of first → GivesTable first later →
+    SealsOne now next first later given → (more ≡ true → (all ≡ true) × (given ≡ true)) →
+    IsSealing seat ends (count + 1) next (take n (later ++ drop (length later) after)) more
+seals_back seat ends count now next after first later n all given more s many is pipes gives one have =
+    let pipes_then : pipes_of later ≡ pipes_of after = pipes ∙ ap pipes_of is in
+    let back : take n (later ++ drop (length later) after) ≡ later = written_back later after n (as_many after later pipes_then) many in
+    subst (λ (new : List TableEnd). IsSealing seat ends (count + 1) next new more) (sym back)
+    (seals_next seat ends count now next after later all given more s pipes_then (subst (λ (old : List TableEnd). GivesTable old later) is gives)
+    (subst (λ (old : List TableEnd). SealsOne now next old later given) is one) have)
 
 -- each end has room for what is to come
 pub seals_room : (seat : Sitting) (ends : List TableEnd) (count cycles : ℕ) (now : Sitting) (after : List TableEnd) (all : Bool) →
     IsSealing seat ends count now after all → count < cycles → cycles ≤ 100000 → All (λ (e : TableEnd). length e.items < 1000000) after
-seals_room seat ends count cycles now after all s more few place d inside = omega (arith, s.few place d inside, more, few)
+seals_room seat ends count cycles now after all s more few place d inside = omega (arith, (s.put place d inside).1, more, few)
 
 -- in the end all cycles are closed
 pub seals_all : (seat : Sitting) (ends : List TableEnd) (cycles : ℕ) (now : Sitting) (after : List TableEnd) (all : Bool) →

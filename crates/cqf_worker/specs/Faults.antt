@@ -32,10 +32,6 @@ abbrev pub first_of : Option ConductFault → ConductFault → ConductFault
 first_of None fault = fault
 first_of (Some first) fault = if is_before fault first then fault else first
 
--- a thread has failed: of the faults so far and its own the first is told
-abbrev pub Tells : Faults → Faults → ConductFault → Type 0
-Tells before after fault = after.first ≡ Some (first_of before.first fault)
-
 -- nothing has gone wrong
 abbrev pub IsClean : Faults → Type 0
 IsClean faults = (faults.first ≡ None) × (faults.is_stopped ≡ false)

@@ -1,5 +1,5 @@
 -- What the conductor of a run hands to the workers: the table of each cycle, at the end of a pipe for each (profile).
-use Rattle.std.specs.Prelude.{ℕ, ◌≡◌, ◌+◌, ◌≤◌, ◌<◌, ◌++◌, List, [], ◌∷◌, Bool, true, length, map, replicate, slice_index_or}
+use Rattle.std.specs.Prelude.{ℕ, ◌≡◌, ◌<◌, ◌⊎◌, ◌++◌, List, [], ◌∷◌, Bool, true, length, map, replicate, slice_index_or}
 use Rattle.cqf_model.specs.History.{Seals}
 use Rattle.cqf_admission.specs.Tables.{CycleTable}
 use Rattle.cqf_desk.specs.Desk.{Sitting}
@@ -7,6 +7,7 @@ use Rattle.cqf_laws_account.specs.Seated.{acts_of}
 use Rattle.cqf_pipe.specs.PipeEnds.{End, PipeId}
 use Rattle.cqf_worker.specs.declared.carried.Carried.{Carried}
 use Rattle.cqf_worker.specs.declared.carried.Carried.TheVariants.{Item}
+use Rattle.cqf_worker.specs.Rows.{MayGet}
 
 -- a conductor's end of a worker's pipe for tables
 abbrev pub TableEnd : Type 0
@@ -21,10 +22,14 @@ abbrev pub GivesEach : {T : Type 0} → T → List (End T) → List (End T) → 
 GivesEach {T} x before after = (place : ℕ) (d : End T) → place < length before →
     (slice_index_or after place d).items ≡ (slice_index_or before place d).items ++ x ∷ []
 
--- at no end there is more than one item more
-abbrev pub GivesFew : {T : Type 0} → List (End T) → List (End T) → Type 0
-GivesFew {T} before after = (place : ℕ) (d : End T) → place < length before →
-    length (slice_index_or after place d).items ≤ length (slice_index_or before place d).items + 1
+-- at each end there is this item more, or nothing
+abbrev pub GivesSome : {T : Type 0} → T → List (End T) → List (End T) → Type 0
+GivesSome {T} x before after = (place : ℕ) (d : End T) → place < length before →
+    MayGet x (slice_index_or before place d) (slice_index_or after place d)
+
+-- one table was put for some of the workers, or none for any
+abbrev pub GivesTable : List TableEnd → List TableEnd → Type 0
+GivesTable before after = (after ≡ before) ⊎ ((table : CycleTable) × GivesSome (Item table) before after)
 
 -- one cycle is closed: the seat has its Seal and its table, and where all have it, each end has that table
 pub record SealsOne (old new : Sitting) (before after : List TableEnd) (all : Bool) : Type 0 where

@@ -15,6 +15,10 @@ module _ {T : Type 0} where
   abbrev pub with_item : End T → T → End T
   with_item end x = record { pipe = end.pipe; items = end.items ++ x ∷ [] }
 
+  -- the item was put at the end, or nothing was
+  abbrev pub MayGet : T → End T → End T → Type 0
+  MayGet x before after = (after ≡ before) ⊎ (after ≡ with_item before x)
+
   abbrev pub with_item_at : Port (End T) → T → Port (End T)
   with_item_at port x = record { link = port.link; pipe = with_item port.pipe x }
 

@@ -18,12 +18,12 @@ ghost use Rattle.cqf_worker.specs.Wires.{
 };
 
 use crate::carried::Carried;
-use cqf_pipe::{PipeIn, PipeOut};
 use crate::ports::Port;
 use crate::worker::Worker;
 use cqf_admission::Table;
 use cqf_book::Share;
 use cqf_bridge::Batch;
+use cqf_pipe::{PipeIn, PipeOut};
 use cqf_units::Memory;
 use std::alloc::Global;
 

@@ -6,7 +6,6 @@ ghost use Rattle.cqf_worker.specs.Laying.{AreBare, HasIn, HasOut, IsBare, LaysFi
 ghost use Rattle.cqf_worker.specs.Wires.{AreWired, AreWorkersOf, Wiring, pipe_of_tables, tables_pipe};
 
 use crate::carried::Carried;
-use cqf_pipe::{PipeIn, PipeOut, pipe};
 use crate::ports::Port;
 use crate::worker::Worker;
 use cqf_admission::Table;
@@ -15,6 +14,7 @@ use cqf_book::Share;
 use cqf_bridge::{Batch, Bridge};
 use cqf_compile::Plan;
 use cqf_model::{Background, Node, Offer};
+use cqf_pipe::{PipeIn, PipeOut, pipe};
 use cqf_topology::Domain;
 use cqf_units::Memory;
 use std::alloc::Global;

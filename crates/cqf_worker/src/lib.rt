@@ -20,6 +20,8 @@ mod conducting;
 #[cfg(test)]
 mod failing;
 mod faults;
+#[cfg(test)]
+mod halting;
 mod laying;
 mod pace;
 mod ports;

@@ -1,14 +1,13 @@
 //! One item at each of several ports.
-ghost use Rattle.std.specs.Prelude.{◌≡◌, ◌<◌, ℕ, All, List, IfOk, IfSome, IsTrue, length, map, slice_index_or};
-ghost use Rattle.cqf_worker.specs.declared.carried.Carried.TheVariants.{Item, Stop};
+ghost use Rattle.std.specs.Prelude.{◌≡◌, ◌<◌, All, List, IfOk, IfSome, IsTrue, length, map};
+ghost use Rattle.cqf_worker.specs.declared.carried.Carried.TheVariants.{Item};
 ghost use Rattle.cqf_worker.specs.declared.carried.Carried as carried;
-ghost use Rattle.cqf_worker.specs.declared.ports.Port as ported;
-ghost use Rattle.cqf_pipe.specs.PipeEnds.{End};
-ghost use Rattle.cqf_worker.specs.Rows.{MayHaveGot, with_each};
+ghost use Rattle.cqf_worker.specs.Rows.{with_each};
+ghost use Rattle.cqf_worker.specs.Stops.{AreStopped};
 
 use crate::carried::Carried;
-use cqf_pipe::{PipeIn, PipeOut};
 use crate::ports::Port;
+use cqf_pipe::{PipeIn, PipeOut};
 use cqf_units::Memory;
 use std::alloc::Global;
 use std::sync::Wait;
@@ -46,7 +45,7 @@ pub(crate) fn put_each<T: Drop, R: Wait>(
     requires count { length items.items ≡ length ports.old }
     requires room { All (λ port. length port.pipe.items < 1000000) ports.old }
     ensures all { IsTrue result → ports.new ≡ with_each ports.old (map Item items.items) }
-    ensures some { (put : List (carried.Carried T)) × (ports.new ≡ with_each ports.old put) }
+    ensures some { (put : List T) × (ports.new ≡ with_each ports.old (map Item put)) }
 {
     let mut place = 0;
     for item in items {
@@ -58,13 +57,12 @@ pub(crate) fn put_each<T: Drop, R: Wait>(
     true
 }
 
-/// Puts at each of the ports that no item comes any more. A port whose pipe's other end is gone is passed over. It waits while a
+/// Puts at each of the ports, once, that no item comes any more. A port whose pipe's other end is gone is passed over. It waits while a
 /// pipe is full, and takes no memory.
 pub(crate) fn stop_each<T: Drop, R: Wait>(rt: &R, ports: &mut [Port<PipeIn<Carried<T>>>])
     requires room { All (λ port. length port.pipe.items < 1000000) ports.old }
     ensures count { length ports.new ≡ length ports.old }
-    ensures stopped { (k : ℕ) (d : ported.Port (End (carried.Carried T))) → k < length ports.old →
-        MayHaveGot Stop (slice_index_or ports.old k d) (slice_index_or ports.new k d) }
+    ensures stopped { AreStopped ports.old ports.new }
 {
     for place in 0..ports.len() {
         match ports[place].pipe.put(rt, Carried::Stop) {

@@ -1,12 +1,14 @@
 //! What the conductor of a run does: it closes the cycles to changes, one by one, and hands their tables on.
-ghost use Rattle.std.specs.Prelude.{◌≡◌, ◌<◌, ◌≤◌, ◌+◌, ◌++◌, [], ◌∷◌, true, All, IfOk, IsTrue, length};
-ghost use Rattle.cqf_worker.specs.declared.carried.Carried.TheVariants.{Item};
-ghost use Rattle.cqf_worker.specs.Handing.{GivesEach, GivesFew, HasSealed, SealsOne, pipes_of};
+ghost use Rattle.std.specs.Prelude.{◌≡◌, ◌<◌, ◌≤◌, [], false, true, All, IfOk, length};
+ghost use Rattle.cqf_worker.specs.declared.carried.Carried.TheVariants.{Item, Stop};
+ghost use Rattle.cqf_worker.specs.Handing.{GivesEach, GivesSome, GivesTable, HasSealed, SealsOne, pipes_of};
+ghost use Rattle.cqf_worker.specs.Rows.{with_item};
+ghost use Rattle.cqf_worker.specs.Stops.{AreItemsThenStop};
 
 use crate::carried::Carried;
-use cqf_pipe::PipeIn;
 use cqf_admission::{SealFault, Table};
 use cqf_desk::{Desk, Seat};
+use cqf_pipe::PipeIn;
 use cqf_units::Memory;
 use std::alloc::Global;
 use std::sync::Wait;
@@ -32,9 +34,8 @@ pub(crate) struct Sealed {
 /// Puts a message in a pipe, and says whether the other end was there to have it.
 fn hand<R: Wait>(rt: &R, end: &mut PipeIn<Carried<Table>>, message: Carried<Table>) -> bool
     requires room { length end.old.items < 1000000 }
-    ensures pipe { end.new.pipe ≡ end.old.pipe }
-    ensures few { length end.new.items ≤ length end.old.items + 1 }
-    ensures given { result ≡ true → end.new.items ≡ end.old.items ++ message ∷ [] }
+    ensures given { result ≡ true → end.new ≡ with_item end.old message }
+    ensures gone { result ≡ false → end.new ≡ end.old }
 {
     match end.put(rt, message) {
         Ok(()) => true,
@@ -51,7 +52,7 @@ fn hand_on<R: Wait>(
 ) -> Result<bool, Memory>
     requires room { All (λ end. length end.items < 1000000) tables.old }
     ensures pipes { pipes_of tables.new ≡ pipes_of tables.old }
-    ensures few { GivesFew tables.old tables.new }
+    ensures some { GivesSome (Item table.now) tables.old tables.new }
     ensures given { IfOk result (λ all. all ≡ true → GivesEach (Item table.now) tables.old tables.new) }
 {
     let mut all = true;
@@ -64,9 +65,11 @@ fn hand_on<R: Wait>(
     Ok(all)
 }
 
-/// Tells each worker that no table comes any more, passing over those that have ended.
-fn stop_tables<R: Wait>(rt: &R, tables: &mut [PipeIn<Carried<Table>>])
+/// Tells each worker, once, that no table comes any more, passing over those that have ended.
+pub(crate) fn stop_tables<R: Wait>(rt: &R, tables: &mut [PipeIn<Carried<Table>>])
     requires room { All (λ end. length end.items < 1000000) tables.old }
+    ensures pipes { pipes_of tables.new ≡ pipes_of tables.old }
+    ensures stopped { GivesSome Stop tables.old tables.new }
 {
     for place in 0..tables.len() {
         hand(rt, &mut tables[place], Carried::Stop);
@@ -83,7 +86,7 @@ fn seal_next<R: Wait>(
 ) -> Result<bool, SealingFault>
     requires room { All (λ end. length end.items < 1000000) tables.old }
     ensures pipes { pipes_of tables.new ≡ pipes_of tables.old }
-    ensures few { GivesFew tables.old tables.new }
+    ensures some { GivesTable tables.old tables.new }
     ensures ok { IfOk result (λ all. SealsOne seat.old seat.new tables.old tables.new all) }
 {
     match desk.seal(rt, seat) {
@@ -100,9 +103,41 @@ fn seal_next<R: Wait>(
     }
 }
 
-/// Closes so many cycles to changes, one after the other, with a seat that has no calls yet, and hands the table of each to every
-/// worker. Where a Seal is refused, or memory, it tells the workers that no table comes any more. Where a worker has ended, the
-/// others go on.
+/// Closes so many cycles to changes, one after the other, and hands the table of each to every worker. Says whether no worker had
+/// ended before; where one has, the others go on. Where a Seal is refused, or memory, it tells the workers that no table comes any
+/// more. What it puts for a worker is tables, and then at most one Stop.
+fn seal_cycles<R: Wait>(
+    rt: &R,
+    alloc: Global,
+    desk: &Desk,
+    cycles: u32,
+    conductor: &mut Sealed,
+) -> Result<bool, SealingFault>
+    requires few { cycles ≤ 100000 }
+    requires no_calls { conductor.old.seat.calls ≡ [] }
+    requires no_tables { conductor.old.seat.tables ≡ [] }
+    requires nothing_put { All (λ end. end.items ≡ []) conductor.old.tables.items }
+    ensures pipes { pipes_of conductor.new.tables.items ≡ pipes_of conductor.old.tables.items }
+    ensures put { All (λ end. AreItemsThenStop end.items) conductor.new.tables.items }
+    ensures all { IfOk result (λ all. all ≡ true →
+        HasSealed cycles conductor.old.seat conductor.new.seat conductor.old.tables.items conductor.new.tables.items) }
+{
+    let mut all = true;
+    for _ in 0..cycles {
+        let tables = conductor.tables.as_mut_slice();
+        match seal_next(rt, alloc, desk, &mut conductor.seat, tables) {
+            Ok(given) => all &= given,
+            Err(fault) => {
+                stop_tables(rt, conductor.tables.as_mut_slice());
+                return Err(fault);
+            }
+        }
+    }
+    Ok(all)
+}
+
+/// Closes so many cycles to changes with a seat that has no calls yet, and hands the table of each to every worker: `CyclesSpent` or
+/// `Memory` where a Seal is refused, or memory, and `Lost` where a worker had ended before. Then the seat and the ends are gone.
 pub(crate) fn seal_all<R: Wait>(
     rt: &R,
     alloc: Global,
@@ -117,20 +152,10 @@ pub(crate) fn seal_all<R: Wait>(
     requires nothing_put { All (λ end. end.items ≡ []) tables.items }
     ensures { IfOk result (λ done. HasSealed cycles seat done.seat tables.items done.tables.items) }
 {
-    let mut seat = seat;
-    let mut tables = tables;
-    let mut all = true;
-    for _ in 0..cycles {
-        match seal_next(rt, alloc, desk, &mut seat, tables.as_mut_slice()) {
-            Ok(given) => all &= given,
-            Err(fault) => {
-                stop_tables(rt, tables.as_mut_slice());
-                return Err(fault);
-            }
-        }
+    let mut conductor = Sealed { seat, tables };
+    match seal_cycles(rt, alloc, desk, cycles, &mut conductor) {
+        Ok(true) => Ok(conductor),
+        Ok(false) => Err(SealingFault::Lost),
+        Err(fault) => Err(fault),
     }
-    if !all {
-        return Err(SealingFault::Lost);
-    }
-    Ok(Sealed { seat, tables })
 }

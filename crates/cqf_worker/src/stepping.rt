@@ -5,14 +5,12 @@ ghost use Rattle.cqf_book.specs.Shares.{with_own};
 ghost use Rattle.cqf_bridge.specs.Batch.{LinkBatch};
 ghost use Rattle.cqf_bridge.specs.BridgeState.{AreBackedOf};
 ghost use Rattle.cqf_worker.specs.declared.carried.Carried.TheVariants.{Item};
-ghost use Rattle.cqf_worker.specs.declared.carried.Carried as carried;
 ghost use Rattle.cqf_worker.specs.Rows.{with_each, with_item};
 ghost use Rattle.cqf_worker.specs.Stepping.{GoesOn, HasPorts, IsOffered, MayGoOn, ReceivesOn, SendsOn, onward};
 ghost use Rattle.cqf_worker.specs.Workers.{ends_in_bridge, link_of, links_onward};
 
 use crate::carried::Carried;
 use crate::pace::Pace;
-use cqf_pipe::{PipeIn, PipeOut};
 use crate::ports::Port;
 use crate::rows::{put_each, take_each};
 use crate::worker::{Worker, WorkerFault};
@@ -22,6 +20,7 @@ use cqf_book::{CycleBook, PageFault, Share};
 use cqf_bridge::{Batch, Bridge};
 use cqf_model::{Dropped, Node, Page, Started};
 use cqf_paging::{page_with, starts_of};
+use cqf_pipe::{PipeIn, PipeOut};
 use cqf_topology::Domain;
 use cqf_units::Cycle;
 use std::alloc::Global;
@@ -74,7 +73,7 @@ fn send_on<R: Wait>(
     requires links { map link_of outs.old ≡ links_onward bridge.old.domain bridge.old.number }
     requires room { All (λ port. length port.pipe.items < 1000000) outs.old }
     ensures ok { IfOk result (λ starts. SendsOn cycle.0 agenda.now bridge.old bridge.new outs.old outs.new starts.items) }
-    ensures put { (put : List (carried.Carried LinkBatch)) × (outs.new ≡ with_each outs.old put) }
+    ensures put { (put : List LinkBatch) × (outs.new ≡ with_each outs.old (map Item put)) }
 {
     let mut batches = Vec::new(alloc);
     match bridge.send(alloc, cycle, agenda.background(cycle), &mut batches) {
@@ -156,7 +155,7 @@ pub(crate) fn work_cycle<R: Wait, P: Pace>(
 ) -> Result<(), WorkerFault>
     requires { MayGoOn cycle.0 worker.old }
     ensures ok { OnOk result (GoesOn cycle.0 worker.old worker.new) }
-    ensures put { (put : List (carried.Carried LinkBatch)) × (worker.new.outs.items ≡ with_each worker.old.outs.items put) }
+    ensures put { (put : List LinkBatch) × (worker.new.outs.items ≡ with_each worker.old.outs.items (map Item put)) }
 {
     let table = take_table(rt, &mut worker.tables)?;
     pace.before_step(usize::from(worker.bridge.number()), cycle);

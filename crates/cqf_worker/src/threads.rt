@@ -1,7 +1,8 @@
 //! The threads of a run: one a bridge, one an administrator, and the conductor's own.
-ghost use Rattle.std.specs.Prelude.{◌≡◌, ◌≤◌, [], All, IfOk, Ok, map};
+ghost use Rattle.std.specs.Prelude.{◌≡◌, ◌≤◌, [], All, IfErr, IfOk, Ok, Some, map};
 ghost use Rattle.std.specs.List.{AllZip};
-ghost use Rattle.cqf_worker.specs.Faults.{IsClean, Tells};
+ghost use Rattle.cqf_worker.specs.Faults.{IsClean, is_noted};
+ghost use Rattle.cqf_worker.specs.Noting.{fault_of_caller, fault_of_conductor, fault_of_worker, noted, noted_with};
 ghost use Rattle.cqf_worker.specs.Running.{Answers, CallsOf, HasOneMore, IsEnded, IsReady, MayWork};
 ghost use Rattle.cqf_worker.specs.Workers.{Works};
 
@@ -9,13 +10,12 @@ use crate::calling::{CallFault, make_calls};
 use crate::carried::Carried;
 use crate::faults::{ConductFault, Faults};
 use crate::pace::Pace;
-use cqf_pipe::PipeIn;
-use crate::sealing::{Sealed, SealingFault, seal_all};
+use crate::sealing::{Sealed, SealingFault, seal_all, stop_tables};
 use crate::worker::{Worker, WorkerFault, work};
 use cqf_admission::{Command, Table};
 use cqf_book::CycleBook;
-use cqf_bridge::BridgeFault;
 use cqf_desk::{Desk, Seat};
+use cqf_pipe::PipeIn;
 use std::alloc::Global;
 use std::snapshot::Snapshot;
 use std::sync::Wait;
@@ -191,10 +191,10 @@ fn start_administrators<'s, E, R: Threads + Wait + Sync, P: Pace>(
     Ok(handles)
 }
 
-/// Notes why a bridge's worker gave up: a fault of its bridge with that bridge's number.
+/// Notes why a bridge's worker gave up: a fault of its bridge with that bridge's number, and none of its own where it was stopped.
 fn note_worker(faults: &mut Faults, why: GaveUp)
     ensures some { IsClean faults.new → ⊥ }
-    ensures bridge { (reason : BridgeFault) → why.fault ≡ WorkerFault.Bridge reason → Tells faults.old faults.new (ConductFault.Bridge why.bridge reason) }
+    ensures told { faults.new ≡ noted faults.old (fault_of_worker why) }
 {
     match why.fault {
         WorkerFault::Bridge(reason) => faults.note(ConductFault::Bridge(why.bridge, reason)),
@@ -206,7 +206,8 @@ fn note_worker(faults: &mut Faults, why: GaveUp)
 
 /// Notes why an administrator gave up.
 fn note_caller(faults: &mut Faults, fault: CallFault)
-    ensures { IsClean faults.new → ⊥ }
+    ensures some { IsClean faults.new → ⊥ }
+    ensures told { faults.new ≡ noted faults.old (fault_of_caller fault) }
 {
     match fault {
         CallFault::HistoryFull => faults.note(ConductFault::DeskDisagrees),
@@ -214,9 +215,10 @@ fn note_caller(faults: &mut Faults, fault: CallFault)
     }
 }
 
-/// Notes why the conductor gave up.
+/// Notes why the conductor gave up: no fault of its own where a worker had ended before.
 fn note_conductor(faults: &mut Faults, fault: SealingFault)
-    ensures { IsClean faults.new → ⊥ }
+    ensures some { IsClean faults.new → ⊥ }
+    ensures told { faults.new ≡ noted faults.old (fault_of_conductor fault) }
 {
     match fault {
         SealingFault::Memory => faults.note(ConductFault::Memory),
@@ -299,7 +301,32 @@ fn join_administrators<R: Threads + Wait>(
     seats
 }
 
-/// Starts all threads, closes the cycles while they run, and waits for them.
+/// Starts a thread for each worker and each administrator.
+fn start_all<'s, E, R: Threads + Wait + Sync, P: Pace>(
+    alloc: Global,
+    scope: &'s Scope<'s, E>,
+    rt: &'s R,
+    pace: &'s P,
+    desk: &'s Desk,
+    book: &'s CycleBook,
+    cycles: u32,
+    workers: Vec<Worker>,
+    administrators: Vec<Administrator>,
+) -> Result<(Vec<Working>, Vec<Calling>), ConductFault>
+    requires few { cycles ≤ 100000 }
+    requires new { All MayWork workers.items }
+    requires fresh { All (λ a. a.seat.calls ≡ []) administrators.items }
+    ensures workers { IfOk result (λ handles. map (λ h. h.promise.worker.value) handles.0.items ≡ workers.items) }
+    ensures cycles { IfOk result (λ handles. All (λ h. h.promise.cycles ≡ cycles) handles.0.items) }
+    ensures administrators { IfOk result (λ handles. map (λ h. h.promise.administrator.value) handles.1.items ≡ administrators.items) }
+{
+    let working = start_workers(alloc, scope, rt, pace, book, cycles, workers)?;
+    let calling = start_administrators(alloc, scope, rt, pace, desk, administrators)?;
+    Ok((working, calling))
+}
+
+/// Starts all threads, closes the cycles while they run, and waits for them. Where one can't be started, or memory is refused, it
+/// tells the workers that no table comes any more: those that were started end then, and it waits for none.
 fn run_in<'s, E, R: Threads + Wait + Sync, P: Pace>(
     alloc: Global,
     scope: &'s Scope<'s, E>,
@@ -315,12 +342,28 @@ fn run_in<'s, E, R: Threads + Wait + Sync, P: Pace>(
 {
     let Ready {
         workers,
-        tables,
+        mut tables,
         administrators,
         conductor,
     } = ready;
-    let working = start_workers(alloc, scope, rt, pace, book, cycles, workers)?;
-    let calling = start_administrators(alloc, scope, rt, pace, desk, administrators)?;
+    let started = start_all(
+        alloc,
+        scope,
+        rt,
+        pace,
+        desk,
+        book,
+        cycles,
+        workers,
+        administrators,
+    );
+    let (working, calling) = match started {
+        Ok(threads) => threads,
+        Err(fault) => {
+            stop_tables(rt, tables.as_mut_slice());
+            return Err(fault);
+        }
+    };
     let mut faults = Faults::none();
     let sealed = seal_all(rt, alloc, desk, conductor, tables, cycles);
     let seats = join_administrators(rt, alloc, calling, &mut faults);
@@ -329,14 +372,15 @@ fn run_in<'s, E, R: Threads + Wait + Sync, P: Pace>(
     Ok(ended)
 }
 
-/// What the threads have in the end, if nothing has gone wrong.
+/// What the threads have in the end, if nothing has gone wrong; else the first fault of those that were noted and the conductor's.
 fn all_ended(
     mut faults: Faults,
     workers: Vec<Worker>,
     seats: Vec<Seat>,
     sealed: Result<Sealed, SealingFault>,
 ) -> Result<Ended, ConductFault>
-    ensures { IfOk result (λ all. IsClean faults × (all.workers ≡ workers) × (all.seats ≡ seats) × (sealed ≡ Ok all.sealed)) }
+    ensures all { IfOk result (λ all. IsClean faults × (all.workers ≡ workers) × (all.seats ≡ seats) × (sealed ≡ Ok all.sealed)) }
+    ensures told { IfErr result (λ fault. is_noted (noted_with faults sealed) ≡ Some fault) }
 {
     match sealed {
         Ok(sealed) => match faults.told() {

@@ -1,11 +1,11 @@
 //! A bridge on a thread of its own.
 ghost use Rattle.std.specs.Prelude.{◌≡◌, ◌<◌, ◌≤◌, ℕ, All, IfOk, OnOk, length};
 ghost use Rattle.cqf_laws_course.specs.Courses.{Traffic};
+ghost use Rattle.cqf_worker.specs.Stops.{AreItems, AreItemsThenStop, AreStopped};
 ghost use Rattle.cqf_worker.specs.Workers.{IsWorkerOf, Works};
 
 use crate::carried::Carried;
 use crate::pace::Pace;
-use cqf_pipe::{PipeIn, PipeOut};
 use crate::ports::Port;
 use crate::rows::stop_each;
 use crate::stepping::work_cycle;
@@ -14,6 +14,7 @@ use cqf_agenda::Agenda;
 use cqf_book::{CycleBook, PageFault, Share};
 use cqf_bridge::{Batch, Bridge, BridgeFault};
 use cqf_laws_bridge::new_bridge_follows;
+use cqf_pipe::{PipeIn, PipeOut};
 use cqf_units::Cycle;
 use std::alloc::Global;
 use std::sync::Wait;
@@ -60,6 +61,7 @@ fn work_cycles<R: Wait, P: Pace>(
     requires new { (t : Traffic) × (number : ℕ) × IsWorkerOf t number worker.old }
     ensures ok { OnOk result (Works cycles worker.old worker.new) }
     ensures room { All (λ port. length port.pipe.items < 1000000) worker.new.outs.items }
+    ensures batches { All (λ port. AreItems port.pipe.items) worker.new.outs.items }
 {
     new_bridge_follows();
     for cycle in 0..cycles {
@@ -69,9 +71,13 @@ fn work_cycles<R: Wait, P: Pace>(
 }
 
 /// Lets go of a worker: first of the ends at which it takes, so that who puts there waits no more; then those who take from it are
-/// told that nothing comes any more.
-fn let_go<R: Wait>(rt: &R, worker: Worker)
-    requires { All (λ port. length port.pipe.items < 1000000) worker.outs.items }
+/// told that nothing comes any more. Gives the ends at which that was put, behind batches alone.
+fn let_go<R: Wait>(rt: &R, worker: Worker) -> Vec<Port<PipeIn<Carried<Batch>>>>
+    requires room { All (λ port. length port.pipe.items < 1000000) worker.outs.items }
+    requires batches { All (λ port. AreItems port.pipe.items) worker.outs.items }
+    ensures count { length result.items ≡ length worker.outs.items }
+    ensures stopped { AreStopped worker.outs.items result.items }
+    ensures carried { All (λ port. AreItemsThenStop port.pipe.items) result.items }
 {
     let Worker {
         tables,
@@ -84,6 +90,7 @@ fn let_go<R: Wait>(rt: &R, worker: Worker)
     drop(tables);
     drop(ins);
     stop_each(rt, outs.as_mut_slice());
+    outs
 }
 
 /// Goes through all cycles of a run with a bridge on its thread: the worker comes back with what went through its pipes and what it
@@ -105,7 +112,7 @@ pub(crate) fn work<R: Wait, P: Pace>(
     match work_cycles(rt, alloc, pace, book, cycles, &mut worker) {
         Ok(()) => Ok(worker),
         Err(fault) => {
-            let_go(rt, worker);
+            drop(let_go(rt, worker));
             Err(fault)
         }
     }

@@ -45,6 +45,6 @@ loop-item-preserved g c =
 -- the next pipe's other end is gone
 pub returns-in-Err-clause-some : goal.returns-in-Err-clause-some
 returns-in-Err-clause-some g c = (
-  map Item c.loop-item.yielded,
+  c.loop-item.yielded,
   none_more c.loop-item.ports c.loop-item.place c.index-ports-place.result c.put.new.self c.in-Err.ensures.pipe c.in-Err.ensures.err ∙ c.loop-item.invariant.0,
 )

@@ -12,8 +12,8 @@ loop-place-init g c = (hands_none (Item c.args.table.now) c.args.tables.now, ref
 pub returns-in_err-copy-clause-pipes : goal.returns-in_err-copy-clause-pipes
 returns-in_err-copy-clause-pipes g c = c.loop-place.invariant.0.pipes
 
-pub returns-in_err-copy-clause-few : goal.returns-in_err-copy-clause-few
-returns-in_err-copy-clause-few g c = c.loop-place.invariant.0.few
+pub returns-in_err-copy-clause-some : goal.returns-in_err-copy-clause-some
+returns-in_err-copy-clause-some g c = c.loop-place.invariant.0.some
 
 -- the next pipe has room
 pub hand-requires : goal.hand-requires
@@ -27,8 +27,7 @@ pub loop-place-preserved : goal.loop-place-preserved
 loop-place-preserved g c = (
   hands_next (Item c.args.table.now) c.args.tables.now c.loop-place.tables c.loop-place.place c.loop-place.all c.index-tables-place.result
       c.hand.new.end c.hand.result c.if-not-hand.all c.loop-place.invariant.0 (omega arith)
-      (handed_as (Item c.args.table.now) (Item c.in_ok-copy.copy) _ _ _ (ap Item c.in_ok-copy.ensures) c.hand.ensures.pipe c.hand.ensures.few
-      c.hand.ensures.given)
+      (handed_as (Item c.args.table.now) (Item c.in_ok-copy.copy) _ _ _ (ap Item c.in_ok-copy.ensures) c.hand.ensures.given c.hand.ensures.gone)
       (λ is. elim c.if-not-hand.branch [
         | then-not-hand w ↦ absurd (false≢true (sym w.all-is ∙ is))
         | else-not-hand w ↦ (sym w.all-is ∙ is, search rules)
@@ -39,8 +38,8 @@ loop-place-preserved g c = (
 pub returns-clause-pipes : goal.returns-clause-pipes
 returns-clause-pipes g c = c.loop-place.invariant.0.pipes
 
-pub returns-clause-few : goal.returns-clause-few
-returns-clause-few g c = c.loop-place.invariant.0.few
+pub returns-clause-some : goal.returns-clause-some
+returns-clause-some g c = c.loop-place.invariant.0.some
 
 pub returns-clause-given : goal.returns-clause-given
 returns-clause-given g c = hands_all (Item c.args.table.now) c.args.tables.now c.loop-place.tables c.loop-place.place c.loop-place.all c.loop-place.invariant.0 (omega arith)

@@ -1,7 +1,7 @@
 use Rattle.std.proofs.Common.{refl, arith, false}
 use Rattle.std.proofs.lemmas.Bool.{false≢true}
 use Rattle.cqf_worker.specs.declared.carried.Carried.TheVariants.{Stop}
-use Rattle.cqf_worker.proofs.HandedTables.{hands_next, hands_some, room_next}
+use Rattle.cqf_worker.proofs.HandedTables.{handed_as, hands_next, hands_some, room_next}
 use Rattle.cqf_worker.proofs.sealing.stop_tables.Goals as goal
 
 -- nobody was told yet
@@ -20,6 +20,12 @@ pub loop-place-preserved : goal.loop-place-preserved
 loop-place-preserved g c = (
   hands_next Stop c.args.tables.now c.loop-place.tables c.loop-place.place false c.index-tables-place.result c.hand.new.end c.hand.result false
       c.loop-place.invariant.0 (omega arith)
-      (record { pipe = c.hand.ensures.pipe; few = c.hand.ensures.few; has = c.hand.ensures.given }) (λ is. absurd (false≢true is)),
+      (handed_as Stop Stop _ _ _ refl c.hand.ensures.given c.hand.ensures.gone) (λ is. absurd (false≢true is)),
   c.loop-place.invariant.1,
 )
+
+pub returns-clause-pipes : goal.returns-clause-pipes
+returns-clause-pipes g c = c.loop-place.invariant.0.pipes
+
+pub returns-clause-stopped : goal.returns-clause-stopped
+returns-clause-stopped g c = c.loop-place.invariant.0.some

@@ -1,5 +1,6 @@
-use Rattle.std.proofs.Common.{arith}
-use Rattle.cqf_worker.proofs.Going.{all_gone, may_go_on, none_gone, one_gone, room_left, room_then}
+use Rattle.std.proofs.Common.{arith, map}
+use Rattle.cqf_worker.specs.declared.carried.Carried.TheVariants.{Item}
+use Rattle.cqf_worker.proofs.Going.{all_gone, batches_left, batches_then, may_go_on, none_gone, one_gone, room_left, room_then}
 use Rattle.cqf_worker.proofs.worker.work_cycles.Goals as goal
 
 -- no cycle is over yet
@@ -18,8 +19,15 @@ pub returns-in_err-work_cycle-clause-room : goal.returns-in_err-work_cycle-claus
 returns-in_err-work_cycle-clause-room g c =
     let new = c.requires.new in
     let put = c.in_err-work_cycle.ensures.put in
-    room_left new.0 new.1 c.loop-cycle.cycle c.loop-cycle.worker c.work_cycle.new.worker put.0 (c.loop-cycle.invariant.0.part new.0 new.1 new.2)
+    room_left new.0 new.1 c.loop-cycle.cycle c.loop-cycle.worker c.work_cycle.new.worker (map Item put.0) (c.loop-cycle.invariant.0.part new.0 new.1 new.2)
     (omega (arith, c.loop-cycle-test.true, c.requires.few)) put.1
+
+-- and it has put batches alone
+pub returns-in_err-work_cycle-clause-batches : goal.returns-in_err-work_cycle-clause-batches
+returns-in_err-work_cycle-clause-batches g c =
+    let new = c.requires.new in
+    let put = c.in_err-work_cycle.ensures.put in
+    batches_left new.0 new.1 c.loop-cycle.cycle c.loop-cycle.worker c.work_cycle.new.worker put.0 (c.loop-cycle.invariant.0.part new.0 new.1 new.2) put.1
 
 -- it went through one more
 pub loop-cycle-preserved : goal.loop-cycle-preserved
@@ -40,3 +48,9 @@ returns-clause-room g c =
     let new = c.requires.new in
     room_then new.0 new.1 c.loop-cycle.cycle c.loop-cycle.worker (c.loop-cycle.invariant.0.part new.0 new.1 new.2)
     (omega (arith, c.requires.few, c.loop-cycle.invariant.1))
+
+-- at which it has put batches alone
+pub returns-clause-batches : goal.returns-clause-batches
+returns-clause-batches g c =
+    let new = c.requires.new in
+    batches_then new.0 new.1 c.loop-cycle.cycle c.loop-cycle.worker (c.loop-cycle.invariant.0.part new.0 new.1 new.2)
