@@ -8,7 +8,7 @@ use Rattle.cqf_laws_history.specs.StateLaws.{SealClosesTable, SealsAreCounted}
 use Rattle.cqf_laws_definitions.specs.TableLaws.{ClosedTablesStay}
 
 -- no later calls change a table that is closed
-stays : ClosedTablesStay → SealsAreCounted → (d : Domain) (entries more : List Recorded) (cycle : ℕ) → cycle < seals entries →
+pub stays : ClosedTablesStay → SealsAreCounted → (d : Domain) (entries more : List Recorded) (cycle : ℕ) → cycle < seals entries →
     table_at d (entries ++ more) cycle ≡ table_at d entries cycle
 stays stay counted d entries [] cycle closed = ap (λ (es : List Recorded). table_at d es cycle) (append-nil entries)
 stays stay counted d entries (e ∷ more) cycle closed =
@@ -17,7 +17,7 @@ stays stay counted d entries (e ∷ more) cycle closed =
     ∙ stays stay counted d (entries ++ e ∷ []) more cycle (omega (arith, closed, longer)) ∙ stay d entries e.seat e.act e.reply cycle closed
 
 -- a call that closes a cycle is a Seal
-is_the_seal : (act : Act) → is_seal act ≡ true → act ≡ Seals
+pub is_the_seal : (act : Act) → is_seal act ≡ true → act ≡ Seals
 is_the_seal (Admits asked) h = absurd cc
 is_the_seal (Withdraws name) h = absurd cc
 is_the_seal Seals h = refl

@@ -2,5 +2,6 @@ mod Alike
 mod Borne
 mod Calls
 mod ClosedTables
+mod Longer
 mod Rests
 mod Steps

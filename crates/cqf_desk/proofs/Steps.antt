@@ -67,21 +67,21 @@ stands start rest k e inside is =
     behind start (map recorded_of rest) k ∙ slice_get-map recorded_of rest k ∙ ap (option_map recorded_of) (is_at rest k e inside is)
 
 -- what the seat closes there
-closes : (d : Domain) (entries : List Recorded) (number place : ℕ) (e : Recorded) (b : Bool) → slice_get entries place ≡ Some e → is_seal_by number e ≡ b →
+pub closes : (d : Domain) (entries : List Recorded) (number place : ℕ) (e : Recorded) (b : Bool) → slice_get entries place ≡ Some e → is_seal_by number e ≡ b →
     closed_by d entries number place ≡ (if b then table_closed d entries place ∷ [] else [])
 closes d entries number place e b at is =
     ap (λ (o : Option Recorded). option_map_or (λ (r : Recorded). if is_seal_by number r then table_closed d entries place ∷ [] else []) o []) at
     ∙ ap (λ (t : Bool). if t then table_closed d entries place ∷ [] else []) is
 
 -- one place more
-one_place : (f : ℕ → List CycleTable) (k : ℕ) → each_below f (k + 1) ≡ each_below f k ++ f k
+pub one_place : (f : ℕ → List CycleTable) (k : ℕ) → each_below f (k + 1) ≡ each_below f k ++ f k
 one_place f k = ap (each_below f) (add-one k)
 
--- there is an entry at a place within
-some_entry : (rest : List Entry) (i : ℕ) → i < length rest → (e : Entry) × (slice_get rest i ≡ Some e)
-some_entry [] i inside = absurd (omega (arith, inside))
-some_entry (e ∷ rest) zero inside = (e, refl)
-some_entry (e ∷ rest) (suc i) inside = some_entry rest i (omega (arith, inside))
+-- there is an element at a place within
+pub some_at : {X : Type 0} (xs : List X) (i : ℕ) → i < length xs → (x : X) × (slice_get xs i ≡ Some x)
+some_at [] i inside = absurd (omega (arith, inside))
+some_at (x ∷ xs) zero inside = (x, refl)
+some_at (x ∷ xs) (suc i) inside = some_at xs i (omega (arith, inside))
 
 -- a call that is no Seal of the seat
 pub closes_nothing : (start again new : Administration) (rest : List Entry) (number : ℕ) (tables : List CycleTable) (next k : ℕ) (e : Entry) →
@@ -174,7 +174,7 @@ closes_none start rest number none =
     -- no table at any place
     nothing_at : (i : ℕ) → i < length rest → closed_by start.domain (start.entries ++ map recorded_of rest) number (length start.entries + i) ≡ []
     nothing_at i inside =
-        let there = some_entry rest i inside in
+        let there = some_at rest i inside in
         closes start.domain (start.entries ++ map recorded_of rest) number (length start.entries + i) (recorded_of there.0) false
         (behind start.entries (map recorded_of rest) i ∙ slice_get-map recorded_of rest i ∙ ap (option_map recorded_of) there.1)
         (none_member (λ (e : Entry). is_seal_by number (recorded_of e)) rest there.0 none (contains_at rest i there.0 there.1))

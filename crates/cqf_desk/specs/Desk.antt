@@ -55,8 +55,9 @@ pub record IsAnswered (old new : Administration) (seat : ℕ) (act : Act) (resul
   pub entered : is_entered result ≡ true → new.entries ≡ with_entry old.entries seat act (reply_of result)
   pub unchanged : is_entered result ≡ false → new ≡ old
 
--- what a Seal does to it and to its seat: it closes the next cycle, of which the seat gets the table. It is refused for the
--- reason that is due there
+-- what a Seal does to it and to its seat: it closes the next cycle, and the seat gets a table of that cycle, which is
+-- compared as the desk is closed. It is refused for the reason that is due there
 abbrev pub IsSealed : Administration → Administration → Sitting → Sitting → Result (Unit {0}) SealFault → Type 0
-IsSealed before after old new (Ok done) = (table : CycleTable) × Closes before after old.number (Ok table) × (new ≡ with_seal old table)
+IsSealed before after old new (Ok done) =
+    (table own : CycleTable) × Closes before after old.number (Ok table) × (own.cycle ≡ table.cycle) × (new ≡ with_seal old own)
 IsSealed before after old new (Err fault) = Closes before after old.number (Err fault) × (new ≡ old)

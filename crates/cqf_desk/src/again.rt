@@ -57,7 +57,7 @@ fn closed(answer: Result<Table, SealFault>, reply: Reply) -> Made
 }
 
 /// Makes a call once more.
-fn make(admission: &mut Admission, entry: &Entry) -> Made
+pub(crate) fn make(admission: &mut Admission, entry: &Entry) -> Made
     ensures { ComesTo admission.old admission.new (recorded_of entry.now) result }
 {
     match &entry.call {

@@ -4,14 +4,15 @@ ghost use Rattle.std.specs.List.{list_any};
 ghost use Rattle.std.specs.Option.{option_map_or};
 ghost use Rattle.cqf_model.specs.History.{IsLegalHistory};
 ghost use Rattle.cqf_admission.specs.Admission.{recorded_of};
-ghost use Rattle.cqf_desk.specs.Closing.{AreItsSeats, GoesOnBySeats, IsBorneOut, IsClosed, Settles, calls_by, is_seal_by, tables_by};
+ghost use Rattle.cqf_desk.specs.Closing.{AreItsSeats, GoesOnBySeats, IsBorneOut, IsClosed, Settles, calls_by, tables_by};
 
 use crate::again::{goes_on, has_tables};
 use crate::faults::CloseFault;
+use crate::following::has_seal;
 use crate::history::History;
 use crate::same::{are_same_entries, is_same_entry};
 use crate::seats::Seat;
-use cqf_admission::{Admission, Call, Entry, Table};
+use cqf_admission::{Admission, Entry, Table};
 use cqf_units::Memory;
 use std::alloc::Global;
 
@@ -42,20 +43,6 @@ fn are_known(rest: &[Entry], count: u16) -> bool
     ensures { result ≡ true → All (λ e. e.seat < count) rest.now }
 {
     rest.iter().all(|entry| entry.seat < count)
-}
-
-/// Whether an entry is a Seal of the seat.
-fn is_seal_of(entry: &Entry, number: u16) -> bool
-    ensures { result ≡ is_seal_by number (recorded_of entry.now) }
-{
-    entry.seat == number && matches!(entry.call, Call::Seal)
-}
-
-/// Whether one of the calls is a Seal of the seat.
-fn has_seal(rest: &[Entry], number: u16) -> bool
-    ensures { result ≡ list_any (λ e. is_seal_by number (recorded_of e)) rest.now }
-{
-    rest.iter().any(|entry| is_seal_of(entry, number))
 }
 
 /// Whether these are the calls of the seat among all calls.
@@ -93,7 +80,8 @@ fn closes_tables(
     Ok(so)
 }
 
-/// Whether the seat's tables are those that its Seals close. Only for a seat that has sealed the calls are made once more.
+/// Whether the seat's tables are those that its Seals close. Only for a seat that has sealed, and whose follower hasn't
+/// followed this history, the calls are made once more.
 fn has_its_tables(
     alloc: Global,
     opening: &Admission,
@@ -106,6 +94,9 @@ fn has_its_tables(
     let tables = seat.tables();
     let number = seat.number();
     if tables.len() == 0 && !has_seal(rest, number) {
+        return Ok(true);
+    }
+    if seat.has_followed(opening, rest) {
         return Ok(true);
     }
     closes_tables(alloc, opening, rest, number, tables)

@@ -16,7 +16,8 @@ use std::alloc::Global;
 use std::marker::Model;
 use std::sync::{Mutex, Wait};
 
-/// An admission behind a lock, at which threads ask with seats of their own (profile).
+/// An admission behind a lock, at which threads ask with seats of their own (profile). A seat that seals follows its
+/// history, so that the desk is closed without a look at that seat's tables.
 #[derive(Drop)]
 pub struct Desk {
     alloc: Global,
@@ -78,13 +79,13 @@ impl Desk {
         seat.withdraw(&mut self.admission.lock(rt), asked, name)
     }
 
-    /// Closes the next cycle to changes, by [`Admission::seal`]. The seat keeps the Seal and the cycle's table. With
-    /// `CyclesSpent` and `Memory` neither the history nor the seat changes; `Memory` comes only where `CyclesSpent` isn't
-    /// due. It waits for the lock alone.
+    /// Closes the next cycle to changes, by [`Admission::seal`]. The seat keeps the Seal and the cycle's table, and follows
+    /// the history up to there. With `CyclesSpent` and `Memory` neither the history nor the seat changes; `Memory` comes
+    /// only where `CyclesSpent` isn't due. It waits for the lock alone.
     pub fn seal<R: Wait>(&self, rt: &R, seat: &mut Seat) -> Result<(), SealFault>
         ensures { KeepsSeal seat.old seat.new result }
     {
-        seat.seal(&mut self.admission.lock(rt))
+        seat.seal(self.alloc, &self.opening, &mut self.admission.lock(rt))
     }
 
     /// The history of all calls, once all seats are handed back. It is legal and begins with the opening part; behind that

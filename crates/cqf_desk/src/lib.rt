@@ -17,7 +17,9 @@
 mod again;
 mod closing;
 mod desk;
+mod domains;
 mod faults;
+mod following;
 mod history;
 mod same;
 mod seats;

@@ -3,8 +3,10 @@ ghost use Rattle.std.specs.Prelude.{◌≡◌, ◌↔◌, ◌-◌, ◌≤◌, �
 ghost use Rattle.cqf_model.specs.History.{Admits, Withdraws};
 ghost use Rattle.cqf_admission.specs.Admission.{Closes, calls, is_entered, recorded_of, reply_of};
 ghost use Rattle.cqf_admission.specs.Asking.{asked_of};
+ghost use Rattle.cqf_desk.specs.Closing.{tables_by};
 ghost use Rattle.cqf_desk.specs.Desk.{IsAnswered, IsSealed, Keeps};
 
+use crate::following::{Follower, begin, followed};
 use cqf_admission::{
     Admission, Call, Entry, MOST_CALLS, MOST_SEALS, Receipt, Refused, Reply, SealFault, Table,
 };
@@ -13,22 +15,28 @@ use std::alloc::Global;
 use std::marker::Model;
 
 /// A seat of a desk: a number, the calls that were made with it, in order, with the answers that they got, and the tables
-/// of its Seals (profile).
+/// of its Seals (profile). A seat that seals follows the history: at each Seal all calls up to it have been made once more
+/// on a copy of the admission that the desk was made with, unless memory ran out or an answer was another.
 #[derive(Debug, Drop)]
 pub struct Seat {
     number: u16,
     calls: Vec<Entry>,
     tables: Vec<Table>,
+    /// What follows the history, if anything: its tables are these.
+    follower: Option<Follower>,
 }
 
 impl Model for Seat {
     ghost use Rattle.std.specs.Prelude.{map};
     ghost use Rattle.cqf_admission.specs.Admission.{recorded_of};
     ghost use Rattle.cqf_desk.specs.Desk.{Sitting};
+    ghost use Rattle.cqf_desk.specs.Following.{AreFollowed};
 
     ghost Value = { Sitting };
 
     ghost view = { λ s. record { number = s.number; calls = map recorded_of s.calls.items; tables = s.tables.items } };
+
+    ghost invariant = { λ s. AreFollowed s.follower s.number s.tables.items };
 }
 
 impl Seat {
@@ -40,6 +48,7 @@ impl Seat {
             number,
             calls: Vec::new(alloc),
             tables: Vec::new(alloc),
+            follower: None,
         }
     }
 
@@ -68,6 +77,18 @@ impl Seat {
         ensures { result.now ≡ self.now.tables }
     {
         self.tables.as_slice()
+    }
+
+    /// Whether the seat's tables are those that its Seals close in the history that has these calls behind its opening part,
+    /// by what followed that history.
+    pub(crate) fn has_followed(&self, opening: &Admission, rest: &[Entry]) -> bool
+        ensures { result ≡ true →
+            self.now.tables ≡ tables_by opening.now.domain (opening.now.entries ++ map recorded_of rest.now) (length opening.now.entries) self.now.number }
+    {
+        match &self.follower {
+            Some(follower) => follower.has_followed(opening, rest, self.number),
+            None => false,
+        }
     }
 
     /// Makes a request of an admission, and keeps it with its answer. `asked` is the request again.
@@ -108,8 +129,14 @@ impl Seat {
         answer
     }
 
-    /// Closes the next cycle of an admission to changes, and keeps the Seal and its table.
-    pub(crate) fn seal(&mut self, admission: &mut Admission) -> Result<(), SealFault>
+    /// Closes the next cycle of an admission to changes, and keeps the Seal and its table. The first Seal makes a follower of
+    /// the admission that the desk was made with.
+    pub(crate) fn seal(
+        &mut self,
+        alloc: Global,
+        opening: &Admission,
+        admission: &mut Admission,
+    ) -> Result<(), SealFault>
         ensures { IsSealed admission.old admission.new self.old self.new result }
     {
         if self.calls.reserve(1).is_err() {
@@ -120,7 +147,9 @@ impl Seat {
         }
         match admission.seal(self.number) {
             Ok(table) => {
-                self.tables.push(table).unwrap();
+                begin(&mut self.follower, alloc, opening, self.tables.as_slice());
+                let own = followed(&mut self.follower, admission.history(), self.number, table);
+                self.tables.push(own).unwrap();
                 enter(&mut self.calls, self.number, Call::Seal, Reply::Sealed);
                 Ok(())
             }

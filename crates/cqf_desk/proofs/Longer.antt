@@ -1,0 +1,210 @@
+-- The tables that a seat closes in a history that goes on.
+use Rattle.std.proofs.Common.{◌≡◌, ℕ, ◌+◌, ◌-◌, ◌<◌, ◌≤◌, ◌==◌, Bool, List, Option, None, Some, [], ◌∷◌, ◌++◌, true, false, map, length, take, drop, refl, ap, sym, ◌∙◌, arith, length-append, subst}
+use Rattle.std.specs.Prelude.{IfOk, IfSome, Result, Ok, Err, slice_get}
+use Rattle.std.specs.List.{list_any}
+use Rattle.std.specs.Result.{result_ok}
+use Rattle.std.proofs.lemmas.Bool.{and_parts, or_parts}
+use Rattle.std.proofs.lemmas.List.{append-nil, append_assoc, length-map, map-append, take-append-drop, take-append-le}
+use Rattle.cqf_lists.specs.Lists.{each_below}
+use Rattle.cqf_lists.proofs.Any.{list_any-map}
+use Rattle.cqf_lists.proofs.EachBelow.{same_below}
+use Rattle.cqf_lists.proofs.Places.{slice_get_behind, slice_get_front}
+use Rattle.cqf_model.specs.declared.history.Reply.TheVariants.{Sealed}
+use Rattle.cqf_model.specs.Domain.{Domain}
+use Rattle.cqf_model.specs.History.{Recorded, Seals, is_seal, seals, table_at}
+use Rattle.cqf_admission.specs.declared.entries.Entry.{Entry}
+use Rattle.cqf_admission.specs.Admission.{Administration, recorded_of}
+use Rattle.cqf_admission.specs.Tables.{CycleTable}
+use Rattle.cqf_laws_definitions.specs.TableLaws.{ClosedTablesStay}
+use Rattle.cqf_laws_history.specs.StateLaws.{SealClosesTable, SealsAreCounted}
+use Rattle.cqf_desk.specs.Again.{GoesOn, next_table}
+use Rattle.cqf_desk.specs.Closing.{closed_by, is_seal_by, table_closed, tables_by}
+use Rattle.cqf_desk.specs.declared.following.Follower.{Follower}
+use Rattle.cqf_desk.specs.Following.{AddsTable, AreFollowed, HasFollowed, HasTables, IsUpToSeal, KeepsTables}
+use Rattle.cqf_desk.proofs.ClosedTables.{is_the_seal, stays, table_there}
+use Rattle.cqf_desk.proofs.Rests.{front_is, parts_at}
+use Rattle.cqf_desk.proofs.Steps.{closes, no_tables, one_place, some_at}
+
+-- entries more have no fewer Seals
+not_fewer : SealsAreCounted → (es more : List Recorded) → seals es ≤ seals (es ++ more)
+not_fewer counted es [] =
+    let same : seals (es ++ []) ≡ seals es = ap seals (append-nil es) in
+    omega (arith, same)
+not_fewer counted es (e ∷ more) =
+    let longer = counted es e.seat e.act e.reply in
+    let further = not_fewer counted (es ++ e ∷ []) more in
+    let same : seals ((es ++ e ∷ []) ++ more) ≡ seals (es ++ e ∷ more) = ap seals (append_assoc es (e ∷ []) more) in
+    omega (arith, longer, further, same)
+
+-- the cycle of a Seal within is closed by the end
+is_closed : SealsAreCounted → (es : List Recorded) (place : ℕ) (e : Recorded) → slice_get es place ≡ Some e → is_seal e.act ≡ true → seals (take place es) < seals es
+is_closed counted es place e at its =
+    let parts = parts_at es place e at in
+    let entry_is : e ≡ record { seat = e.seat; act = Seals; reply = e.reply } = (λ i. record { seat = e.seat; act = is_the_seal e.act its i; reply = e.reply }) in
+    let one_more : seals (take place es ++ e ∷ []) ≡ seals (take place es) + 1 =
+    ap (λ (r : Recorded). seals (take place es ++ r ∷ [])) entry_is ∙ counted (take place es) e.seat Seals e.reply in
+    let further = not_fewer counted (take place es ++ e ∷ []) parts.0 in
+    let whole : seals ((take place es ++ e ∷ []) ++ parts.0) ≡ seals es =
+    ap seals (append_assoc (take place es) (e ∷ []) parts.0 ∙ sym parts.1) in
+    omega (arith, one_more, further, whole)
+
+-- a Seal within closes the same table as the history goes on
+same_table : ClosedTablesStay → SealsAreCounted → (d : Domain) (es more : List Recorded) (place : ℕ) (e : Recorded) → place < length es →
+    slice_get es place ≡ Some e → is_seal e.act ≡ true → table_closed d (es ++ more) place ≡ table_closed d es place
+same_table stay counted d es more place e inside at its =
+    let front : take place (es ++ more) ≡ take place es = take-append-le place es more (omega (arith, inside)) in
+    (λ i. record { cycle = seals (front i); rows = table_at d (es ++ more) (seals (front i)) })
+    ∙ (λ i. record { cycle = seals (take place es); rows = stays stay counted d es more (seals (take place es)) (is_closed counted es place e at its) i })
+
+-- and so the seat closes the same there
+same_closed : ClosedTablesStay → SealsAreCounted → (d : Domain) (es more : List Recorded) (number place : ℕ) → place < length es →
+    closed_by d (es ++ more) number place ≡ closed_by d es number place
+same_closed stay counted d es more number place inside = by_seal (is_seal_by number there.0) refl
+  where
+    -- what stands there
+    there : (e : Recorded) × (slice_get es place ≡ Some e)
+    there = some_at es place inside
+
+    -- whether or not it is a Seal of the seat
+    by_seal : (b : Bool) → is_seal_by number there.0 ≡ b → closed_by d (es ++ more) number place ≡ closed_by d es number place
+    by_seal true its =
+        closes d (es ++ more) number place there.0 true (slice_get_front es more place inside ∙ there.1) its
+        ∙ ap (λ t. t ∷ []) (same_table stay counted d es more place there.0 inside there.1 (and_parts (there.0.seat == number) (is_seal there.0.act) its).1)
+        ∙ sym (closes d es number place there.0 true there.1 its)
+    by_seal false none =
+        closes d (es ++ more) number place there.0 false (slice_get_front es more place inside ∙ there.1) none
+        ∙ sym (closes d es number place there.0 false there.1 none)
+
+-- with one entry more a seat has closed what it closes by that one, behind its tables before
+one_entry : ClosedTablesStay → SealsAreCounted → (d : Domain) (es : List Recorded) (e : Recorded) (first number : ℕ) → first ≤ length es →
+    tables_by d (es ++ e ∷ []) first number ≡ tables_by d es first number ++ closed_by d (es ++ e ∷ []) number (length es)
+one_entry stay counted d es e first number begun =
+    let many : length (es ++ e ∷ []) - first ≡ (length es - first) + 1 = let both = length-append es (e ∷ []) in omega (arith, both, begun) in
+    let last : first + (length es - first) ≡ length es = omega (arith, begun) in
+    ap (each_below (λ i. closed_by d (es ++ e ∷ []) number (first + i))) many
+    ∙ one_place (λ i. closed_by d (es ++ e ∷ []) number (first + i)) (length es - first)
+    ∙ ap (λ ts. ts ++ closed_by d (es ++ e ∷ []) number (first + (length es - first)))
+    (same_below (λ i. closed_by d (es ++ e ∷ []) number (first + i)) (λ i. closed_by d es number (first + i)) (length es - first)
+    (λ i inside. same_closed stay counted d es (e ∷ []) number (first + i) (omega (arith, inside, begun))))
+    ∙ ap (λ place. tables_by d es first number ++ closed_by d (es ++ e ∷ []) number place) last
+
+-- with a call that is no Seal of the seat it has the same tables
+by_other : ClosedTablesStay → SealsAreCounted → (d : Domain) (es : List Recorded) (e : Recorded) (first number : ℕ) → first ≤ length es →
+    is_seal_by number e ≡ false → tables_by d (es ++ e ∷ []) first number ≡ tables_by d es first number
+by_other stay counted d es e first number begun none =
+    one_entry stay counted d es e first number begun
+    ∙ ap (λ ts. tables_by d es first number ++ ts) (closes d (es ++ e ∷ []) number (length es) e false (slice_get_behind es e [] (length es) refl) none)
+    ∙ append-nil (tables_by d es first number)
+
+-- with a Seal of the seat it has the next table more
+by_own : ClosedTablesStay → SealsAreCounted → SealClosesTable → (d : Domain) (es : List Recorded) (e : Recorded) (first number : ℕ) → first ≤ length es →
+    is_seal_by number e ≡ true → e.reply ≡ Sealed →
+    tables_by d (es ++ e ∷ []) first number ≡ tables_by d es first number ++ next_table (record { domain = d; entries = es }) ∷ []
+by_own stay counted closing d es e first number begun its sealed =
+    let rows : table_at d (es ++ e ∷ []) (seals es) ≡ (next_table (record { domain = d; entries = es })).rows =
+    table_there stay counted closing d es [] e (and_parts (e.seat == number) (is_seal e.act) its).1 sealed in
+    let the_table : table_closed d (es ++ e ∷ []) (length es) ≡ next_table (record { domain = d; entries = es }) =
+    ap (λ (front : List Recorded). record { cycle = seals front; rows = table_at d (es ++ e ∷ []) (seals front) }) (front_is es (e ∷ []))
+    ∙ (λ i. record { cycle = seals es; rows = rows i }) in
+    one_entry stay counted d es e first number begun
+    ∙ ap (λ ts. tables_by d es first number ++ ts) (closes d (es ++ e ∷ []) number (length es) e true (slice_get_behind es e [] (length es) refl) its)
+    ∙ ap (λ t. tables_by d es first number ++ t ∷ []) the_table
+
+-- calls without a Seal of the seat leave its tables
+by_others : ClosedTablesStay → SealsAreCounted → (d : Domain) (es more : List Recorded) (first number : ℕ) → first ≤ length es →
+    list_any (λ (e : Recorded). is_seal_by number e) more ≡ false → tables_by d (es ++ more) first number ≡ tables_by d es first number
+by_others stay counted d es [] first number begun none = ap (λ (xs : List Recorded). tables_by d xs first number) (append-nil es)
+by_others stay counted d es (e ∷ more) first number begun none =
+    let parts = or_parts (is_seal_by number e) (list_any (λ (e : Recorded). is_seal_by number e) more) none in
+    let longer = length-append es (e ∷ []) in
+    ap (λ (xs : List Recorded). tables_by d xs first number) (sym (append_assoc es (e ∷ []) more))
+    ∙ by_others stay counted d (es ++ e ∷ []) more first number (omega (arith, longer, begun)) parts.1
+    ∙ by_other stay counted d es e first number begun parts.0
+
+-- the tables of an administration that goes on
+gone_on : (old new : Administration) (e : Recorded) (first after number : ℕ) → after ≡ first → GoesOn old new e →
+    tables_by old.domain (old.entries ++ e ∷ []) first number ≡ tables_by new.domain new.entries after number
+gone_on old new e first after number same goes =
+    (λ i. tables_by (sym goes.domain i) (sym goes.entries i) (sym same i) number)
+
+-- a follower that goes on has begun with as many entries
+begun_so : (old new : Administration) (e : Recorded) (first after : ℕ) → after ≡ first → GoesOn old new e → first ≤ length old.entries → after ≤ length new.entries
+begun_so old new e first after same goes begun =
+    let long : length new.entries ≡ length (old.entries ++ e ∷ []) = ap length goes.entries in
+    let longer = length-append old.entries (e ∷ []) in
+    omega (arith, same, long, longer, begun)
+
+-- a follower that has followed nothing yet
+pub begins : {E : Type 0} (opening : Administration) (made : Result Follower E) (tables : List CycleTable) →
+    IfOk made (λ f. f ≡ record { first = length opening.entries; admission = opening }) → length tables ≡ 0 → (number : ℕ) → AreFollowed (result_ok made) number tables
+begins opening (Ok f) tables is none number =
+    let through : length opening.entries - length opening.entries ≡ 0 = omega arith in
+    subst (λ (g : Follower). HasTables g number tables) (sym is) (record {
+      begun = omega arith;
+      own = no_tables tables none ∙ sym (ap (each_below (λ i. closed_by opening.domain opening.entries number (length opening.entries + i))) through);
+    })
+begins opening (Err fault) tables is none number = tt
+
+-- a follower goes on by a call that is no Seal of the seat
+pub keeps_tables : ClosedTablesStay → SealsAreCounted → (old new : Follower) (e : Recorded) (number : ℕ) → new.first ≡ old.first →
+    GoesOn old.admission new.admission e → is_seal_by number e ≡ false → KeepsTables old new number
+keeps_tables stay counted old new e number same goes none = λ tables has. record {
+  begun = begun_so old.admission new.admission e old.first new.first same goes has.begun;
+  own = has.own ∙ sym (by_other stay counted old.admission.domain old.admission.entries e old.first number has.begun none)
+      ∙ gone_on old.admission new.admission e old.first new.first number same goes;
+}
+
+-- and by one of its Seals
+pub adds_table : ClosedTablesStay → SealsAreCounted → SealClosesTable → (old new : Follower) (e : Recorded) (number : ℕ) (table : CycleTable) → new.first ≡ old.first →
+    GoesOn old.admission new.admission e → is_seal_by number e ≡ true → e.reply ≡ Sealed → table ≡ next_table old.admission → AddsTable old new number table
+adds_table stay counted closing old new e number table same goes its sealed is = λ tables has. record {
+  begun = begun_so old.admission new.admission e old.first new.first same goes has.begun;
+  own = ap (λ ts. ts ++ table ∷ []) has.own
+      ∙ ap (λ t. tables_by old.admission.domain old.admission.entries old.first number ++ t ∷ []) is
+      ∙ sym (by_own stay counted closing old.admission.domain old.admission.entries e old.first number has.begun its sealed)
+      ∙ gone_on old.admission new.admission e old.first new.first number same goes;
+}
+
+-- by calls that are none of its Seals, and then by one
+pub adds_behind : (old mid new : Follower) (number : ℕ) (found : Option CycleTable) → KeepsTables old mid number →
+    IfSome found (λ table. AddsTable mid new number table) → IfSome found (λ table. AddsTable old new number table)
+adds_behind old mid new number None keeps adds = tt
+adds_behind old mid new number (Some table) keeps adds = λ tables has. adds tables (keeps tables has)
+
+-- calls that come first, and behind them no Seal of the seat
+pub up_to_seal : (followed rest front behind : List Entry) (number n : ℕ) → front ≡ take n rest → behind ≡ drop n rest → map recorded_of followed ≡ map recorded_of front →
+    list_any (λ (e : Entry). is_seal_by number (recorded_of e)) behind ≡ false → IsUpToSeal (map recorded_of followed) (map recorded_of rest) number
+up_to_seal followed rest front behind number n is_front is_behind same none = (
+  map recorded_of behind,
+  ap (map recorded_of) (sym (take-append-drop n rest)) ∙ map-append recorded_of (take n rest) (drop n rest)
+      ∙ (λ i. map recorded_of (sym is_front i) ++ map recorded_of (sym is_behind i)) ∙ ap (λ es. es ++ map recorded_of behind) (sym same),
+  list_any-map (λ (e : Recorded). is_seal_by number e) recorded_of behind ∙ none,
+)
+
+-- what was followed is an opening part and the calls behind it
+in_parts : (history first followed : List Entry) (entries start : List Recorded) (n : ℕ) → map recorded_of history ≡ entries → first ≡ take n history →
+    followed ≡ drop n history → map recorded_of first ≡ start → entries ≡ start ++ map recorded_of followed
+in_parts history first followed entries start n is is_first is_followed begins =
+    sym is ∙ ap (map recorded_of) (sym (take-append-drop n history)) ∙ map-append recorded_of (take n history) (drop n history)
+    ∙ (λ i. map recorded_of (sym is_first i) ++ map recorded_of (sym is_followed i)) ∙ ap (λ es. es ++ map recorded_of followed) begins
+
+-- a follower of the history up to the seat's last Seal has its tables
+followed_so : ClosedTablesStay → SealsAreCounted → (f : Follower) (opening : Administration) (followed rest : List Recorded) (number : ℕ) →
+    f.first ≡ length opening.entries → f.admission.domain ≡ opening.domain → f.admission.entries ≡ opening.entries ++ followed → IsUpToSeal followed rest number →
+    HasFollowed f opening rest number
+followed_so stay counted f opening followed rest number first domain entries up = λ tables has.
+    let longer = length-append opening.entries followed in
+    has.own
+    ∙ (λ i. tables_by (domain i) (entries i) (first i) number)
+    ∙ sym (by_others stay counted opening.domain (opening.entries ++ followed) up.0 (length opening.entries) number (omega (arith, longer)) up.2)
+    ∙ ap (λ (es : List Recorded). tables_by opening.domain es (length opening.entries) number)
+    (append_assoc opening.entries followed up.0 ∙ ap (λ (es : List Recorded). opening.entries ++ es) (sym up.1))
+
+-- the same of lists of entries that were compared
+pub has_followed : ClosedTablesStay → SealsAreCounted → (f : Follower) (opening : Administration) (history start first followed : List Entry) (rest : List Recorded) (n number : ℕ) →
+    f.first ≡ n → n ≡ length start → map recorded_of start ≡ opening.entries → f.admission.domain ≡ opening.domain → map recorded_of history ≡ f.admission.entries →
+    first ≡ take n history → followed ≡ drop n history → map recorded_of first ≡ map recorded_of start → IsUpToSeal (map recorded_of followed) rest number →
+    HasFollowed f opening rest number
+has_followed stay counted f opening history start first followed rest n number begun many starts domain is is_first is_followed same up =
+    followed_so stay counted f opening (map recorded_of followed) rest number (begun ∙ many ∙ sym (length-map start recorded_of) ∙ ap length starts) domain
+    (in_parts history first followed f.admission.entries opening.entries n is is_first is_followed (same ∙ starts)) up
