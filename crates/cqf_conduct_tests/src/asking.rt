@@ -1,5 +1,6 @@
 //! What administrators ask for: streams that are admitted before a run, and calls that are made while it goes.
 ghost use Rattle.std.specs.Prelude.{◌≡◌, IfSome};
+ghost use Rattle.cqf_model.specs.History.{seals};
 
 use cqf_admission::{Admission, Command};
 use cqf_fixtures::{Asked, request};
@@ -36,14 +37,15 @@ fn admits_all(alloc: Global, admission: &mut Admission, streams: &[Asked]) -> bo
     true
 }
 
-/// An admission for the domain that has admitted some streams, where it does.
+/// An admission for the domain that has admitted some streams and closed no cycle, where it does.
 pub(crate) fn open(alloc: Global, domain: &Domain, streams: &[Asked]) -> Option<Admission>
-    ensures { IfSome result (λ admission. admission.domain ≡ domain.now) }
+    ensures domain { IfSome result (λ admission. admission.domain ≡ domain.now) }
+    ensures unsealed { IfSome result (λ admission. seals admission.entries ≡ 0) }
 {
     let Ok(mut admission) = Admission::new(alloc, domain) else {
         return None;
     };
-    if admits_all(alloc, &mut admission, streams) {
+    if admits_all(alloc, &mut admission, streams) && admission.next_cycle().0 == 0 {
         Some(admission)
     } else {
         None

@@ -13,6 +13,13 @@ pub(crate) struct Written {
     pub(crate) drops: &'static [Fell],
 }
 
+/// Nothing.
+pub(crate) const NOTHING: Written = Written {
+    starts: &[],
+    background: &[],
+    drops: &[],
+};
+
 /// Whether this stands in a book, and no more.
 pub(crate) fn is_written(book: &Book, written: &Written) -> bool {
     are_begun(book.starts.as_slice(), written.starts)

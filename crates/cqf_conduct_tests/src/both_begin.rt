@@ -1,8 +1,7 @@
 //! Bridges go through a cycle at once: the step of each waits until the others' steps of the cycle have begun.
 use crate::flags::{Flag, wait_for_both};
-use crate::running::{Scenario, account_of};
+use crate::running::{Scenario, account_over};
 use cqf_fixtures::line;
-use cqf_topology::Domain;
 use cqf_units::Cycle;
 use cqf_worker::Pace;
 use std::alloc::Global;
@@ -92,21 +91,13 @@ const FIVE_CYCLES: Scenario = Scenario {
 };
 
 /// Whether all bridges of the line meet in each cycle.
-fn all_meet<R: Threads + Wait + Sync>(rt: &R, alloc: Global, domain: &Domain) -> bool {
+fn bridges_meet<R: Threads + Wait + Sync>(rt: &R, alloc: Global) -> bool {
     match Together::new(alloc) {
         Some(pace) => {
-            let ended = account_of(rt, alloc, domain, &FIVE_CYCLES, &[], &[], &pace).is_some();
+            let ended = account_over(rt, alloc, line(), &FIVE_CYCLES, &[], &[], &pace).is_some();
             ended && pace.all_met()
         }
         None => false,
-    }
-}
-
-/// Whether they do on the line of the fixtures.
-fn bridges_meet<R: Threads + Wait + Sync>(rt: &R, alloc: Global) -> bool {
-    match Domain::read(alloc, line().as_bytes()) {
-        Ok(domain) => all_meet(rt, alloc, &domain),
-        Err(_) => false,
     }
 }
 

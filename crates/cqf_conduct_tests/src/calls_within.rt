@@ -1,11 +1,10 @@
 //! Administrators call while bridges run.
 use crate::asking::Ask;
 use crate::flags::{Flag, wait_for_both};
-use crate::running::{Scenario, account_of};
+use crate::running::{Scenario, account_over};
 use cqf_admission::{Call, Entry};
 use cqf_fixtures::one_link;
 use cqf_model::Reply;
-use cqf_topology::Domain;
 use cqf_units::Cycle;
 use cqf_worker::Pace;
 use std::alloc::Global;
@@ -108,20 +107,12 @@ fn have_called(entries: &[Entry]) -> bool {
         && entries.iter().any(|entry| is_within(entry, 1))
 }
 
-/// Whether both call within a run over the link.
-fn both_call<R: Threads + Wait + Sync>(rt: &R, alloc: Global, domain: &Domain) -> bool {
+/// Whether both call within a run over one link.
+fn calls_come_within<R: Threads + Wait + Sync>(rt: &R, alloc: Global) -> bool {
     let pace = Within::new();
-    match account_of(rt, alloc, domain, &TWO_STREAMS, &[], &[], &pace) {
+    match account_over(rt, alloc, one_link(), &TWO_STREAMS, &[], &[], &pace) {
         Some(account) => pace.all_came() && have_called(account.history.entries.as_slice()),
         None => false,
-    }
-}
-
-/// Whether they do over the link of the fixtures.
-fn calls_come_within<R: Threads + Wait + Sync>(rt: &R, alloc: Global) -> bool {
-    match Domain::read(alloc, one_link().as_bytes()) {
-        Ok(domain) => both_call(rt, alloc, &domain),
-        Err(_) => false,
     }
 }
 

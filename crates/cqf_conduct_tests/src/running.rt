@@ -1,9 +1,8 @@
 //! Runs on threads to be made.
-ghost use Rattle.std.specs.Prelude.{◌≡◌};
-
 use crate::asking::{Ask, all_commands, open};
-use cqf_admission::{Admission, Command};
-use cqf_fixtures::{Asked, are_background, are_offers};
+use cqf_fixtures::{
+    Asked, Backing, Offering, are_background, are_offers, background_of, offers_of,
+};
 use cqf_model::{Background, Offer};
 use cqf_topology::Domain;
 use cqf_worker::{Account, Pace, conduct};
@@ -12,6 +11,7 @@ use std::sync::Wait;
 use std::thread::Threads;
 
 /// What is run beside what is offered.
+#[derive(Clone, Copy)]
 pub(crate) struct Scenario {
     /// The streams that are admitted before the run.
     pub(crate) streams: &'static [Asked],
@@ -22,34 +22,7 @@ pub(crate) struct Scenario {
     pub(crate) cycles: u32,
 }
 
-/// Runs the network under administration, where it may be run.
-fn conduct_it<R: Threads + Wait + Sync, P: Pace>(
-    rt: &R,
-    alloc: Global,
-    domain: &Domain,
-    admission: Admission,
-    offers: &[Offer],
-    background: &[Background],
-    cycles: u32,
-    admins: Vec<Vec<Command>>,
-    pace: &P,
-) -> Option<Account>
-    requires { admission.domain ≡ domain.now }
-{
-    let few = cycles <= 100_000 && offers.len() <= 1_000_000 && background.len() <= 1_000_000;
-    let unsealed = admission.next_cycle().0 == 0;
-    if !few || !unsealed || !are_offers(domain, offers) || !are_background(domain, background) {
-        return None;
-    }
-    match conduct(
-        rt, alloc, domain, admission, offers, background, cycles, admins, pace,
-    ) {
-        Ok(account) => Some(account),
-        Err(_) => None,
-    }
-}
-
-/// The account of a scenario over a domain, with what is offered and the background frames.
+/// The account of a scenario over a domain, with what is offered and the background frames, where they may be run.
 pub(crate) fn account_of<R: Threads + Wait + Sync, P: Pace>(
     rt: &R,
     alloc: Global,
@@ -59,19 +32,42 @@ pub(crate) fn account_of<R: Threads + Wait + Sync, P: Pace>(
     background: &[Background],
     pace: &P,
 ) -> Option<Account> {
+    let cycles = scenario.cycles;
+    let few = cycles <= 100_000 && offers.len() <= 1_000_000 && background.len() <= 1_000_000;
+    if !few || !are_offers(domain, offers) || !are_background(domain, background) {
+        return None;
+    }
     let Ok(admins) = all_commands(alloc, scenario.admins, scenario.times) else {
         return None;
     };
     let admission = open(alloc, domain, scenario.streams)?;
-    conduct_it(
-        rt,
-        alloc,
-        domain,
-        admission,
-        offers,
-        background,
-        scenario.cycles,
-        admins,
-        pace,
-    )
+    match conduct(
+        rt, alloc, domain, admission, offers, background, cycles, admins, pace,
+    ) {
+        Ok(account) => Some(account),
+        Err(_) => None,
+    }
+}
+
+/// The account of a scenario over a domain's text, with offers and background frames of these values, where they may be run.
+pub(crate) fn account_over<R: Threads + Wait + Sync, P: Pace>(
+    rt: &R,
+    alloc: Global,
+    text: &str,
+    scenario: &Scenario,
+    offers: &[Offering],
+    background: &[Backing],
+    pace: &P,
+) -> Option<Account> {
+    let Ok(offered) = offers_of(alloc, offers) else {
+        return None;
+    };
+    let Ok(beside) = background_of(alloc, background) else {
+        return None;
+    };
+    let (offered, beside) = (offered.as_slice(), beside.as_slice());
+    match Domain::read(alloc, text.as_bytes()) {
+        Ok(domain) => account_of(rt, alloc, &domain, scenario, offered, beside, pace),
+        Err(_) => None,
+    }
 }

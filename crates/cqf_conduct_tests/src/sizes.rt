@@ -1,7 +1,7 @@
 //! The largest runs: of as many bridges, links and administrators as there can be, and of as many cycles.
 use crate::asking::Ask;
-use crate::books::{Written, is_quiet, is_written};
-use crate::running::{Scenario, account_of};
+use crate::books::{NOTHING, Written, is_quiet, is_written};
+use crate::running::{Scenario, account_of, account_over};
 use cqf_admission::{Call, Entry};
 use cqf_fixtures::{Offering, offers_of, one_link};
 use cqf_model::Offer;
@@ -113,8 +113,7 @@ const ALONG_SIXTEEN: Written = Written {
         (15, 30, 1, 64, 1875000),
         (16, 63, 1, 64, 2000000),
     ],
-    background: &[],
-    drops: &[],
+    ..NOTHING
 };
 
 /// How many entries of a history are Seals of the seat.
@@ -180,8 +179,7 @@ const FIRST_AND_LAST: &[Offering] = &[(0, 0, "x", 64), (12499750000, 0, "x", 64)
 /// They leave in the cycles behind their own.
 const FAR_APART: Written = Written {
     starts: &[(1, 0, 1, 64, 125000), (99999, 0, 2, 64, 12499875000)],
-    background: &[],
-    drops: &[],
+    ..NOTHING
 };
 
 /// Whether an account is that of the two.
@@ -189,22 +187,11 @@ fn is_of_long(account: &Account) -> bool {
     is_quiet(&account.history, 1, 2, 100_000) && is_written(&account.book, &FAR_APART)
 }
 
-/// Whether the two have such an account over a link.
-fn long_ends<R: Threads + Wait + Sync>(rt: &R, alloc: Global, domain: &Domain) -> bool {
-    let Ok(offers) = offers_of(alloc, FIRST_AND_LAST) else {
-        return false;
-    };
-    match account_of(rt, alloc, domain, &LONG, offers.as_slice(), &[], &Free) {
+/// Whether the two have such an account over one link.
+fn longest_ends<R: Threads + Wait + Sync>(rt: &R, alloc: Global) -> bool {
+    match account_over(rt, alloc, one_link(), &LONG, FIRST_AND_LAST, &[], &Free) {
         Some(account) => is_of_long(&account),
         None => false,
-    }
-}
-
-/// Whether they have over the link of the fixtures.
-fn longest_ends<R: Threads + Wait + Sync>(rt: &R, alloc: Global) -> bool {
-    match Domain::read(alloc, one_link().as_bytes()) {
-        Ok(domain) => long_ends(rt, alloc, &domain),
-        Err(_) => false,
     }
 }
 

@@ -1,5 +1,6 @@
 //! What a planner sees of `compile`.
 
+use crate::cases::ends_with;
 use cqf_compile_command::compile_output;
 use cqf_fixtures::{line, one_link, ring};
 use std::alloc::{AllocError, Global};
@@ -38,10 +39,7 @@ const CONFIGURATION: &str = "link a>s\nBF 120000\n00 5000\n7F 120000\n00 5000\n\
 /// The text that `compile` of this domain and these streams ends with, its output or the line of a fault, and the status.
 fn gives(alloc: Global, domain: &str, streams: &str, text: &str) -> Result<bool, AllocError> {
     let input = format!(in alloc; "{domain}\n%%\n{streams}")?;
-    match compile_output(alloc, input.as_bytes()) {
-        Ok(output) => Ok(output.as_slice() == text.as_bytes()),
-        Err(stop) => Ok(stop.status == 1 && stop.text.as_slice() == text.as_bytes()),
-    }
+    Ok(ends_with(compile_output(alloc, input.as_bytes()), text))
 }
 
 /// Streams over one link, and what `compile` gives for them.

@@ -8,6 +8,8 @@ mod background;
 #[cfg(test)]
 mod books;
 #[cfg(test)]
+mod cases;
+#[cfg(test)]
 mod compile_command;
 #[cfg(test)]
 mod engines;

@@ -1,4 +1,5 @@
 //! What a planner sees of `line`.
+use crate::cases::ends_with;
 use cqf_line_command::line_output;
 use std::alloc::Global;
 
@@ -46,10 +47,7 @@ fn gives(alloc: Global, cycles: u32, input: &str, text: &str) -> bool {
     if cycles > 100_000 {
         return false;
     }
-    match line_output(alloc, cycles, input.as_bytes()) {
-        Ok(output) => output.as_slice() == text.as_bytes(),
-        Err(stop) => stop.status == 1 && stop.text.as_slice() == text.as_bytes(),
-    }
+    ends_with(line_output(alloc, cycles, input.as_bytes()), text)
 }
 
 #[test]

@@ -1,6 +1,7 @@
 //! What a planner sees of `report`.
 
-use cqf_fixtures::{line, one_link};
+use crate::cases::{ONE_FRAME, Over, ends_with, input_of};
+use cqf_fixtures::one_link;
 use cqf_report_command::report_output;
 use std::alloc::{AllocError, Global};
 use std::thread::Threads;
@@ -9,8 +10,7 @@ use std::thread::Threads;
 const CASES: &[(&str, &str)] = &[
     // one frame goes along the line
     (
-        "%%\nstreams = [{ name = \"x\", octets = 1500, path = [\"a\", \"b\", \"c\", \"s\"] }]\n\
-        %%\n0 admit x\n%%\nat,bridge,stream,octets\n0,a,x,64\n",
+        ONE_FRAME,
         "link,frames,octets,most\na>b,1,64,64\nb>c,1,64,64\nc>s,1,64,64\n",
     ),
     // links on which nothing starts; background frames don't count
@@ -31,10 +31,7 @@ fn tells(rt: &(impl Threads + Sync), alloc: Global, cycles: u32, input: &[u8], t
     if cycles > 100_000 {
         return false;
     }
-    match report_output(rt, alloc, cycles, input) {
-        Ok(output) => output.as_slice() == text.as_bytes(),
-        Err(stop) => stop.status == 1 && stop.text.as_slice() == text.as_bytes(),
-    }
+    ends_with(report_output(rt, alloc, cycles, input), text)
 }
 
 /// Whether `report` of the line gives the text of a case.
@@ -44,8 +41,7 @@ fn gives(
     parts: &str,
     text: &str,
 ) -> Result<bool, AllocError> {
-    let domain = line();
-    let input = format!(in alloc; "{domain}{parts}")?;
+    let input = input_of(alloc, Over::Line, parts)?;
     Ok(tells(rt, alloc, 5, input.as_bytes(), text))
 }
 

@@ -17,6 +17,21 @@ pub(crate) enum Act {
     Post(u8),
 }
 
+/// All bridges of the line go through a cycle, side by side.
+pub(crate) const SIDE_BY_SIDE: &[Act] = &[
+    Act::Give(0),
+    Act::Give(1),
+    Act::Give(2),
+    Act::Step(0),
+    Act::Step(1),
+    Act::Step(2),
+    Act::Take(0),
+    Act::Take(1),
+    Act::Post(0),
+    Act::Post(1),
+    Act::Post(2),
+];
+
 /// The stream `x` over the line.
 const X: Asked = ("x", 1500, &[&["a", "b", "c", "s"]]);
 

@@ -1,5 +1,5 @@
 //! The events of one run in many orders.
-use crate::acts::{Act, happens};
+use crate::acts::{Act, SIDE_BY_SIDE, happens};
 use crate::making::{begin, plan_of};
 use crate::written::{Written, are_written};
 use cqf_compile::Plan;
@@ -20,23 +20,8 @@ const CALLS: &[Act] = &[
     Act::Seal,
 ];
 
-/// What may happen beside it. Link 2 ends in a station, and there is neither a bridge 3 nor a link 3.
-const OTHERS: &[Act] = &[
-    Act::Give(0),
-    Act::Give(1),
-    Act::Give(2),
-    Act::Step(0),
-    Act::Step(1),
-    Act::Step(2),
-    Act::Take(0),
-    Act::Take(1),
-    Act::Post(0),
-    Act::Post(1),
-    Act::Post(2),
-    Act::Take(2),
-    Act::Give(3),
-    Act::Take(3),
-];
+/// What never happens beside it: link 2 ends in a station, and there is neither a bridge 3 nor a link 3.
+const NEVER: &[Act] = &[Act::Take(2), Act::Give(3), Act::Take(3)];
 
 /// What is offered: a frame, one at another bridge, one behind the withdrawal, and one when nothing is held of the stream any more.
 const OFFERS: &[Offering] = &[
@@ -100,10 +85,10 @@ fn behind(number: u64) -> u64 {
         .wrapping_add(1_442_695_040_888_963_407)
 }
 
-/// One of the events that may happen beside the calls, or the next call: twice as often as each of the others.
+/// One of the events of bridges and links, or the next call: twice as often as each of the others.
 fn chosen(number: u64, made: usize) -> Act {
     let place = ((number >> 33) % 16) as usize;
-    match OTHERS.get(place) {
+    match SIDE_BY_SIDE.iter().chain(NEVER).nth(place) {
         Some(act) => *act,
         None => match CALLS.get(made) {
             Some(call) => *call,

@@ -1,5 +1,5 @@
 //! Events in turn, and out of turn.
-use crate::acts::{Act, all_happen, none_happens};
+use crate::acts::{Act, SIDE_BY_SIDE, all_happen, none_happens};
 use crate::making::{begin, plan_of};
 use crate::written::{Written, are_written};
 use cqf_compile::Plan;
@@ -63,21 +63,6 @@ const FIRST_BRIDGE: &[Act] = &[Act::Give(0), Act::Step(0), Act::Post(0)];
 const SECOND_BRIDGE: &[Act] = &[Act::Give(1), Act::Step(1), Act::Take(0), Act::Post(1)];
 
 const THIRD_BRIDGE: &[Act] = &[Act::Give(2), Act::Step(2), Act::Take(1), Act::Post(2)];
-
-/// All bridges go through a cycle, side by side.
-const SIDE_BY_SIDE: &[Act] = &[
-    Act::Give(0),
-    Act::Give(1),
-    Act::Give(2),
-    Act::Step(0),
-    Act::Step(1),
-    Act::Step(2),
-    Act::Take(0),
-    Act::Take(1),
-    Act::Post(0),
-    Act::Post(1),
-    Act::Post(2),
-];
 
 /// The one frame leaves the first bridge in the cycle behind its own.
 const ONE_START: &[Written] = &[Written {
