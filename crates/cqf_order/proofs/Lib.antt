@@ -1,5 +1,5 @@
 pub mod Listing
 pub mod Taken
-pub mod ThreeSorts
+pub mod ThreeKeys
 pub mod BookSorts
 pub mod Left
