@@ -1,8 +1,7 @@
 -- The tables that a seat closes in a history that goes on.
 use Rattle.std.proofs.Common.{◌≡◌, ℕ, ◌+◌, ◌-◌, ◌<◌, ◌≤◌, ◌==◌, Bool, List, Option, None, Some, [], ◌∷◌, ◌++◌, true, false, map, length, take, drop, refl, ap, sym, ◌∙◌, arith, length-append, subst}
-use Rattle.std.specs.Prelude.{IfOk, IfSome, Result, Ok, Err, slice_get}
+use Rattle.std.specs.Prelude.{IfSome, slice_get}
 use Rattle.std.specs.List.{list_any}
-use Rattle.std.specs.Result.{result_ok}
 use Rattle.std.proofs.lemmas.Bool.{and_parts, or_parts}
 use Rattle.std.proofs.lemmas.List.{append-nil, append_assoc, length-map, map-append, take-append-drop, take-append-le}
 use Rattle.cqf_lists.specs.Lists.{each_below}
@@ -20,7 +19,7 @@ use Rattle.cqf_laws_history.specs.StateLaws.{SealClosesTable, SealsAreCounted}
 use Rattle.cqf_desk.specs.Again.{GoesOn, next_table}
 use Rattle.cqf_desk.specs.Closing.{closed_by, is_seal_by, table_closed, tables_by}
 use Rattle.cqf_desk.specs.declared.following.Follower.{Follower}
-use Rattle.cqf_desk.specs.Following.{AddsTable, AreFollowed, HasFollowed, HasTables, IsUpToSeal, KeepsTables}
+use Rattle.cqf_desk.specs.Following.{AddsTable, AreFollowed, HasFollowed, IsUpToSeal, KeepsTables, at_opening}
 use Rattle.cqf_desk.proofs.ClosedTables.{is_the_seal, stays, table_there}
 use Rattle.cqf_desk.proofs.Rests.{front_is, parts_at}
 use Rattle.cqf_desk.proofs.Steps.{closes, no_tables, one_place, some_at}
@@ -135,15 +134,14 @@ begun_so old new e first after same goes begun =
     omega (arith, same, long, longer, begun)
 
 -- a follower that has followed nothing yet
-pub begins : {E : Type 0} (opening : Administration) (made : Result Follower E) (tables : List CycleTable) →
-    IfOk made (λ f. f ≡ record { first = length opening.entries; admission = opening }) → length tables ≡ 0 → (number : ℕ) → AreFollowed (result_ok made) number tables
-begins opening (Ok f) tables is none number =
+pub begins : (opening : Administration) (fs : List Follower) (f : Follower) (tables : List CycleTable) (number : ℕ) → fs ≡ f ∷ [] → f ≡ at_opening opening →
+    length tables ≡ 0 → AreFollowed fs number tables
+begins opening fs f tables number one is none =
     let through : length opening.entries - length opening.entries ≡ 0 = omega arith in
-    subst (λ (g : Follower). HasTables g number tables) (sym is) (record {
+    subst (λ (gs : List Follower). AreFollowed gs number tables) (sym (one ∙ ap (λ (g : Follower). g ∷ []) is)) (record {
       begun = omega arith;
       own = no_tables tables none ∙ sym (ap (each_below (λ i. closed_by opening.domain opening.entries number (length opening.entries + i))) through);
     })
-begins opening (Err fault) tables is none number = tt
 
 -- a follower goes on by a call that is no Seal of the seat
 pub keeps_tables : ClosedTablesStay → SealsAreCounted → (old new : Follower) (e : Recorded) (number : ℕ) → new.first ≡ old.first →

@@ -1,5 +1,5 @@
 -- What follows a history for a seat (profile).
-use Rattle.std.specs.Prelude.{ℕ, ◌≡◌, ◌≤◌, ◌++◌, List, [], ◌∷◌, false, Option, Some, None, length}
+use Rattle.std.specs.Prelude.{ℕ, ◌≡◌, ◌≤◌, ◌++◌, List, [], ◌∷◌, false, drop, length}
 use Rattle.std.specs.List.{list_any}
 use Rattle.cqf_model.specs.History.{Recorded}
 use Rattle.cqf_admission.specs.Admission.{Administration}
@@ -12,10 +12,25 @@ pub record HasTables (f : Follower) (number : ℕ) (tables : List CycleTable) : 
   pub begun : f.first ≤ length f.admission.entries
   pub own : tables ≡ tables_by f.admission.domain f.admission.entries f.first number
 
--- a seat's tables are so where there is a follower
-abbrev pub AreFollowed : Option Follower → ℕ → List CycleTable → Type 0
-AreFollowed None number tables = Unit {0}
-AreFollowed (Some f) number tables = HasTables f number tables
+-- a seat's tables are so where there is a follower, and there is one at most
+abbrev pub AreFollowed : List Follower → ℕ → List CycleTable → Type 0
+AreFollowed [] number tables = Unit {0}
+AreFollowed (f ∷ []) number tables = HasTables f number tables
+AreFollowed (f ∷ g ∷ more) number tables = ⊥
+
+-- a follower of what comes behind an opening part, with no calls yet
+abbrev pub at_opening : Administration → Follower
+at_opening opening = record { first = length opening.entries; admission = opening }
+
+-- a follower has made just these calls behind those that it had made, each with its answer
+pub record HasMade (old new : Follower) (calls : List Recorded) : Type 0 where
+  pub first : new.first ≡ old.first
+  pub domain : new.admission.domain ≡ old.admission.domain
+  pub entries : new.admission.entries ≡ old.admission.entries ++ calls
+
+-- where there is a follower before and after, it has made all calls of a history behind as many as it had made
+abbrev pub MakesRest : List Follower → List Follower → List Recorded → Type 0
+MakesRest old new history = (f g : Follower) → old ≡ f ∷ [] → new ≡ g ∷ [] → HasMade f g (drop (length f.admission.entries) history)
 
 -- a follower goes on by calls with which the seat closes no table, or by such calls and then a Seal that closes this one
 abbrev pub KeepsTables : Follower → Follower → ℕ → Type 0
@@ -25,11 +40,11 @@ abbrev pub AddsTable : Follower → Follower → ℕ → CycleTable → Type 0
 AddsTable old new number table = (tables : List CycleTable) → HasTables old number tables → HasTables new number (tables ++ table ∷ [])
 
 -- a seat's tables are followed as they were before, whatever its number
-abbrev pub StaysFollowed : Option Follower → Option Follower → List CycleTable → Type 0
+abbrev pub StaysFollowed : List Follower → List Follower → List CycleTable → Type 0
 StaysFollowed old new tables = (number : ℕ) → AreFollowed old number tables → AreFollowed new number tables
 
 -- a seat's tables are followed with one more, as they were before
-abbrev pub GoesOnWith : Option Follower → Option Follower → ℕ → CycleTable → Type 0
+abbrev pub GoesOnWith : List Follower → List Follower → ℕ → CycleTable → Type 0
 GoesOnWith old new number table =
     (tables : List CycleTable) → AreFollowed old number tables → AreFollowed new number (tables ++ table ∷ [])
 

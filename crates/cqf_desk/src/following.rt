@@ -1,9 +1,9 @@
 //! What follows the history of a desk for a seat that seals.
-ghost use Rattle.std.specs.Prelude.{◌≡◌, true, length, map, IfOk, IfSome};
+ghost use Rattle.std.specs.Prelude.{◌≡◌, ◌≢◌, [], ◌∷◌, true, drop, length, map, All, IfOk, IfSome};
 ghost use Rattle.std.specs.List.{list_any};
 ghost use Rattle.cqf_admission.specs.Admission.{recorded_of};
 ghost use Rattle.cqf_desk.specs.Closing.{is_seal_by};
-ghost use Rattle.cqf_desk.specs.Following.{AddsTable, GoesOnWith, HasFollowed, IsUpToSeal, KeepsTables, StaysFollowed};
+ghost use Rattle.cqf_desk.specs.Following.{AddsTable, GoesOnWith, HasFollowed, HasMade, IsUpToSeal, KeepsTables, MakesRest, StaysFollowed, at_opening};
 
 use crate::again::{Made, make};
 use crate::domains::is_same_domain;
@@ -53,7 +53,7 @@ fn are_up_to_seal(followed: &[Entry], rest: &[Entry], number: u16) -> bool
 impl Follower {
     /// One that has followed no calls yet behind the opening part, unless memory runs out.
     pub(crate) fn new(alloc: Global, opening: &Admission) -> Result<Follower, Memory>
-        ensures { IfOk result (λ f. f ≡ record { first = length opening.now.entries; admission = opening.now }) }
+        ensures { IfOk result (λ f. f ≡ at_opening opening.now) }
     {
         Ok(Follower {
             first: opening.history().len(),
@@ -63,7 +63,8 @@ impl Follower {
 
     /// Makes a call once more that is no Seal of the seat, and says whether it got the same answer.
     fn passes(&mut self, entry: &Entry, number: u16) -> bool
-        ensures { result ≡ true → KeepsTables self.old self.new number }
+        ensures keeps { result ≡ true → KeepsTables self.old self.new number }
+        ensures made { result ≡ true → HasMade self.old self.new (recorded_of entry.now ∷ []) }
     {
         closed_tables_stay();
         state_follows_history();
@@ -80,7 +81,8 @@ impl Follower {
 
     /// Makes all of these calls once more likewise.
     fn passes_all(&mut self, others: &[Entry], number: u16) -> bool
-        ensures { result ≡ true → KeepsTables self.old self.new number }
+        ensures keeps { result ≡ true → KeepsTables self.old self.new number }
+        ensures made { result ≡ true → HasMade self.old self.new (map recorded_of others.now) }
     {
         for entry in others {
             if !self.passes(entry, number) {
@@ -92,7 +94,8 @@ impl Follower {
 
     /// Makes a Seal of the seat once more: its table.
     fn closes(&mut self, own: &Entry, number: u16) -> Option<Table>
-        ensures { IfSome result (λ table. AddsTable self.old self.new number table) }
+        ensures adds { IfSome result (λ table. AddsTable self.old self.new number table) }
+        ensures made { IfSome result (λ table. HasMade self.old self.new (recorded_of own.now ∷ [])) }
     {
         closed_tables_stay();
         state_follows_history();
@@ -107,9 +110,11 @@ impl Follower {
         }
     }
 
-    /// Follows a history up to its last call, a Seal of the seat: the table of it. None where it can't.
+    /// Follows a history up to its last call, a Seal of the seat: the table of it. It makes all of its calls behind as many as
+    /// it has made already. None where it can't.
     fn follow(&mut self, history: &[Entry], number: u16) -> Option<Table>
-        ensures { IfSome result (λ table. AddsTable self.old self.new number table) }
+        ensures adds { IfSome result (λ table. AddsTable self.old self.new number table) }
+        ensures made { IfSome result (λ table. HasMade self.old self.new (drop (length self.old.admission.entries) (map recorded_of history.now))) }
     {
         let done = self.admission.history().len();
         if history.len() < done {
@@ -151,39 +156,47 @@ impl Follower {
 /// Makes what follows for a seat that has no tables yet, a copy of the admission that the desk was made with. Where memory
 /// runs out there is none.
 pub(crate) fn begin(
-    follower: &mut Option<Follower>,
+    follower: &mut Vec<Follower>,
     alloc: Global,
     opening: &Admission,
     tables: &[Table],
 )
-    ensures { StaysFollowed follower.old follower.new tables.now }
+    ensures followed { StaysFollowed follower.old.items follower.new.items tables.now }
+    ensures begun { length tables.now ≡ 0 → All (λ f. f ≡ at_opening opening.now) follower.new.items }
+    ensures unchanged { length tables.now ≢ 0 → follower.new.items ≡ follower.old.items }
 {
     if tables.len() != 0 {
         return;
     }
-    *follower = Follower::new(alloc, opening).ok();
+    follower.clear();
+    if follower.reserve(1).is_err() {
+        return;
+    }
+    if let Ok(beginning) = Follower::new(alloc, opening) {
+        follower.push(beginning).unwrap();
+    }
 }
 
 /// The table that a seat keeps of its Seal, the last call of this history, for which it got that one: the follower's own,
 /// which goes on to that Seal. One that can't is let go of, and then it is the table that the seat got.
 pub(crate) fn followed(
-    follower: &mut Option<Follower>,
+    follower: &mut Vec<Follower>,
     history: &[Entry],
     number: u16,
     table: Table,
 ) -> Table
-    ensures goes_on { GoesOnWith follower.old follower.new number result }
+    ensures goes_on { GoesOnWith follower.old.items follower.new.items number result }
+    ensures made { MakesRest follower.old.items follower.new.items (map recorded_of history.now) }
     ensures cycle { result.cycle ≡ table.cycle }
 {
-    let Some(mut following) = follower.take() else {
+    let Some(following) = follower.first_mut() else {
         return table;
     };
-    let Some(own) = following.follow(history, number) else {
-        return table;
-    };
-    if own.cycle() != table.cycle() {
-        return table;
+    if let Some(own) = following.follow(history, number) {
+        if own.cycle() == table.cycle() {
+            return own;
+        }
     }
-    *follower = Some(following);
-    own
+    follower.clear();
+    table
 }

@@ -22,8 +22,9 @@ pub struct Seat {
     number: u16,
     calls: Vec<Entry>,
     tables: Vec<Table>,
-    /// What follows the history, if anything: its tables are these.
-    follower: Option<Follower>,
+    /// What follows the history, one at most: its tables are these. It stands in a `Vec`, so that whoever lets go of a seat
+    /// lets go of it in one step.
+    follower: Vec<Follower>,
 }
 
 impl Model for Seat {
@@ -36,7 +37,7 @@ impl Model for Seat {
 
     ghost view = { λ s. record { number = s.number; calls = map recorded_of s.calls.items; tables = s.tables.items } };
 
-    ghost invariant = { λ s. AreFollowed s.follower s.number s.tables.items };
+    ghost invariant = { λ s. AreFollowed s.follower.items s.number s.tables.items };
 }
 
 impl Seat {
@@ -48,7 +49,7 @@ impl Seat {
             number,
             calls: Vec::new(alloc),
             tables: Vec::new(alloc),
-            follower: None,
+            follower: Vec::new(alloc),
         }
     }
 
@@ -85,7 +86,7 @@ impl Seat {
         ensures { result ≡ true →
             self.now.tables ≡ tables_by opening.now.domain (opening.now.entries ++ map recorded_of rest.now) (length opening.now.entries) self.now.number }
     {
-        match &self.follower {
+        match self.follower.first() {
             Some(follower) => follower.has_followed(opening, rest, self.number),
             None => false,
         }

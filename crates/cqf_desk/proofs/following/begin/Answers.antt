@@ -1,10 +1,7 @@
-use Rattle.std.proofs.Common.{Option, sym, subst}
-use Rattle.cqf_desk.specs.declared.following.Follower.{Follower}
-use Rattle.cqf_desk.specs.Following.{AreFollowed}
+use Rattle.std.proofs.Common.{rules}
 use Rattle.cqf_desk.proofs.Longer.{begins}
 use Rattle.cqf_desk.proofs.following.begin.Goals as goal
 
-pub returns : goal.returns
-returns c = λ number _.
-    subst (λ (f : Option Follower). AreFollowed f number c.args.tables.now) (sym c.ok.ensures.value)
-    (begins c.args.opening.now c.new.result c.args.tables.now c.new.ensures c.if-tables-ne0.false number)
+pub returns-in-Ok-clause-followed : goal.returns-in-Ok-clause-followed
+returns-in-Ok-clause-followed c = λ number _.
+    begins c.args.opening.now c.push.new.self.items c.in-Ok.beginning c.args.tables.now number (search rules) c.in-Ok.ensures c.if-tables-ne0.false

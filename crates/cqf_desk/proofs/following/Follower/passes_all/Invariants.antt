@@ -1,6 +1,6 @@
--- The calls so far leave the seat's tables.
-use Rattle.cqf_desk.specs.Following.{KeepsTables}
+-- The calls so far were made, and leave the seat's tables.
+use Rattle.cqf_desk.proofs.Followers.{HasPassed}
 use Rattle.cqf_desk.proofs.following.Follower.passes_all.Given as goal
 
 abbrev pub invariant-loop-entry : goal.invariant-loop-entry
-invariant-loop-entry l = KeepsTables l.fn.self l.self l.number
+invariant-loop-entry l = HasPassed l.fn.self l.self l.others l.number l.entry-index
