@@ -1,1 +1,2 @@
 mod PipeSteps
+mod Waiting

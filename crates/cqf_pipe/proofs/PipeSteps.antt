@@ -1,12 +1,13 @@
 -- Each step on a pipe keeps its rule.
-use Rattle.std.proofs.Common.{◌≡◌, ◌≢◌, ℕ, zero, suc, ◌<◌, true, false, true≢false, List, [], ◌∷◌, ◌++◌, length, set, sym, refl, ap, ◌∙◌, subst, ⊎_elim, append_assoc, arith}
+use Rattle.std.proofs.Common.{◌≡◌, ◌≢◌, ℕ, zero, suc, ◌+◌, ◌<◌, true, false, true≢false, List, [], ◌∷◌, ◌++◌, length, set, sym, refl, ap, ◌∙◌, subst, ⊎_elim, append_assoc, append-nil, arith}
 use mathlib.Core.Option.{some, some-ne-none}
 use lib.ListN.{get_elem?}
 use Rattle.std.proofs.lemmas.List.{length-append}
 use Rattle.crossbeam_channel.specs.Fifo.{Pushes, Pops, Forks, Merges, Learns}
 use Rattle.atomic_table.proofs.Lists.{at_set, at_snoc}
+use Rattle.cqf_pipe.specs.declared.pipe_rule.Bundle.{Bundle}
 use Rattle.cqf_pipe.specs.declared.pipe_rule.Log.{Log}
-use Rattle.cqf_pipe.specs.PipeRule.{Fits, IsPut, IsRest, IsTaken, Piped, log}
+use Rattle.cqf_pipe.specs.PipeRule.{Fits, IsPut, IsRest, IsTaken, Piped, items_in, items_of, log}
 
 module _ {T : Type 0} where
   -- what stands at a place of a list with one more, and stood at none before, stands at its end
@@ -39,12 +40,18 @@ module _ {T : Type 0} where
         (λ j u other e. absurd (other (at_end [] _ u j (λ x. some-ne-none u (sym x)) e)));
   }
 
-  -- sending: one more was put, and waits behind the others
-  pub sends : (n pass : ℕ) (v : Log T) (x : T) → v.puts ≡ true → length v.put < 1000000 → Pushes Piped n pass v x (IsPut v x)
+  -- one bundle more brings its items behind those of the others
+  items_snoc : (held : List (Bundle T)) (x : Bundle T) → items_of (held ++ x ∷ []) ≡ items_of held ++ items_in x
+  items_snoc [] x = append-nil (items_in x)
+  items_snoc (b ∷ bs) x = ap (λ l. items_in b ++ l) (items_snoc bs x) ∙ sym (append_assoc (items_in b) (items_of bs) (items_in x))
+
+  -- sending: a bundle more was put, and waits behind the others
+  pub sends : (n pass : ℕ) (v : Log T) (x : Bundle T) → v.puts ≡ true → length v.put + length x.behind.items < 1000000
+      → Pushes Piped n pass v x (IsPut v x)
   sends n pass v x may room items views _ h at =
-      let w : Log T = log v.puts v.takes (v.put ++ x ∷ []) v.taken in
+      let w : Log T = log v.puts v.takes (v.put ++ items_in x) v.taken in
       let mine = h.each pass v at in
-      let put = h.put ++ x ∷ [] in
+      let put = h.put ++ items_in x in
       let before : length v.put ≡ length h.put = ap length (mine.0 may).1 in (
         w,
         record {
@@ -52,23 +59,24 @@ module _ {T : Type 0} where
           taker = h.taker;
           put = put;
           taken = h.taken;
-          in_order = ap (λ l. l ++ x ∷ []) h.in_order ∙ append_assoc h.taken items (x ∷ []);
-          few = omega (arith, length-append h.put (x ∷ []), before, room);
+          in_order = ap (λ l. l ++ items_in x) h.in_order ∙ append_assoc h.taken (items_of items) (items_in x)
+              ∙ ap (λ l. h.taken ++ l) (sym (items_snoc items x));
+          few = omega (arith, length-append h.put (items_in x), before, room);
           each = each_set (Fits h.putter h.taker put h.taken) views pass w
-              ((λ _. ((mine.0 may).0, ap (λ l. l ++ x ∷ []) (mine.0 may).1)), mine.1)
+              ((λ _. ((mine.0 may).0, ap (λ l. l ++ items_in x) (mine.0 may).1)), mine.1)
               (λ j u other e. ((λ p. absurd (other (((h.each j u e).0 p).0 ∙ sym (mine.0 may).0))), (h.each j u e).1));
         },
         refl,
       )
 
-  -- receiving: the first of those that wait was taken
+  -- receiving: the first bundle of those that wait was taken
   pub receives : (pass : ℕ) (v : Log T) → v.takes ≡ true → Pops Piped pass v (IsTaken v)
   receives pass v may x items views h at =
-      let w : Log T = log v.puts v.takes v.put (v.taken ++ x ∷ []) in
+      let w : Log T = log v.puts v.takes v.put (v.taken ++ items_in x) in
       let mine = h.each pass v at in
-      let taken = h.taken ++ x ∷ [] in
-      let in_order : h.put ≡ taken ++ items = h.in_order ∙ sym (append_assoc h.taken (x ∷ []) items) in
-      let is : w.taken ≡ taken = ap (λ l. l ++ x ∷ []) (mine.1 may).1 in (
+      let taken = h.taken ++ items_in x in
+      let in_order : h.put ≡ taken ++ items_of items = h.in_order ∙ sym (append_assoc h.taken (items_in x) (items_of items)) in
+      let is : w.taken ≡ taken = ap (λ l. l ++ items_in x) (mine.1 may).1 in (
         w,
         record {
           putter = h.putter;
@@ -81,7 +89,7 @@ module _ {T : Type 0} where
               (mine.0, λ _. ((mine.1 may).0, is))
               (λ j u other e. ((h.each j u e).0, λ p. absurd (other (((h.each j u e).1 p).0 ∙ sym (mine.1 may).0))));
         },
-        (refl, omega (arith, ap length is, ap length in_order, length-append taken items, h.few)),
+        (refl, omega (arith, ap length is, ap length in_order, length-append taken (items_of items), h.few)),
       )
 
   -- splitting a pass: one may put, the other may take
@@ -136,4 +144,4 @@ module _ {T : Type 0} where
   pub totals : (pass : ℕ) (v : Log T) → v.puts ≡ true → v.takes ≡ true → Learns Piped pass v (IsRest v)
   totals pass v a b items views h at =
       let mine = h.each pass v at in
-      (mine.0 a).1 ∙ h.in_order ∙ ap (λ l. l ++ items) (sym (mine.1 b).1)
+      (mine.0 a).1 ∙ h.in_order ∙ ap (λ l. l ++ items_of items) (sym (mine.1 b).1)

@@ -1,7 +1,7 @@
 //! Channels between two threads, of which no item is lost, doubled or overtaken.
 //!
-//! [`pipe`] gives the two ends of one: at [`PipeIn`] items are put, and at [`PipeOut`] they are taken in that order. Both ends
-//! together tell how many items are still under way.
+//! [`pipe`] gives the two ends of one: at [`PipeIn`] items are put, one by one or several at once, and at [`PipeOut`] they are taken
+//! one by one, in that order. Both ends together tell how many items are still under way.
 //!
 //! ```text
 //! let (mut into, mut out) = pipe(alloc)?;

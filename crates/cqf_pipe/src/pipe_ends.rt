@@ -1,20 +1,22 @@
 //! The two ends of a pipe.
-ghost use Rattle.std.specs.Prelude.{◌≡◌, ◌<◌, ◌++◌, [], ◌∷◌, IfErr, IfNone, IfOk, IfSome, OnOk, length};
+ghost use Rattle.std.specs.Prelude.{◌≡◌, ◌+◌, ◌<◌, ◌++◌, [], ◌∷◌, IfErr, IfNone, IfOk, IfSome, OnOk, length};
 ghost use Rattle.cqf_pipe.specs.PipeEnds.{AreLeft};
 
-use crate::pipe_rule::{InOrder, Log, Puts, Receiver, Roles, Sender, Takes, Token, Total};
+use crate::pipe_rule::{Bundle, InOrder, Log, Puts, Receiver, Roles, Sender, Takes, Token, Total};
 use cqf_units::Memory;
 use crossbeam_channel::bounded_with;
 use std::alloc::Global;
+use std::collections::VecDeque;
 use std::marker::Model;
 use std::sync::Wait;
 
-/// How many items wait in a pipe at most.
+/// How many items wait in a pipe at most, those that were put at once as one.
 const CAPACITY: usize = 4;
 
 /// The end of a pipe at which items are put. Contracts see which pipe it is, and the items that were put, in order.
 #[derive(Drop)]
 pub struct PipeIn<T: Drop> {
+    alloc: Global,
     sender: Sender<T>,
     pass: Token<T>,
     puts: u64,
@@ -38,31 +40,38 @@ impl<T: Drop> Model for PipeIn<T> {
 pub struct PipeOut<T: Drop> {
     receiver: Receiver<T>,
     pass: Token<T>,
+    /// What was taken from the pipe with an item before it, and waits to be handed out.
+    waiting: VecDeque<T>,
     takes: u64,
 }
 
 impl<T: Drop> Model for PipeOut<T> {
-    ghost use Rattle.std.specs.Prelude.{◌≡◌, ◌≤◌, length};
+    ghost use Rattle.std.specs.Prelude.{◌≡◌, ◌≤◌, ◌++◌, length};
     ghost use Rattle.crossbeam_channel.specs.Claims.{IsSeatAt};
     ghost use Rattle.crossbeam_channel.specs.Ends.{receives_on};
-    ghost use Rattle.cqf_pipe.specs.PipeEnds.{End, IsTaker, pipe_of, taken_by};
+    ghost use Rattle.cqf_pipe.specs.PipeEnds.{End, IsTaker, handed_by, pipe_of, taken_by};
 
     ghost Value = { End T };
 
-    ghost view = { λ s. record { pipe = pipe_of s.pass; items = taken_by s.pass } };
+    ghost view = { λ s. record { pipe = pipe_of s.pass; items = handed_by s.pass s.waiting.items } };
 
-    ghost invariant = { λ s. IsSeatAt (receives_on s.receiver) s.pass × IsTaker s.pass × (s.takes ≡ length (taken_by s.pass)) × (s.takes ≤ 1000000) };
+    ghost invariant = { λ s. IsSeatAt (receives_on s.receiver) s.pass × IsTaker s.pass × (length (taken_by s.pass) ≤ 1000000)
+        × (taken_by s.pass ≡ handed_by s.pass s.waiting.items ++ s.waiting.items) × (s.takes ≡ length (handed_by s.pass s.waiting.items)) };
 }
 
-/// The two ends of a pipe, at which nothing was put or taken yet. Four items can wait in it.
+/// The two ends of a pipe, at which nothing was put or taken yet. Four items can wait in it, and items that were put at once
+/// count as one.
 pub fn pipe<T: Drop + Send>(alloc: Global) -> Result<(PipeIn<T>, PipeOut<T>), Memory>
     ensures pair { IfOk result (λ ends. ends.0.pipe ≡ ends.1.pipe) }
     ensures nothing_put { IfOk result (λ ends. ends.0.items ≡ []) }
     ensures nothing_taken { IfOk result (λ ends. ends.1.items ≡ []) }
 {
-    let (sender, receiver, mut pass) = bounded_with::<T, Log<T>, InOrder, Global>(alloc, CAPACITY)?;
+    let (sender, receiver, mut pass) = bounded_with::<Bundle<T>, Log<T>, InOrder, Global>(
+        alloc, CAPACITY,
+    )?;
     let other = sender.another::<Roles>(&mut pass);
     let into = PipeIn {
+        alloc,
         sender,
         pass,
         puts: 0,
@@ -70,6 +79,7 @@ pub fn pipe<T: Drop + Send>(alloc: Global) -> Result<(PipeIn<T>, PipeOut<T>), Me
     let out = PipeOut {
         receiver,
         pass: other,
+        waiting: VecDeque::new(alloc),
         takes: 0,
     };
     Ok((into, out))
@@ -85,12 +95,37 @@ impl<T: Drop> PipeIn<T> {
         ensures err { IfErr result (λ back. self.new.items ≡ self.old.items) }
         ensures back { IfErr result (λ back. back ≡ item) }
     {
-        match self.sender.send_as::<Puts, R>(rt, &mut self.pass, item) {
+        match self.put_with(rt, item, VecDeque::new(self.alloc)) {
+            Ok(()) => Ok(()),
+            Err((back, _none)) => Err(back),
+        }
+    }
+
+    /// Puts an item in the pipe, and others behind it at once, up to a million in all: they wait in the pipe as one. It waits
+    /// while the pipe is full. Where the other end is gone all come back, and nothing was put. It takes no memory.
+    pub fn put_with<R: Wait>(
+        &mut self,
+        rt: &R,
+        first: T,
+        behind: VecDeque<T>,
+    ) -> Result<(), (T, VecDeque<T>)>
+        requires room { length self.old.items + length behind.items < 1000000 }
+        ensures pipe { self.new.pipe ≡ self.old.pipe }
+        ensures ok { OnOk result (self.new.items ≡ self.old.items ++ first ∷ behind.items) }
+        ensures err { IfErr result (λ back. self.new.items ≡ self.old.items) }
+        ensures back { IfErr result (λ back. (back.0 ≡ first) × (back.1.items ≡ behind.items)) }
+    {
+        let count = behind.len() as u64 + 1;
+        let bundle = Bundle { first, behind };
+        match self.sender.send_as::<Puts, R>(rt, &mut self.pass, bundle) {
             Ok(()) => {
-                self.puts += 1;
+                self.puts += count;
                 Ok(())
             }
-            Err(refused) => Err(refused.into_inner()),
+            Err(refused) => {
+                let Bundle { first, behind } = refused.into_inner();
+                Err((first, behind))
+            }
         }
     }
 
@@ -100,6 +135,7 @@ impl<T: Drop> PipeIn<T> {
         ensures { AreLeft self.items out.items result }
     {
         let PipeIn {
+            alloc: _alloc,
             sender,
             mut pass,
             puts,
@@ -107,6 +143,7 @@ impl<T: Drop> PipeIn<T> {
         let PipeOut {
             receiver: _receiver,
             pass: other,
+            waiting: _waiting,
             takes,
         } = out;
         sender.absorb::<Roles>(&mut pass, other);
@@ -123,10 +160,15 @@ impl<T: Drop> PipeOut<T> {
         ensures some { IfSome result (λ item. self.new.items ≡ self.old.items ++ item ∷ []) }
         ensures none { IfNone result (self.new.items ≡ self.old.items) }
     {
+        if let Some(item) = self.waiting.pop_front() {
+            self.takes += 1;
+            return Some(item);
+        }
         match self.receiver.recv_as::<Takes, R>(rt, &mut self.pass) {
-            Ok(item) => {
+            Ok(Bundle { first, behind }) => {
+                self.waiting = behind;
                 self.takes += 1;
-                Some(item)
+                Some(first)
             }
             Err(_) => None,
         }

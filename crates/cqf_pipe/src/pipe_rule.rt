@@ -1,7 +1,14 @@
 //! The rule of a pipe: what was put is what was taken and what the channel holds, in that order.
 use crossbeam_channel::protocol::{Join, Lesson, Outcome, Protocol, Split};
 use crossbeam_channel::{Pass, RuledReceiver, RuledSender};
-use std::collections::LinkedList;
+use std::collections::{LinkedList, VecDeque};
+
+/// What was put at once: an item, and those behind it.
+#[derive(Drop)]
+pub(crate) struct Bundle<T> {
+    pub first: T,
+    pub behind: VecDeque<T>,
+}
 
 /// What a thread knows of a pipe by its pass: whether it may put and take, and what it has put and taken. No value of it is
 /// made.
@@ -15,7 +22,7 @@ pub(crate) struct Log<T> {
 /// The rule, and the view of the first pass, which may do both.
 pub(crate) struct InOrder;
 
-impl<T> Protocol<T, Log<T>> for InOrder {
+impl<T> Protocol<Bundle<T>, Log<T>> for InOrder {
     ghost use Rattle.std.specs.Prelude.{true, []};
     ghost use Rattle.cqf_pipe.specs.PipeRule.{Piped, log};
 
@@ -45,44 +52,44 @@ impl<T> Join<Log<T>> for Roles {
     ghost spent = { log false false [] [] };
 }
 
-/// An item is put.
+/// Items are put, as one bundle.
 pub(crate) struct Puts;
 
-impl<T> Outcome<T, Log<T>> for Puts {
+impl<T> Outcome<Bundle<T>, Log<T>> for Puts {
     ghost use Rattle.cqf_pipe.specs.PipeRule.{IsPut};
 
     ghost then = { IsPut };
 }
 
-impl<T> Lesson<T, Log<T>> for Puts {
+impl<T> Lesson<Bundle<T>, Log<T>> for Puts {
     ghost fact = { λ v held. Unit {0} };
 }
 
-/// An item is taken.
+/// A bundle is taken.
 pub(crate) struct Takes;
 
-impl<T> Outcome<T, Log<T>> for Takes {
+impl<T> Outcome<Bundle<T>, Log<T>> for Takes {
     ghost use Rattle.cqf_pipe.specs.PipeRule.{IsTaken};
 
     ghost then = { IsTaken };
 }
 
-impl<T> Lesson<T, Log<T>> for Takes {
+impl<T> Lesson<Bundle<T>, Log<T>> for Takes {
     ghost fact = { λ v held. Unit {0} };
 }
 
 /// What the pass that may do both learns of what the channel holds.
 pub(crate) struct Total;
 
-impl<T> Lesson<T, Log<T>> for Total {
+impl<T> Lesson<Bundle<T>, Log<T>> for Total {
     ghost use Rattle.cqf_pipe.specs.PipeRule.{IsRest};
 
     ghost fact = { IsRest };
 }
 
 /// The channel's two ends, and what a thread knows of it.
-pub(crate) type Sender<T> = RuledSender<T, Log<T>, InOrder>;
+pub(crate) type Sender<T> = RuledSender<Bundle<T>, Log<T>, InOrder>;
 
-pub(crate) type Receiver<T> = RuledReceiver<T, Log<T>, InOrder>;
+pub(crate) type Receiver<T> = RuledReceiver<Bundle<T>, Log<T>, InOrder>;
 
-pub(crate) type Token<T> = Pass<T, Log<T>>;
+pub(crate) type Token<T> = Pass<Bundle<T>, Log<T>>;

@@ -3,6 +3,7 @@ ghost use Rattle.std.specs.Prelude.{◌≡◌, ◌≤◌, length};
 
 use cqf_pipe::{PipeIn, PipeOut, pipe};
 use std::alloc::Global;
+use std::collections::VecDeque;
 use std::sync::Wait;
 use std::sync::atomic::{AtomicU64, Ordering};
 use std::test::Fail;
@@ -66,6 +67,74 @@ fn pipe_3(rt: HostRuntime) -> Result<(), Fail> {
     assert!(rt; one_of_three_is_left(&rt, rt.alloc()));
     assert!(rt; comes_back(&rt, rt.alloc()));
     assert!(rt; comes_out(&rt, rt.alloc()));
+    Ok(())
+}
+
+/// Whether 2 and 3 go in behind 1, at once, and then 4.
+fn puts_three_at_once<R: Wait>(rt: &R, alloc: Global, into: &mut PipeIn<u32>) -> bool
+    requires { length into.old.items ≡ 0 }
+    ensures { into.new.pipe ≡ into.old.pipe }
+{
+    let mut behind = VecDeque::new(alloc);
+    if behind.push_back(2).is_err() || behind.push_back(3).is_err() || behind.len() > 2 {
+        return false;
+    }
+    into.put_with(rt, 1, behind).is_ok() && into.put(rt, 4).is_ok()
+}
+
+/// Whether of items that were put at once, and one behind them, each comes out by itself and in order, and those left are counted.
+fn come_one_by_one<R: Wait>(rt: &R, alloc: Global) -> bool {
+    match pipe::<u32>(alloc) {
+        Ok((mut into, mut out)) => {
+            let put = puts_three_at_once(rt, alloc, &mut into);
+            let taken = takes_two(rt, &mut out);
+            let left = into.close(out);
+            put && taken && left == 2
+        }
+        Err(_) => false,
+    }
+}
+
+/// Whether they come out where the other end is gone, the last ones too, and then none.
+fn come_to_the_last<R: Wait>(rt: &R, alloc: Global) -> bool {
+    match pipe::<u32>(alloc) {
+        Ok((mut into, mut out)) => {
+            let put = puts_three_at_once(rt, alloc, &mut into);
+            drop(into);
+            let first = takes_two(rt, &mut out);
+            let third = out.take(rt);
+            let last = out.take(rt);
+            put && first && third == Some(3) && last == Some(4) && out.take(rt).is_none()
+        }
+        Err(_) => false,
+    }
+}
+
+/// Whether items that were put at once come back where the other end is gone.
+fn come_back_together<R: Wait>(rt: &R, alloc: Global) -> bool {
+    match pipe::<u32>(alloc) {
+        Ok((mut into, out)) => {
+            drop(out);
+            let mut behind = VecDeque::new(alloc);
+            if behind.push_back(8).is_err() || behind.len() > 1 {
+                return false;
+            }
+            match into.put_with(rt, 7, behind) {
+                Ok(()) => false,
+                Err((first, others)) => {
+                    first == 7 && others.len() == 1 && others.get(0) == Some(&8)
+                }
+            }
+        }
+        Err(_) => false,
+    }
+}
+
+#[test]
+fn items_go_together(rt: HostRuntime) -> Result<(), Fail> {
+    assert!(rt; come_one_by_one(&rt, rt.alloc()));
+    assert!(rt; come_to_the_last(&rt, rt.alloc()));
+    assert!(rt; come_back_together(&rt, rt.alloc()));
     Ok(())
 }
 

@@ -1,13 +1,13 @@
 -- What one thread of a run puts for another: items, and then at most one Stop.
 use Rattle.std.proofs.Common.{ℕ, suc, ◌≡◌, ◌≤◌, ◌+◌, ◌∷◌, ◌++◌, [], List, All, length, get_or, map, refl, sym, ap, subst, ◌∙◌, arith, inl, inr}
 use Rattle.std.specs.Prelude.{drop, take}
-use Rattle.std.proofs.lemmas.List.{length-append, map-append}
+use Rattle.std.proofs.lemmas.List.{length-append, length-map, map-append}
 use Rattle.std.proofs.lemmas.List.Elements.{All-cons, All-head, All-nil, All-tail}
 use Rattle.cqf_worker.specs.declared.carried.Carried.{Carried}
 use Rattle.cqf_worker.specs.declared.carried.Carried.TheVariants.{Item, Stop}
 use Rattle.cqf_worker.specs.declared.ports.Port.{Port}
 use Rattle.cqf_pipe.specs.PipeEnds.{End}
-use Rattle.cqf_worker.specs.Rows.{MayGet, MayHaveGot, with_each, with_item_at}
+use Rattle.cqf_worker.specs.Rows.{MayGet, MayHaveGot, with_each, with_item_at, with_items}
 use Rattle.cqf_worker.specs.Stops.{AreItems, AreItemsThenStop, AreStopped}
 use Rattle.cqf_worker.specs.Workers.{items_in}
 use Rattle.cqf_worker.proofs.Each.{written_back}
@@ -25,7 +25,7 @@ module _ {T : Type 0} where
   items_and_one xs x h = (h.0 ++ x ∷ [], ap (λ (ys : List (Carried T)). ys ++ Item x ∷ []) h.1 ∙ sym (map-append Item h.0 (x ∷ [])))
 
   -- a Stop behind them, or nothing
-  pub items_then_stop : (before after : End (Carried T)) → HasItems before → MayGet Stop before after → AreItemsThenStop after.items
+  pub items_then_stop : (before after : End (Carried T)) → HasItems before → MayGet (Stop ∷ []) before after → AreItemsThenStop after.items
   items_then_stop before after h may =
       elim may [
         | inl same ↦ (h.0, inl (ap (λ (e : End (Carried T)). e.items) same ∙ h.1))
@@ -93,15 +93,17 @@ module _ {T : Type 0} where
       let one : length (items_in xs) ≡ suc (length xs) = same in
       absurd (omega (arith, one, few_items xs))
 
-  -- an item more at an end, or nothing
-  pub item_or_none : (before after : End (Carried T)) (x : T) → HasItems before → MayGet (Item x) before after
-      → HasItems after × (length after.items ≤ length before.items + 1)
-  item_or_none before after x h may =
+  -- items more at an end, or nothing
+  pub items_or_none : (before after : End (Carried T)) (xs : List T) → HasItems before → MayGet (map Item xs) before after
+      → HasItems after × (length after.items ≤ length before.items + length xs)
+  items_or_none before after xs h may =
       elim may [
         | inl same ↦
             let as_many : length after.items ≡ length before.items = ap (λ (e : End (Carried T)). length e.items) same in
             (subst HasItems (sym same) h, omega (arith, as_many))
         | inr more ↦
-            let as_many : length after.items ≡ length (before.items ++ Item x ∷ []) = ap (λ (e : End (Carried T)). length e.items) more in
-            (subst HasItems (sym more) (items_and_one before.items x h), omega (arith, as_many, length-append before.items (Item x ∷ [])))
+            let as_many : length after.items ≡ length (before.items ++ map Item xs) = ap (λ (e : End (Carried T)). length e.items) more in
+            let all : HasItems (with_items before (map Item xs)) =
+            (h.0 ++ xs, ap (λ (ys : List (Carried T)). ys ++ map Item xs) h.1 ∙ sym (map-append Item h.0 xs)) in
+            (subst HasItems (sym more) all, omega (arith, as_many, length-append before.items (map Item xs), length-map xs (λ (x : T). Item x)))
       ]

@@ -7,6 +7,7 @@ use Rattle.cqf_laws_account.specs.Seated.{acts_of}
 use Rattle.cqf_pipe.specs.PipeEnds.{End, PipeId}
 use Rattle.cqf_worker.specs.declared.carried.Carried.{Carried}
 use Rattle.cqf_worker.specs.declared.carried.Carried.TheVariants.{Item}
+use Rattle.cqf_worker.specs.declared.sealing.Block.{Block}
 use Rattle.cqf_worker.specs.Rows.{MayGet}
 
 -- a conductor's end of a worker's pipe for tables
@@ -17,27 +18,42 @@ TableEnd = End (Carried CycleTable)
 abbrev pub pipes_of : {T : Type 0} → List (End T) → List (PipeId T)
 pipes_of ends = map (λ end. end.pipe) ends
 
--- at each end there is one item more, and this one
-abbrev pub GivesEach : {T : Type 0} → T → List (End T) → List (End T) → Type 0
-GivesEach {T} x before after = (place : ℕ) (d : End T) → place < length before →
-    (slice_index_or after place d).items ≡ (slice_index_or before place d).items ++ x ∷ []
+-- the tables of a block
+abbrev pub tables_of : Block → List CycleTable
+tables_of block = block.first ∷ block.behind.items
 
--- at each end there is this item more, or nothing
-abbrev pub GivesSome : {T : Type 0} → T → List (End T) → List (End T) → Type 0
-GivesSome {T} x before after = (place : ℕ) (d : End T) → place < length before →
-    MayGet x (slice_index_or before place d) (slice_index_or after place d)
+-- at each end there are these items more
+abbrev pub GivesEach : {T : Type 0} → List T → List (End T) → List (End T) → Type 0
+GivesEach {T} xs before after = (place : ℕ) (d : End T) → place < length before →
+    (slice_index_or after place d).items ≡ (slice_index_or before place d).items ++ xs
 
--- one table was put for some of the workers, or none for any
-abbrev pub GivesTable : List TableEnd → List TableEnd → Type 0
-GivesTable before after = (after ≡ before) ⊎ ((table : CycleTable) × GivesSome (Item table) before after)
+-- at each end there are these items more, or nothing
+abbrev pub GivesSome : {T : Type 0} → List T → List (End T) → List (End T) → Type 0
+GivesSome {T} xs before after = (place : ℕ) (d : End T) → place < length before →
+    MayGet xs (slice_index_or before place d) (slice_index_or after place d)
 
--- one cycle is closed: the seat has its Seal and its table, and where all have it, each end has that table
-pub record SealsOne (old new : Sitting) (before after : List TableEnd) (all : Bool) : Type 0 where
+-- so many tables were put for some of the workers, or none for any
+abbrev pub GivesTables : ℕ → List TableEnd → List TableEnd → Type 0
+GivesTables count before after = (after ≡ before) ⊎ ((tables : List CycleTable) × (length tables ≡ count) × GivesSome (map Item tables) before after)
+
+-- one cycle is closed: the seat has its Seal and its table
+pub record SealsOne (old new : Sitting) (table : CycleTable) : Type 0 where
   pub number : new.number ≡ old.number
   pub acts : acts_of new.calls ≡ acts_of old.calls ++ Seals ∷ []
-  pub table : CycleTable
   pub tables : new.tables ≡ old.tables ++ table ∷ []
-  pub given : all ≡ true → GivesEach (Item table) before after
+
+-- so many cycles are closed, one behind the other
+pub record SealsMany (count : ℕ) (old new : Sitting) (tables : List CycleTable) : Type 0 where
+  pub number : new.number ≡ old.number
+  pub acts : acts_of new.calls ≡ acts_of old.calls ++ replicate count Seals
+  pub many : length tables ≡ count
+  pub behind : new.tables ≡ old.tables ++ tables
+
+-- so many cycles are closed, and where all have their tables, each end has them, in order
+pub record SealsBlock (count : ℕ) (old new : Sitting) (before after : List TableEnd) (all : Bool) : Type 0 where
+  pub tables : List CycleTable
+  pub sealed : SealsMany count old new tables
+  pub given : all ≡ true → GivesEach (map Item tables) before after
 
 -- so many cycles are closed, and each of the pipes was given their tables, in order
 pub record HasSealed (cycles : ℕ) (seat done : Sitting) (before after : List TableEnd) : Type 0 where

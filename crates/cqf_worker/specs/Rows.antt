@@ -11,13 +11,16 @@ module _ {T : Type 0} where
   abbrev pub wires_of : List (Port (End T)) → List (ℕ × PipeId T)
   wires_of ports = map wire_of ports
 
-  -- the end with one item more
-  abbrev pub with_item : End T → T → End T
-  with_item end x = record { pipe = end.pipe; items = end.items ++ x ∷ [] }
+  -- the end with these items more, and with one
+  abbrev pub with_items : End T → List T → End T
+  with_items end xs = record { pipe = end.pipe; items = end.items ++ xs }
 
-  -- the item was put at the end, or nothing was
-  abbrev pub MayGet : T → End T → End T → Type 0
-  MayGet x before after = (after ≡ before) ⊎ (after ≡ with_item before x)
+  abbrev pub with_item : End T → T → End T
+  with_item end x = with_items end (x ∷ [])
+
+  -- these items were put at the end, or nothing was
+  abbrev pub MayGet : List T → End T → End T → Type 0
+  MayGet xs before after = (after ≡ before) ⊎ (after ≡ with_items before xs)
 
   abbrev pub with_item_at : Port (End T) → T → Port (End T)
   with_item_at port x = record { link = port.link; pipe = with_item port.pipe x }

@@ -1,4 +1,4 @@
-use Rattle.std.proofs.Common.{refl, arith, false}
+use Rattle.std.proofs.Common.{[], ◌∷◌, refl, arith, false}
 use Rattle.std.proofs.lemmas.Bool.{false≢true}
 use Rattle.cqf_worker.specs.declared.carried.Carried.TheVariants.{Stop}
 use Rattle.cqf_worker.proofs.HandedTables.{handed_as, hands_next, hands_some, room_next}
@@ -6,21 +6,24 @@ use Rattle.cqf_worker.proofs.sealing.stop_tables.Goals as goal
 
 -- nobody was told yet
 pub loop-place-init : goal.loop-place-init
-loop-place-init g c = (hands_some Stop c.args.tables.now, refl)
+loop-place-init g c = (hands_some (Stop ∷ []) c.args.tables.now, refl)
 
 -- the next pipe has room
-pub hand-requires : goal.hand-requires
-hand-requires g c = record {
-  room = room_next Stop c.args.tables.now c.loop-place.tables c.loop-place.place false c.index-tables-place.result c.loop-place.invariant.0
-      c.requires.room (omega arith);
+pub tell-requires : goal.tell-requires
+tell-requires g c = record {
+  room = omega (
+    arith,
+    room_next (Stop ∷ []) 0 c.args.tables.now c.loop-place.tables c.loop-place.place false c.index-tables-place.result
+        c.loop-place.invariant.0 (λ place d inside. omega (arith, c.requires.room place d inside)) (omega arith),
+  );
 }
 
 -- the next one was told
 pub loop-place-preserved : goal.loop-place-preserved
 loop-place-preserved g c = (
-  hands_next Stop c.args.tables.now c.loop-place.tables c.loop-place.place false c.index-tables-place.result c.hand.new.end c.hand.result false
+  hands_next (Stop ∷ []) c.args.tables.now c.loop-place.tables c.loop-place.place false c.index-tables-place.result c.tell.new.end c.tell.result false
       c.loop-place.invariant.0 (omega arith)
-      (handed_as Stop Stop _ _ _ refl c.hand.ensures.given c.hand.ensures.gone) (λ is. absurd (false≢true is)),
+      (handed_as (Stop ∷ []) (Stop ∷ []) _ _ _ refl c.tell.ensures.given c.tell.ensures.gone) (λ is. absurd (false≢true is)),
   c.loop-place.invariant.1,
 )
 
