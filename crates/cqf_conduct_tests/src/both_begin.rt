@@ -90,18 +90,16 @@ const FIVE_CYCLES: Scenario = Scenario {
     cycles: CYCLES,
 };
 
-/// Whether all bridges of the line meet in each cycle.
-fn bridges_meet<R: Threads + Wait + Sync>(rt: &R, alloc: Global) -> bool {
-    match Together::new(alloc) {
-        Some(pace) => {
-            let ended = account_over(rt, alloc, line(), &FIVE_CYCLES, &[], &[], &pace).is_some();
-            ended && pace.all_met()
-        }
-        None => false,
-    }
+/// Whether all bridges of the line meet in each cycle, where the run ends with an account.
+fn bridges_meet<R: Threads + Wait + Sync>(rt: &R, alloc: Global) -> Option<bool> {
+    let pace = Together::new(alloc)?;
+    account_over(rt, alloc, line(), &FIVE_CYCLES, &[], &[], &pace)?;
+    Some(pace.all_met())
 }
 
 #[test]
 fn both_begin(rt: HostRuntime) {
-    assert!(rt; bridges_meet(&rt, rt.alloc()));
+    let met = bridges_meet(&rt, rt.alloc());
+    assert!(rt; met.is_some());
+    assert!(rt; met == Some(true));
 }

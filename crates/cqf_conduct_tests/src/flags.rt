@@ -1,5 +1,6 @@
 //! Flags that threads raise, and read until others are up.
 use std::sync::atomic::{AtomicU64, Ordering};
+use std::thread;
 
 /// How often a thread reads two flags before it gives up: 200,000,000 reads in all.
 const ROUNDS: u32 = 100_000_000;
@@ -29,16 +30,18 @@ impl Flag {
     }
 }
 
-/// Reads two flags until both are up. Where they aren't in the end, the flag of those who gave up is raised: whoever waits from then
-/// on gives up at once.
+/// Reads two flags until both are up, and lets other threads run between. Where they aren't in the end, the flag of those who gave up
+/// is raised: whoever waits from then on gives up at once.
 pub(crate) fn wait_for_both(one: &Flag, other: &Flag, gave_up: &Flag) {
     if gave_up.is_up() {
         return;
     }
     for _round in 0..ROUNDS {
-        if one.is_up() && other.is_up() {
+        let (one_is_up, other_is_up) = (one.is_up(), other.is_up());
+        if one_is_up && other_is_up {
             return;
         }
+        thread::yield_now();
     }
     gave_up.raise();
 }
