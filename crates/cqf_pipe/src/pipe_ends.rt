@@ -1,6 +1,9 @@
 //! The two ends of a pipe.
 ghost use Rattle.std.specs.Prelude.{◌≡◌, ◌+◌, ◌<◌, ◌++◌, [], ◌∷◌, IfErr, IfNone, IfOk, IfSome, OnOk, length};
-ghost use Rattle.cqf_pipe.specs.PipeEnds.{AreLeft};
+ghost use Rattle.crossbeam_channel.specs.Claims.{IsSeatAt, view};
+ghost use Rattle.crossbeam_channel.specs.Ends.{receives_on};
+ghost use Rattle.cqf_pipe.specs.PipeEnds.{AreLeft, IsTaker};
+ghost use Rattle.cqf_pipe.specs.PipeRule.{IsTaken};
 
 use crate::pipe_rule::{Bundle, InOrder, Log, Puts, Receiver, Roles, Sender, Takes, Token, Total};
 use cqf_units::Memory;
@@ -9,9 +12,14 @@ use std::alloc::Global;
 use std::collections::VecDeque;
 use std::marker::Model;
 use std::sync::Wait;
+use std::thread;
 
 /// How many items wait in a pipe at most, those that were put at once as one.
 const CAPACITY: usize = 4;
+
+/// How often an end looks for an item before it waits. With more threads than processors the item has mostly come once others
+/// had their turn, and then nobody need be woken.
+const LOOKS: u32 = 32;
 
 /// The end of a pipe at which items are put. Contracts see which pipe it is, and the items that were put, in order.
 #[derive(Drop)]
@@ -83,6 +91,31 @@ pub fn pipe<T: Drop + Send>(alloc: Global) -> Result<(PipeIn<T>, PipeOut<T>), Me
         takes: 0,
     };
     Ok((into, out))
+}
+
+/// Takes the bundle that was put first of those in the channel. It looks for it, and lets other threads run before it looks again;
+/// then it waits while there is none, and answers none where the other end is gone too. It takes no memory.
+fn receive<T: Drop, R: Wait>(
+    rt: &R,
+    receiver: &Receiver<T>,
+    pass: &mut Token<T>,
+) -> Option<Bundle<T>>
+    requires channel { IsSeatAt (receives_on receiver.now) pass.old }
+    requires taker { IsTaker pass.old }
+    ensures channel { IsSeatAt (receives_on receiver.now) pass.new × (pass.new.id ≡ pass.old.id) }
+    ensures some { IfSome result (λ bundle. IsTaken (view pass.old) bundle (view pass.new)) }
+    ensures none { IfNone result (view pass.new ≡ view pass.old) }
+{
+    for _ in 0..LOOKS {
+        if let Ok(bundle) = receiver.try_recv_as::<Takes, R>(rt, pass) {
+            return Some(bundle);
+        }
+        thread::yield_now();
+    }
+    match receiver.recv_as::<Takes, R>(rt, pass) {
+        Ok(bundle) => Some(bundle),
+        Err(_) => None,
+    }
 }
 
 impl<T: Drop> PipeIn<T> {
@@ -164,13 +197,9 @@ impl<T: Drop> PipeOut<T> {
             self.takes += 1;
             return Some(item);
         }
-        match self.receiver.recv_as::<Takes, R>(rt, &mut self.pass) {
-            Ok(Bundle { first, behind }) => {
-                self.waiting = behind;
-                self.takes += 1;
-                Some(first)
-            }
-            Err(_) => None,
-        }
+        let Bundle { first, behind } = receive(rt, &self.receiver, &mut self.pass)?;
+        self.waiting = behind;
+        self.takes += 1;
+        Some(first)
     }
 }

@@ -1,12 +1,7 @@
 use Rattle.std.proofs.Common.{◌++◌, ◌∷◌, [], ◌∙◌, ap, rules}
 use Rattle.cqf_pipe.specs.PipeEnds.{handed_by}
-use Rattle.cqf_pipe.proofs.PipeSteps.{receives}
 use Rattle.cqf_pipe.proofs.Waiting.{comes, hands_out}
 use Rattle.cqf_pipe.proofs.pipe_ends.PipeOut.take.Goals as goal
-
--- the pass may take
-pub recv_as-requires-clause-rule : goal.recv_as-requires-clause-rule
-recv_as-requires-clause-rule g c = (receives _ _ (ap (λ v. v.takes) c.self.invariant.1), λ items views h at. tt)
 
 -- the item waited first
 pub invariant_of-self : goal.invariant_of-self
@@ -16,15 +11,22 @@ invariant_of-self g c =
     (c.self.invariant.3 ∙ ap (λ l. handed ++ l) c.in-Some.ensures.items) c.self.invariant.4 in
     (c.self.invariant.0, c.self.invariant.1, c.self.invariant.2, next.1, next.2)
 
--- nothing waited, and the item came with what waits now
-pub invariant_of-self-in-Ok : goal.invariant_of-self-in-Ok
-invariant_of-self-in-Ok g c =
-    let next = comes _ _ _ c.in-Ok.field-0.behind.items c.in-Ok.field-0.first _ (ap (λ v. v.taken) c.in-Ok.ensures.rule.0) c.self.invariant.3
-    (search rules) c.self.invariant.4 in
-    (search rules, search rules, c.in-Ok.ensures.rule.1, next.1, next.2)
+pub returns-in-Some-clause-some : goal.returns-in-Some-clause-some
+returns-in-Some-clause-some g c =
+    let handed = handed_by c.self.inside.pass c.self.inside.waiting.items in
+    let next = hands_out _ _ _ c.pop_front.new.self.items c.in-Some.item _
+    (c.self.invariant.3 ∙ ap (λ l. handed ++ l) c.in-Some.ensures.items) c.self.invariant.4 in
+    next.0 ∙ ap (λ e. e.items ++ c.in-Some.item ∷ []) c.self.view_is
 
-pub returns-in-Ok-clause-some : goal.returns-in-Ok-clause-some
-returns-in-Ok-clause-some g c =
-    let next = comes _ _ _ c.in-Ok.field-0.behind.items c.in-Ok.field-0.first _ (ap (λ v. v.taken) c.in-Ok.ensures.rule.0) c.self.invariant.3
+-- nothing waited, and the item came with what waits now
+pub invariant_of-self-2 : goal.invariant_of-self-2
+invariant_of-self-2 g c =
+    let next = comes _ _ _ c.in_ok-first.field-0.behind.items c.in_ok-first.field-0.first _ (ap (λ v. v.taken) c.in_ok-first.ensures.some.0) c.self.invariant.3
     (search rules) c.self.invariant.4 in
-    next.0 ∙ ap (λ e. e.items ++ c.in-Ok.field-0.first ∷ []) c.self.view_is
+    (search rules, search rules, c.in_ok-first.ensures.some.1, next.1, next.2)
+
+pub returns-clause-some : goal.returns-clause-some
+returns-clause-some g c =
+    let next = comes _ _ _ c.in_ok-first.field-0.behind.items c.in_ok-first.field-0.first _ (ap (λ v. v.taken) c.in_ok-first.ensures.some.0) c.self.invariant.3
+    (search rules) c.self.invariant.4 in
+    next.0 ∙ ap (λ e. e.items ++ c.in_ok-first.field-0.first ∷ []) c.self.view_is
