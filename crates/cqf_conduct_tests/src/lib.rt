@@ -14,6 +14,8 @@ mod faults;
 #[cfg(test)]
 mod flags;
 #[cfg(test)]
+mod refusals;
+#[cfg(test)]
 mod replays;
 #[cfg(test)]
 mod rows;

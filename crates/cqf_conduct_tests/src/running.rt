@@ -1,11 +1,12 @@
 //! Runs on threads to be made.
 use crate::asking::{Ask, all_commands, open};
+use cqf_admission::Command;
 use cqf_fixtures::{
     Asked, Backing, Offering, are_background, are_offers, background_of, offers_of,
 };
 use cqf_model::{Background, Offer};
 use cqf_topology::Domain;
-use cqf_worker::{Account, Pace, conduct};
+use cqf_worker::{Account, ConductFault, Pace, conduct};
 use std::alloc::Global;
 use std::sync::Wait;
 use std::thread::Threads;
@@ -22,6 +23,30 @@ pub(crate) struct Scenario {
     pub(crate) cycles: u32,
 }
 
+/// What comes of a run over a domain under an admission that has these streams, with these commands of administrators, what is offered
+/// and the background frames, where they may be run.
+pub(crate) fn outcome_of<R: Threads + Wait + Sync, P: Pace>(
+    rt: &R,
+    alloc: Global,
+    domain: &Domain,
+    streams: &[Asked],
+    admins: Vec<Vec<Command>>,
+    cycles: u32,
+    offers: &[Offer],
+    background: &[Background],
+    pace: &P,
+) -> Option<Result<Account, ConductFault>> {
+    let few = cycles <= 100_000 && offers.len() <= 1_000_000 && background.len() <= 1_000_000;
+    if !few || !are_offers(domain, offers) || !are_background(domain, background) {
+        return None;
+    }
+    let admission = open(alloc, domain, streams)?;
+    let outcome = conduct(
+        rt, alloc, domain, admission, offers, background, cycles, admins, pace,
+    );
+    Some(outcome)
+}
+
 /// The account of a scenario over a domain, with what is offered and the background frames, where they may be run.
 pub(crate) fn account_of<R: Threads + Wait + Sync, P: Pace>(
     rt: &R,
@@ -32,18 +57,21 @@ pub(crate) fn account_of<R: Threads + Wait + Sync, P: Pace>(
     background: &[Background],
     pace: &P,
 ) -> Option<Account> {
-    let cycles = scenario.cycles;
-    let few = cycles <= 100_000 && offers.len() <= 1_000_000 && background.len() <= 1_000_000;
-    if !few || !are_offers(domain, offers) || !are_background(domain, background) {
-        return None;
-    }
     let Ok(admins) = all_commands(alloc, scenario.admins, scenario.times) else {
         return None;
     };
-    let admission = open(alloc, domain, scenario.streams)?;
-    match conduct(
-        rt, alloc, domain, admission, offers, background, cycles, admins, pace,
-    ) {
+    let outcome = outcome_of(
+        rt,
+        alloc,
+        domain,
+        scenario.streams,
+        admins,
+        scenario.cycles,
+        offers,
+        background,
+        pace,
+    )?;
+    match outcome {
         Ok(account) => Some(account),
         Err(_) => None,
     }
