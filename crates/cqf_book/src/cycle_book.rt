@@ -92,6 +92,7 @@ impl Model for CycleBook {
 
 impl CycleBook {
     /// A book that begins with these pages, and a share for each of their bridges, by number, that has posted nothing.
+    /// `Memory` where a growth is refused; then the pages are gone.
     pub fn new(alloc: Global, pages: Pages) -> Result<(CycleBook, Vec<Share>), Memory>
         ensures opening { IfOk result (λ made. made.0 ≡ pages) }
         ensures shares { IfOk result (λ made. made.1.items ≡ new_shares pages.bridges) }
@@ -171,7 +172,8 @@ impl CycleBook {
     /// starts by cycle, then link, then instant, the drops by cycle, then bridge, then frame; what has these three in common
     /// stands by page, and by its place there (profile). It waits for nobody. It takes one share of each bridge, in any
     /// order; other shares are [`BookClose::ShareMissing`], and a share whose pages aren't those that the book took of its
-    /// bridge is [`BookClose::SharesDisagree`]. Where it answers, no page of these stands twice and none is missing: each is of
+    /// bridge is [`BookClose::SharesDisagree`], with the least such bridge; then comes `Memory`, where a growth is refused.
+    /// Where it answers, no page of these stands twice and none is missing: each is of
     /// the bridge and the cycle at whose place it stands. With a fault the pages are gone.
     pub fn close(self, shares: Vec<Share>) -> Result<Book, BookClose>
         ensures missing { IsErrOf result BookClose.ShareMissing ↔ (AreOneEach self.bridges shares.items → ⊥) }

@@ -8,7 +8,7 @@ use thiserror::Error;
 /// Why a page isn't taken: the first of these that is so. It prints as its name.
 #[derive(Clone, Copy, Debug, PartialEq, Eq, Drop, Error)]
 pub enum PageFault {
-    /// The page's bridge isn't one of the bridges.
+    /// The page's bridge isn't one of the bridges, or isn't that of the share by which it is posted.
     StrangeBridge,
     /// The page's cycle isn't one of the cycles.
     StrangeCycle,

@@ -17,7 +17,7 @@ use std::marker::Model;
 use std::sync::{Mutex, Wait};
 
 /// An admission behind a lock, at which threads ask with seats of their own (profile). A seat that seals follows its
-/// history, so that the desk is closed without a look at that seat's tables.
+/// history, so that mostly the desk is closed without a look at that seat's tables.
 #[derive(Drop)]
 pub struct Desk {
     alloc: Global,
@@ -36,8 +36,8 @@ impl Model for Desk {
 }
 
 impl Desk {
-    /// A desk over an admission, and its seats, numbered from 0: 1 to 16 of them (profile). What the admission's history
-    /// has already is the opening part. It waits for nobody.
+    /// A desk over an admission, and so many seats, numbered from 0 (profile). What the admission's history has already is
+    /// the opening part. `Memory` where a growth is refused; then the admission is gone. It waits for nobody.
     pub fn new(alloc: Global, admission: Admission, seats: u16) -> Result<(Desk, Vec<Seat>), Memory>
         ensures desk { IfOk result (λ made. made.0 ≡ record { opening = admission; seats = seats }) }
         ensures seats { IfOk result (λ made. made.1.items ≡ fresh_seats seats) }
@@ -79,9 +79,10 @@ impl Desk {
         seat.withdraw(&mut self.admission.lock(rt), asked, name)
     }
 
-    /// Closes the next cycle to changes, by [`Admission::seal`]. The seat keeps the Seal and the cycle's table, and follows
-    /// the history up to there. With `CyclesSpent` and `Memory` neither the history nor the seat changes; `Memory` comes
-    /// only where `CyclesSpent` isn't due. It waits for the lock alone.
+    /// Closes the next cycle to changes, by [`Admission::seal`]. The seat keeps the Seal and a table, which is the cycle's
+    /// where the desk closes. It follows the history up to there, unless memory runs out or a call answers otherwise; then
+    /// its tables are compared as the desk is closed. With `CyclesSpent` and `Memory` neither the history nor the seat
+    /// changes; `Memory` comes only where `CyclesSpent` isn't due. It waits for the lock alone.
     pub fn seal<R: Wait>(&self, rt: &R, seat: &mut Seat) -> Result<(), SealFault>
         ensures { KeepsSeal seat.old seat.new result }
     {
@@ -92,9 +93,10 @@ impl Desk {
     /// stand the calls of the desk's seats and no others, and each seat has just its own of them, in its order, with the
     /// replies that it got, and the tables of its Seals. It waits for nobody.
     ///
-    /// Refused with `SeatMissing` where the seats aren't the desk's, one of each number; with `SeatsDisagree` where a seat
-    /// of that number, as one of another desk, has other calls or tables than the history has of it; and with `Memory`.
-    /// The desk and the seats are gone then too.
+    /// Refused with `SeatMissing` where the seats aren't the desk's, one of each number; with `SeatsDisagree` and the least
+    /// number of a seat that, as one of another desk, has other calls or tables than the history has of it, or the number
+    /// of seats where the history isn't the opening part with calls of the desk's seats behind it; and with `Memory`, also
+    /// where a seat has disagreed already. The desk and the seats are gone then too.
     pub fn close(self, seats: Vec<Seat>) -> Result<History, CloseFault>
         ensures missing { IsErrOf result CloseFault.SeatMissing ↔ (AreItsSeats self.seats seats.items → ⊥) }
         ensures closed { IfOk result (λ history. IsClosed self seats.items history) }

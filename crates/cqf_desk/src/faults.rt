@@ -5,8 +5,8 @@ ghost use Rattle.cqf_desk.specs.Faults.{close_fault_text};
 use std::fmt;
 use thiserror::Error;
 
-/// Why a desk gives no history as it is closed: the first of these that is so (profile). It prints as its name, and then
-/// its value.
+/// Why a desk gives no history as it is closed (profile). `SeatMissing` comes before the others, and `Memory` also where a
+/// seat has disagreed already. It prints as its name, and then its value.
 #[derive(Clone, Copy, Debug, PartialEq, Eq, Drop, Error)]
 pub enum CloseFault {
     /// The seats that are handed in aren't those of the desk, one of each number.

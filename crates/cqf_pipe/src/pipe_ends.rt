@@ -68,7 +68,7 @@ impl<T: Drop> Model for PipeOut<T> {
 }
 
 /// The two ends of a pipe, at which nothing was put or taken yet. Four items can wait in it, and items that were put at once
-/// count as one.
+/// count as one. `Memory` where a growth is refused.
 pub fn pipe<T: Drop + Send>(alloc: Global) -> Result<(PipeIn<T>, PipeOut<T>), Memory>
     ensures pair { IfOk result (λ ends. ends.0.pipe ≡ ends.1.pipe) }
     ensures nothing_put { IfOk result (λ ends. ends.0.items ≡ []) }
@@ -162,7 +162,8 @@ impl<T: Drop> PipeIn<T> {
         }
     }
 
-    /// How many items were put and not taken. Both ends are of one pipe. It waits for nobody and takes no memory.
+    /// How many items were put and not taken: these are gone then, and both ends. They are of one pipe. It waits for nobody
+    /// and takes no memory.
     pub fn close(self, out: PipeOut<T>) -> u64
         requires pair { self.pipe ≡ out.pipe }
         ensures { AreLeft self.items out.items result }

@@ -14,7 +14,7 @@ pub const REFUSED: u8 = 1;
 pub const USAGE: u8 = 2;
 /// A growth was refused.
 pub const NO_MEMORY: u8 = 3;
-/// A read or a write failed.
+/// A read, a write or a run on threads failed.
 pub const FAULT: u8 = 4;
 
 /// An end before the work is done: the exit status, and the text that tells why. With status 3 the text is empty,

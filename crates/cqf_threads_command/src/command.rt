@@ -83,7 +83,7 @@ fn text_of_account(alloc: Global, domain: &Domain, account: &Account) -> Result<
     )
 }
 
-/// The output of `run --threads` over so many cycles, 0 to 100,000: the history of the input's scenario, a line `%%`, and the
+/// The output of `run --threads` over so many cycles, 0 to 100,000: a history of the input's scenario, a line `%%`, and the
 /// one-thread book of that history (profile). Each bridge of the domain and each administrator of the script runs on a thread of
 /// its own, and the calling thread closes the cycles. The calls of the script before its first Seal are made before; the later
 /// ones are made while the bridges run, each administrator's in order, and later Seals are passed over. It waits until all
@@ -91,8 +91,8 @@ fn text_of_account(alloc: Global, domain: &Domain, account: &Account) -> Result<
 ///
 /// # Errors
 /// With status 1 and the line of the first fault of the input: of its parts, of the domain, the streams, the script, the
-/// offers, or the background frames; with status 4 and the line `cqf: run: FAULT` where the run has a fault; and with status 3
-/// for want of memory.
+/// offers, or the background frames; with status 4 and the line `cqf: run: FAULT` where the run has a fault, want of memory in
+/// a bridge among them; and with status 3 for want of memory elsewhere. Nothing is kept of the run then.
 pub fn threads_output(
     rt: &(impl Threads + Wait + Sync),
     alloc: Global,
