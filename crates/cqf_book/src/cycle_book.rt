@@ -173,8 +173,8 @@ impl CycleBook {
     /// stands by page, and by its place there (profile). It waits for nobody. It takes one share of each bridge, in any
     /// order; other shares are [`BookClose::ShareMissing`], and a share whose pages aren't those that the book took of its
     /// bridge is [`BookClose::SharesDisagree`], with the least such bridge; then comes `Memory`, where a growth is refused.
-    /// Where it answers, no page of these stands twice and none is missing: each is of
-    /// the bridge and the cycle at whose place it stands. With a fault the pages are gone.
+    /// Where it answers, no page of these stands twice and none is missing: each is of the bridge and the cycle at whose place
+    /// it stands. With a fault the pages are gone.
     pub fn close(self, shares: Vec<Share>) -> Result<Book, BookClose>
         ensures missing { IsErrOf result BookClose.ShareMissing ↔ (AreOneEach self.bridges shares.items → ⊥) }
         ensures ok { IfOk result (λ book. IsBookOfShares self shares.items (contents_of book)) }

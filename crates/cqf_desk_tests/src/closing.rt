@@ -1,5 +1,5 @@
 //! A desk that is closed with its own seats, and with others.
-use crate::words::{admission, request};
+use crate::words::{admission, line_of_seven, request};
 use cqf_admission::{Admission, Call, Entry, Receipt, Reply, Table};
 use cqf_desk::{CloseFault, Desk, History, Seat};
 use cqf_topology::Request;
@@ -347,5 +347,20 @@ fn is_refused_with_a_stranger<R: Wait>(
 fn a_seat_is_named_before_a_stranger(rt: HostRuntime) -> Result<(), Fail> {
     assert!(rt; is_refused_with_a_stranger(&rt, rt.alloc(), 0, CloseFault::SeatsDisagree(0))?);
     assert!(rt; is_refused_with_a_stranger(&rt, rt.alloc(), 1, CloseFault::SeatsDisagree(1))?);
+    Ok(())
+}
+
+/// Whether a desk knows its seat from that of another, which made the same call on a line that holds seven streams more.
+fn other_tables_are_noticed<R: Wait>(rt: &R, alloc: Global) -> Result<bool, Fail> {
+    let (desk, mut own) = Desk::new(alloc, admission(alloc)?, 1)?;
+    let (other, mut others) = Desk::new(alloc, line_of_seven(alloc)?, 1)?;
+    let sealed = seal_with_each(rt, &desk, own.as_mut_slice())
+        && seal_with_each(rt, &other, others.as_mut_slice());
+    Ok(sealed && is_refused(desk, others, CloseFault::SeatsDisagree(0)))
+}
+
+#[test]
+fn a_seat_with_other_tables_is_noticed(rt: HostRuntime) -> Result<(), Fail> {
+    assert!(rt; other_tables_are_noticed(&rt, rt.alloc())?);
     Ok(())
 }

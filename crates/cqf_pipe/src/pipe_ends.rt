@@ -17,8 +17,8 @@ use std::thread;
 /// How many items wait in a pipe at most, those that were put at once as one.
 const CAPACITY: usize = 4;
 
-/// How often an end looks for an item before it waits. With more threads than processors the item has mostly come once others
-/// had their turn, and then nobody need be woken.
+/// How often the taking end looks for an item before it waits. With more threads than processors the item has mostly come once
+/// others had their turn, and then nobody need be woken.
 const LOOKS: u32 = 32;
 
 /// The end of a pipe at which items are put. Contracts see which pipe it is, and the items that were put, in order.

@@ -318,6 +318,35 @@ fn a_book_closes_with_its_own_shares_alone(rt: HostRuntime) -> Result<(), Fail> 
     Ok(())
 }
 
+/// Whether the book takes a page of bridge 0 and cycle 0 with a start on that link.
+fn is_posted_on<R: Wait>(
+    rt: &R,
+    alloc: Global,
+    book: &CycleBook,
+    shares: &mut [Share],
+    link: u8,
+) -> bool {
+    match (shares.first_mut(), page_with(alloc, 0, 0, link)) {
+        (Some(share), Ok(page)) => book.post(rt, share, page).is_ok(),
+        _ => false,
+    }
+}
+
+/// Whether a book knows its shares from those of another, of which one has a page with its start on another link.
+fn another_page_is_noticed<R: Wait>(rt: &R, alloc: Global) -> Result<bool, Memory> {
+    let (book, mut own) = three_by_five(alloc)?;
+    let (other, mut others) = three_by_five(alloc)?;
+    let posted = is_posted_on(rt, alloc, &book, own.as_mut_slice(), 1)
+        && is_posted_on(rt, alloc, &other, others.as_mut_slice(), 2);
+    Ok(posted && is_refused(book, others, BookClose::SharesDisagree(0)))
+}
+
+#[test]
+fn a_page_that_says_something_else_is_noticed(rt: HostRuntime) -> Result<(), Fail> {
+    assert!(rt; another_page_is_noticed(&rt, rt.alloc())?);
+    Ok(())
+}
+
 /// Whether the book takes the page with a start on a link of 2 less the bridge's number.
 fn takes<R: Wait>(rt: &R, alloc: Global, book: &CycleBook, share: &mut Share, cycle: u32) -> bool {
     let bridge = share.bridge();
