@@ -4,4 +4,6 @@
 #[cfg(test)]
 mod cycle_book;
 #[cfg(test)]
+mod halting;
+#[cfg(test)]
 mod pipes;

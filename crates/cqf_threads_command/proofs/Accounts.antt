@@ -19,11 +19,11 @@ use Rattle.cqf_stop.specs.Stops.{EndsWith, IsRefused, fault_line}
 use Rattle.cqf_stop.specs.declared.stops.Stop.{Stop}
 use Rattle.cqf_threads_command.specs.ThreadsOutput.{EndsThreads, IsAccountOfInput, IsAccountOfScenario, IsThreadsOutput}
 use Rattle.cqf_worker.specs.Account.{IsAccount, all_asked, entries_in}
-use Rattle.cqf_worker.specs.Commands.{acts_asked}
-use Rattle.cqf_worker.specs.Faults.{conduct_fault_text}
+use Rattle.cqf_loops.specs.Commands.{acts_asked}
+use Rattle.cqf_threads.specs.Faults.{conduct_fault_text}
 use Rattle.cqf_worker.specs.declared.account.Account.{Account}
-use Rattle.cqf_worker.specs.declared.faults.ConductFault.{ConductFault}
-use Rattle.cqf_worker.specs.declared.faults.ConductFault.TheVariants.{Memory, Bridge, DeskDisagrees, BookDisagrees, ChannelLost, Spawn}
+use Rattle.cqf_threads.specs.declared.faults.ConductFault.{ConductFault}
+use Rattle.cqf_threads.specs.declared.faults.ConductFault.TheVariants.{Memory, Bridge, DeskDisagrees, BookDisagrees, ChannelLost, Spawn}
 
 -- each administrator's commands, of the vectors of them
 abbrev pub commands_in : List (Vec Command Global) → List (List Command)

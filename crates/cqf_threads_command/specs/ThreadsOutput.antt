@@ -10,10 +10,10 @@ use Rattle.cqf_scenario.specs.Scenario.{Scenario, scenario_input}
 use Rattle.cqf_stop.specs.Stops.{fault_line}
 use Rattle.cqf_stop.specs.declared.stops.Stop.{Stop}
 use Rattle.cqf_worker.specs.Account.{IsAccount, all_asked, entries_in}
-use Rattle.cqf_worker.specs.Faults.{conduct_fault_text}
+use Rattle.cqf_threads.specs.Faults.{conduct_fault_text}
 use Rattle.cqf_worker.specs.declared.account.Account.{Account}
-use Rattle.cqf_worker.specs.declared.faults.ConductFault.{ConductFault}
-use Rattle.cqf_worker.specs.declared.faults.ConductFault.TheVariants.{Memory}
+use Rattle.cqf_threads.specs.declared.faults.ConductFault.{ConductFault}
+use Rattle.cqf_threads.specs.declared.faults.ConductFault.TheVariants.{Memory}
 
 -- an account of a scenario over so many cycles: of a run that begins with the history of the calls before the first Seal, and in which
 -- each administrator makes what it calls for behind that Seal

@@ -4,9 +4,9 @@ ghost use Rattle.cqf_model.specs.Book.{contents_of};
 ghost use Rattle.cqf_run_command.specs.RunOutput.{run_text};
 ghost use Rattle.cqf_scenario.specs.Opening.{IsOpenedInput};
 ghost use Rattle.cqf_stop.specs.Stops.{EndsWith, fault_line};
+ghost use Rattle.cqf_threads.specs.Faults.{conduct_fault_text};
 ghost use Rattle.cqf_threads_command.specs.ThreadsOutput.{EndsThreads, IsAccountOfInput, IsThreadsOutput};
 ghost use Rattle.cqf_worker.specs.Account.{entries_in};
-ghost use Rattle.cqf_worker.specs.Faults.{conduct_fault_text};
 
 use cqf_run_command::write_run;
 use cqf_scenario::{Opened, read_opened};

@@ -2,7 +2,6 @@
 use Rattle.std.proofs.Common.{ℕ, ◌≡◌, ◌+◌, ◌≤◌, ◌<◌, [], List, length, get_or, map, sym, ap, subst, ◌∙◌, arith}
 use Rattle.std.specs.Prelude.{All, slice_index_or}
 use Rattle.std.proofs.lemmas.List.{get_or-map, length-map}
-use Rattle.std.proofs.lemmas.Option.{slice_get-get_or}
 use Rattle.cqf_lists.proofs.EachBelow.{get_or-singles}
 use Rattle.cqf_model.specs.declared.frames.Background.{Background}
 use Rattle.cqf_model.specs.declared.frames.Offer.{Offer}
@@ -22,26 +21,19 @@ use Rattle.cqf_laws_account.specs.Seated.{AreSeated, ClosesItsCycles, ConductorH
 use Rattle.cqf_laws_book.specs.BookOfHistory.{BookOfHistorySaysTheShift}
 use Rattle.cqf_laws_bridge.specs.NoFaults.{RunOfHistoryLosesNothing}
 use Rattle.cqf_worker.specs.declared.account.Account.{Account}
-use Rattle.cqf_worker.specs.declared.carried.Carried.TheVariants.{Item}
+use Rattle.cqf_loops.specs.declared.carried.Carried.TheVariants.{Item}
 use Rattle.cqf_worker.specs.declared.conducting.Prepared.{Prepared}
-use Rattle.cqf_worker.specs.declared.threads.Administrator.{Administrator}
-use Rattle.cqf_worker.specs.declared.threads.Ended.{Ended}
-use Rattle.cqf_worker.specs.declared.worker.Worker.{Worker}
+use Rattle.cqf_threads.specs.declared.threads.Administrator.{Administrator}
+use Rattle.cqf_threads.specs.declared.threads.Ended.{Ended}
 use Rattle.cqf_worker.specs.Account.{IsAccount, all_asked, entries_in}
-use Rattle.cqf_worker.specs.Closing.{share_at}
+use Rattle.cqf_wires.specs.Closing.{share_at}
 use Rattle.cqf_worker.specs.Conducting.{IsPrepared, IsSettled, all_seats, seat_of}
-use Rattle.cqf_worker.specs.Handing.{TableEnd}
-use Rattle.cqf_worker.specs.Laying.{traffic_of}
-use Rattle.cqf_worker.specs.Running.{IsEnded, IsReady, MayWork}
-use Rattle.cqf_worker.specs.Wires.{AreWired, AreWorkersOf, Wiring, pipe_of_tables, tables_pipe}
+use Rattle.cqf_loops.specs.Handing.{TableEnd}
+use Rattle.cqf_wires.specs.Laying.{traffic_of}
+use Rattle.cqf_threads.specs.Running.{IsEnded, IsReady}
+use Rattle.cqf_wires.specs.Wires.{AreWired, Wiring, pipe_of_tables, tables_pipe}
 use Rattle.cqf_worker.proofs.Apart.{book_is, no_pages, still_tables, still_wired}
 use Rattle.cqf_worker.proofs.Seating.{are_seated, asked_count, asks_no_seal, fresh_seat, seats_count}
-
--- each worker of a traffic's bridges may work
-pub workers_may : (d : Domain) (offers : List Offer) (background : List Background) (workers : List Worker) → AreWorkersOf (traffic_of d offers background) workers →
-    All MayWork workers
-workers_may d offers background workers are place w below =
-    (traffic_of d offers background, place, are place (get_or workers place w) (slice_get-get_or workers place w below))
 
 -- with a fresh seat nobody has called
 no_calls_yet : (count : ℕ) (administrators : List Administrator) → map seat_of administrators ≡ fresh_seats count →
@@ -60,7 +52,7 @@ module _ (d : Domain) (opening : List Recorded) (offers : List Offer) (backgroun
   pub is_ready : cycles ≤ 100000 → IsReady cycles p.ready
   is_ready few = record {
     few = few;
-    workers = workers_may d offers background p.ready.workers.items is.laid.workers;
+    workers = is.laid.may_work;
     fresh = no_calls_yet (length admins) p.ready.administrators.items is.seated.seats;
     no_calls = ap (λ (s : Sitting). s.calls) is.seated.next;
     no_tables = ap (λ (s : Sitting). s.tables) is.seated.next;

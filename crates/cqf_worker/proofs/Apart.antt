@@ -7,6 +7,7 @@ use Rattle.std.specs.Option.{option_map_or}
 use Rattle.std.proofs.lemmas.Bool.{cond-false, cond-true}
 use Rattle.std.proofs.lemmas.List.{get_or-replicate, length-map, map-append}
 use Rattle.std.proofs.lemmas.List.Concat.{flat_map-append}
+use Rattle.std.proofs.lemmas.List.Kept.{AllPairs-filter}
 use Rattle.std.proofs.lemmas.List.Elements.{AllZip-get_or, length_all_zip}
 use Rattle.std.proofs.lemmas.Option.{get_or_from_slice_get, same_Some, slice_get-get_or, slice_get_cases, slice_get_within}
 use Rattle.std.proofs.lemmas.Simd.{map-map}
@@ -28,19 +29,19 @@ use Rattle.cqf_bridge.specs.Batch.{LinkBatch}
 use Rattle.cqf_bridge.specs.BridgeState.{links_from}
 use Rattle.cqf_bridge.specs.Receiving.{links_into}
 use Rattle.cqf_laws_course.specs.Courses.{Course, HasWorked, IsGiven, Traffic}
+use Rattle.cqf_laws_course.proofs.LinkNumbers.{link_listed, links_ascend, numbers_ascend}
 use Rattle.cqf_laws_account.specs.Apart.{BridgesApartGiveTheBook, HavePosted, HaveWorkedApart}
 use Rattle.cqf_laws_account.specs.Gathered.{contents_of_page}
 use Rattle.cqf_laws_account.specs.Sealing.{cycle_tables}
-use Rattle.cqf_worker.specs.declared.carried.Carried.{Carried}
-use Rattle.cqf_worker.specs.declared.carried.Carried.TheVariants.{Item}
-use Rattle.cqf_worker.specs.declared.worker.Worker.{Worker}
-use Rattle.cqf_worker.specs.Closing.{share_at}
-use Rattle.cqf_worker.specs.Handing.{TableEnd}
+use Rattle.cqf_loops.specs.declared.carried.Carried.{Carried}
+use Rattle.cqf_loops.specs.declared.carried.Carried.TheVariants.{Item}
+use Rattle.cqf_loops.specs.declared.worker.Worker.{Worker}
+use Rattle.cqf_wires.specs.Closing.{share_at}
+use Rattle.cqf_loops.specs.Handing.{TableEnd}
 use Rattle.cqf_pipe.specs.PipeEnds.{PipeId}
-use Rattle.cqf_worker.specs.Rows.{wire_of, wires_of}
-use Rattle.cqf_worker.specs.Wires.{AreFed, AreGiven, AreOn, AreWired, AreWorkersOf, BatchPort, IsBeginning, Wiring, pipe_of_tables, tables_pipe}
-use Rattle.cqf_worker.specs.Workers.{HasGoneThrough, Works, batches_at, course_of, ends_in_bridge, item_in, items_in, link_of, links_onward, rows_in}
-use Rattle.cqf_worker.proofs.Onward.{link_listed, links_ascend, onward_ascend}
+use Rattle.cqf_loops.specs.Rows.{wire_of, wires_of}
+use Rattle.cqf_wires.specs.Wires.{AreFed, AreGiven, AreOn, AreWired, AreWorkersOf, BatchPort, IsBeginning, Wiring, pipe_of_tables, tables_pipe}
+use Rattle.cqf_loops.specs.Workers.{HasGoneThrough, Works, batches_at, course_of, ends_in_bridge, item_in, items_in, link_of, links_onward, rows_in}
 
 -- nothing is done
 abbrev pub no_course : Course
@@ -153,6 +154,11 @@ rows_first d entries cycles dones place done rest sealed there parts =
     let own : map rows_in (items_in done.tables.items) ≡ (own_courses dones place).tables place =
     ap (λ (c : Course). c.tables place) (sym (own_is dones place done there)) in
     all ∙ both ∙ ap (λ (rows : List (List Row)). rows ++ map rows_in rest) own
+
+-- the links that leave a bridge and end in another ascend
+onward_ascend : (d : Domain) (bridge : ℕ) → AllPairs (λ (a b : ℕ). a < b) (links_onward d bridge)
+onward_ascend d bridge =
+    AllPairs-filter (λ (a b : ℕ). a < b) (ends_in_bridge d) (links_from d bridge) (numbers_ascend (λ k. leaves d k bridge) (length d.links))
 
 module _ (t : Traffic) (entries : List Recorded) (cycles : ℕ) (workers dones : List Worker) (ends : List TableEnd)
     (run : HaveRun t entries cycles workers dones ends) where

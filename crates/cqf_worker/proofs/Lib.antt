@@ -1,15 +1,3 @@
-mod Each
-mod Batches
-mod Onward
-mod OneMore
-mod Stopping
-mod Going
-mod Wiring
-mod Unwiring
-mod HandedTables
-mod SealedCycles
-mod Zipped
-mod Joining
 mod Seating
 mod Preparing
 mod Apart

@@ -13,13 +13,13 @@ use Rattle.cqf_desk.specs.declared.history.History.{History}
 use Rattle.cqf_desk.specs.Closing.{IsClosed}
 use Rattle.cqf_desk.specs.Desk.{Counter, Sitting}
 use Rattle.cqf_worker.specs.declared.account.Account.{Account}
-use Rattle.cqf_worker.specs.declared.faults.ConductFault.{ConductFault}
-use Rattle.cqf_worker.specs.declared.threads.Ended.{Ended}
-use Rattle.cqf_worker.specs.declared.worker.Worker.{Worker}
-use Rattle.cqf_worker.specs.Closing.{share_at}
+use Rattle.cqf_threads.specs.declared.faults.ConductFault.{ConductFault}
+use Rattle.cqf_threads.specs.declared.threads.Ended.{Ended}
+use Rattle.cqf_loops.specs.declared.worker.Worker.{Worker}
+use Rattle.cqf_wires.specs.Closing.{share_at}
 use Rattle.cqf_worker.specs.Conducting.{AreLaidFor, IsSettled, all_seats}
-use Rattle.cqf_worker.specs.Handing.{TableEnd}
-use Rattle.cqf_worker.specs.Wires.{AreFed, AreGiven}
+use Rattle.cqf_loops.specs.Handing.{TableEnd}
+use Rattle.cqf_wires.specs.Wires.{AreFed, AreGiven}
 
 -- workers that are laid for a domain are so for one that is the same
 pub laid_for : (d same : Domain) (offers : List Offer) (background : List Background) (workers : List Worker) (ends : List TableEnd) → same ≡ d →

@@ -14,7 +14,7 @@ use Rattle.cqf_admission.specs.declared.entries.Command.{Command}
 use Rattle.cqf_admission.specs.Admission.{recorded_of}
 use Rattle.cqf_laws_account.specs.Seated.{IsHistoryOf}
 use Rattle.cqf_worker.specs.declared.account.Account.{Account}
-use Rattle.cqf_worker.specs.Commands.{acts_asked}
+use Rattle.cqf_loops.specs.Commands.{acts_asked}
 
 -- what each administrator's commands call for
 abbrev pub all_asked : List (List Command) → List (List Act)

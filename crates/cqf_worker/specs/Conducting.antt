@@ -12,13 +12,14 @@ use Rattle.cqf_desk.specs.Closing.{IsClosed}
 use Rattle.cqf_desk.specs.Desk.{Counter, Sitting, fresh_seats}
 use Rattle.cqf_worker.specs.declared.account.Account.{Account}
 use Rattle.cqf_worker.specs.declared.conducting.Prepared.{Prepared}
-use Rattle.cqf_worker.specs.declared.threads.Administrator.{Administrator}
-use Rattle.cqf_worker.specs.declared.threads.Ended.{Ended}
-use Rattle.cqf_worker.specs.declared.worker.Worker.{Worker}
-use Rattle.cqf_worker.specs.Closing.{share_at}
-use Rattle.cqf_worker.specs.Handing.{TableEnd}
-use Rattle.cqf_worker.specs.Laying.{traffic_of}
-use Rattle.cqf_worker.specs.Wires.{AreFed, AreGiven, AreWired, AreWorkersOf, Wiring, pipe_of_tables, tables_pipe}
+use Rattle.cqf_threads.specs.declared.threads.Administrator.{Administrator}
+use Rattle.cqf_threads.specs.declared.threads.Ended.{Ended}
+use Rattle.cqf_loops.specs.declared.worker.Worker.{Worker}
+use Rattle.cqf_wires.specs.Closing.{share_at}
+use Rattle.cqf_loops.specs.Handing.{TableEnd}
+use Rattle.cqf_loops.specs.Workers.{MayWork}
+use Rattle.cqf_wires.specs.Laying.{traffic_of}
+use Rattle.cqf_wires.specs.Wires.{AreFed, AreGiven, AreWired, AreWorkersOf, Wiring, pipe_of_tables, tables_pipe}
 
 -- a book of so many cycles in which nothing stands, and a share for each of its bridges
 pub record AreBooked (d : Domain) (cycles : ℕ) (book : Posted) (shares : List Own) : Type 0 where
@@ -42,6 +43,7 @@ pub record AreSeatedFor (admins : List (List Command)) (administrators : List Ad
 pub record AreLaidFor (d : Domain) (offers : List Offer) (background : List Background) (those : List Worker) (ends : List TableEnd) : Type 0 where
   pub many : length those ≡ length d.bridges
   pub workers : AreWorkersOf (traffic_of d offers background) those
+  pub may_work : All MayWork those
   pub wired : (wiring : Wiring) × AreWired wiring those
   pub tables : map pipe_of_tables ends ≡ map tables_pipe those
   pub nothing_put : All (λ (end : TableEnd). end.items ≡ []) ends

@@ -1,14 +1,2 @@
-pub mod Rows
-pub mod Workers
-pub mod Stepping
-pub mod Stops
-pub mod Wires
-pub mod Laying
-pub mod Closing
-pub mod Commands
-pub mod Handing
-pub mod Faults
-pub mod Noting
-pub mod Running
 pub mod Conducting
 pub mod Account

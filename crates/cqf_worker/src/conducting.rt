@@ -6,19 +6,11 @@ ghost use Rattle.cqf_desk.specs.Desk.{fresh_seats};
 ghost use Rattle.cqf_model.specs.Book.{contents_of};
 ghost use Rattle.cqf_model.specs.History.{seals};
 ghost use Rattle.cqf_model.specs.Run.{AreBackground, AreOffers};
+ghost use Rattle.cqf_wires.specs.Wires.{AreWired, Wiring, pipe_of_tables, tables_pipe};
 ghost use Rattle.cqf_worker.specs.Account.{IsAccount};
 ghost use Rattle.cqf_worker.specs.Conducting.{AreBooked, AreLaidFor, AreSeatedFor, AreShut, IsPrepared, IsSettled};
-ghost use Rattle.cqf_worker.specs.Wires.{AreWired, Wiring, pipe_of_tables, tables_pipe};
 
 use crate::account::Account;
-use crate::carried::Carried;
-use crate::closing::{ClosingFault, close_pipes};
-use crate::faults::{ConductFault, Faults};
-use crate::laying::{Laid, lay};
-use crate::pace::Pace;
-use crate::sealing::Sealed;
-use crate::threads::{Administrator, Ended, Ready, run_threads};
-use crate::worker::Worker;
 use cqf_admission::{Admission, Command, Table};
 use cqf_book::{BookClose, CycleBook, Pages, Share};
 use cqf_compile::compile;
@@ -26,19 +18,22 @@ use cqf_desk::{CloseFault, Desk, History, Seat};
 use cqf_laws_account::{bridges_apart_give_the_book, seats_give_the_history};
 use cqf_laws_book::book_of_history_says_the_shift;
 use cqf_laws_bridge::history_loses_nothing;
+use cqf_loops::{Carried, Pace, Sealed, Worker};
 use cqf_model::{Background, Book, Offer};
 use cqf_pipe::PipeIn;
+use cqf_threads::{Administrator, ConductFault, Ended, Faults, Ready, run_threads};
 use cqf_topology::Domain;
+use cqf_wires::{ClosingFault, Laid, close_pipes, lay};
 use std::alloc::Global;
 use std::sync::Wait;
 use std::thread::Threads;
 
 /// A run that is ready to begin: its desk, its book, and what its threads begin with.
 #[derive(Drop)]
-pub(crate) struct Prepared {
-    pub(crate) desk: Desk,
-    pub(crate) book: CycleBook,
-    pub(crate) ready: Ready,
+struct Prepared {
+    desk: Desk,
+    book: CycleBook,
+    ready: Ready,
 }
 
 /// A desk of the admission with a seat for each administrator and one for the conductor.
@@ -89,7 +84,7 @@ fn seat_each(
 }
 
 /// An empty book of the domain's bridges, and a share for each.
-pub(crate) fn open_book(
+fn open_book(
     alloc: Global,
     domain: &Domain,
     cycles: u32,
@@ -108,7 +103,7 @@ pub(crate) fn open_book(
 }
 
 /// The workers of the domain's bridges, with pipes between them.
-pub(crate) fn lay_all(
+fn lay_all(
     alloc: Global,
     domain: &Domain,
     offers: &[Offer],

@@ -13,27 +13,10 @@
 #![tactic(auto)]
 
 mod account;
-mod calling;
-mod carried;
-mod closing;
 mod conducting;
-#[cfg(test)]
-mod failing;
-mod faults;
-#[cfg(test)]
-mod halting;
-mod laying;
-mod pace;
-mod ports;
-mod rows;
-mod sealing;
-mod stepping;
-mod threads;
-mod worker;
 
 pub use account::Account;
-pub use carried::Carried;
 pub use conducting::conduct;
+pub use cqf_loops::{Carried, Free, Pace};
 pub use cqf_pipe::{PipeIn, PipeOut, pipe};
-pub use faults::ConductFault;
-pub use pace::{Free, Pace};
+pub use cqf_threads::ConductFault;

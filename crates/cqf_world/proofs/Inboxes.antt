@@ -1,21 +1,19 @@
 -- One link more among those of which a batch was taken: its batch stands behind those of the links before it.
 use Rattle.std.proofs.Common.{◌≡◌, ℕ, ◌<◌, ◌++◌, Bool, List, drop, length, map, sym, ap, ◌∙◌, arith, refl, inl, inr, subst, true, false, take, AllPairs, Contains, eq-eqb, eqb-true}
-use Rattle.std.specs.Prelude.{◌∷◌, [], filter, nat_lt, if◌then◌else◌, Option, Some, slice_get}
+use Rattle.std.specs.Prelude.{◌∷◌, [], filter, nat_lt, Option, Some, slice_get}
 use Rattle.std.specs.Option.{option_map_or}
 use Rattle.std.proofs.lemmas.Option.{slice_get_cases}
 use Rattle.std.specs.List.{insert}
 use Rattle.std.proofs.lemmas.Bool.{cases_Bool, cond-false, cond-true, le-ltb, lt-ltb}
 use Rattle.std.proofs.lemmas.List.{drop-map, map-append, take-map}
-use Rattle.cqf_lists.proofs.EachBelow.{contains_below, filter_none}
+use Rattle.cqf_lists.proofs.EachBelow.{filter_none}
 use Rattle.cqf_lists.proofs.Filters.{filter_alike}
-use Rattle.cqf_lists.proofs.Made.{contains_if_there}
-use Rattle.cqf_lists.proofs.Members.{contains_cases, contains_from_filter, contains_here, contains_none, contains_one}
-use Rattle.cqf_lists.proofs.Pairs.{pairs_below, pairs_head, pairs_none, pairs_one, pairs_tail}
+use Rattle.cqf_lists.proofs.Members.{contains_cases, contains_from_filter, contains_none}
+use Rattle.cqf_lists.proofs.Pairs.{pairs_head, pairs_tail}
 use Rattle.cqf_model.specs.declared.topology.Link.{Link}
 use Rattle.cqf_model.specs.declared.topology.Node.{Node}
 use Rattle.cqf_model.specs.declared.topology.Node.TheVariants.{Bridge, Station as StationNode}
 use Rattle.cqf_model.specs.Domain.{Domain, IsAccepted, IsNode, enters, node_is}
-use Rattle.cqf_bridge.specs.Receiving.{links_into}
 
 -- how many of the first stand before a number
 abbrev pub before : ℕ → List ℕ → ℕ
@@ -53,31 +51,10 @@ kept_more q r l (m ∷ ns) up held lacks has same = elim (contains_cases m ns l 
       ]
 ]
 
--- the links that end in a bridge stand by number
-pub links_ascend : (d : Domain) (bridge : ℕ) → AllPairs (λ (a b : ℕ). a < b) (links_into d bridge)
-links_ascend d bridge =
-    pairs_below (λ (a b : ℕ). a < b) (λ l. if enters d l bridge then l ∷ [] else []) (length d.links)
-    (λ l within. each l (enters d l bridge))
-    (λ i j x y less within h k.
-    (let a = contains_one i x (contains_if_there (enters d i bridge) (i ∷ []) x h).1 in
-    let b = contains_one j y (contains_if_there (enters d j bridge) (j ∷ []) y k).1 in
-    omega (arith, less, a, b)))
-  where
-    -- one number
-    each : (l : ℕ) (b : Bool) → AllPairs (λ (a b : ℕ). a < b) (if b then l ∷ [] else [])
-    each l true = pairs_one (λ (a b : ℕ). a < b) l
-    each l false = pairs_none (λ (a b : ℕ). a < b)
-
 -- a mapped list with one more
 pub insert_map : {X Y : Type 0} (f : X → Y) (xs : List X) (n : ℕ) (x : X) → map f (insert xs n x) ≡ insert (map f xs) n (f x)
 insert_map f xs n x =
     map-append f (take n xs) (x ∷ drop n xs) ∙ (λ i. sym (take-map f n xs) i ++ f x ∷ sym (drop-map f n xs) i)
-
--- a link that ends in a bridge is among those
-pub link_listed : (d : Domain) (bridge l : ℕ) → l < length d.links → enters d l bridge ≡ true → Contains (links_into d bridge) l
-link_listed d bridge l inside ends =
-    contains_below (λ k. if enters d k bridge then k ∷ [] else []) (length d.links) l l inside
-    (subst (λ (ks : List ℕ). Contains ks l) (sym (cond-true (enters d l bridge) (l ∷ []) [] ends)) (contains_here l []))
 
 -- the parts of two lists that are the same
 pub same_parts : {X : Type 0} (x y : X) (xs ys : List X) → x ∷ xs ≡ y ∷ ys → (x ≡ y) × (xs ≡ ys)

@@ -30,7 +30,7 @@ use Rattle.cqf_bridge.specs.Receiving.{Handed, IsReceiveFault, IsRunOf, Receives
 use Rattle.cqf_laws_bridge.specs.Cycles.{GivesTheDrops, OffersAreOfTheBridge, PageFollows, ReceivingFollows, drops_of_cycle}
 use Rattle.cqf_laws_bridge.specs.Follows.{HasSentOfTheNetwork, batch_of, batches_into, handed_in}
 use Rattle.cqf_laws_bridge.specs.NoFaults.{ReceivesButForMemory, RunOfHistoryLosesNothing}
-use Rattle.cqf_laws_course.proofs.LinkNumbers.{link_ending, link_into}
+use Rattle.cqf_laws_course.proofs.LinkNumbers.{link_ending, link_into, link_listed}
 use Rattle.cqf_world.specs.declared.parts.Line.{Line}
 use Rattle.cqf_world.specs.declared.parts.Station.{Station}
 use Rattle.cqf_agenda.specs.Agenda.{offers_at}
@@ -38,7 +38,6 @@ use Rattle.cqf_world.specs.Events.{MayPost, Posts}
 use Rattle.cqf_world.specs.Parts.{IsLine, IsNextToPost, IsPageOf, IsRunAt, IsRunning, IsStation, IsWorld, MayReceiveItsCycle, PostsOut, ReceivesItsCycle, given_of, handed_to, links_taken, sent_of, taken_of}
 use Rattle.cqf_world.specs.World.{ArePagesOfTheBook, WorldState, contents_of_page, cycle_of_bridge, sealed_run, sent_by, taken_from}
 use Rattle.cqf_world.proofs.Keeping.{given_as}
-use Rattle.cqf_world.proofs.Inboxes.{link_listed}
 use Rattle.cqf_world.proofs.Standing.{count_at, count_kept, each_with, sent_at, station_at}
 
 -- a test keeps no more than there is
@@ -132,7 +131,7 @@ module _ (v : WorldState) (tables : List CycleTable) (stations : List Station) (
     inside = omega (arith, inside, is.all_stations);
     has_sent = omega (arith, sent_is, sent, st.not_behind, st.with_table, st.not_ahead, st.in_cycle);
     has_taken = λ link ends.
-        (let listed = link_listed v.domain bridge link (link_ending v.domain bridge link ends) ends in
+        (let listed = link_listed v.domain bridge link ends in
         let passes = all_pass (λ l. nat_lt (cycle_of_bridge v bridge) (taken_from v l)) (links_into v.domain bridge) (sym taken_length ∙ all ∙ st.incoming) link listed in
         omega (arith, ltb-true (cycle_of_bridge v bridge) (taken_from v link) passes, at_most link ends, st.with_table, st.not_ahead, st.in_cycle));
   }

@@ -17,14 +17,14 @@ use Rattle.cqf_admission.specs.Tables.{CycleTable}
 use Rattle.cqf_bridge.specs.Batch.{LinkBatch}
 use Rattle.cqf_bridge.specs.Receiving.{links_into}
 use Rattle.cqf_laws_bridge.specs.Follows.{batch_of}
-use Rattle.cqf_laws_course.proofs.LinkNumbers.{link_ending, link_into}
+use Rattle.cqf_laws_course.proofs.LinkNumbers.{link_ending, link_into, link_listed, links_ascend}
 use Rattle.cqf_world.specs.declared.parts.Line.{Line}
 use Rattle.cqf_world.specs.declared.parts.Station.{Station}
 use Rattle.cqf_world.specs.Events.{MayTake}
 use Rattle.cqf_world.specs.Parts.{IsLine, IsRunning, IsStation, IsWorld, Moves, given_of, links_taken, sent_of, taken_of, under_way}
 use Rattle.cqf_world.specs.World.{WorldState, cycle_of_bridge, sealed_run, sent_by, taken_from}
 use Rattle.cqf_world.proofs.Keeping.{given_counts}
-use Rattle.cqf_world.proofs.Inboxes.{before, end_inside, insert_map, kept_more, link_listed, links_ascend, same_parts}
+use Rattle.cqf_world.proofs.Inboxes.{before, end_inside, insert_map, kept_more, same_parts}
 use Rattle.cqf_world.proofs.Standing.{count_at, count_kept, each_with, sent_at, station_at}
 
 -- a node is one bridge
@@ -132,7 +132,7 @@ module _ (v : WorldState) (tables : List CycleTable) (stations : List Station) (
     one_more : links_taken after bridge ≡ insert (links_taken v bridge) (before link (links_taken v bridge)) link
     one_more =
         kept_more (λ l. nat_lt (cycle_of_bridge v bridge) (taken_from v l)) (λ l. nat_lt (cycle_of_bridge v bridge) (taken_from after l)) link
-        (links_into v.domain bridge) (links_ascend v.domain bridge) (link_listed v.domain bridge link (link_ending v.domain bridge link ends) ends)
+        (links_into v.domain bridge) (links_ascend v.domain bridge) (link_listed v.domain bridge link ends)
         (le-ltb (cycle_of_bridge v bridge) (taken_from v link) (omega (arith, taken_is, c.1, st.in_cycle)))
         (lt-ltb (cycle_of_bridge v bridge) (taken_from after link) (omega (arith, taken_here, c.1, st.in_cycle)))
         (λ m differ. ap (nat_lt (cycle_of_bridge v bridge)) (taken_there m differ))

@@ -9,6 +9,7 @@ returns-in-Ok-lay c =
     (record {
       many = c.in-Ok-lay.ensures.count;
       workers = c.in-Ok-lay.ensures.workers;
+      may_work = c.in-Ok-lay.ensures.may_work;
       wired = c.in-Ok-lay.ensures.wired;
       tables = c.in-Ok-lay.ensures.tables;
       nothing_put = c.in-Ok-lay.ensures.nothing_put;

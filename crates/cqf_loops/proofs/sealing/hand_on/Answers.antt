@@ -1,0 +1,22 @@
+use Rattle.std.proofs.Common.{◌∷◌, rules, sym, ap, ◌∙◌, arith, map}
+use Rattle.std.proofs.lemmas.Bool.{false≢true}
+use Rattle.cqf_loops.specs.declared.carried.Carried.{Carried}
+use Rattle.cqf_loops.specs.declared.carried.Carried.TheVariants.{Item}
+use Rattle.cqf_loops.specs.Handing.{tables_of}
+use Rattle.cqf_loops.proofs.HandedTables.{handed_as, hands_all, hands_next, room_next}
+use Rattle.cqf_loops.proofs.sealing.hand_on.Goals.{then-not-hand, else-not-hand}
+use Rattle.cqf_loops.proofs.sealing.hand_on.Goals as goal
+
+-- the next end was handed them, unless its worker has ended
+pub loop-place-preserved : goal.loop-place-preserved
+loop-place-preserved g c =
+    let tables = map Item (tables_of c.args.block.now) in (
+      hands_next tables c.args.tables.now c.loop-place.tables c.loop-place.place c.loop-place.all c.index-tables-place.result
+          c.hand.new.end c.hand.result c.if-not-hand.all c.loop-place.invariant.0 (omega arith)
+          (handed_as tables (Item c.in_ok-first.first ∷ c.in_ok-behind.behind.items) _ _ _ (search rules) c.hand.ensures.given c.hand.ensures.gone)
+          (λ is. elim c.if-not-hand.branch [
+            | then-not-hand w ↦ absurd (false≢true (sym w.all-is ∙ is))
+            | else-not-hand w ↦ (sym w.all-is ∙ is, search rules)
+          ]),
+      c.loop-place.invariant.1,
+    )

@@ -1,0 +1,21 @@
+-- What one thread of a run puts for another: items, and then at most one Stop (profile).
+use Rattle.std.specs.Prelude.{ℕ, ◌≡◌, ◌<◌, ◌⊎◌, ◌++◌, List, [], ◌∷◌, length, map, slice_index_or}
+use Rattle.cqf_loops.specs.declared.carried.Carried.{Carried}
+use Rattle.cqf_loops.specs.declared.carried.Carried.TheVariants.{Item, Stop}
+use Rattle.cqf_loops.specs.declared.ports.Port.{Port}
+use Rattle.cqf_pipe.specs.PipeEnds.{End}
+use Rattle.cqf_loops.specs.Rows.{MayHaveGot}
+
+module _ {T : Type 0} where
+  -- items alone
+  abbrev pub AreItems : List (Carried T) → Type 0
+  AreItems carried = (items : List T) × (carried ≡ map Item items)
+
+  -- items, and then at most one Stop
+  abbrev pub AreItemsThenStop : List (Carried T) → Type 0
+  AreItemsThenStop carried = (items : List T) × ((carried ≡ map Item items) ⊎ (carried ≡ map Item items ++ Stop ∷ []))
+
+  -- at each of the ports a Stop was put, or nothing was
+  abbrev pub AreStopped : List (Port (End (Carried T))) → List (Port (End (Carried T))) → Type 0
+  AreStopped before after = (place : ℕ) (d : Port (End (Carried T))) → place < length before →
+      MayHaveGot Stop (slice_index_or before place d) (slice_index_or after place d)

@@ -1,0 +1,25 @@
+//! What each thread of a run goes through, by itself: a bridge's worker, an administrator and the conductor.
+//!
+//! - [`work`] goes through all cycles with a [`Worker`], a bridge with all that it needs on a thread of its own.
+//! - [`make_calls`] makes an administrator's commands with its seat.
+//! - [`seal_all`] closes the cycles with the conductor's seat and hands their tables on.
+//! - [`Carried`] is what a pipe carries in a run: an item, or that none comes any more; [`Port`] is an end of one, of a link.
+//! - [`Pace`] is what a run's threads do before each step, and [`Free`] lets them go on at once.
+#![tactic(auto)]
+
+mod calling;
+mod carried;
+mod pace;
+mod ports;
+mod rows;
+mod sealing;
+mod stepping;
+mod worker;
+
+pub use calling::{CallFault, make_calls};
+pub use carried::Carried;
+pub use pace::{Free, Pace};
+pub use ports::Port;
+pub use rows::stop_each;
+pub use sealing::{Sealed, SealingFault, seal_all, stop_tables};
+pub use worker::{Worker, WorkerFault, work};

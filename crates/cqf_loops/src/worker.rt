@@ -1,0 +1,119 @@
+//! A bridge on a thread of its own.
+ghost use Rattle.std.specs.Prelude.{◌≡◌, ◌<◌, ◌≤◌, ℕ, All, IfOk, OnOk, length};
+ghost use Rattle.cqf_laws_course.specs.Courses.{Traffic};
+ghost use Rattle.cqf_loops.specs.Stops.{AreItems, AreItemsThenStop, AreStopped};
+ghost use Rattle.cqf_loops.specs.Workers.{IsWorkerOf, Works};
+
+use crate::carried::Carried;
+use crate::pace::Pace;
+use crate::ports::Port;
+use crate::rows::stop_each;
+use crate::stepping::work_cycle;
+use cqf_admission::Table;
+use cqf_agenda::Agenda;
+use cqf_book::{CycleBook, PageFault, Share};
+use cqf_bridge::{Batch, Bridge, BridgeFault};
+use cqf_laws_bridge::new_bridge_follows;
+use cqf_pipe::{PipeIn, PipeOut};
+use cqf_units::Cycle;
+use std::alloc::Global;
+use std::sync::Wait;
+
+/// A bridge with all that it needs on a thread of its own.
+#[derive(Drop)]
+pub struct Worker {
+    pub bridge: Bridge,
+    /// What the bridge is offered, and its background frames.
+    pub agenda: Agenda,
+    /// Where the table of each cycle comes.
+    pub tables: PipeOut<Carried<Table>>,
+    /// The links that end in the bridge, by number.
+    pub ins: Vec<Port<PipeOut<Carried<Batch>>>>,
+    /// The links that leave the bridge and end in another, by number.
+    pub outs: Vec<Port<PipeIn<Carried<Batch>>>>,
+    /// The bridge's share of the book.
+    pub share: Share,
+}
+
+/// Why a worker ends before its last cycle.
+#[derive(Clone, Copy, Debug, PartialEq, Eq, Drop)]
+pub enum WorkerFault {
+    /// Its bridge refused a cycle.
+    Bridge(BridgeFault),
+    /// A growth was refused to it, in the book too, but not in its bridge.
+    Memory,
+    /// The book refused its page for another cause than memory.
+    Book(PageFault),
+    /// A pipe carried that nothing comes any more, or its other end was gone. It is no fault of the worker's own.
+    Stopped,
+}
+
+/// Goes through the cycles, one after the other.
+fn work_cycles<R: Wait, P: Pace>(
+    rt: &R,
+    alloc: Global,
+    pace: &P,
+    book: &CycleBook,
+    cycles: u32,
+    worker: &mut Worker,
+) -> Result<(), WorkerFault>
+    requires few { cycles ≤ 100000 }
+    requires new { (t : Traffic) × (number : ℕ) × IsWorkerOf t number worker.old }
+    ensures ok { OnOk result (Works cycles worker.old worker.new) }
+    ensures room { All (λ port. length port.pipe.items < 1000000) worker.new.outs.items }
+    ensures batches { All (λ port. AreItems port.pipe.items) worker.new.outs.items }
+{
+    new_bridge_follows();
+    for cycle in 0..cycles {
+        work_cycle(rt, alloc, pace, book, Cycle(cycle), worker)?;
+    }
+    Ok(())
+}
+
+/// Lets go of a worker: first of the ends at which it takes, so that who puts there waits no more; then those who take from it are
+/// told that nothing comes any more. Gives the ends at which that was put, behind batches alone.
+fn let_go<R: Wait>(rt: &R, worker: Worker) -> Vec<Port<PipeIn<Carried<Batch>>>>
+    requires room { All (λ port. length port.pipe.items < 1000000) worker.outs.items }
+    requires batches { All (λ port. AreItems port.pipe.items) worker.outs.items }
+    ensures count { length result.items ≡ length worker.outs.items }
+    ensures stopped { AreStopped worker.outs.items result.items }
+    ensures carried { All (λ port. AreItemsThenStop port.pipe.items) result.items }
+{
+    let Worker {
+        tables,
+        ins,
+        mut outs,
+        bridge: _bridge,
+        agenda: _agenda,
+        share: _share,
+    } = worker;
+    drop(tables);
+    drop(ins);
+    stop_each(rt, outs.as_mut_slice());
+    outs
+}
+
+/// Goes through all cycles of a run with a bridge on its thread: the worker comes back with what went through its pipes and what it
+/// posted. It waits for tables, for room in its pipes, for batches and for the book. Where it ends sooner it tells so first to
+/// those who put for it, and then to those who take from it, and the worker is gone. That the cycles are at most 100,000 is for the
+/// caller to see to.
+pub fn work<R: Wait, P: Pace>(
+    rt: &R,
+    alloc: Global,
+    pace: &P,
+    book: &CycleBook,
+    cycles: u32,
+    mut worker: Worker,
+) -> Result<Worker, WorkerFault>
+    requires few { cycles ≤ 100000 }
+    requires new { (t : Traffic) × (number : ℕ) × IsWorkerOf t number worker }
+    ensures { IfOk result (λ done. Works cycles worker done) }
+{
+    match work_cycles(rt, alloc, pace, book, cycles, &mut worker) {
+        Ok(()) => Ok(worker),
+        Err(fault) => {
+            drop(let_go(rt, worker));
+            Err(fault)
+        }
+    }
+}

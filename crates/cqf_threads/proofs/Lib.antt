@@ -1,0 +1,2 @@
+mod Zipped
+mod Joining

@@ -1,0 +1,39 @@
+-- The threads of a run: what they begin with and what they have in the end (profile).
+use Rattle.std.specs.Prelude.{ℕ, ◌≡◌, ◌≤◌, ◌++◌, List, [], ◌∷◌, All, IfErr, IfOk, Result}
+use Rattle.std.specs.List.{AllZip}
+use Rattle.cqf_desk.specs.Desk.{Sitting}
+use Rattle.cqf_threads.specs.declared.threads.Administrator.{Administrator}
+use Rattle.cqf_threads.specs.declared.threads.Ended.{Ended}
+use Rattle.cqf_threads.specs.declared.threads.GaveUp.{GaveUp}
+use Rattle.cqf_threads.specs.declared.threads.Ready.{Ready}
+use Rattle.cqf_loops.specs.declared.worker.Worker.{Worker}
+use Rattle.cqf_loops.specs.Commands.{HasCalled}
+use Rattle.cqf_loops.specs.Handing.{HasSealed, TableEnd}
+use Rattle.cqf_loops.specs.Workers.{MayWork, Works}
+
+-- what a worker's thread answers: the worker that has done its part, or a fault with the number of the worker's own bridge
+abbrev pub Answers : ℕ → Worker → Result Worker GaveUp → Type 0
+Answers cycles w answer = IfOk answer (Works cycles w) × IfErr answer (λ why. why.bridge ≡ w.bridge.number)
+
+-- one more of which this holds stands behind the others
+abbrev pub HasOneMore : {X : Type 0} → (X → Type 0) → List X → List X → Type 0
+HasOneMore {X} P before after = (x : X) × (after ≡ before ++ x ∷ []) × P x
+
+-- an administrator's seat with which all of its commands were made
+abbrev pub CallsOf : Administrator → Sitting → Type 0
+CallsOf a done = HasCalled a.commands.items a.seat done
+
+-- threads may begin: nothing is done yet
+pub record IsReady (cycles : ℕ) (r : Ready) : Type 0 where
+  pub few : cycles ≤ 100000
+  pub workers : All MayWork r.workers.items
+  pub fresh : All (λ (a : Administrator). a.seat.calls ≡ []) r.administrators.items
+  pub no_calls : r.conductor.calls ≡ []
+  pub no_tables : r.conductor.tables ≡ []
+  pub nothing_put : All (λ (end : TableEnd). end.items ≡ []) r.tables.items
+
+-- they have ended, each having done its part
+pub record IsEnded (cycles : ℕ) (r : Ready) (e : Ended) : Type 0 where
+  pub worked : AllZip (Works cycles) r.workers.items e.workers.items
+  pub called : AllZip CallsOf r.administrators.items e.seats.items
+  pub sealed : HasSealed cycles r.conductor e.sealed.seat r.tables.items e.sealed.tables.items

@@ -1,0 +1,426 @@
+//! The threads of a run: one a bridge, one an administrator, and the conductor's own.
+ghost use Rattle.std.specs.Prelude.{◌≡◌, ◌≤◌, [], All, IfErr, IfOk, Ok, Some, map};
+ghost use Rattle.std.specs.List.{AllZip};
+ghost use Rattle.cqf_loops.specs.Workers.{MayWork, Works};
+ghost use Rattle.cqf_threads.specs.Faults.{IsClean, is_noted};
+ghost use Rattle.cqf_threads.specs.Noting.{fault_of_caller, fault_of_conductor, fault_of_worker, noted, noted_with};
+ghost use Rattle.cqf_threads.specs.Running.{Answers, CallsOf, HasOneMore, IsEnded, IsReady};
+
+use crate::faults::{ConductFault, Faults};
+use cqf_admission::{Command, Table};
+use cqf_book::CycleBook;
+use cqf_desk::{Desk, Seat};
+use cqf_loops::{
+    CallFault, Carried, Pace, Sealed, SealingFault, Worker, WorkerFault, make_calls, seal_all,
+    stop_tables, work,
+};
+use cqf_pipe::PipeIn;
+use std::alloc::Global;
+use std::snapshot::Snapshot;
+use std::sync::Wait;
+use std::thread;
+use std::thread::{Promise, PromisedHandle, Scope, Threads};
+
+/// An administrator with its seat at the desk and the commands that it is to make.
+#[derive(Drop)]
+pub struct Administrator {
+    pub seat: Seat,
+    pub commands: Vec<Command>,
+}
+
+/// What the threads of a run begin with: the workers of all bridges and the ends at which their tables are put, both by number,
+/// the administrators by number, and the conductor's seat.
+#[derive(Drop)]
+pub struct Ready {
+    pub workers: Vec<Worker>,
+    pub tables: Vec<PipeIn<Carried<Table>>>,
+    pub administrators: Vec<Administrator>,
+    pub conductor: Seat,
+}
+
+/// What they have in the end: the workers again, the administrators' seats, both by number, and what the conductor has.
+#[derive(Drop)]
+pub struct Ended {
+    pub workers: Vec<Worker>,
+    pub seats: Vec<Seat>,
+    pub sealed: Sealed,
+}
+
+/// Why a worker gave up, with the number of its bridge.
+#[derive(Clone, Copy, Debug, Drop)]
+pub struct GaveUp {
+    pub bridge: u8,
+    pub fault: WorkerFault,
+}
+
+/// That a worker's thread gives what its work promises, and names its own bridge where it gives up.
+#[derive(Drop)]
+pub struct OfWorker {
+    pub cycles: u32,
+    pub worker: Snapshot<Worker>,
+}
+
+impl Promise<Result<Worker, GaveUp>> for OfWorker {
+    ghost use Rattle.cqf_threads.specs.Running.{Answers};
+
+    ghost kept_by = { λ p r. Answers p.cycles p.worker.value r };
+}
+
+/// That an administrator's thread makes its commands with its seat.
+#[derive(Drop)]
+struct OfAdministrator {
+    administrator: Snapshot<Administrator>,
+}
+
+impl Promise<Result<Seat, CallFault>> for OfAdministrator {
+    ghost use Rattle.std.specs.Prelude.{IfOk};
+    ghost use Rattle.cqf_threads.specs.Running.{CallsOf};
+
+    ghost kept_by = { λ p r. IfOk r (CallsOf p.administrator.value) };
+}
+
+/// A worker's thread.
+pub type Working = PromisedHandle<Result<Worker, GaveUp>, OfWorker>;
+
+/// An administrator's thread.
+type Calling = PromisedHandle<Result<Seat, CallFault>, OfAdministrator>;
+
+/// Goes through all cycles with a worker. Where it gives up it names its bridge.
+fn work_all<R: Wait, P: Pace>(
+    rt: &R,
+    alloc: Global,
+    pace: &P,
+    book: &CycleBook,
+    cycles: u32,
+    worker: Worker,
+) -> Result<Worker, GaveUp>
+    requires few { cycles ≤ 100000 }
+    requires new { MayWork worker }
+    ensures { Answers cycles worker result }
+{
+    let bridge = worker.bridge.number();
+    match work(rt, alloc, pace, book, cycles, worker) {
+        Ok(done) => Ok(done),
+        Err(fault) => Err(GaveUp { bridge, fault }),
+    }
+}
+
+/// Starts a thread for each worker. Where one can't be started, or memory is refused, the workers that aren't started are let go of.
+pub fn start_workers<'s, E, R: Threads + Wait + Sync, P: Pace>(
+    alloc: Global,
+    scope: &'s Scope<'s, E>,
+    rt: &'s R,
+    pace: &'s P,
+    book: &'s CycleBook,
+    cycles: u32,
+    workers: Vec<Worker>,
+) -> Result<Vec<Working>, ConductFault>
+    requires few { cycles ≤ 100000 }
+    requires new { All MayWork workers.items }
+    ensures of { IfOk result (λ handles. map (λ h. h.promise.worker.value) handles.items ≡ workers.items) }
+    ensures cycles { IfOk result (λ handles. All (λ h. h.promise.cycles ≡ cycles) handles.items) }
+{
+    let mut handles = Vec::new(alloc);
+    for worker in workers {
+        let promise = OfWorker {
+            cycles,
+            worker: Snapshot::of(&worker),
+        };
+        let Ok(handle) = scope.spawn_with(
+            promise,
+            move || -> Result<Worker, GaveUp>
+                requires { (cycles ≤ 100000) × MayWork worker }
+                ensures { Answers cycles worker result }
+            { work_all(rt, alloc, pace, book, cycles, worker) },
+        ) else {
+            return Err(ConductFault::Spawn);
+        };
+        let Ok(()) = handles.push(handle) else {
+            return Err(ConductFault::Memory);
+        };
+    }
+    Ok(handles)
+}
+
+/// Makes all of an administrator's commands.
+fn call_all<R: Wait, P: Pace>(
+    rt: &R,
+    pace: &P,
+    desk: &Desk,
+    administrator: Administrator,
+) -> Result<Seat, CallFault>
+    requires { administrator.seat.calls ≡ [] }
+    ensures { IfOk result (CallsOf administrator) }
+{
+    let Administrator { seat, commands } = administrator;
+    let number = usize::from(seat.number());
+    make_calls(rt, pace, desk, number, seat, commands)
+}
+
+/// Starts a thread for each administrator, in the same way.
+fn start_administrators<'s, E, R: Threads + Wait + Sync, P: Pace>(
+    alloc: Global,
+    scope: &'s Scope<'s, E>,
+    rt: &'s R,
+    pace: &'s P,
+    desk: &'s Desk,
+    administrators: Vec<Administrator>,
+) -> Result<Vec<Calling>, ConductFault>
+    requires fresh { All (λ a. a.seat.calls ≡ []) administrators.items }
+    ensures of { IfOk result (λ handles. map (λ h. h.promise.administrator.value) handles.items ≡ administrators.items) }
+{
+    let mut handles = Vec::new(alloc);
+    for administrator in administrators {
+        let promise = OfAdministrator {
+            administrator: Snapshot::of(&administrator),
+        };
+        let Ok(handle) = scope.spawn_with(
+            promise,
+            move || -> Result<Seat, CallFault>
+                requires { administrator.seat.calls ≡ [] }
+                ensures { IfOk result (CallsOf administrator) }
+            { call_all(rt, pace, desk, administrator) },
+        ) else {
+            return Err(ConductFault::Spawn);
+        };
+        let Ok(()) = handles.push(handle) else {
+            return Err(ConductFault::Memory);
+        };
+    }
+    Ok(handles)
+}
+
+/// Notes why a bridge's worker gave up: a fault of its bridge with that bridge's number, and none of its own where it was stopped.
+fn note_worker(faults: &mut Faults, why: GaveUp)
+    ensures some { IsClean faults.new → ⊥ }
+    ensures told { faults.new ≡ noted faults.old (fault_of_worker why) }
+{
+    match why.fault {
+        WorkerFault::Bridge(reason) => faults.note(ConductFault::Bridge(why.bridge, reason)),
+        WorkerFault::Memory => faults.note(ConductFault::Memory),
+        WorkerFault::Book(_) => faults.note(ConductFault::BookDisagrees),
+        WorkerFault::Stopped => faults.note_stop(),
+    }
+}
+
+/// Notes why an administrator gave up.
+fn note_caller(faults: &mut Faults, fault: CallFault)
+    ensures some { IsClean faults.new → ⊥ }
+    ensures told { faults.new ≡ noted faults.old (fault_of_caller fault) }
+{
+    match fault {
+        CallFault::HistoryFull => faults.note(ConductFault::DeskDisagrees),
+        CallFault::Memory => faults.note(ConductFault::Memory),
+    }
+}
+
+/// Notes why the conductor gave up: no fault of its own where a worker had ended before.
+fn note_conductor(faults: &mut Faults, fault: SealingFault)
+    ensures some { IsClean faults.new → ⊥ }
+    ensures told { faults.new ≡ noted faults.old (fault_of_conductor fault) }
+{
+    match fault {
+        SealingFault::Memory => faults.note(ConductFault::Memory),
+        SealingFault::CyclesSpent => faults.note(ConductFault::DeskDisagrees),
+        SealingFault::Lost => faults.note_stop(),
+    }
+}
+
+/// Waits for a worker's thread. Where it notes no fault, the worker stands behind the others.
+fn join_worker<R: Threads + Wait>(
+    rt: &R,
+    handle: Working,
+    workers: &mut Vec<Worker>,
+    faults: &mut Faults,
+)
+    ensures before { IsClean faults.new → IsClean faults.old }
+    ensures done { IsClean faults.new → HasOneMore (Works handle.promise.cycles handle.promise.worker.value) workers.old.items workers.new.items }
+{
+    match handle.join(rt) {
+        Ok(worker) => {
+            let Ok(()) = workers.push(worker) else {
+                return faults.note(ConductFault::Memory);
+            };
+        }
+        Err(why) => note_worker(faults, why),
+    }
+}
+
+/// Waits for all workers' threads. Where nothing has gone wrong in the end, each has done its part.
+pub fn join_workers<R: Threads + Wait>(
+    rt: &R,
+    alloc: Global,
+    handles: Vec<Working>,
+    faults: &mut Faults,
+) -> Vec<Worker>
+    ensures before { IsClean faults.new → IsClean faults.old }
+    ensures done { IsClean faults.new → AllZip (λ h done. Works h.promise.cycles h.promise.worker.value done) handles.items result.items }
+{
+    let mut workers = Vec::new(alloc);
+    for handle in handles {
+        join_worker(rt, handle, &mut workers, faults);
+    }
+    workers
+}
+
+/// Waits for an administrator's thread, in the same way.
+fn join_administrator<R: Threads + Wait>(
+    rt: &R,
+    handle: Calling,
+    seats: &mut Vec<Seat>,
+    faults: &mut Faults,
+)
+    ensures before { IsClean faults.new → IsClean faults.old }
+    ensures done { IsClean faults.new → HasOneMore (CallsOf handle.promise.administrator.value) seats.old.items seats.new.items }
+{
+    match handle.join(rt) {
+        Ok(seat) => {
+            let Ok(()) = seats.push(seat) else {
+                return faults.note(ConductFault::Memory);
+            };
+        }
+        Err(fault) => note_caller(faults, fault),
+    }
+}
+
+/// Waits for all administrators' threads.
+fn join_administrators<R: Threads + Wait>(
+    rt: &R,
+    alloc: Global,
+    handles: Vec<Calling>,
+    faults: &mut Faults,
+) -> Vec<Seat>
+    ensures before { IsClean faults.new → IsClean faults.old }
+    ensures done { IsClean faults.new → AllZip (λ h done. CallsOf h.promise.administrator.value done) handles.items result.items }
+{
+    let mut seats = Vec::new(alloc);
+    for handle in handles {
+        join_administrator(rt, handle, &mut seats, faults);
+    }
+    seats
+}
+
+/// Starts a thread for each worker and each administrator.
+fn start_all<'s, E, R: Threads + Wait + Sync, P: Pace>(
+    alloc: Global,
+    scope: &'s Scope<'s, E>,
+    rt: &'s R,
+    pace: &'s P,
+    desk: &'s Desk,
+    book: &'s CycleBook,
+    cycles: u32,
+    workers: Vec<Worker>,
+    administrators: Vec<Administrator>,
+) -> Result<(Vec<Working>, Vec<Calling>), ConductFault>
+    requires few { cycles ≤ 100000 }
+    requires new { All MayWork workers.items }
+    requires fresh { All (λ a. a.seat.calls ≡ []) administrators.items }
+    ensures workers { IfOk result (λ handles. map (λ h. h.promise.worker.value) handles.0.items ≡ workers.items) }
+    ensures cycles { IfOk result (λ handles. All (λ h. h.promise.cycles ≡ cycles) handles.0.items) }
+    ensures administrators { IfOk result (λ handles. map (λ h. h.promise.administrator.value) handles.1.items ≡ administrators.items) }
+{
+    let working = start_workers(alloc, scope, rt, pace, book, cycles, workers)?;
+    let calling = start_administrators(alloc, scope, rt, pace, desk, administrators)?;
+    Ok((working, calling))
+}
+
+/// Starts all threads, closes the cycles while they run, and waits for them. Where one can't be started, or memory is refused, it
+/// tells the workers that no table comes any more: those that were started end then, and it waits for none.
+fn run_in<'s, E, R: Threads + Wait + Sync, P: Pace>(
+    alloc: Global,
+    scope: &'s Scope<'s, E>,
+    rt: &'s R,
+    pace: &'s P,
+    desk: &'s Desk,
+    book: &'s CycleBook,
+    cycles: u32,
+    ready: Ready,
+) -> Result<Ended, ConductFault>
+    requires { IsReady cycles ready }
+    ensures { IfOk result (IsEnded cycles ready) }
+{
+    let Ready {
+        workers,
+        mut tables,
+        administrators,
+        conductor,
+    } = ready;
+    let started = start_all(
+        alloc,
+        scope,
+        rt,
+        pace,
+        desk,
+        book,
+        cycles,
+        workers,
+        administrators,
+    );
+    let (working, calling) = match started {
+        Ok(threads) => threads,
+        Err(fault) => {
+            stop_tables(rt, tables.as_mut_slice());
+            return Err(fault);
+        }
+    };
+    let mut faults = Faults::none();
+    let sealed = seal_all(rt, alloc, desk, conductor, tables, cycles);
+    let seats = join_administrators(rt, alloc, calling, &mut faults);
+    let workers = join_workers(rt, alloc, working, &mut faults);
+    let ended = all_ended(faults, workers, seats, sealed)?;
+    Ok(ended)
+}
+
+/// What the threads have in the end, if nothing has gone wrong; else the first fault of those that were noted and the conductor's.
+fn all_ended(
+    mut faults: Faults,
+    workers: Vec<Worker>,
+    seats: Vec<Seat>,
+    sealed: Result<Sealed, SealingFault>,
+) -> Result<Ended, ConductFault>
+    ensures all { IfOk result (λ all. IsClean faults × (all.workers ≡ workers) × (all.seats ≡ seats) × (sealed ≡ Ok all.sealed)) }
+    ensures told { IfErr result (λ fault. is_noted (noted_with faults sealed) ≡ Some fault) }
+{
+    match sealed {
+        Ok(sealed) => match faults.told() {
+            Some(fault) => Err(fault),
+            None => Ok(Ended {
+                workers,
+                seats,
+                sealed,
+            }),
+        },
+        Err(fault) => {
+            note_conductor(&mut faults, fault);
+            match faults.told() {
+                Some(told) => Err(told),
+                None => unreachable!(),
+            }
+        }
+    }
+}
+
+/// Runs the threads: each worker goes through all cycles and each administrator makes its commands on a thread of its own, while
+/// this one closes the cycles and hands their tables on. It returns when all threads have ended: `Spawn` where a thread couldn't be
+/// started, and else the first fault in its order, if there is one. It waits for threads, pipes and locks.
+pub fn run_threads<R: Threads + Wait + Sync, P: Pace>(
+    rt: &R,
+    alloc: Global,
+    pace: &P,
+    desk: &Desk,
+    book: &CycleBook,
+    cycles: u32,
+    ready: Ready,
+) -> Result<Ended, ConductFault>
+    requires { IsReady cycles ready }
+    ensures { IfOk result (IsEnded cycles ready) }
+{
+    thread::scope(
+        thread::scope_env(),
+        rt,
+        move |scope| -> Result<Ended, ConductFault>
+            requires { IsReady cycles ready }
+            ensures { IfOk result (IsEnded cycles ready) }
+        { run_in(alloc, scope, rt, pace, desk, book, cycles, ready) },
+    )
+}

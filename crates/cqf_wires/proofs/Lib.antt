@@ -1,0 +1,2 @@
+mod Wiring
+mod Unwiring
