@@ -47,8 +47,10 @@ fn make_call<R: Wait>(
     }
 }
 
-/// Makes an administrator's commands, in order, with its seat, which has no calls before. Before each it does what the pace
-/// asks, while it holds no lock.
+/// Makes an administrator's commands, in order, with its seat, which has no calls before, and gives the seat back with these calls.
+/// Before each it does what the pace asks, which alone is told `admin`, while it holds no lock. A call that is refused enters the
+/// history, and the next one is made. `HistoryFull` or `Memory` with the first that doesn't enter; then the seat is gone, and the
+/// calls before it stand in the history. It waits for the desk's lock.
 pub fn make_calls<R: Wait, P: Pace>(
     rt: &R,
     pace: &P,

@@ -4,7 +4,7 @@
 //! - [`make_calls`] makes an administrator's commands with its seat.
 //! - [`seal_all`] closes the cycles with the conductor's seat and hands their tables on.
 //! - [`Carried`] is what a pipe carries in a run: an item, or that none comes any more; [`Port`] is an end of one, of a link.
-//! - [`Pace`] is what a run's threads do before each step, and [`Free`] lets them go on at once.
+//! - [`Pace`] is what administrators' and bridges' threads do before each call and step, and [`Free`] lets them go on at once.
 #![tactic(auto)]
 
 mod calling;

@@ -1,7 +1,8 @@
 //! What the threads of a run do between their steps.
 use cqf_units::Cycle;
 
-/// What the threads of a run do before each step, by a caller who wants to look on or to hold them up. No lock is held then.
+/// What administrators' threads do before each call and bridges' threads before each step, by a caller who wants to look on or to hold
+/// them up. Several threads call it at once, and none holds a lock then. Administrators and bridges are numbered from 0.
 pub trait Pace: Sync {
     /// An administrator is about to make its command at this place, from 0.
     fn before_call(&self, admin: usize, place: usize);

@@ -1,6 +1,6 @@
 //! Ends of pipes, by link.
 
-/// An end of a pipe, with the number of the link whose batches go through it.
+/// An end of a pipe, with the number of the link whose batches go through it, by the domain, from 0.
 #[derive(Drop)]
 pub struct Port<P> {
     pub link: u8,

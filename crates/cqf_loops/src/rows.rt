@@ -57,8 +57,8 @@ pub(crate) fn put_each<T: Drop, R: Wait>(
     true
 }
 
-/// Puts at each of the ports, once, that no item comes any more. A port whose pipe's other end is gone is passed over. It waits while a
-/// pipe is full, and takes no memory.
+/// Puts at each of the ports, once, that no item comes any more. A port whose pipe's other end is gone is passed over. At each fewer
+/// than 1,000,000 items were put. It waits while a pipe is full, and takes no memory.
 pub fn stop_each<T: Drop, R: Wait>(rt: &R, ports: &mut [Port<PipeIn<Carried<T>>>])
     requires room { All (λ port. length port.pipe.items < 1000000) ports.old }
     ensures count { length ports.new ≡ length ports.old }

@@ -27,7 +27,7 @@ pub enum SealingFault {
     Memory,
     /// No more cycles can be closed.
     CyclesSpent,
-    /// A worker had ended before all tables were handed to it.
+    /// A worker had ended before all tables were handed to it. All cycles are closed then.
     Lost,
 }
 
@@ -118,7 +118,8 @@ fn tell<R: Wait>(rt: &R, end: &mut PipeIn<Carried<Table>>) -> bool
     }
 }
 
-/// Tells each worker, once, that no table comes any more, passing over those that have ended.
+/// Tells each worker, once, that no table comes any more, passing over those that have ended. At each end fewer than 1,000,000 items
+/// were put. It waits while a pipe is full, and takes no memory.
 pub fn stop_tables<R: Wait>(rt: &R, tables: &mut [PipeIn<Carried<Table>>])
     requires room { All (λ end. length end.items < 1000000) tables.old }
     ensures pipes { pipes_of tables.new ≡ pipes_of tables.old }
@@ -246,8 +247,10 @@ fn seal_cycles<R: Wait>(
     Ok(all)
 }
 
-/// Closes so many cycles to changes with a seat that has no calls yet, and hands the table of each to every worker: `CyclesSpent` or
-/// `Memory` where a Seal is refused, or memory, and `Lost` where a worker had ended before. Then the seat and the ends are gone.
+/// Closes so many cycles to changes, at most 100,000, with a seat that has no calls yet, and hands the table of each to every worker,
+/// at ends where nothing was put: `CyclesSpent` or `Memory` where a Seal is refused, or memory, and then each worker that still takes is
+/// told by a Stop; `Lost` where a worker had ended before, and then the others have all tables. With a fault the seat and the ends are
+/// gone. It waits for the desk's lock and for room in the pipes.
 pub fn seal_all<R: Wait>(
     rt: &R,
     alloc: Global,

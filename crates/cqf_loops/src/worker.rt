@@ -27,15 +27,15 @@ pub struct Worker {
     pub agenda: Agenda,
     /// Where the table of each cycle comes.
     pub tables: PipeOut<Carried<Table>>,
-    /// The links that end in the bridge, by number.
+    /// The ends of the pipes on the links that end in the bridge, by number.
     pub ins: Vec<Port<PipeOut<Carried<Batch>>>>,
-    /// The links that leave the bridge and end in another, by number.
+    /// The ends of the pipes on the links that leave the bridge and end in another, by number.
     pub outs: Vec<Port<PipeIn<Carried<Batch>>>>,
     /// The bridge's share of the book.
     pub share: Share,
 }
 
-/// Why a worker ends before its last cycle.
+/// Why a worker ends before its last cycle is over.
 #[derive(Clone, Copy, Debug, PartialEq, Eq, Drop)]
 pub enum WorkerFault {
     /// Its bridge refused a cycle.
@@ -94,9 +94,10 @@ fn let_go<R: Wait>(rt: &R, worker: Worker) -> Vec<Port<PipeIn<Carried<Batch>>>>
 }
 
 /// Goes through all cycles of a run with a bridge on its thread: the worker comes back with what went through its pipes and what it
-/// posted. It waits for tables, for room in its pipes, for batches and for the book. Where it ends sooner it tells so first to
-/// those who put for it, and then to those who take from it, and the worker is gone. That the cycles are at most 100,000 is for the
-/// caller to see to.
+/// posted; it had done nothing before. The pace is asked in each cycle, once its table has come and while no lock is held. It waits for
+/// tables, for room in its pipes, for batches and for the book. Where it ends sooner it tells so first to those who put for it, and then
+/// to those who take from it, and the worker is gone with its share, without which the book can't be closed. That the cycles are at
+/// most 100,000 is for the caller to see to.
 pub fn work<R: Wait, P: Pace>(
     rt: &R,
     alloc: Global,

@@ -84,7 +84,8 @@ impl Faults {
         }
     }
 
-    /// A thread has failed.
+    /// Notes a fault. Of it and the one noted before, the one that [`ConductFault`] tells first stays, and of two that stand alike
+    /// the one noted before.
     pub fn note(&mut self, fault: ConductFault)
         ensures first { self.new.first ≡ Some (first_of self.old.first fault) }
         ensures stopped { self.new.is_stopped ≡ self.old.is_stopped }

@@ -46,7 +46,7 @@ pub struct Ended {
     pub sealed: Sealed,
 }
 
-/// Why a worker gave up, with the number of its bridge.
+/// Why a worker gave up, with the number of its bridge, from 0.
 #[derive(Clone, Copy, Debug, Drop)]
 pub struct GaveUp {
     pub bridge: u8,
@@ -56,7 +56,9 @@ pub struct GaveUp {
 /// That a worker's thread gives what its work promises, and names its own bridge where it gives up.
 #[derive(Drop)]
 pub struct OfWorker {
+    /// How many cycles it goes through.
     pub cycles: u32,
+    /// The worker as it began.
     pub worker: Snapshot<Worker>,
 }
 
@@ -105,7 +107,9 @@ fn work_all<R: Wait, P: Pace>(
     }
 }
 
-/// Starts a thread for each worker. Where one can't be started, or memory is refused, the workers that aren't started are let go of.
+/// Starts a thread for each worker, for at most 100,000 cycles; the handles stand in the workers' order. `Spawn` where one can't be
+/// started, `Memory` where its handle can't be kept: the workers that aren't started are let go of. Those that were started go on,
+/// and their scope waits for them, so the caller has to tell them that no table comes (`stop_tables`), or to let go of the ends.
 pub fn start_workers<'s, E, R: Threads + Wait + Sync, P: Pace>(
     alloc: Global,
     scope: &'s Scope<'s, E>,
@@ -246,7 +250,9 @@ fn join_worker<R: Threads + Wait>(
     }
 }
 
-/// Waits for all workers' threads. Where nothing has gone wrong in the end, each has done its part.
+/// Waits for all workers' threads, and gives the workers that come back, in the handles' order. It notes the fault of each that gave
+/// up, with its bridge's number, or that it was stopped, where it has none of its own, and `Memory` where a worker can't be kept.
+/// Where nothing has gone wrong in the end, nor before, all are there, and each has done its part.
 pub fn join_workers<R: Threads + Wait>(
     rt: &R,
     alloc: Global,
@@ -401,8 +407,10 @@ fn all_ended(
 }
 
 /// Runs the threads: each worker goes through all cycles and each administrator makes its commands on a thread of its own, while
-/// this one closes the cycles and hands their tables on. It returns when all threads have ended: `Spawn` where a thread couldn't be
-/// started, and else the first fault in its order, if there is one. It waits for threads, pipes and locks.
+/// this one closes the cycles and hands their tables on. `cycles` is at most 100,000, and nothing is done yet: no seat has calls, and
+/// nothing was put. It returns when all threads have ended: `Spawn` where a thread couldn't be started, `Memory` where its handle
+/// couldn't be kept, and else the first fault in the order of [`ConductFault`], if there is one. Then all that was ready is gone.
+/// It waits for threads, pipes and locks.
 pub fn run_threads<R: Threads + Wait + Sync, P: Pace>(
     rt: &R,
     alloc: Global,

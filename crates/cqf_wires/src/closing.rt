@@ -30,7 +30,7 @@ use std::alloc::Global;
 pub enum ClosingFault {
     /// A growth was refused.
     Memory,
-    /// The other end of a pipe isn't there.
+    /// A taking end on a link lacks its putting end.
     ChannelLost,
 }
 
@@ -146,7 +146,8 @@ fn close_tables(ins: Vec<PipeIn<Carried<Table>>>, outs: Vec<PipeOut<Carried<Tabl
 
 /// Closes all pipes of a run when its threads have ended: those on links between bridges, whose ends the workers have, and those
 /// of tables, whose putting ends stand by number of worker. It gives back the workers' shares, by worker. `Memory` where a growth
-/// is refused, and `ChannelLost` where there are fewer putting than taking ends of a link; then the ends and shares are gone.
+/// is refused, and `ChannelLost` where there are fewer putting than taking ends of a link; then the ends and shares are gone. The
+/// workers' ends are of the pipe on their link, and the ends for tables of the workers' pipes, as `lay` gives them. It waits for nobody.
 pub fn close_pipes(
     alloc: Global,
     tables: Vec<PipeIn<Carried<Table>>>,

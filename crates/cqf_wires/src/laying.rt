@@ -157,7 +157,8 @@ fn lay_links(alloc: Global, domain: &Domain, workers: &mut Vec<Worker>) -> Resul
 
 /// The workers of all bridges of a plan's domain, by number, which have done nothing, each with its share of a cycle book: on each
 /// link between two bridges a pipe from the one's worker to the other's, and a pipe for tables to each worker, whose putting ends
-/// stand by number too. `Memory` where a growth is refused.
+/// stand by number too. The shares are one of each bridge, by number, with no page. There are fewer than 2^32 offers, each at a bridge of
+/// the domain, and fewer than 2^32 background frames, each on a link of it. `Memory` where a growth is refused; then the shares are gone.
 pub fn lay(
     alloc: Global,
     plan: &Plan,

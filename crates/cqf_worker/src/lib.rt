@@ -4,7 +4,7 @@
 //!   [`ConductFault`].
 //! - [`pipe`] gives the two ends of a channel between two threads.
 //! - [`Carried`] is what such a pipe carries in a run: an item, or that none comes any more.
-//! - [`Pace`] is what a run's threads do before each step, and [`Free`] lets them go on at once.
+//! - [`Pace`] is what administrators' and bridges' threads do before each call and step, and [`Free`] lets them go on at once.
 //!
 //! ```text
 //! conduct(rt, alloc, &domain, admission, &offers, &[], 5, admins, &Free)
