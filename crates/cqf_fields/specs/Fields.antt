@@ -115,9 +115,13 @@ if_name text = if is_name text then Some text else None
 abbrev pub name_from : Data → Option (List ℕ)
 name_from d = option_and_then if_name (as_str d)
 
+-- the elements of an array, each a name
+abbrev pub names_from : Key → Items → Result (List (List ℕ)) TomlFault
+names_from key items = each_from (λ d. ok_or (name_from d) (BadValue key)) items
+
 -- an array of names
 abbrev pub names_at : Key → Members → Result (List (List ℕ)) TomlFault
-names_at key table = and_then (read_at key as_array table) (each_from (λ d. ok_or (name_from d) (BadValue key)))
+names_at key table = and_then (read_at key as_array table) (names_from key)
 
 -- the elements of an array, each a text
 abbrev pub texts_from : Key → Items → Result (List (List ℕ)) TomlFault
@@ -127,7 +131,10 @@ texts_from key items = each_from (λ d. ok_or (as_str d) (BadValue key)) items
 abbrev pub texts_at : Key → Members → Result (List (List ℕ)) TomlFault
 texts_at key table = and_then (read_at key as_array table) (texts_from key)
 
+-- the elements of an array, each an array of texts
+abbrev pub text_lists_from : Key → Items → Result (List (List (List ℕ))) TomlFault
+text_lists_from key items = each_from (λ d. and_then (ok_or (as_array d) (BadValue key)) (texts_from key)) items
+
 -- an array of arrays of texts
 abbrev pub text_lists_at : Key → Members → Result (List (List (List ℕ))) TomlFault
-text_lists_at key table =
-    and_then (read_at key as_array table) (each_from (λ d. and_then (ok_or (as_array d) (BadValue key)) (texts_from key)))
+text_lists_at key table = and_then (read_at key as_array table) (text_lists_from key)

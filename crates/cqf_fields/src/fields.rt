@@ -3,7 +3,7 @@ ghost use Rattle.std.specs.Prelude.{◌≡◌, option_map, ok_or};
 ghost use Rattle.std.specs.Result.{result_map_both};
 ghost use Rattle.toml.specs.View.{view, table_view, items_view};
 ghost use Rattle.toml.specs.Data.{as_array};
-ghost use Rattle.cqf_fields.specs.Fields.{Gives, value_at, names_at, read_at, number_from, name_from, are_tables};
+ghost use Rattle.cqf_fields.specs.Fields.{Gives, value_at, names_at, names_from, read_at, number_from, name_from, are_tables};
 
 use crate::{Key, TomlFault};
 use cqf_units::Name;
@@ -103,6 +103,20 @@ fn name_in(value: &Value, key: Key) -> Result<Name, TomlFault>
     }
 }
 
+/// The elements of an array at a key, each a name.
+fn names_in(alloc: Global, values: &[Value], key: Key) -> Result<Vec<Name>, TomlFault>
+    ensures { Gives TomlFault.Memory (λ names. names.items) result (names_from key (items_view values.now)) }
+{
+    let mut names = Vec::new(alloc);
+    for value in values {
+        let name = name_in(value, key)?;
+        if names.push(name).is_err() {
+            return Err(TomlFault::Memory);
+        }
+    }
+    Ok(names)
+}
+
 /// The array of names at a key.
 ///
 /// # Errors
@@ -110,11 +124,5 @@ fn name_in(value: &Value, key: Key) -> Result<Name, TomlFault>
 pub fn names_at(alloc: Global, table: &Table, key: Key) -> Result<Vec<Name>, TomlFault>
     ensures { Gives TomlFault.Memory (λ names. names.items) result (names_at key (table_view table.now)) }
 {
-    let values = array_at(table, key)?;
-    let mut names = Vec::new(alloc);
-    for value in values {
-        let name = name_in(value, key)?;
-        names.push(name).map_err(|_| TomlFault::Memory)?;
-    }
-    Ok(names)
+    names_in(alloc, array_at(table, key)?, key)
 }

@@ -3,7 +3,7 @@ ghost use Rattle.std.specs.Prelude.{map, ok_or, string_bytes};
 ghost use Rattle.toml.specs.Data.{as_str, as_array};
 ghost use Rattle.toml.specs.View.{view, table_view, items_view};
 ghost use Rattle.cqf_lists.specs.Results.{and_then};
-ghost use Rattle.cqf_fields.specs.Fields.{Gives, read_at, texts_from, texts_at, text_lists_at};
+ghost use Rattle.cqf_fields.specs.Fields.{Gives, read_at, texts_from, texts_at, text_lists_at, text_lists_from};
 
 use crate::fields::{array_at, value_at};
 use crate::{Key, TomlFault};
@@ -24,10 +24,12 @@ fn text_in(alloc: Global, value: &Value, key: Key) -> Result<String, TomlFault>
 fn texts_in(alloc: Global, values: &[Value], key: Key) -> Result<Vec<String>, TomlFault>
     ensures { Gives TomlFault.Memory (λ texts. map string_bytes texts.items) result (texts_from key (items_view values.now)) }
 {
-    let mut texts = Vec::with_capacity(alloc, values.len()).map_err(|_| TomlFault::Memory)?;
+    let mut texts = Vec::new(alloc);
     for value in values {
         let text = text_in(alloc, value, key)?;
-        texts.push(text).map_err(|_| TomlFault::Memory)?;
+        if texts.push(text).is_err() {
+            return Err(TomlFault::Memory);
+        }
     }
     Ok(texts)
 }
@@ -53,6 +55,20 @@ fn text_list_in(alloc: Global, value: &Value, key: Key) -> Result<Vec<String>, T
     }
 }
 
+/// The elements of an array at a key, each an array of texts.
+fn text_lists_in(alloc: Global, values: &[Value], key: Key) -> Result<Vec<Vec<String>>, TomlFault>
+    ensures { Gives TomlFault.Memory (λ lists. map (λ texts. map string_bytes texts.items) lists.items) result (text_lists_from key (items_view values.now)) }
+{
+    let mut lists = Vec::new(alloc);
+    for value in values {
+        let texts = text_list_in(alloc, value, key)?;
+        if lists.push(texts).is_err() {
+            return Err(TomlFault::Memory);
+        }
+    }
+    Ok(lists)
+}
+
 /// The array of arrays of texts at a key.
 ///
 /// # Errors
@@ -60,13 +76,7 @@ fn text_list_in(alloc: Global, value: &Value, key: Key) -> Result<Vec<String>, T
 pub fn text_lists_at(alloc: Global, table: &Table, key: Key) -> Result<Vec<Vec<String>>, TomlFault>
     ensures { Gives TomlFault.Memory (λ lists. map (λ texts. map string_bytes texts.items) lists.items) result (text_lists_at key (table_view table.now)) }
 {
-    let values = array_at(table, key)?;
-    let mut lists = Vec::new(alloc);
-    for value in values {
-        let texts = text_list_in(alloc, value, key)?;
-        lists.push(texts).map_err(|_| TomlFault::Memory)?;
-    }
-    Ok(lists)
+    text_lists_in(alloc, array_at(table, key)?, key)
 }
 
 /// The text at a key.
