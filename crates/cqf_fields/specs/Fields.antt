@@ -92,13 +92,14 @@ abbrev pub are_tables : Items → Bool
 are_tables no_items = true
 are_tables (item d ds) = is_some (as_table d) && are_tables ds
 
+-- the elements of an array of tables, each read
+abbrev pub tables_from : {A : Type 0} → Key → (Members → Result A TomlFault) → Items → Result (List A) TomlFault
+tables_from key reader items = each_from (λ d. and_then (ok_or (as_table d) (BadValue key)) reader) items
+
 -- the tables of an array of tables, each read
 abbrev pub tables_at : {A : Type 0} → Key → (Members → Result A TomlFault) → Members → Result (List A) TomlFault
 tables_at key reader table =
-    and_then (read_at key as_array table) (λ items.
-    if are_tables items
-    then each_from (λ d. and_then (ok_or (as_table d) (BadValue key)) reader) items
-    else Err (BadValue key))
+    and_then (read_at key as_array table) (λ items. if are_tables items then tables_from key reader items else Err (BadValue key))
 
 -- an integer within a range
 abbrev pub within_range : ℕ → ℕ → ℤ → Option ℕ

@@ -3,7 +3,7 @@ ghost use Rattle.std.specs.Prelude.{◌≡◌, option_and_then, ok_or};
 ghost use Rattle.toml.specs.View.{view, table_view, items_view};
 ghost use Rattle.toml.specs.Data.{as_table};
 ghost use Rattle.cqf_lists.specs.Results.{and_then};
-ghost use Rattle.cqf_fields.specs.Fields.{Gives, read_at, each_from, tables_at, names_at};
+ghost use Rattle.cqf_fields.specs.Fields.{Gives, read_at, tables_at, tables_from, names_at};
 ghost use Rattle.cqf_topology.specs.DomainText.{rate_of, rate_from, link_from, if_some, domain_from, read_text};
 
 use cqf_fields::{
@@ -146,8 +146,7 @@ fn link_in(value: &Value) -> Result<DraftLink, TomlFault>
 
 /// The elements of the array of links.
 fn links_in(alloc: Global, values: &[Value]) -> Result<Vec<DraftLink>, TomlFault>
-    ensures { Gives TomlFault.Memory (λ links. links.items) result (each_from
-        (λ d. and_then (ok_or (as_table d) (TomlFault.BadValue Key.Links)) link_from) (items_view values.now)) }
+    ensures { Gives TomlFault.Memory (λ links. links.items) result (tables_from Key.Links link_from (items_view values.now)) }
 {
     let mut links = Vec::new(alloc);
     for value in values {

@@ -3,7 +3,7 @@ ghost use Rattle.std.specs.Prelude.{◌≡◌, ◌∷◌, [], map, ok_or, string
 ghost use Rattle.toml.specs.Data.{as_str, as_table};
 ghost use Rattle.toml.specs.View.{items_view, view, table_view};
 ghost use Rattle.cqf_lists.specs.Results.{and_then};
-ghost use Rattle.cqf_fields.specs.Fields.{Gives, each_from, read_at, tables_at};
+ghost use Rattle.cqf_fields.specs.Fields.{Gives, read_at, tables_at, tables_from};
 ghost use Rattle.cqf_topology.specs.StreamsText.{branches_from, request_from, request_text, streams_of_text};
 
 use crate::{Key, StreamsFault};
@@ -79,7 +79,9 @@ fn one_branch(alloc: Global, path: Vec<String>) -> Result<Vec<Vec<String>>, Stre
     ensures { Gives StreamsFault.Memory (λ paths. map (λ path. map string_bytes path.items) paths.items) result (Ok (map string_bytes path.items ∷ [])) }
 {
     let mut paths = Vec::new(alloc);
-    paths.push(path).map_err(|_| StreamsFault::Memory)?;
+    if paths.push(path).is_err() {
+        return Err(StreamsFault::Memory);
+    }
     Ok(paths)
 }
 
@@ -110,12 +112,14 @@ fn request_in(alloc: Global, value: &Value) -> Result<Request, StreamsFault>
 /// The elements of the array of streams.
 fn requests_in(alloc: Global, values: &[Value]) -> Result<Vec<Request>, StreamsFault>
     ensures { Gives StreamsFault.Memory (λ requests. map request_text requests.items) result
-        (each_from (λ d. and_then (ok_or (as_table d) (StreamsFault.BadValue Key.Streams)) request_from) (items_view values.now)) }
+        (tables_from Key.Streams request_from (items_view values.now)) }
 {
     let mut requests = Vec::new(alloc);
     for value in values {
         let request = request_in(alloc, value)?;
-        requests.push(request).map_err(|_| StreamsFault::Memory)?;
+        if requests.push(request).is_err() {
+            return Err(StreamsFault::Memory);
+        }
     }
     Ok(requests)
 }

@@ -1,15 +1,11 @@
-use Rattle.std.proofs.Common.{◌≡◌, drop, ok_or}
-use Rattle.toml.specs.Data.{as_table}
+use Rattle.std.proofs.Common.{◌≡◌, drop}
 use Rattle.toml.specs.View.{items_view}
 use Rattle.cqf_fields.specs.declared.keys.Key.TheVariants.{Links}
-use Rattle.cqf_fields.specs.declared.faults.TomlFault.TheVariants.{BadValue}
-use Rattle.cqf_lists.specs.Results.{and_then}
-use Rattle.cqf_fields.specs.Fields.{each_from}
+use Rattle.cqf_fields.specs.Fields.{tables_from}
 use Rattle.cqf_topology.specs.DomainText.{link_from}
 use Rattle.cqf_fields.proofs.Arrays.{with_front}
 use Rattle.cqf_topology.proofs.draft.links_in.Given as goal
 
 abbrev pub invariant-loop-value : goal.invariant-loop-value
 invariant-loop-value l =
-    with_front l.links.items (each_from (λ d. and_then (ok_or (as_table d) (BadValue Links)) link_from) (items_view (drop l.value-index l.values)))
-    ≡ each_from (λ d. and_then (ok_or (as_table d) (BadValue Links)) link_from) (items_view l.values)
+    with_front l.links.items (tables_from Links link_from (items_view (drop l.value-index l.values))) ≡ tables_from Links link_from (items_view l.values)
