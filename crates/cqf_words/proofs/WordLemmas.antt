@@ -1,7 +1,9 @@
 -- Values of a command, and the jobs that they rule out.
-use Rattle.std.proofs.Common.{◌≡◌, ◌≢◌, ◌∙◌, ◌+◌, ◌*◌, ℕ, true, refl, List, [], Option, Some, sym, ap, subst, slice_index, codes, arith, inl, inr, ◌⊎◌}
+use Rattle.std.proofs.Common.{◌≡◌, ◌≢◌, ◌∙◌, ◌+◌, ◌*◌, ℕ, true, refl, List, [], Option, None, Some, sym, ap, ap₂, subst, slice_index, codes, arith, inl, inr, ◌⊎◌}
 use Rattle.clap.specs.Words.{App, Row, Text, first_of, fault_of, is_simple, is_simple_and_free, HasKind, HasMatchesOf, IsAmong, Kinds, kind_of, subcommand_of}
-use Rattle.clap.specs.Words.{subcommand_rows_of}
+use Rattle.clap.specs.Words.{Rule, rule_of, subcommand_rows_of}
+use Rattle.clap.specs.declared.builder.arg.Arg.{Arg}
+use Rattle.clap.specs.declared.builder.value_parser.ValueParser.{ValueParser}
 use Rattle.clap.specs.declared.error.Error.{Error}
 use Rattle.clap.specs.declared.parser.matches.ArgMatches.{ArgMatches}
 use Rattle.clap.specs.declared.error.kind.ErrorKind.{ErrorKind}
@@ -11,6 +13,12 @@ use Rattle.cqf_words.specs.declared.words.Job.{Job}
 use Rattle.cqf_words.specs.declared.words.Job.TheVariants.{Compile, Line, Port, Report, Run}
 use Rattle.cqf_stop.specs.declared.stops.Stop.{Stop}
 use Rattle.cqf_words.specs.Words.{cqf_app, rate_text, IsJob, IsJobOf, IsNumberIn, Mean, AskForHelp, EndsBy, EndsWords}
+
+-- an option whose parser was set goes by the rule that it went by, but for the parser
+pub with_parser : (before after : Arg) (rule : Rule) (parser : ValueParser) → after ≡ record before { value_parser = after.value_parser } →
+    rule_of before ≡ rule → after.value_parser ≡ Some parser → rule_of after ≡ record rule { parser = Some parser }
+with_parser before after rule parser is went set =
+    ap rule_of is ∙ ap₂ (λ (r : Rule) (p : Option ValueParser). record r { parser = p }) went set
 
 -- the first and the third letter of a command's name, which tell it from the others
 abbrev mark : Text → ℕ

@@ -13,15 +13,13 @@ use Rattle.cqf_words.specs.declared.words.Job.{Job}
 use Rattle.cqf_words.specs.declared.words.Job.TheVariants.{Compile, Line, Port, Report, Run}
 use Rattle.cqf_stop.specs.declared.stops.Stop.{Stop}
 
--- an option `--NAME N` that has to be given, where N is from least to most
+-- an option `--NAME N` that has to be given
+abbrev pub wanted_rule : Text → Rule
+wanted_rule name = record (new_rule name) { long = Some name; action = Some Set; required = true; value_names = 1 }
+
+-- and where N is from least to most
 abbrev pub number_rule : Text → ℕ → ℕ → Rule
-number_rule name least most = record (new_rule name) {
-  long = Some name;
-  action = Some Set;
-  required = true;
-  value_names = 1;
-  parser = Some (Unsigned least most);
-}
+number_rule name least most = record (wanted_rule name) { parser = Some (Unsigned least most) }
 
 -- the option `--rate RATE`, 1000 where it isn't given
 abbrev pub rate_rule : Rule

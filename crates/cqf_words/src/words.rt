@@ -5,7 +5,7 @@ ghost use Rattle.cqf_units.specs.declared.timing.Rate.{Rate};
 ghost use Rattle.clap.specs.declared.builder.command.Command.TheViews.{out-Command};
 ghost use Rattle.clap.specs.Words.{app_of, first_of, found_of, kind_of, rows_of, rule_of, subcommand_rows_of};
 ghost use Rattle.cqf_words.specs.declared.words.Job.{Job};
-ghost use Rattle.cqf_words.specs.Words.{cqf_app, compile_app, first_app, line_app, named_app, port_app, report_app, run_app, flag_rule, number_rule, rate_rule, rate_text, IsGiven, IsJob, IsJobOf, IsNumberIn, Mean, EndsBy, EndsWords};
+ghost use Rattle.cqf_words.specs.Words.{cqf_app, compile_app, first_app, line_app, named_app, port_app, report_app, run_app, flag_rule, number_rule, rate_rule, rate_text, wanted_rule, IsGiven, IsJob, IsJobOf, IsNumberIn, Mean, EndsBy, EndsWords};
 
 use clap::error::ErrorKind;
 use clap::{Arg, ArgAction, ArgMatches, Command, value_parser};
@@ -75,18 +75,26 @@ pub enum Job {
     Report { cycles: u32 },
 }
 
+/// An option `--NAME N` that has to be given, whatever N is.
+fn wanted_option<'a>(alloc: Global, name: &'static str, help: &'static str) -> Arg<'a>
+    ensures rule { rule_of result ≡ wanted_rule name.now }
+    ensures own { result.global ≡ false }
+{
+    Arg::new(alloc, name)
+        .long(name)
+        .action(ArgAction::Set)
+        .required(true)
+        .value_name("N")
+        .help(help)
+}
+
 /// The option `--until N`.
 fn until_option<'a>(alloc: Global) -> Arg<'a>
     ensures rule { rule_of result ≡ number_rule (codes "until") 1 100000000 }
     ensures own { result.global ≡ false }
 {
-    Arg::new(alloc, "until")
-        .long("until")
-        .action(ArgAction::Set)
-        .required(true)
-        .value_name("N")
-        .help("starts before this instant, in nanoseconds, 1 to 100000000")
-        .value_parser(value_parser!(u64).range(1..100_000_001))
+    let help = "starts before this instant, in nanoseconds, 1 to 100000000";
+    wanted_option(alloc, "until", help).value_parser(value_parser!(u64).range(1..100_000_001))
 }
 
 /// The option `--rate RATE`.
@@ -107,13 +115,8 @@ fn cycles_option<'a>(alloc: Global) -> Arg<'a>
     ensures rule { rule_of result ≡ number_rule (codes "cycles") 1 100000 }
     ensures own { result.global ≡ false }
 {
-    Arg::new(alloc, "cycles")
-        .long("cycles")
-        .action(ArgAction::Set)
-        .required(true)
-        .value_name("N")
-        .help("the number of cycles, 1 to 100000")
-        .value_parser(value_parser!(u64).range(1..100_001))
+    let help = "the number of cycles, 1 to 100000";
+    wanted_option(alloc, "cycles", help).value_parser(value_parser!(u64).range(1..100_001))
 }
 
 /// The flag `--threads`.

@@ -1,0 +1,26 @@
+1795561378 so far: 0 of 36 functions checked; the verdict comes last
+1795561391 checked cqf_words::Destruct++tuple2::drop, 1 of 36
+1795561392 checked cqf_words::clap++parser++matches++MatchedArg+Destruct::drop, 2 of 36
+1795561393 checked cqf_words::clap++parser++matches++Found+Destruct::drop, 3 of 36
+1795561393 checked cqf_words::core++option++Option+Destruct::drop, 4 of 36
+1795561400 checked cqf_words::clap++builder++arg++Arg+Destruct::drop, 5 of 36
+1795561400 checked cqf_words::clap++builder++arg_group++ArgGroup+Destruct::drop, 6 of 36
+1795561402 checked cqf_words::std_alloc++string++String+Destruct::drop, 7 of 36
+1795561404 checked cqf_words::clap++builder++command++Command+Destruct::drop, 8 of 36
+1795561404 checked cqf_words::clap++parser++matches++ArgMatches+Destruct::drop, 9 of 36
+1795561404 checked cqf_words::clap++parser++matches++SubCommand+Destruct::drop, 10 of 36
+1795561451 checked cqf_words::words::wanted_option, 11 of 36
+1795561454 checked cqf_words::words::cycles_option, 12 of 36
+1795561457 checked cqf_words::words::threads_flag, 13 of 36
+1795561462 checked cqf_words::words::run_command, 14 of 36
+1795561466 checked cqf_words::words::report_command, 15 of 36
+1795561500 checked cqf_words::words::until_option, 16 of 36
+1795561504 checked cqf_words::words::rate_option, 17 of 36
+1795561511 checked cqf_words::words::port_command, 18 of 36
+1795561518 checked cqf_words::words::line_command, 19 of 36
+1795561528 checked cqf_words::words::named_command, 20 of 36
+1795561532 checked cqf_words::words::compile_command, 21 of 36
+1795561547 checked cqf_words::words::first_commands, 22 of 36
+1795561562 checked cqf_words::words::commands, 23 of 36
+1795561568 checked cqf_words::words::text_of, 24 of 36
+1795561570 checked cqf_words::words::number_in, 25 of 36
