@@ -154,8 +154,7 @@ fn is_legal_behind(alloc: Global, opening: &Admission, rest: &[Entry]) -> Result
     ensures { IfOk result (λ legal. legal ≡ true → IsLegalHistory opening.now.domain (opening.now.entries ++ map recorded_of rest.now)) }
 {
     let mut again = opening.try_copy(alloc)?;
-    let legal = goes_on(&mut again, rest)?;
-    Ok(legal)
+    goes_on(&mut again, rest)
 }
 
 /// Whether a history goes on legally from its opening part by calls of so many seats, and has that part.

@@ -104,14 +104,17 @@ impl Desk {
         if !are_its_seats(self.seats, seats.as_slice()) {
             return Err(CloseFault::SeatMissing);
         }
+        self.settled(seats.as_slice())
+    }
+
+    /// The history of a desk of which these are the seats, likewise.
+    fn settled(self, seats: &[Seat]) -> Result<History, CloseFault>
+        requires { AreItsSeats self.seats seats.now }
+        ensures missing { IsErrOf result CloseFault.SeatMissing → ⊥ }
+        ensures closed { IfOk result (λ history. IsClosed self seats.now history) }
+    {
         let entries = self.admission.into_inner().into_history();
-        settle(
-            self.alloc,
-            &self.opening,
-            self.seats,
-            entries,
-            seats.as_slice(),
-        )
+        settle(self.alloc, &self.opening, self.seats, entries, seats)
     }
 }
 

@@ -186,7 +186,10 @@ pub(crate) fn enters(answer: &Result<Receipt, Refused>) -> bool
 {
     match answer {
         Ok(_) => true,
-        Err(refused) => *refused != Refused::HistoryFull && *refused != Refused::Memory,
+        Err(refused) => match refused {
+            Refused::HistoryFull | Refused::Memory => false,
+            _ => true,
+        },
     }
 }
 
