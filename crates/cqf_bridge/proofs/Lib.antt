@@ -7,6 +7,7 @@ pub mod InOrder
 mod KeptGates
 mod MadeBatch
 mod Receives
+mod Reservations
 mod Offering
 pub mod OfferedRuns
 mod RunCycle

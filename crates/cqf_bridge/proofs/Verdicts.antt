@@ -1,9 +1,9 @@
 -- What becomes of a frame at a bridge, and what its stream's gate counts.
-use Rattle.std.proofs.Common.{◌≡◌, ◌≢◌, ◌+◌, ◌-◌, ◌*◌, ◌≤◌, ◌<◌, ◌%◌, ◌⊎◌, ℕ, suc, Bool, true, false, not, List, [], ◌∷◌, ◌++◌, ◌∙◌, inl, inr, sym, ap, refl, arith, length, map, find, nat_lt, mod-lt, Contains, Option, Some, None, subst, append-nil, append_assoc, drop, get_or, set, take}
+use Rattle.std.proofs.Common.{◌≡◌, ◌≢◌, ◌+◌, ◌*◌, ◌≤◌, ◌<◌, ◌%◌, ◌⊎◌, ℕ, Bool, true, false, not, List, [], ◌∷◌, ◌++◌, ◌∙◌, inl, inr, sym, ap, refl, arith, length, map, find, Contains, Option, Some, None, subst, append-nil, append_assoc, drop, get_or, set, take}
 use Rattle.std.specs.Prelude.{◌==◌, if◌then◌else◌, nat_le, slice_get}
 use Rattle.std.specs.List.{list_any}
-use Rattle.std.specs.Option.{option_and_then, option_map_or}
-use Rattle.std.proofs.lemmas.Bool.{cases_eq, cases_lt, cond-false, cond-true, eq-eqb, le-ltb, lt-ltb, ne_eqb}
+use Rattle.std.specs.Option.{option_map_or}
+use Rattle.std.proofs.lemmas.Bool.{cases_eq, cond-true, eq-eqb, ne_eqb}
 use Rattle.std.proofs.Math.Seq.{get_or-append_seam, set-append_seam}
 use Rattle.std.proofs.lemmas.List.{drop_more, length-map, length-take-le, map-append, take_more}
 use Rattle.cqf_lists.proofs.Members.{contains_here, find_member}
@@ -19,7 +19,7 @@ use Rattle.cqf_model.specs.Domain.{Domain, cycle_of}
 use Rattle.cqf_model.specs.Network.{IsLoss, QueuedFrame, queued_by, queued_frame, queued_to}
 use Rattle.cqf_model.specs.GateList.{IsOpen}
 use Rattle.cqf_model.specs.Port.{PortRules}
-use Rattle.cqf_model.specs.StreamGate.{gate_class, place_at, place_in, same_interval, stream_list, within}
+use Rattle.cqf_model.specs.StreamGate.{gate_class, place_at, same_interval, stream_list, within}
 use Rattle.cqf_model.specs.Table.{begins_at, goes_on, goes_to, is_live, row_named, row_of}
 use Rattle.cqf_model.specs.Traffic.{AtEdge as Offering, DroppedFor, ExceedsGate, LacksRow, Queued, Received, Relayed, Verdict, Way, came_by, edge_verdict, inside_verdict, is_queued_of, verdict_by}
 use Rattle.cqf_units.specs.Timing.{cycle_at}
@@ -34,6 +34,7 @@ use Rattle.cqf_bridge.specs.PortRecord.{PortRecord}
 use Rattle.cqf_bridge.specs.declared.policing.Outcome.{Outcome}
 use Rattle.cqf_bridge.specs.Taking.{CanRecord, HasClass, IsWaiting, MayBeTaken, PassesGate, Polices, TakesFrame, class_in, passes_by, queue_on, taken_in, verdict_as, verdict_if, verdict_of, with_verdict}
 use Rattle.cqf_bridge.proofs.KeptGates.{gate_beside, gate_put, kept_cases}
+use Rattle.cqf_bridge.proofs.Reservations.{max_of_reservation, within_reservation}
 use Rattle.cqf_bridge.proofs.Taking.{frames_none, not_out_of_order}
 
 -- what a gate's word tells of it
@@ -81,41 +82,6 @@ pub gate_last : (time until : ℕ) (gates : List KeptGate) (number reserved : �
 gate_last time until gates number reserved some kept =
     kept_last time until reserved (find (λ (k : KeptGate). k.number == number) gates) some
     (λ k e. kept k (find_member (λ (g : KeptGate). g.number == number) gates k e).0)
-
--- of two entries one is in force
-in_two : (n reserved offset : ℕ) → offset < n + n → (place_in (stream_list n reserved) offset ≡ 0) ⊎ (place_in (stream_list n reserved) offset ≡ 1)
-in_two n reserved offset inside = elim (cases_lt offset n) [
-  | inl first ↦ inl (cond-true (nat_lt offset n) 0 (suc (if nat_lt (offset - n) n then 0 else 1)) (lt-ltb offset n first))
-  | inr second ↦ inr (
-      cond-false (nat_lt offset n) 0 (suc (if nat_lt (offset - n) n then 0 else 1)) (le-ltb offset n second)
-      ∙ ap suc (cond-true (nat_lt (offset - n) n) 0 1 (lt-ltb (offset - n) n (omega (arith, inside, second))))
-      )
-]
-
-module _ (n reserved t : ℕ) (some : 0 < n) where
-  place_two : (place_at (stream_list n reserved) t ≡ 0) ⊎ (place_at (stream_list n reserved) t ≡ 1)
-  place_two = in_two n reserved (t % (0 + n + n)) (omega (arith, mod-lt t {m = 0 + n + n} (omega (arith, some))))
-
-  -- the octet maximum of a reservation's gate is the reservation
-  max_of_reservation : octet_max_at (stream_list n reserved) t ≡ Some reserved
-  max_of_reservation = at_place (place_at (stream_list n reserved) t) place_two
-    where
-      by_place : ℕ → Option ℕ
-      by_place place = option_and_then (λ (entry : StreamEntry). entry.octet_max) (slice_get (stream_list n reserved) place)
-
-      at_place : (place : ℕ) → (place ≡ 0) ⊎ (place ≡ 1) → by_place place ≡ Some reserved
-      at_place place e = elim e [ inl z ↦ ap by_place z | inr o ↦ ap by_place o ]
-
-  -- what it lets pass is within the reservation
-  within_reservation : (sum : ℕ) →
-      option_map_or (λ (entry : StreamEntry). within entry.octet_max sum) (slice_get (stream_list n reserved) (place_at (stream_list n reserved) t)) false ≡ nat_le sum reserved
-  within_reservation sum = at_place (place_at (stream_list n reserved) t) place_two
-    where
-      by_place : ℕ → Bool
-      by_place place = option_map_or (λ (entry : StreamEntry). within entry.octet_max sum) (slice_get (stream_list n reserved) place) false
-
-      at_place : (place : ℕ) → (place ≡ 0) ⊎ (place ≡ 1) → by_place place ≡ nat_le sum reserved
-      at_place place e = elim e [ inl z ↦ ap by_place z | inr o ↦ ap by_place o ]
 
 -- what is added by a test
 added_if : (b : Bool) (taken octets : ℕ) → (if b then taken + octets else taken) ≡ taken + (if b then octets else 0)

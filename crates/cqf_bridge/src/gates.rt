@@ -4,8 +4,8 @@ ghost use Rattle.cqf_gates.specs.StreamGate.{fresh, gate_after, verdict_on};
 ghost use Rattle.cqf_model.specs.StreamGate.{stream_list};
 ghost use Rattle.cqf_bridge.specs.Gates.{gate_in, gate_or, with_gate};
 
-use cqf_compile::gate_of;
-use cqf_gates::{Passed, StreamGate};
+use crate::cycle_gate::CycleGate;
+use cqf_gates::Passed;
 use cqf_model::Row;
 use cqf_topology::Domain;
 use cqf_units::{Memory, Nanos, Octets};
@@ -18,7 +18,14 @@ use std::marker::Model;
 pub(crate) struct KeptGate {
     pub(crate) number: u32,
     pub(crate) reserved: u32,
-    pub(crate) gate: StreamGate,
+    pub(crate) gate: CycleGate,
+}
+
+/// The gate of a row's reservation that has seen no frame: it counts what the gate that is compiled for the row counts.
+fn gate_of(domain: &Domain, row: &Row) -> CycleGate
+    ensures { result ≡ fresh (stream_list domain.now.cycle_time row.now.octets) }
+{
+    CycleGate::new(domain.cycle_time(), Octets(row.octets))
 }
 
 impl KeptGate {
@@ -33,7 +40,7 @@ impl KeptGate {
         KeptGate {
             number: row.no,
             reserved: row.octets,
-            gate: StreamGate::new(gate_of(domain, row)),
+            gate: gate_of(domain, row),
         }
     }
 
@@ -49,7 +56,7 @@ impl KeptGate {
     {
         if self.reserved != row.octets {
             self.reserved = row.octets;
-            self.gate = StreamGate::new(gate_of(domain, row));
+            self.gate = gate_of(domain, row);
         }
         self.gate.pass(at, octets)
     }

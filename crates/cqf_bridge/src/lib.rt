@@ -18,6 +18,7 @@
 mod batch;
 mod bridge;
 mod checking;
+mod cycle_gate;
 mod faults;
 mod gates;
 mod gathering;
