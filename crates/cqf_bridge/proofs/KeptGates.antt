@@ -1,23 +1,14 @@
 -- Gates that are looked up by number, and what they count.
-use Rattle.std.proofs.Common.{◌≡◌, ◌≢◌, ◌<◌, ℕ, zero, suc, Bool, true, false, List, [], ◌∷◌, ◌++◌, ◌∙◌, ◌⊎◌, inl, inr, sym, ap, refl, arith, length, map, find, get_or, position, nat_eq, Contains, Some, None, subst}
+use Rattle.std.proofs.Common.{◌≡◌, ◌≢◌, ◌<◌, ℕ, zero, suc, Bool, true, false, List, [], ◌∷◌, ◌++◌, ◌∙◌, ◌⊎◌, inl, inr, sym, ap, refl, arith, length, map, find, get_or, position, Contains, Some, None, subst}
 use Rattle.std.specs.Prelude.{◌==◌, if◌then◌else◌, is_some, slice_set}
-use Rattle.std.specs.List.{list_any}
 use Rattle.std.proofs.lemmas.Bool.{cases_eq, cond-false, cond-true, eq-eqb, eqb-true, ne_eqb}
 use Rattle.std.proofs.lemmas.List.Quantifiers.{position-Some}
-use Rattle.std.proofs.lemmas.List.{length-map}
-use Rattle.cqf_lists.proofs.Any.{list_any-map, none_member, position_any}
+use Rattle.cqf_lists.proofs.Any.{none_member, position_any}
 use Rattle.cqf_lists.proofs.Members.{contains_cases, contains_here, contains_later, contains_none}
 use Rattle.cqf_model.specs.StreamGate.{stream_list}
 use Rattle.cqf_gates.specs.StreamGate.{Gate, fresh}
 use Rattle.cqf_bridge.specs.declared.gates.KeptGate.{KeptGate}
 use Rattle.cqf_bridge.specs.Gates.{gate_or, with_gate}
-
--- a test of two numbers goes either way round
-eqb_turned : (a b : ℕ) → (a == b) ≡ (b == a)
-eqb_turned a b = elim (cases_eq a b) [
-  | inl same ↦ eq-eqb a b same ∙ sym (eq-eqb b a (sym same))
-  | inr other ↦ ne_eqb a b other ∙ sym (ne_eqb b a (λ e. other (sym e)))
-]
 
 -- the gate of a number stands at this place, and another of the number takes its place there
 pub record FoundAt (number : ℕ) (gates : List KeptGate) (place : ℕ) (k : KeptGate) : Type 0 where
@@ -28,21 +19,18 @@ pub record FoundAt (number : ℕ) (gates : List KeptGate) (place : ℕ) (k : Kep
 
 -- the first place that has the number
 at_first : (number place : ℕ) (gates : List KeptGate) (k : KeptGate) → place < length gates → k ≡ get_or gates place k →
-    (nat_eq number (get_or (map (λ (g : KeptGate). g.number) gates) place 0)) ≡ true →
-    ((j : ℕ) → j < place → (nat_eq number (get_or (map (λ (g : KeptGate). g.number) gates) j 0)) ≡ false) → FoundAt number gates place k
+    ((get_or gates place k).number == number) ≡ true → ((j : ℕ) → j < place → ((get_or gates j k).number == number) ≡ false) → FoundAt number gates place k
 at_first number place [] k inside is here before = absurd (omega (arith, inside))
-at_first number zero (x ∷ gates) k inside is here before =
-    let same : number ≡ x.number = eqb-true number x.number here in
-    let test : (x.number == number) ≡ true = eq-eqb x.number number (sym same) in
+at_first number zero (x ∷ gates) k inside is test before =
+    let same : x.number ≡ number = eqb-true x.number number test in
     record {
       found = cond-true (x.number == number) (Some x) (find (λ (g : KeptGate). g.number == number) gates) test ∙ ap Some (sym is);
-      of_number = ap (λ (g : KeptGate). g.number) is ∙ sym same;
-      placed = λ g e. sym (cond-true (x.number == g.number) (g ∷ gates) (x ∷ with_gate gates g) (eq-eqb x.number g.number (sym same ∙ sym e)));
-      numbers = λ g e. ap (λ (n : ℕ). n ∷ map (λ (h : KeptGate). h.number) gates) (sym same ∙ sym e);
+      of_number = ap (λ (g : KeptGate). g.number) is ∙ same;
+      placed = λ g e. sym (cond-true (x.number == g.number) (g ∷ gates) (x ∷ with_gate gates g) (eq-eqb x.number g.number (same ∙ sym e)));
+      numbers = λ g e. ap (λ (n : ℕ). n ∷ map (λ (h : KeptGate). h.number) gates) (same ∙ sym e);
     }
 at_first number (suc place) (x ∷ gates) k inside is here before =
-    let first : (number == x.number) ≡ false = before 0 (omega arith) in
-    let test : (x.number == number) ≡ false = eqb_turned x.number number ∙ first in
+    let test : (x.number == number) ≡ false = before 0 (omega arith) in
     let rest = at_first number place gates k (omega (arith, inside)) is here (λ j less. before (suc j) (omega (arith, less))) in
     record {
       found = cond-false (x.number == number) (Some x) (find (λ (g : KeptGate). g.number == number) gates) test ∙ rest.found;
@@ -53,12 +41,12 @@ at_first number (suc place) (x ∷ gates) k inside is here before =
       numbers = λ g e. ap (λ (ns : List ℕ). x.number ∷ ns) (rest.numbers g e);
     }
 
--- a number that is found among the numbers
+-- the gate at the place of a number
 pub found_at : (number : ℕ) (gates : List KeptGate) (place : ℕ) (k : KeptGate) →
-    position (nat_eq number) (map (λ (g : KeptGate). g.number) gates) ≡ Some place → k ≡ get_or gates place k → FoundAt number gates place k
+    position (λ (g : KeptGate). g.number == number) gates ≡ Some place → k ≡ get_or gates place k → FoundAt number gates place k
 found_at number gates place k is at =
-    let p = position-Some (nat_eq number) (map (λ (g : KeptGate). g.number) gates) place 0 is in
-    at_first number place gates k (omega (arith, p.0, length-map gates (λ (g : KeptGate). g.number))) at p.1 p.2
+    let p = position-Some (λ (g : KeptGate). g.number == number) gates place k is in
+    at_first number place gates k p.0 at p.1 p.2
 
 -- a gate of a number that no other has stands behind the others
 behind_others : (number : ℕ) (gates : List KeptGate) → ((k : KeptGate) → Contains gates k → (k.number == number) ≡ false) →
@@ -73,14 +61,12 @@ behind_others number (x ∷ gates) none =
           ∙ ap (λ (gs : List KeptGate). x ∷ gs) (rest.1 g e),
     )
 
--- a number that isn't found among the numbers
-pub not_found : (number : ℕ) (gates : List KeptGate) → position (nat_eq number) (map (λ (g : KeptGate). g.number) gates) ≡ None →
+-- a number that has no place
+pub not_found : (number : ℕ) (gates : List KeptGate) → position (λ (g : KeptGate). g.number == number) gates ≡ None →
     (find (λ (g : KeptGate). g.number == number) gates ≡ None) × ((g : KeptGate) → g.number ≡ number → with_gate gates g ≡ gates ++ g ∷ [])
 not_found number gates is =
-    let none : list_any (λ (g : KeptGate). nat_eq number g.number) gates ≡ false =
-    sym (list_any-map (nat_eq number) (λ (g : KeptGate). g.number) gates)
-    ∙ sym (position_any (nat_eq number) (map (λ (g : KeptGate). g.number) gates)) ∙ ap is_some is in
-    behind_others number gates (λ k held. eqb_turned k.number number ∙ none_member (λ (g : KeptGate). nat_eq number g.number) gates k none held)
+    let none = sym (position_any (λ (g : KeptGate). g.number == number) gates) ∙ ap is_some is in
+    behind_others number gates (λ k held. none_member (λ (g : KeptGate). g.number == number) gates k none held)
 
 -- a gate that is put in is the one of its number
 pub gate_put : (gates : List KeptGate) (g : KeptGate) → find (λ (k : KeptGate). k.number == g.number) (with_gate gates g) ≡ Some g

@@ -2,6 +2,7 @@ mod Behind
 mod Bridges
 mod Columns
 pub mod Coming
+mod GatePlaces
 mod Handing
 pub mod InOrder
 mod KeptGates

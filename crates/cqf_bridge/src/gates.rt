@@ -1,8 +1,9 @@
 //! The stream gates of a bridge.
-ghost use Rattle.std.specs.Prelude.{◌≡◌, ◌≤◌, IfOk, OnErr, OnOk, Some, []};
+ghost use Rattle.std.specs.Prelude.{◌≡◌, ◌==◌, ◌≤◌, ◌++◌, ◌∷◌, [], IfOk, None, OnErr, OnOk, Some, position};
 ghost use Rattle.cqf_gates.specs.StreamGate.{fresh, gate_after, verdict_on};
 ghost use Rattle.cqf_model.specs.StreamGate.{stream_list};
 ghost use Rattle.cqf_bridge.specs.Gates.{gate_in, gate_or, with_gate};
+ghost use Rattle.cqf_bridge.specs.declared.gates.KeptGate.{KeptGate as Kept};
 
 use crate::cycle_gate::CycleGate;
 use cqf_gates::Passed;
@@ -62,23 +63,35 @@ impl KeptGate {
     }
 }
 
+/// So many gates are looked through one by one. Where there are no more, as in most cycles, no number is hashed.
+const FEW: usize = 16;
+
 /// The gates of the streams of which a bridge has seen frames: one for each number, looked up by it. [`police`](crate::police)
 /// calls them.
 #[derive(Debug, Drop)]
 pub struct StreamGates {
-    numbers: IndexSet<u32>,
     kept: Vec<KeptGate>,
+    /// The numbers of the gates behind the first few.
+    numbers: IndexSet<u32>,
 }
 
 impl Model for StreamGates {
-    ghost use Rattle.std.specs.Prelude.{◌≡◌, List, map};
+    ghost use Rattle.std.specs.Prelude.{◌≡◌, List, drop, map};
+    ghost use Rattle.cqf_bridge.specs.declared.gates.TheConstants.{FEW};
     ghost use Rattle.cqf_bridge.specs.declared.gates.KeptGate.{KeptGate as Kept};
 
     ghost Value = { List Kept };
 
     ghost view = { λ g. g.kept.items };
 
-    ghost invariant = { λ g. g.numbers.keys ≡ map (λ (k : Kept). k.number) g.kept.items };
+    ghost invariant = { λ g. g.numbers.keys ≡ drop FEW (map (λ (k : Kept). k.number) g.kept.items) };
+}
+
+/// The place of the gate of a number among some.
+fn place_among(gates: &[KeptGate], number: u32) -> Option<usize>
+    ensures { result ≡ position (λ (k : Kept). k.number == number) gates.now }
+{
+    gates.iter().position(|kept| kept.number == number)
 }
 
 impl StreamGates {
@@ -87,9 +100,39 @@ impl StreamGates {
         ensures { result ≡ [] }
     {
         StreamGates {
-            numbers: IndexSet::new(alloc),
             kept: Vec::new(alloc),
+            numbers: IndexSet::new(alloc),
         }
+    }
+
+    /// The place of the gate of a number.
+    fn place_of(&self, number: u32) -> Option<usize>
+        ensures { result ≡ position (λ (k : Kept). k.number == number) self.now }
+    {
+        if self.kept.len() <= FEW {
+            return place_among(self.kept.as_slice(), number);
+        }
+        if let Some(place) = place_among(&self.kept[..FEW], number) {
+            return Some(place);
+        }
+        match self.numbers.get_index_of(&number) {
+            Some(place) => Some(FEW + place),
+            None => None,
+        }
+    }
+
+    /// Keeps a gate of a number that has none, behind the others.
+    fn keep(&mut self, gate: KeptGate) -> Result<(), Memory>
+        requires { position (λ (k : Kept). k.number == gate.number) self.old ≡ None }
+        ensures { OnOk result (self.new ≡ self.old ++ gate ∷ []) }
+    {
+        self.kept.reserve(1)?;
+        if self.kept.len() >= FEW {
+            self.numbers.reserve(1)?;
+            self.numbers.insert(gate.number).unwrap();
+        }
+        self.kept.push(gate).unwrap();
+        Ok(())
     }
 
     /// Passes a frame of a row's stream by the stream's gate, or not: by the gate that is kept for the number and the
@@ -109,15 +152,12 @@ impl StreamGates {
           gate = gate_after (gate_in domain.now.cycle_time self.old row.now.no row.now.octets) at.0 octets.0;
         })) }
     {
-        match self.numbers.get_index_of(&row.no) {
+        match self.place_of(row.no) {
             Some(place) => Ok(self.kept[place].pass(domain, row, at, octets)),
             None => {
-                self.numbers.reserve(1)?;
-                self.kept.reserve(1)?;
                 let mut gate = KeptGate::new(domain, row);
                 let passed = gate.pass(domain, row, at, octets);
-                self.numbers.insert(row.no).unwrap();
-                self.kept.push(gate).unwrap();
+                self.keep(gate)?;
                 Ok(passed)
             }
         }
