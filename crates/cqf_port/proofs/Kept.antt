@@ -10,7 +10,7 @@ use Rattle.cqf_model.specs.declared.ports.Arrival.{Arrival}
 use Rattle.cqf_model.specs.declared.ports.Start.{Start}
 use Rattle.cqf_model.specs.Port.{Transmission, PortRules, AreLegal, no_arrival, instant_of, class_of}
 use Rattle.cqf_laws_port.specs.PortLaws.{LegalStartsAreUnique}
-use Rattle.cqf_port.specs.PortState.{PortState, AreTaken, IsPort, IsLast, WasOpen, Advances, start_of}
+use Rattle.cqf_port.specs.PortState.{PortState, AreTaken, IsPort, IsLast, WasOpen, Advances, RunsUpTo, start_of}
 use Rattle.cqf_port.specs.Progress.{IsNewest, AreNewest, IsAfterArrival, IsKept, AreMore}
 use Rattle.cqf_port.specs.declared.progress.Progress.{Progress}
 use Rattle.cqf_port.proofs.Longer.{same_arrival, last_arrival, arrival_after}
@@ -128,6 +128,14 @@ kept_offer rules arrivals reached starts before after newest arrival kept low ea
 -- each start is of an arrival
 pub starts_inside : (rules : PortRules) (arrivals : List Arrival) (t : ℕ) (starts : List Transmission) → AreLegal rules arrivals t starts → All (λ (x : Transmission). x.0 < length arrivals) starts
 starts_inside rules arrivals t starts legal k d inside = (legal.first (get_or starts k d).0 (get_or starts k d).1 (Contains-get_or starts k d inside)).waits.inside
+
+-- what a run adds are its starts
+pub runs_up_to : (p : PortState) (until : ℕ) (starts : List Transmission) → AreMore p.starts starts p.reached → RunsUpTo until p (record { rules = p.rules; reached = until; arrivals = p.arrivals; starts = starts })
+runs_up_to p until starts more = record {
+  made = more.made;
+  from_reached = more.not_before;
+  value = ap (λ (xs : List Transmission). let p_after : PortState = record { rules = p.rules; reached = until; arrivals = p.arrivals; starts = xs } in p_after) more.value;
+}
 
 -- what a run adds is what it hands on
 pub advances : (p : PortState) (until : ℕ) (starts handed : List Transmission) (given given_after : List Start) → AreMore p.starts starts p.reached → handed ≡ drop (length p.starts) starts → given_after ≡ given ++ map (start_of p.arrivals) handed → Advances p (record { rules = p.rules; reached = until; arrivals = p.arrivals; starts = starts }) until given given_after

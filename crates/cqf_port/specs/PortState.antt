@@ -69,6 +69,12 @@ start_of arrivals x = record {
   frame = (slice_index_or arrivals x.0 no_arrival).frame;
 }
 
+-- the port runs up to an instant: it makes starts from the instant that it had reached on, behind those before
+pub record RunsUpTo (until : ℕ) (before after : PortState) : Type 0 where
+  pub made : List Transmission
+  pub from_reached : (place s : ℕ) → Contains made (place, s) → before.reached ≤ s
+  pub value : after ≡ record { rules = before.rules; reached = until; arrivals = before.arrivals; starts = before.starts ++ made }
+
 -- the port runs up to an instant: it makes starts from the instant that it had reached on, and hands each on behind
 -- what its caller had
 pub record Advances (before after : PortState) (until : ℕ) (given given_after : List Start) : Type 0 where

@@ -2,12 +2,12 @@
 ghost use Rattle.std.specs.Prelude.{◌≡◌, ◌+◌, ◌++◌, ◌^◌, ◌<◌, ◌≤◌, ◌↔◌, [], ◌∷◌, ◌==◌, count_by, MatchOption, IsOk, IsErrOf, OnErr, OnOk};
 ghost use Rattle.cqf_model.specs.declared.ports.Arrival.{Arrival};
 ghost use Rattle.cqf_port.specs.NextStart.{StartsNext, StartsNoMore};
-ghost use Rattle.cqf_port.specs.PortState.{Advances, AreOnly, IsLate, IsOutOfOrder, IsPort, rules_of, waiting_of};
+ghost use Rattle.cqf_port.specs.PortState.{Advances, AreOnly, IsLate, IsOutOfOrder, IsPort, RunsUpTo, rules_of, waiting_of};
 
 use crate::late::was_open;
 use crate::next::next_ready;
 use crate::progress::{Progress, after_arrival};
-use crate::run::{hand_on, run};
+use crate::run::{hand_on, run_or_stay};
 use crate::spans::Schedule;
 use cqf_gates::TxList;
 use cqf_laws_port::legal_starts_are_unique;
@@ -101,12 +101,19 @@ impl Port {
         )
     }
 
-    /// What has been handed out, in order: of each start the place of its arrival among those taken, from 0, and its instant
+    /// What has been started, in order: of each start the place of its arrival among those taken, from 0, and its instant
     /// in nanoseconds.
     pub fn starts(&self) -> &[(usize, u64)]
         ensures { result.now ≡ self.now.starts }
     {
         self.starts.as_slice()
+    }
+
+    /// What it has taken, in order.
+    pub fn arrivals(&self) -> &[Arrival]
+        ensures { result.now ≡ self.now.arrivals }
+    {
+        self.arrivals.as_slice()
     }
 
     /// How many arrivals of the class, 0 to 7, haven't started.
@@ -148,6 +155,34 @@ impl Port {
         Ok(())
     }
 
+    /// Runs the port up to, and without, an instant. What it starts on the way is listed by [`Port::starts`], behind what
+    /// it started before. Where the instant isn't after the port's now, nothing changes, nor where a growth is refused.
+    pub fn run_to(&mut self, until: Nanos) -> Result<(), Memory>
+        requires { until.0 < 2 ^ 62 }
+        ensures ok { OnOk result (self.old.reached < until.0 → RunsUpTo until.0 self.old self.new) }
+        ensures past { until.0 ≤ self.old.reached → IsOk result × (self.new ≡ self.old) }
+        ensures err { OnErr result (self.new ≡ self.old) }
+        ensures facts { IsPort self.new }
+        ensures only { AreOnly self.new }
+    {
+        legal_starts_are_unique();
+        if until <= self.reached {
+            return Ok(());
+        }
+        let progress = run_or_stay(
+            &self.schedule,
+            self.rate,
+            self.arrivals.as_slice(),
+            self.reached,
+            until,
+            self.progress,
+            &mut self.starts,
+        )?;
+        self.progress = progress;
+        self.reached = until;
+        Ok(())
+    }
+
     /// Runs the port up to, and without, an instant, and appends what it starts on the way, in order. Where the
     /// instant isn't after the port's now, nothing changes. Where a growth is refused, the port and the list are as
     /// they were.
@@ -164,7 +199,7 @@ impl Port {
             return Ok(());
         }
         let kept = self.starts.len();
-        let ran = run(
+        let progress = run_or_stay(
             &self.schedule,
             self.rate,
             self.arrivals.as_slice(),
@@ -172,14 +207,7 @@ impl Port {
             until,
             self.progress,
             &mut self.starts,
-        );
-        let progress = match ran {
-            Ok(progress) => progress,
-            Err(refused) => {
-                self.starts.truncate(kept);
-                return Err(refused);
-            }
-        };
+        )?;
         let made = &self.starts.as_slice()[kept..];
         if let Err(refused) = hand_on(self.arrivals.as_slice(), made, given) {
             self.starts.truncate(kept);

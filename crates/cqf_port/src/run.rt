@@ -42,7 +42,7 @@ fn step(
 
 /// What happens from an instant up to and without another. It answers what the port remembers then. Where a growth
 /// is refused, some starts may have been added.
-pub(crate) fn run(
+fn run(
     schedule: &Schedule,
     rate: Rate,
     arrivals: &[Arrival],
@@ -66,6 +66,35 @@ pub(crate) fn run(
         t = next.0.min(until.0);
     }
     Ok(progress)
+}
+
+/// What happens from an instant up to and without another. It answers what the port remembers then. Where a growth is
+/// refused, no start was added.
+pub(crate) fn run_or_stay(
+    schedule: &Schedule,
+    rate: Rate,
+    arrivals: &[Arrival],
+    reached: Nanos,
+    until: Nanos,
+    before: Progress,
+    starts: &mut Vec<(usize, u64)>,
+) -> Result<Progress, Memory>
+    requires in_order { reached.0 ≤ until.0 }
+    requires early { until.0 < 2 ^ 62 }
+    requires taken { AreTaken arrivals.now }
+    requires abreast { IsAbreast (rules_of schedule.now rate) arrivals.now reached.0 starts.old.items before }
+    ensures more { OnOk result (AreMore starts.old.items starts.new.items reached.0) }
+    ensures ok { IfOk result (IsAbreast (rules_of schedule.now rate) arrivals.now until.0 starts.new.items) }
+    ensures err { OnErr result (starts.new.items ≡ starts.old.items) }
+{
+    let kept = starts.len();
+    match run(schedule, rate, arrivals, reached, until, before, starts) {
+        Ok(progress) => Ok(progress),
+        Err(refused) => {
+            starts.truncate(kept);
+            Err(refused)
+        }
+    }
 }
 
 /// Hands on the starts that were made, behind what its caller has. Where a growth is refused, the caller has what it
