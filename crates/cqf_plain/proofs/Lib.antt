@@ -1,4 +1,5 @@
 mod InOrder
+mod Beside
 mod Numbering
 mod Instants
 mod Said

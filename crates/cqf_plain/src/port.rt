@@ -1,12 +1,12 @@
 //! The port of a link, with what came to it.
-ghost use Rattle.std.specs.Prelude.{◌≡◌, ◌+◌, ◌^◌, ◌<◌, ◌≤◌, IfOk, MatchOption, OnOk, length, map, slice_index_or};
+ghost use Rattle.std.specs.Prelude.{◌≡◌, ◌+◌, ◌^◌, ◌<◌, ◌≤◌, IfOk, MatchOption, OnOk, length, slice_index_or};
 ghost use Rattle.cqf_model.specs.Network.{no_frame};
 ghost use Rattle.cqf_port.specs.PortState.{IsLate, IsOutOfOrder};
-ghost use Rattle.cqf_plain.specs.Frames.{queued_of};
+ghost use Rattle.cqf_plain.specs.Frames.{AreBeside, queued_across, queued_of};
 ghost use Rattle.cqf_plain.specs.Ports.{IsLegalUpTo, IsSaid, LinkPort, RunsOn, StartsNever, StartsNextAt, new_port, state_of, with_frame};
 
 use cqf_compile::Plan;
-use cqf_model::{Arrival, Start};
+use cqf_model::Arrival;
 use cqf_port::{Port, PortFault};
 use cqf_units::{Memory, Nanos};
 use std::alloc::{AllocError, Global};
@@ -24,17 +24,13 @@ pub(crate) struct Queued {
 pub(crate) struct EgressPort {
     link: u8,
     port: Port,
-    /// All that came to it, in order.
-    queued: Vec<Queued>,
-    /// What the last call of `run_to` started.
-    given: Vec<Start>,
+    /// By arrival of the port, the number of its stream; none for a background frame.
+    streams: Vec<Option<u32>>,
 }
 
 impl Model for EgressPort {
-    ghost use Rattle.std.specs.Prelude.{◌≡◌, map};
-    ghost use Rattle.cqf_model.specs.Network.{arrivals_of};
     ghost use Rattle.cqf_plain.specs.Ports.{LinkPort};
-    ghost use Rattle.cqf_plain.specs.Frames.{queued_of};
+    ghost use Rattle.cqf_plain.specs.Frames.{AreBeside, queued_across};
 
     ghost Value = { LinkPort };
 
@@ -42,11 +38,11 @@ impl Model for EgressPort {
       link = p.link;
       rules = p.port.rules;
       reached = p.port.reached;
-      queued = map queued_of p.queued.items;
+      queued = queued_across p.port.arrivals p.streams.items;
       starts = p.port.starts;
     } };
 
-    ghost invariant = { λ p. arrivals_of (map queued_of p.queued.items) ≡ p.port.arrivals };
+    ghost invariant = { λ p. AreBeside p.port.arrivals p.streams.items };
 }
 
 impl EgressPort {
@@ -62,8 +58,7 @@ impl EgressPort {
                 plan.list(link).copied(),
                 plan.domain().link(link).rate,
             ),
-            queued: Vec::new(alloc),
-            given: Vec::new(alloc),
+            streams: Vec::new(alloc),
         }
     }
 
@@ -75,14 +70,14 @@ impl EgressPort {
         requires in_order { ¬ IsOutOfOrder (state_of self.old) arrival }
         ensures { OnOk result (self.new ≡ with_frame self.old (record { arrival = arrival; stream = stream })) }
     {
-        self.queued.reserve(1)?;
+        self.streams.reserve(1)?;
         match self.port.offer(arrival) {
             Ok(()) => {}
             Err(PortFault::Memory) => return Err(AllocError),
             Err(PortFault::Late) => unreachable!(),
             Err(PortFault::OutOfOrder) => unreachable!(),
         }
-        self.queued.push(Queued { arrival, stream }).unwrap();
+        self.streams.push(stream).unwrap();
         Ok(())
     }
 
@@ -100,8 +95,7 @@ impl EgressPort {
         requires { until.0 < 2 ^ 62 }
         ensures { OnOk result (RunsOn until.0 self.old self.new) }
     {
-        self.given.clear();
-        self.port.advance(until, &mut self.given)
+        self.port.run_to(until)
     }
 
     /// How many frames it has started.
@@ -117,17 +111,32 @@ impl EgressPort {
         ensures { IsSaid self.now place result.0 result.1.0 }
     {
         let _now = self.port.now();
-        start_at(self.queued.as_slice(), self.port.starts(), place)
+        start_at(
+            self.port.arrivals(),
+            self.streams.as_slice(),
+            self.port.starts(),
+            place,
+        )
     }
 }
 
 /// The frame and the instant of the start at a place.
-fn start_at(queued: &[Queued], starts: &[(usize, u64)], place: usize) -> (Queued, Nanos)
+fn start_at(
+    arrivals: &[Arrival],
+    streams: &[Option<u32>],
+    starts: &[(usize, u64)],
+    place: usize,
+) -> (Queued, Nanos)
     requires below { place < length starts.now }
-    requires inside { (slice_index_or starts.now place (0, 0)).0 < length queued.now }
-    ensures frame { slice_index_or (map queued_of queued.now) (slice_index_or starts.now place (0, 0)).0 no_frame ≡ queued_of result.0 }
+    requires inside { (slice_index_or starts.now place (0, 0)).0 < length arrivals.now }
+    requires beside { AreBeside arrivals.now streams.now }
+    ensures frame { slice_index_or (queued_across arrivals.now streams.now) (slice_index_or starts.now place (0, 0)).0 no_frame ≡ queued_of result.0 }
     ensures instant { (slice_index_or starts.now place (0, 0)).1 ≡ result.1.0 }
 {
-    let (arrival, instant) = starts[place];
-    (queued[arrival], Nanos(instant))
+    let (started, instant) = starts[place];
+    let frame = Queued {
+        arrival: arrivals[started],
+        stream: streams[started],
+    };
+    (frame, Nanos(instant))
 }
