@@ -7,9 +7,9 @@ ghost use Rattle.cqf_plain.specs.Ports.{IsLegalUpTo, IsSaid, LinkPort, RunsOn, S
 
 use cqf_compile::Plan;
 use cqf_model::Arrival;
-use cqf_port::{Port, PortFault};
+use cqf_port::Port;
 use cqf_units::{Memory, Nanos};
-use std::alloc::{AllocError, Global};
+use std::alloc::Global;
 use std::marker::Model;
 
 /// A frame that waits at a port, with the number of its stream; none for a background frame.
@@ -71,12 +71,7 @@ impl EgressPort {
         ensures { OnOk result (self.new ≡ with_frame self.old (record { arrival = arrival; stream = stream })) }
     {
         self.streams.reserve(1)?;
-        match self.port.offer(arrival) {
-            Ok(()) => {}
-            Err(PortFault::Memory) => return Err(AllocError),
-            Err(PortFault::Late) => unreachable!(),
-            Err(PortFault::OutOfOrder) => unreachable!(),
-        }
+        self.port.take(arrival)?;
         self.streams.push(stream).unwrap();
         Ok(())
     }

@@ -10,7 +10,7 @@ use Rattle.cqf_model.specs.declared.ports.Arrival.{Arrival}
 use Rattle.cqf_model.specs.declared.ports.Start.{Start}
 use Rattle.cqf_model.specs.Port.{Transmission, PortRules, AreLegal, no_arrival, instant_of, class_of}
 use Rattle.cqf_laws_port.specs.PortLaws.{LegalStartsAreUnique}
-use Rattle.cqf_port.specs.PortState.{PortState, AreTaken, IsPort, IsLast, WasOpen, Advances, RunsUpTo, start_of}
+use Rattle.cqf_port.specs.PortState.{PortState, AreTaken, IsPort, IsLast, IsOutOfOrder, WasOpen, Advances, RunsUpTo, start_of}
 use Rattle.cqf_port.specs.Progress.{IsNewest, AreNewest, IsAfterArrival, IsKept, AreMore}
 use Rattle.cqf_port.specs.declared.progress.Progress.{Progress}
 use Rattle.cqf_port.proofs.Longer.{same_arrival, last_arrival, arrival_after}
@@ -112,6 +112,17 @@ module _ (arrivals : List Arrival) (arrival : Arrival) where
           | inr differs ↦ subst (λ (t : Nanos). IsNewest (arrivals ++ arrival ∷ []) class t.0) (sym (get_or-set_other newest arrival.class class arrival.at zero_at differs)) (newest_other class (get_or newest class zero_at).0 differs (before.each class low_class))
         ];
       }
+
+-- where an arrival isn't out of order, the last one of its class came no later
+pub newest_before : (p : PortState) (newest : List Nanos) (arrival : Arrival) → AreNewest p.arrivals newest → arrival.class < 8 → ¬ IsOutOfOrder p arrival →
+    (get_or newest arrival.class (record { 0 = 0 })).0 ≤ arrival.at.0
+newest_before p newest arrival by_class low in_order =
+    let t = (get_or newest arrival.class (record { 0 = 0 })).0 in
+    elim (cases_lt arrival.at.0 t) [
+      | inl earlier ↦ (let last = (by_class.each arrival.class low).of_last (omega (arith, earlier)) in
+          absurd (in_order (record { place = last.0; last = last.1; earlier = omega (arith, earlier, last.2) })))
+      | inr later ↦ later
+    ]
 
 -- an arrival that is neither late nor out of order
 pub kept_offer : (rules : PortRules) (arrivals : List Arrival) (reached : ℕ) (starts : List Transmission) (before after : Progress) (newest : List Nanos) (arrival : Arrival) → IsKept rules arrivals reached starts before newest → arrival.class < 8 → arrival.at.0 < 2 ^ 62 → ¬ WasOpen rules.entries arrival.class arrival.at.0 reached → (get_or newest arrival.class (record { 0 = 0 })).0 ≤ arrival.at.0 → IsAfterArrival (length arrivals) arrival.class before after → IsKept rules (arrivals ++ arrival ∷ []) reached starts after (set newest arrival.class arrival.at)

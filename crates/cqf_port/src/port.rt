@@ -13,7 +13,7 @@ use cqf_gates::TxList;
 use cqf_laws_port::legal_starts_are_unique;
 use cqf_model::{Arrival, Start};
 use cqf_units::{Memory, Nanos, Rate};
-use std::alloc::Global;
+use std::alloc::{AllocError, Global};
 use std::marker::Model;
 
 /// Why a port takes no arrival. The port is then as it was.
@@ -142,13 +142,30 @@ impl Port {
         if was_open(&self.schedule, arrival.class, arrival.at, self.reached) {
             return Err(PortFault::Late);
         }
-        let class = usize::from(arrival.class);
-        if arrival.at < self.newest[class] {
+        if arrival.at < self.newest[usize::from(arrival.class)] {
             return Err(PortFault::OutOfOrder);
         }
+        match self.take(arrival) {
+            Ok(()) => Ok(()),
+            Err(_) => Err(PortFault::Memory),
+        }
+    }
+
+    /// Takes an arrival of a class from 0 to 7 of which it is known that [`Port::offer`] finds it neither late nor out of
+    /// order, and tests neither. Where a growth is refused, the port is as it was.
+    pub fn take(&mut self, arrival: Arrival) -> Result<(), Memory>
+        requires gate { arrival.class < 8 }
+        requires early { arrival.at.0 < 2 ^ 62 }
+        requires in_time { ¬ IsLate self.old arrival }
+        requires in_order { ¬ IsOutOfOrder self.old arrival }
+        ensures ok { OnOk result (self.new ≡ record self.old { arrivals = self.old.arrivals ++ arrival ∷ [] }) }
+        ensures err { OnErr result (self.new ≡ self.old) }
+        ensures facts { IsPort self.new }
+    {
+        let class = usize::from(arrival.class);
         let place = self.arrivals.len();
         if self.arrivals.push(arrival).is_err() {
-            return Err(PortFault::Memory);
+            return Err(AllocError);
         }
         self.newest[class] = arrival.at;
         self.progress = after_arrival(place, arrival.class, self.progress);
