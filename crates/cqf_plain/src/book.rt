@@ -79,6 +79,27 @@ fn tell_all(
     Ok(())
 }
 
+/// Counts what a port has started: adds how many starts are of streams' frames, and how many of background frames.
+fn count_port(port: &EgressPort, counts: (usize, usize)) -> (usize, usize) {
+    let (mut starts, mut background) = counts;
+    for place in 0..port.count() {
+        match port.start(place).0.stream {
+            Some(_) => starts = starts.saturating_add(1),
+            None => background = background.saturating_add(1),
+        }
+    }
+    (starts, background)
+}
+
+/// How much room the lists of all that ports have started take: the starts of streams' frames, and of background frames.
+fn room_for(ports: &[EgressPort]) -> (usize, usize) {
+    let mut counts = (0, 0);
+    for port in ports {
+        counts = count_port(port, counts);
+    }
+    counts
+}
+
 /// The starts of streams' frames, and of background frames, each by cycle, then link, then instant.
 pub(crate) fn told_starts(
     alloc: Global,
@@ -91,8 +112,9 @@ pub(crate) fn told_starts(
     ensures { IfOk result (λ lists. (d : Domain) (cycles : ℕ) → d.cycle_time ≡ cycle_time.0 → AreOf d cycles ports.items
         → TellsBook d cycles ports.items lists.0.items lists.1.items) }
 {
-    let mut starts = Vec::new(alloc);
-    let mut background = Vec::new(alloc);
+    let (of_streams, of_background) = room_for(ports.as_slice());
+    let mut starts = Vec::with_capacity(alloc, of_streams)?;
+    let mut background = Vec::with_capacity(alloc, of_background)?;
     tell_all(ports, cycle_time, &mut starts, &mut background)?;
     starts.sort_by_key(|start| start.cycle.0)?;
     background.sort_by_key(|start| start.cycle.0)?;
