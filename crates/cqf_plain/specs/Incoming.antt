@@ -1,12 +1,18 @@
 -- What comes to a bridge in a cycle, as it is gathered from the ports.
 use Rattle.std.specs.Prelude.{ℕ, ◌≡◌, ◌*◌, ◌<◌, ◌≤◌, ◌++◌, Contains, List, length, map, slice_index_or}
 use Rattle.std.specs.List.{flat_map}
+use Rattle.arrayvec.specs.ArrayVec.{ArrayVec}
 use Rattle.cqf_model.specs.declared.frames.Offered.{Offered}
 use Rattle.cqf_model.specs.Domain.{Domain}
 use Rattle.cqf_model.specs.Traffic.{Carried, Received, offer_received, sent_received}
 use Rattle.cqf_bridge.specs.Receiving.{links_into}
 use Rattle.cqf_plain.specs.Ports.{LinkPort, port_at}
 use Rattle.cqf_plain.specs.Sending.{sent_from}
+
+-- by bridge, the links that end in the first bridges
+pub record AreLinksInto (d : Domain) (bridges : ℕ) (links : List (ArrayVec ℕ)) : Type 0 where
+  pub one_each : length links ≡ bridges
+  pub each : (bridge : ℕ) (e : ArrayVec ℕ) → bridge < bridges → (slice_index_or links bridge e).items ≡ links_into d bridge
 
 -- what each port has sent since so many starts of it were counted
 abbrev pub sent_since : List LinkPort → List ℕ → Carried

@@ -1,5 +1,5 @@
 //! One bridge takes a cycle: what came to it by its links and what is offered there is policed, and what passes goes on.
-ghost use Rattle.std.specs.Prelude.{◌≡◌, ◌+◌, ◌++◌, ◌<◌, ℕ, [], Contains, List, IfErr, OnOk, map};
+ghost use Rattle.std.specs.Prelude.{◌≡◌, ◌+◌, ◌++◌, ◌<◌, ℕ, [], Contains, List, IfErr, OnOk, filter, map};
 ghost use Rattle.std.specs.List.Sorted.{IsNonDecreasingBy};
 ghost use Rattle.cqf_model.specs.declared.topology.Row.{Row as ARow};
 ghost use Rattle.cqf_model.specs.Book.{drop_by};
@@ -9,6 +9,8 @@ ghost use Rattle.cqf_model.specs.Table.{table_of};
 ghost use Rattle.cqf_model.specs.Traffic.{DroppedFor, Policed, Queued, Received, police, police_all};
 ghost use Rattle.cqf_bridge.specs.Gates.{AreKept, HaveCounted};
 ghost use Rattle.cqf_bridge.specs.Taking.{HasClass, class_in, received_as, verdict_as};
+ghost use Rattle.cqf_bridge.specs.Receiving.{links_into};
+ghost use Rattle.cqf_plain.specs.Edge.{is_at};
 ghost use Rattle.cqf_plain.specs.AtBridge.{IsPartOf, IsStopAt, TakesAt};
 ghost use Rattle.cqf_plain.specs.Ports.{LinkPort};
 ghost use Rattle.cqf_plain.specs.TakingFrames.{GoesBy, IsCarriedOut, IsStopAmong, IsStopBy, ListsByFrame, TakesAll, TakesNext};
@@ -168,28 +170,32 @@ fn list_drops(here: &mut Vec<Dropped>, drops: &mut Vec<Dropped>) -> Result<(), M
     Ok(())
 }
 
-/// The bridge takes a cycle that the ports have sent: the frames that came to it by its links since the cycle began, each port
-/// having started so many frames before it, and the offers. What passes is put behind `passed`, and what is dropped behind
-/// `drops`. It answers `Inside` for a frame that is lost, and else `Memory` where a growth is refused.
+/// The bridge takes a cycle that the ports have sent: the frames that came to it by the links into it since the cycle began, each
+/// port having started so many frames before it, and those of the offers that are at it. What passes is put behind `passed`,
+/// and what is dropped behind `drops`; `frames` lists what came, in place of what it listed before. It answers `Inside` for a frame that is lost, and else `Memory` where a growth is refused.
 pub(crate) fn take_at_bridge(
     alloc: Global,
     domain: &Domain,
     number: u8,
     cycle: u32,
     table: &Table,
+    links: &[u8],
     ports: &[EgressPort],
     counts: &[usize],
     offers: &[Offered],
+    frames: &mut Vec<Incoming>,
     passed: &mut Vec<Passed>,
     drops: &mut Vec<Dropped>,
 ) -> Result<(), RunFault>
     requires early { cycle < 100000 }
-    requires part { (run : Run) × (before : List LinkPort) × IsPartOf domain.now number cycle table.now.rows ports.now counts.now offers.now run before }
+    requires links { links.now ≡ links_into domain.now number }
+    requires part { (run : Run) × (before : List LinkPort)
+        × IsPartOf domain.now number cycle table.now.rows ports.now counts.now (filter (is_at number) offers.now) run before }
     ensures takes { OnOk result ((run : Run) (before : List LinkPort) →
-        IsPartOf domain.now number cycle table.now.rows ports.now counts.now offers.now run before →
+        IsPartOf domain.now number cycle table.now.rows ports.now counts.now (filter (is_at number) offers.now) run before →
         TakesAt run number cycle ports.now passed.old.items passed.new.items drops.old.items drops.new.items) }
     ensures stops { IfErr result (λ fault. (run : Run) (before : List LinkPort) →
-        IsPartOf domain.now number cycle table.now.rows ports.now counts.now offers.now run before → IsStopAt run number cycle ports.now fault) }
+        IsPartOf domain.now number cycle table.now.rows ports.now counts.now (filter (is_at number) offers.now) run before → IsStopAt run number cycle ports.now fault) }
 {
     run_laws();
     gate_counts_cycles();
@@ -197,10 +203,10 @@ pub(crate) fn take_at_bridge(
     drops_are_of_the_cycle();
     frames_are_taken_in_order();
     let _time = domain.cycle_time();
-    let frames = match incoming(alloc, domain, number, ports, counts, offers) {
-        Ok(frames) => frames,
+    match incoming(domain, number, links, ports, counts, offers, frames) {
+        Ok(()) => {}
         Err(_) => return Err(RunFault::Memory),
-    };
+    }
     let mut here = Vec::new(alloc);
     match take_frames(
         alloc,

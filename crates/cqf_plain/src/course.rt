@@ -4,6 +4,7 @@ ghost use Rattle.std.specs.List.Sorted.{IsNonDecreasingBy};
 ghost use Rattle.cqf_model.specs.Run.{Run};
 ghost use Rattle.cqf_plain.specs.Edge.{offered_when};
 ghost use Rattle.cqf_plain.specs.Going.{GoesByAll, IsNew, IsNext, IsNow, IsStopOf};
+ghost use Rattle.cqf_plain.specs.Incoming.{AreLinksInto};
 ghost use Rattle.cqf_plain.specs.Quiet.{IsQuiet};
 ghost use Rattle.cqf_plain.specs.Sending.{IsCut, at_of};
 
@@ -11,11 +12,13 @@ use crate::RunFault;
 use crate::clock::Clock;
 use crate::cycle::take_cycle;
 use crate::edge::cut_offers;
+use crate::incoming::links_by_bridge;
 use crate::laws::run_laws;
 use crate::port::EgressPort;
 use crate::relay::counted;
 use crate::steps::new_ports;
 use crate::transmit::{cut, send_cycle, start_of};
+use arrayvec::ArrayVec;
 use cqf_admission::Table;
 use cqf_compile::Plan;
 use cqf_model::{Backed, Dropped, Offered};
@@ -69,6 +72,7 @@ fn go_through(
     alloc: Global,
     domain: &Domain,
     table: &Table,
+    links: &[ArrayVec<u8, 64>],
     frames: &[Backed],
     offers: &[Offered],
     to: usize,
@@ -76,6 +80,7 @@ fn go_through(
     course: &mut Course,
 ) -> Result<(), RunFault>
     requires early { cycle < 100000 }
+    requires links { AreLinksInto domain.now (length domain.now.bridges) links.now }
     requires told { length course.old.clock.told.items ≡ length course.old.ports.items }
     requires behind { course.old.next_offer ≤ to }
     requires cut { IsCut offered_when ((cycle + 1) * domain.now.cycle_time) offers.now to }
@@ -110,6 +115,7 @@ fn go_through(
         domain,
         cycle,
         table,
+        links,
         &mut course.ports,
         &mut course.clock,
         counts.as_slice(),
@@ -129,12 +135,14 @@ pub(crate) fn go_on(
     alloc: Global,
     domain: &Domain,
     table: &Table,
+    links: &[ArrayVec<u8, 64>],
     frames: &[Backed],
     offers: &[Offered],
     cycle: u32,
     course: &mut Course,
 ) -> Result<(), RunFault>
     requires early { cycle < 100000 }
+    requires links { AreLinksInto domain.now (length domain.now.bridges) links.now }
     requires told { length course.old.clock.told.items ≡ length course.old.ports.items }
     requires part { (run : Run) × IsNext domain.now cycle table.now.rows frames.now course.old.next_frame offers.now course.old.next_offer
         course.old.ports.items course.old.clock.due course.old.drops.items run }
@@ -155,7 +163,9 @@ pub(crate) fn go_on(
     if to == course.next_offer && is_quiet(&course.clock, frames, course.next_frame, start, end) {
         return Ok(());
     }
-    go_through(alloc, domain, table, frames, offers, to, cycle, course)
+    go_through(
+        alloc, domain, table, links, frames, offers, to, cycle, course,
+    )
 }
 
 /// The run goes on by all cycles, each by its table.
@@ -179,11 +189,15 @@ pub(crate) fn go_all(
         IsNow run 0 frames.now course.old.next_frame offers.now course.old.next_offer course.old.ports.items course.old.clock.due course.old.drops.items →
         IsStopOf run fault) }
 {
+    let Ok(links) = links_by_bridge(alloc, domain) else {
+        return Err(RunFault::Memory);
+    };
     for place in 0..tables.len() {
         match go_on(
             alloc,
             domain,
             &tables[place],
+            links.as_slice(),
             frames,
             offers,
             place as u32,

@@ -4,15 +4,16 @@ ghost use Rattle.cqf_model.specs.Run.{Run};
 ghost use Rattle.cqf_plain.specs.Clock.{AreWatched};
 ghost use Rattle.cqf_plain.specs.Cycle.{TakesCycle};
 ghost use Rattle.cqf_plain.specs.Going.{IsCycleOf, IsStopOf, TakesFirst};
+ghost use Rattle.cqf_plain.specs.Incoming.{AreLinksInto};
 ghost use Rattle.cqf_plain.specs.Ports.{LinkPort};
 
 use crate::RunFault;
 use crate::at_bridge::take_at_bridge;
 use crate::clock::Clock;
-use crate::edge::offers_at;
 use crate::laws::run_laws;
 use crate::passing::{Passed, queue_passed};
 use crate::port::EgressPort;
+use arrayvec::ArrayVec;
 use cqf_admission::Table;
 use cqf_model::{Dropped, Offered};
 use cqf_topology::Domain;
@@ -24,6 +25,7 @@ fn take_bridges(
     domain: &Domain,
     cycle: u32,
     table: &Table,
+    links: &[ArrayVec<u8, 64>],
     ports: &[EgressPort],
     counts: &[usize],
     offers: &[Offered],
@@ -31,6 +33,7 @@ fn take_bridges(
     drops: &mut Vec<Dropped>,
 ) -> Result<(), RunFault>
     requires early { cycle < 100000 }
+    requires links { AreLinksInto domain.now (length domain.now.bridges) links.now }
     requires part { (run : Run) × (before : List LinkPort) × IsCycleOf domain.now cycle table.now.rows ports.now counts.now offers.now run before }
     requires none { passed.old.items ≡ [] }
     ensures takes { OnOk result ((run : Run) (before : List LinkPort) →
@@ -40,19 +43,20 @@ fn take_bridges(
         IsCycleOf domain.now cycle table.now.rows ports.now counts.now offers.now run before → IsStopOf run fault) }
 {
     run_laws();
+    let mut frames = Vec::new(alloc);
     for number in 0..domain.bridges() {
-        let Ok(here) = offers_at(alloc, offers, number) else {
-            return Err(RunFault::Memory);
-        };
+        let place = usize::from(number);
         match take_at_bridge(
             alloc,
             domain,
             number,
             cycle,
             table,
+            links[place].as_slice(),
             ports,
             counts,
-            here.as_slice(),
+            offers,
+            &mut frames,
             passed,
             drops,
         ) {
@@ -69,6 +73,7 @@ pub(crate) fn take_cycle(
     domain: &Domain,
     cycle: u32,
     table: &Table,
+    links: &[ArrayVec<u8, 64>],
     ports: &mut Vec<EgressPort>,
     clock: &mut Clock,
     counts: &[usize],
@@ -76,6 +81,7 @@ pub(crate) fn take_cycle(
     drops: &mut Vec<Dropped>,
 ) -> Result<(), RunFault>
     requires early { cycle < 100000 }
+    requires links { AreLinksInto domain.now (length domain.now.bridges) links.now }
     requires told { length clock.old.told.items ≡ length ports.old.items }
     requires watched { AreWatched clock.old.due ports.old.items }
     requires part { (run : Run) × (before : List LinkPort) × IsCycleOf domain.now cycle table.now.rows ports.old.items counts.now offers.now run before }
@@ -93,6 +99,7 @@ pub(crate) fn take_cycle(
         domain,
         cycle,
         table,
+        links,
         ports.as_slice(),
         counts,
         offers,

@@ -1,9 +1,9 @@
 //! What is offered at the bridges, in order of instant.
-ghost use Rattle.std.specs.Prelude.{◌≡◌, ◌+◌, ◌^◌, ◌<◌, ◌≤◌, IfOk, filter, length};
+ghost use Rattle.std.specs.Prelude.{◌≡◌, ◌+◌, ◌^◌, ◌<◌, ◌≤◌, IfOk, length};
 ghost use Rattle.std.specs.List.Sorted.{IsNonDecreasingBy};
 ghost use Rattle.cqf_model.specs.Traffic.{numbered};
 ghost use Rattle.cqf_laws_pages.specs.Gathered.{IsInOrderOf};
-ghost use Rattle.cqf_plain.specs.Edge.{is_at, offered_when};
+ghost use Rattle.cqf_plain.specs.Edge.{offered_when};
 ghost use Rattle.cqf_plain.specs.Sending.{IsCut};
 
 use cqf_model::{Offer, Offered};
@@ -60,21 +60,4 @@ pub(crate) fn cut_offers(offers: &[Offered], from: usize, start: Nanos, end: Nan
         place += 1;
     }
     place
-}
-
-/// Of offers those at a bridge, as they stand.
-pub(crate) fn offers_at(
-    alloc: Global,
-    offers: &[Offered],
-    bridge: u8,
-) -> Result<Vec<Offered>, Memory>
-    ensures { IfOk result (λ list. list.items ≡ filter (is_at bridge) offers.now) }
-{
-    let mut list = Vec::new(alloc);
-    for offered in offers {
-        if offered.offer.bridge == bridge {
-            list.push(with_number(offered.frame, &offered.offer))?;
-        }
-    }
-    Ok(list)
 }

@@ -1,17 +1,19 @@
 //! What comes to a bridge in a cycle: what the ports of the links into it have started since the cycle began, and what is
 //! offered.
-ghost use Rattle.std.specs.Prelude.{◌≡◌, ◌*◌, ◌<◌, ◌≤◌, ◌++◌, ℕ, Contains, IfOk, OnOk, length, map};
+ghost use Rattle.std.specs.Prelude.{◌≡◌, ◌*◌, ◌<◌, ◌≤◌, ◌++◌, ◌∷◌, ℕ, [], Contains, IfOk, OnOk, filter, length, map};
 ghost use Rattle.std.specs.List.{flat_map};
 ghost use Rattle.cqf_model.specs.Network.{sent_by};
-ghost use Rattle.cqf_model.specs.Traffic.{Received, sent_received};
+ghost use Rattle.cqf_model.specs.Traffic.{Received, offer_received, sent_received};
 ghost use Rattle.cqf_laws_pages.specs.Gathered.{IsInOrderOf};
 ghost use Rattle.cqf_bridge.specs.Receiving.{links_into};
 ghost use Rattle.cqf_bridge.specs.Taking.{received_as};
-ghost use Rattle.cqf_plain.specs.Incoming.{CanGather, brought_by, comes_by, sent_since};
+ghost use Rattle.cqf_plain.specs.Edge.{is_at};
+ghost use Rattle.cqf_plain.specs.Incoming.{AreLinksInto, CanGather, brought_by, comes_by, sent_since};
 ghost use Rattle.cqf_plain.specs.Sending.{sent_from};
 
 use crate::port::{EgressPort, Queued};
-use cqf_bridge::{Incoming, bring_in_order, gather_offers, incoming_links};
+use arrayvec::ArrayVec;
+use cqf_bridge::{Incoming, bring_in_order, incoming_links};
 use cqf_model::{Offered, Sent};
 use cqf_topology::Domain;
 use cqf_units::{Memory, Nanos};
@@ -80,42 +82,85 @@ fn gather_link(
     Ok(())
 }
 
-/// What the ports of some links have started since they were counted.
+/// Gathers what the ports of some links have started since they were counted.
 fn gather_links(
-    alloc: Global,
     domain: &Domain,
     links: &[u8],
     ports: &[EgressPort],
     counts: &[usize],
-) -> Result<Vec<Incoming>, Memory>
+    frames: &mut Vec<Incoming>,
+) -> Result<(), Memory>
     requires inside { (l : ℕ) → Contains links.now l → l < length domain.now.links }
     requires ports { CanGather domain.now ports.now counts.now }
-    ensures { IfOk result (λ frames. map received_as frames.items ≡ flat_map (brought_by domain.now (sent_since ports.now counts.now)) links.now) }
+    requires none { frames.old.items ≡ [] }
+    ensures { OnOk result (map received_as frames.new.items ≡ flat_map (brought_by domain.now (sent_since ports.now counts.now)) links.now) }
 {
-    let mut frames = Vec::new(alloc);
     for link in links {
-        gather_link(domain, *link, ports, counts, &mut frames)?;
+        gather_link(domain, *link, ports, counts, frames)?;
     }
-    Ok(frames)
+    Ok(())
+}
+
+/// Puts an offer behind what comes, where it is at the bridge.
+fn gather_offer(bridge: u8, offered: &Offered, frames: &mut Vec<Incoming>) -> Result<(), Memory>
+    ensures { OnOk result (map received_as frames.new.items
+        ≡ map received_as frames.old.items ++ map offer_received (filter (is_at bridge) (offered.now ∷ []))) }
+{
+    if offered.offer.bridge == bridge {
+        frames.push(Incoming::at_edge(offered))?;
+    }
+    Ok(())
+}
+
+/// Puts those of some offers that are at the bridge behind what comes, as they are listed.
+fn gather_offers_at(
+    bridge: u8,
+    offers: &[Offered],
+    frames: &mut Vec<Incoming>,
+) -> Result<(), Memory>
+    ensures { OnOk result (map received_as frames.new.items
+        ≡ map received_as frames.old.items ++ map offer_received (filter (is_at bridge) offers.now)) }
+{
+    for offered in offers {
+        gather_offer(bridge, offered, frames)?;
+    }
+    Ok(())
+}
+
+/// By bridge, the links that end in it.
+pub(crate) fn links_by_bridge(
+    alloc: Global,
+    domain: &Domain,
+) -> Result<Vec<ArrayVec<u8, 64>>, Memory>
+    ensures { IfOk result (λ links. AreLinksInto domain.now (length domain.now.bridges) links.items) }
+{
+    let mut links = Vec::with_capacity(alloc, usize::from(domain.bridges()))?;
+    for number in 0..domain.bridges() {
+        links.push(incoming_links(domain, number))?;
+    }
+    Ok(links)
 }
 
 /// What comes to a bridge in a cycle, in the order in which it takes it: what the ports of the links into it have started since
-/// they were counted, by instant, then by link, and the offers last.
+/// they were counted, by instant, then by link, and those of the cycle's offers last that are at the bridge. It takes the place
+/// of what was listed before.
 pub(crate) fn incoming(
-    alloc: Global,
     domain: &Domain,
     number: u8,
+    links: &[u8],
     ports: &[EgressPort],
     counts: &[usize],
     offers: &[Offered],
-) -> Result<Vec<Incoming>, Memory>
-    requires { CanGather domain.now ports.now counts.now }
-    ensures { IfOk result (λ frames. IsInOrderOf (λ (x : Received). x.at)
-        (comes_by domain.now number (sent_since ports.now counts.now) offers.now) (map received_as frames.items)) }
+    frames: &mut Vec<Incoming>,
+) -> Result<(), Memory>
+    requires ports { CanGather domain.now ports.now counts.now }
+    requires links { links.now ≡ links_into domain.now number }
+    ensures { OnOk result (IsInOrderOf (λ (x : Received). x.at)
+        (comes_by domain.now number (sent_since ports.now counts.now) (filter (is_at number) offers.now)) (map received_as frames.new.items)) }
 {
-    let links = incoming_links(domain, number);
-    let mut frames = gather_links(alloc, domain, links.as_slice(), ports, counts)?;
-    gather_offers(offers, &mut frames)?;
-    bring_in_order(&mut frames)?;
-    Ok(frames)
+    frames.clear();
+    gather_links(domain, links, ports, counts, frames)?;
+    gather_offers_at(number, offers, frames)?;
+    bring_in_order(frames)?;
+    Ok(())
 }

@@ -1,58 +1,59 @@
-use Rattle.std.proofs.Common.{◌<◌, List, arith, map, subst, sym}
+use Rattle.std.proofs.Common.{◌<◌, List, arith, filter, map, subst, sym}
 use Rattle.cqf_model.specs.Traffic.{Received}
 use Rattle.cqf_laws_pages.specs.Gathered.{IsInOrderOf}
 use Rattle.cqf_bridge.specs.declared.gathering.Incoming.{Incoming}
 use Rattle.cqf_bridge.specs.Taking.{received_as}
+use Rattle.cqf_plain.specs.Edge.{is_at}
 use Rattle.cqf_plain.specs.Incoming.{comes_by, sent_since}
 use Rattle.cqf_plain.proofs.OneBridge.{earlier, may_gather, nothing_counted, sorted_in_cycle, stops_at_bridge, taken_at_bridge}
 use Rattle.cqf_plain.proofs.at_bridge.take_at_bridge.Goals as goal
 
-pub incoming-requires : goal.incoming-requires
-incoming-requires c =
+pub incoming-requires-clause-ports : goal.incoming-requires-clause-ports
+incoming-requires-clause-ports c =
     let p = c.requires.part in
-    may_gather c.args.domain.now c.args.number c.args.cycle c.args.table.now.rows c.args.ports.now c.args.counts.now c.args.offers.now p.0 p.1 p.2 c.requires.early
+    may_gather c.args.domain.now c.args.number c.args.cycle c.args.table.now.rows c.args.ports.now c.args.counts.now (filter (is_at c.args.number) c.args.offers.now) p.0 p.1 p.2 c.requires.early
 
 pub take_frames-requires-clause-in_cycle : goal.take_frames-requires-clause-in_cycle
 take_frames-requires-clause-in_cycle c =
     let p = c.requires.part in
     let order = subst (λ (xs : List Incoming). IsInOrderOf (λ (x : Received). x.at)
-    (comes_by c.args.domain.now c.args.number (sent_since c.args.ports.now c.args.counts.now) c.args.offers.now) (map received_as xs))
+    (comes_by c.args.domain.now c.args.number (sent_since c.args.ports.now c.args.counts.now) (filter (is_at c.args.number) c.args.offers.now)) (map received_as xs))
     (sym c.as_slice.ensures.value) c.in-Ok.ensures in
-    sorted_in_cycle c.args.domain.now c.args.number c.args.cycle c.args.table.now.rows c.args.ports.now c.args.counts.now c.args.offers.now p.0 p.1 p.2
+    sorted_in_cycle c.args.domain.now c.args.number c.args.cycle c.args.table.now.rows c.args.ports.now c.args.counts.now (filter (is_at c.args.number) c.args.offers.now) p.0 p.1 p.2
     c.run_laws.ensures c.frames_are_taken_in_order.ensures.taken c.cycle_brings_its_batches.ensures.whole
     (omega (arith, c.cycle_time-time.ensures.accepted.cycle_least)) (map received_as c.as_slice.result.now) order
 
 pub returns-in-Err-take_frames-clause-stops : goal.returns-in-Err-take_frames-clause-stops
 returns-in-Err-take_frames-clause-stops c = λ run before part.
     let order = subst (λ (xs : List Incoming). IsInOrderOf (λ (x : Received). x.at)
-    (comes_by c.args.domain.now c.args.number (sent_since c.args.ports.now c.args.counts.now) c.args.offers.now) (map received_as xs))
+    (comes_by c.args.domain.now c.args.number (sent_since c.args.ports.now c.args.counts.now) (filter (is_at c.args.number) c.args.offers.now)) (map received_as xs))
     (sym c.as_slice.ensures.value) c.in-Ok.ensures in
     let some : 0 < c.args.domain.now.cycle_time = omega (arith, c.cycle_time-time.ensures.accepted.cycle_least) in
     let frames = map received_as c.as_slice.result.now in
-    stops_at_bridge c.args.domain.now c.args.number c.args.cycle c.args.table.now.rows c.args.ports.now c.args.counts.now c.args.offers.now run before part
+    stops_at_bridge c.args.domain.now c.args.number c.args.cycle c.args.table.now.rows c.args.ports.now c.args.counts.now (filter (is_at c.args.number) c.args.offers.now) run before part
     c.run_laws.ensures c.frames_are_taken_in_order.ensures.taken c.cycle_brings_its_batches.ensures.whole some frames order c.in-Err-take_frames.fault
     (c.in-Err-take_frames.ensures.stops run.tables
-    (earlier c.args.domain.now c.args.number c.args.cycle c.args.table.now.rows c.args.ports.now c.args.counts.now c.args.offers.now run before part
+    (earlier c.args.domain.now c.args.number c.args.cycle c.args.table.now.rows c.args.ports.now c.args.counts.now (filter (is_at c.args.number) c.args.offers.now) run before part
     c.run_laws.ensures c.frames_are_taken_in_order.ensures.taken c.cycle_brings_its_batches.ensures.whole some frames order)
     part.table
-    (nothing_counted c.args.domain.now c.args.number c.args.cycle c.args.table.now.rows c.args.ports.now c.args.counts.now c.args.offers.now run before part
+    (nothing_counted c.args.domain.now c.args.number c.args.cycle c.args.table.now.rows c.args.ports.now c.args.counts.now (filter (is_at c.args.number) c.args.offers.now) run before part
     c.run_laws.ensures c.frames_are_taken_in_order.ensures.taken c.cycle_brings_its_batches.ensures.whole some frames order c.gate_counts_cycles.ensures))
 
 pub returns-in-Ok-list_drops-clause-takes : goal.returns-in-Ok-list_drops-clause-takes
 returns-in-Ok-list_drops-clause-takes c = λ run before part.
     let order = subst (λ (xs : List Incoming). IsInOrderOf (λ (x : Received). x.at)
-    (comes_by c.args.domain.now c.args.number (sent_since c.args.ports.now c.args.counts.now) c.args.offers.now) (map received_as xs))
+    (comes_by c.args.domain.now c.args.number (sent_since c.args.ports.now c.args.counts.now) (filter (is_at c.args.number) c.args.offers.now)) (map received_as xs))
     (sym c.as_slice.ensures.value) c.in-Ok.ensures in
     let some : 0 < c.args.domain.now.cycle_time = omega (arith, c.cycle_time-time.ensures.accepted.cycle_least) in
     let frames = map received_as c.as_slice.result.now in
-    taken_at_bridge c.args.domain.now c.args.number c.args.cycle c.args.table.now.rows c.args.ports.now c.args.counts.now c.args.offers.now run before part
+    taken_at_bridge c.args.domain.now c.args.number c.args.cycle c.args.table.now.rows c.args.ports.now c.args.counts.now (filter (is_at c.args.number) c.args.offers.now) run before part
     c.run_laws.ensures c.frames_are_taken_in_order.ensures.taken c.cycle_brings_its_batches.ensures.whole some frames order
     c.drops_are_of_the_cycle.ensures.sorted c.args.passed.now.items c.take_frames.new.passed.items _ c.take_frames.new.drops.items c.args.drops.now.items
     c.list_drops.new.drops.items c.new-here.ensures.items
     (c.in-Ok-take_frames.ensures.takes run.tables
-    (earlier c.args.domain.now c.args.number c.args.cycle c.args.table.now.rows c.args.ports.now c.args.counts.now c.args.offers.now run before part
+    (earlier c.args.domain.now c.args.number c.args.cycle c.args.table.now.rows c.args.ports.now c.args.counts.now (filter (is_at c.args.number) c.args.offers.now) run before part
     c.run_laws.ensures c.frames_are_taken_in_order.ensures.taken c.cycle_brings_its_batches.ensures.whole some frames order)
     part.table
-    (nothing_counted c.args.domain.now c.args.number c.args.cycle c.args.table.now.rows c.args.ports.now c.args.counts.now c.args.offers.now run before part
+    (nothing_counted c.args.domain.now c.args.number c.args.cycle c.args.table.now.rows c.args.ports.now c.args.counts.now (filter (is_at c.args.number) c.args.offers.now) run before part
     c.run_laws.ensures c.frames_are_taken_in_order.ensures.taken c.cycle_brings_its_batches.ensures.whole some frames order c.gate_counts_cycles.ensures))
     c.in-Ok-list_drops.ensures

@@ -31,8 +31,8 @@ returns-in-Err-clause-stops c = λ run by at.
 -- or goes on
 pub loop-place-preserved : goal.loop-place-preserved
 loop-place-preserved c = record {
-  told = c.in-Ok.ensures.told;
-  at = λ run by at. c.in-Ok.ensures.goes run
+  told = c.in-Ok-go_on.ensures.told;
+  at = λ run by at. c.in-Ok-go_on.ensures.goes run
       (next_cycle c.args.domain.now c.args.tables.now c.args.frames.now c.args.offers.now run by c.loop-place.place
       c.loop-place.course.next_frame c.loop-place.course.next_offer c.index-tables-place.result c.loop-place.course.ports.items c.loop-place.course.clock.due
       c.loop-place.course.drops.items c.loop-place-test.true c.index-tables-place.is (c.loop-place.invariant.at run by at));
