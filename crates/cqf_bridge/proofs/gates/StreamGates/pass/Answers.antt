@@ -1,6 +1,7 @@
 use Rattle.std.proofs.Common.{◌==◌, ◌≤◌, ◌∙◌, ◌∷◌, ◌++◌, [], List, Some, ap, drop, position, refl, sym, subst}
 use Rattle.cqf_gates.specs.StreamGate.{Gate, gate_after, verdict_on}
 use Rattle.cqf_bridge.specs.declared.gates.KeptGate.{KeptGate}
+use Rattle.cqf_bridge.specs.declared.gates.TheConstants.{FEW}
 use Rattle.cqf_bridge.specs.Gates.{gate_in, gate_or, with_gate}
 use Rattle.cqf_bridge.proofs.KeptGates.{found_at, not_found, own_gate}
 use Rattle.cqf_bridge.proofs.gates.StreamGates.pass.Goals as goal
@@ -21,7 +22,7 @@ invariant_of-self c =
     let row = c.args.row.now in
     let f = found_at row.no gates c.in-Some.place c.index_mut.result.now
     (ap (position (λ (k : KeptGate). k.number == row.no)) c.self.view_is ∙ sym c.place_of.ensures ∙ c.in-Some.is) c.index_mut.ensures.value in
-    c.self.invariant ∙ ap (drop 16) (f.numbers c.pass.new.self (ap (λ (k : KeptGate). k.number) c.pass.ensures.after ∙ f.of_number))
+    c.self.invariant ∙ ap (drop FEW) (f.numbers c.pass.new.self (ap (λ (k : KeptGate). k.number) c.pass.ensures.after ∙ f.of_number))
 
 pub returns-in-Some-clause-verdict : goal.returns-in-Some-clause-verdict
 returns-in-Some-clause-verdict c =
