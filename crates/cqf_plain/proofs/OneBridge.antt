@@ -1,10 +1,10 @@
 -- A bridge takes a cycle of a run.
-use Rattle.std.proofs.Common.{◌≡◌, ℕ, ◌+◌, ◌*◌, ◌≤◌, ◌<◌, ◌++◌, List, [], Bool, true, false, sym, refl, ap, ◌∙◌, arith, subst, length, length-append, map, filter, Contains}
+use Rattle.std.proofs.Common.{◌≡◌, ℕ, ◌+◌, ◌*◌, ◌≤◌, ◌<◌, ◌++◌, List, [], ◌∷◌, Bool, true, false, sym, refl, ap, ◌∙◌, arith, subst, length, length-append, append-nil, map, filter, Contains}
 use Rattle.std.specs.Prelude.{if◌then◌else◌, slice_index_or}
 use Rattle.std.proofs.Math.Nat.{mul-le-mul_right}
 use Rattle.std.proofs.lemmas.Bool.{cond-false, ne_eqb}
 use Rattle.std.proofs.lemmas.List.{get_or-map, length-map}
-use Rattle.cqf_lists.proofs.Members.{contains_from_filter, contains_from_map}
+use Rattle.cqf_lists.proofs.Members.{contains_from_filter, contains_from_map, contains_none}
 use Rattle.cqf_lists.proofs.Numbers.{made_of_kept}
 use Rattle.cqf_lists.proofs.Sums.{sum_none}
 use Rattle.cqf_units.specs.Timing.{cycle_at}
@@ -36,6 +36,12 @@ use Rattle.cqf_plain.specs.Laws.{RunLaws}
 use Rattle.cqf_plain.specs.Ports.{LinkPort, carried_by, network_of, no_port, port_at}
 use Rattle.cqf_plain.specs.TakingFrames.{IsStopAmong, ListsByFrame, TakesAll}
 use Rattle.cqf_plain.proofs.Batches.{batch_is_sent, compiled}
+use Rattle.cqf_plain.proofs.Bridging.{none_passes}
+
+-- a list of no length has no members
+pub no_members : {X : Type 0} (xs : List X) → length xs ≡ 0 → xs ≡ []
+no_members [] none = refl
+no_members (x ∷ xs) none = absurd (omega (arith, none))
 
 -- gates that have seen no frame have counted nothing of a cycle, which is what the frames before it have taken of it
 pub none_counted : (run : Run) (carried : Carried) (bridge cycle : ℕ) (rows : List Row) → GateCountsCycles → 0 < run.domain.cycle_time →
@@ -165,6 +171,18 @@ module _ (d : Domain) (bridge cycle : ℕ) (rows : List Row) (sent : List LinkPo
                 (subst (λ (xs : List Dropped). IsInOrderOf (λ (x : Dropped). x.frame) xs lists.sorted) are lists.by_frame));
             none_lost = λ p held. takes.none_lost p (subst (λ (ps : List Policed). Contains ps p) (sym policed_so) held);
           }
+
+      -- and where nothing comes it has taken it
+      pub takes_nothing : DropsAreByFrame → sorted ≡ [] → (passed : List Passed) (drops : List Dropped) → TakesAt run bridge cycle sent passed passed drops drops
+      takes_nothing by_frame nothing passed drops =
+          taken_at_bridge by_frame passed passed [] [] drops drops refl
+          (subst (λ (xs : List Received). TakesAll d bridge cycle (police_all d run.tables bridge earlier xs) passed passed [] []) (sym nothing)
+          (record { passes = none_passes d bridge passed; dropped = refl; none_lost = λ p held. absurd (contains_none p held) }))
+          (record {
+            sorted = [];
+            by_frame = record { in_order = λ i j e before below. absurd (omega (arith, below)); stable = λ k. refl };
+            listed = sym (append-nil drops);
+          })
 
       -- and where they aren't it doesn't
       pub stops_at_bridge : (fault : RunFault) → IsStopAmong (police_all d run.tables bridge earlier sorted) fault → IsStopAt run bridge cycle sent fault

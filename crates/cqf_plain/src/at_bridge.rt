@@ -207,17 +207,12 @@ pub(crate) fn take_at_bridge(
         Ok(()) => {}
         Err(_) => return Err(RunFault::Memory),
     }
+    let came = frames.as_slice();
+    if came.is_empty() {
+        return Ok(());
+    }
     let mut here = Vec::new(alloc);
-    match take_frames(
-        alloc,
-        domain,
-        number,
-        cycle,
-        table,
-        frames.as_slice(),
-        passed,
-        &mut here,
-    ) {
+    match take_frames(alloc, domain, number, cycle, table, came, passed, &mut here) {
         Ok(()) => {}
         Err(fault) => return Err(fault),
     }
