@@ -1,11 +1,11 @@
 -- Held streams by name and by number.
 use Rattle.std.proofs.Common.{◌≡◌, ◌≢◌, ℕ, Option, ◌+◌, ◌-◌, ◌<◌, ◌≤◌, Bool, true, false, cond, List, Some, None, [], ◌∷◌, ◌++◌, nat_eq, get_or, length, position, refl, ap}
 use Rattle.std.proofs.Common.{◌∙◌, sym, arith, drop, take, subst, length-append}
-use Rattle.std.specs.Prelude.{map, filter, slice_set, zero, suc, not, nat_le, nat_lt, remove, IfSome, ◌&&◌}
+use Rattle.std.specs.Prelude.{map, filter, zero, suc, not, nat_le, nat_lt, remove, IfSome, ◌&&◌}
 use Rattle.std.specs.Option.{option_map_or}
 use Rattle.std.specs.List.{list_any, prefix_len}
 use Rattle.std.specs.Cmp.Lexicographic.{pointwise}
-use Rattle.std.proofs.lemmas.List.{length-map, length-take-le, take-map, drop-map, map-append}
+use Rattle.std.proofs.lemmas.List.{length-map, length-take-le}
 use Rattle.std.proofs.lemmas.Bool.{le-leb}
 use Rattle.std.proofs.lemmas.List.Edits.{length-remove}
 use Rattle.std.proofs.lemmas.List.Elements.{All-head, All-push, All-tail}
@@ -16,6 +16,7 @@ use Rattle.cqf_model.specs.Domain.{is_text}
 use Rattle.cqf_units.specs.Timing.{cost_of}
 use Rattle.cqf_lists.proofs.Any.{list_any-map}
 use Rattle.cqf_model.specs.Table.{is_held, residence}
+use Rattle.cqf_admission.proofs.MappedRows.{mapped_less}
 use Rattle.cqf_admission.specs.Rows.{AreLasting, HaveColumns, IsLasting, ended, ended_at, mask_of}
 
 -- how many fail before the first that passes, of a mapped list
@@ -41,13 +42,6 @@ pub name_among : (name : List ℕ) (rows : List Row) →
 name_among name rows =
     list_any-map (pointwise nat_eq name) (λ (row : Row). row.name) rows ∙ (λ i. list_any (λ (row : Row). pointwise-is_text name row.name i) rows)
 
--- a row that is ended in place
-pub set-ended : (rows : List Row) (place : ℕ) (row : Row) (cycle : Cycle) → place < length rows → row ≡ get_or rows place row →
-    slice_set rows place (ended row cycle) ≡ ended_at rows place cycle
-set-ended [] place row cycle h e = absurd (omega (arith, h))
-set-ended (x ∷ rows) zero row cycle h e = ap (λ (r : Row). ended r cycle ∷ rows) e
-set-ended (x ∷ rows) (suc place) row cycle h e = ap (λ (rs : List Row). x ∷ rs) (set-ended rows place row cycle (omega (arith, h)) e)
-
 -- what an end doesn't change of a row stays as it was
 map-ended_at : {X : Type 0} (f : Row → X) → ((row : Row) (cycle : Cycle) → f (ended row cycle) ≡ f row) → (rows : List Row) (place : ℕ) (cycle : Cycle) →
     map f (ended_at rows place cycle) ≡ map f rows
@@ -56,7 +50,7 @@ map-ended_at {X} f same (x ∷ rows) zero cycle = ap (λ (y : X). y ∷ map f ro
 map-ended_at {X} f same (x ∷ rows) (suc place) cycle = ap (λ (ys : List X). f x ∷ ys) (map-ended_at f same rows place cycle)
 
 -- to end a row in place changes no count
-length-ended_at : (rows : List Row) (place : ℕ) (cycle : Cycle) → length (ended_at rows place cycle) ≡ length rows
+pub length-ended_at : (rows : List Row) (place : ℕ) (cycle : Cycle) → length (ended_at rows place cycle) ≡ length rows
 length-ended_at [] place cycle = refl
 length-ended_at (x ∷ rows) zero cycle = refl
 length-ended_at (x ∷ rows) (suc place) cycle = ap suc (length-ended_at rows place cycle)
@@ -89,16 +83,11 @@ gone_here p [] place d h e = absurd (omega (arith, h))
 gone_here p (x ∷ rows) zero d h e = sym (ap (λ (b : Bool). cond b (x ∷ filter p rows) (filter p rows)) e)
 gone_here p (x ∷ rows) (suc place) d h e = ap (λ (rs : List Row). x ∷ rs) (gone_here p rows place d (omega (arith, h)) e)
 
--- a column without what stands at a place is that of the rows without it
-map-remove : {X : Type 0} (f : Row → X) (rows : List Row) (place : ℕ) → remove (map f rows) place ≡ map f (remove rows place)
-map-remove f rows place =
-    (λ i. take-map f place rows i ++ drop-map f (suc place) rows i) ∙ sym (map-append f (take place rows) (drop (suc place) rows))
-
 -- a column with an element less is that of the rows with a row less
 column_less : {X : Type 0} (f : Row → X) (rows after : List Row) (place : ℕ) (xs xs_after : List X) → after ≡ remove rows place → xs ≡ map f rows →
     xs_after ≡ remove xs place → xs_after ≡ map f after
 column_less {X} f rows after place xs xs_after rows_less are without =
-    without ∙ ap (λ (ys : List X). remove ys place) are ∙ map-remove f rows place ∙ ap (map f) (sym rows_less)
+    without ∙ ap (λ (ys : List X). remove ys place) are ∙ sym (mapped_less f rows (remove rows place) place refl) ∙ ap (map f) (sym rows_less)
 
 -- rows of which those from a place on have been looked through, with their columns
 pub record AreSwept (p : Row → Bool) (all : List Row) (place : ℕ) (names : List (List ℕ)) (rows : List Row) (costs masks : List ℕ) : Type 0 where

@@ -1,5 +1,7 @@
 mod HeldLemmas
-mod ListedLemmas
+mod SharedRows
+mod NumberedRows
+mod MappedRows
 mod BranchLemmas
 mod FaultLemmas
 mod NodeLemmas

@@ -1,5 +1,5 @@
 -- The row of a name and of a number is the one that there is.
-use Rattle.std.proofs.Common.{◌≡◌, ◌≢◌, ℕ, ◌<◌, Bool, true, cond, List, Option, Some, None, Result, Ok, Err, [], ◌∷◌, ◌==◌, get_or, length, ap, refl, subst, ◌∙◌, sym, arith, inl, inr}
+use Rattle.std.proofs.Common.{◌≡◌, ◌≢◌, ℕ, ◌<◌, Bool, true, cond, List, Option, Some, None, Result, Ok, Err, [], ◌∷◌, ◌==◌, get_or, length, map, ap, refl, subst, ◌∙◌, sym, arith, inl, inr}
 use Rattle.std.specs.declared.cmp.Ordering.TheVariants.{Equal, Greater, Less}
 use Rattle.std.specs.List.Sorted.{IsBinarySearchResult, IsNonDecreasingBy, IsSearchInRange}
 use Rattle.std.specs.Ordering.{nat_cmp, ordering_index}
@@ -7,9 +7,10 @@ use Rattle.std.specs.Prelude.{AllPairs, Contains, MatchResult, find, nat_lt, suc
 use Rattle.std.proofs.lemmas.Bool.{both_ways, cases_Bool, cases_lt, eq-eqb, eqb-true, leb-true}
 use Rattle.std.proofs.lemmas.Bool.Decides.{nat_tests}
 use Rattle.std.proofs.lemmas.Cmp.{ranked}
+use Rattle.std.proofs.lemmas.List.{get_or-map, length-map}
 use Rattle.std.proofs.lemmas.List.Elements.{All-map, Contains-get_or}
 use Rattle.std.proofs.lemmas.Option.{get_or_from_slice_get, slice_get_within}
-use Rattle.cqf_lists.proofs.Members.{contains_cases, contains_none, find_member, place_of_member}
+use Rattle.cqf_lists.proofs.Members.{contains_cases, contains_from_map, contains_map, contains_none, find_member, place_of_member}
 use Rattle.cqf_lists.proofs.Pairs.{pairs_head, pairs_tail}
 use Rattle.cqf_model.proofs.Texts.{is_text_itself, is_text_same}
 use Rattle.cqf_model.specs.declared.topology.Hop.{Hop}
@@ -52,48 +53,61 @@ the_row_of rows number order row = (
       (λ a b t u less. absurd (omega (arith, less, eqb-true a.no number t, eqb-true b.no number u))) rows row order.numbers w.0 (eq-eqb row.no number w.1),
 )
 
--- a row that stands at a place and has the number is the row of that number
-pub row_at : (rows : List Row) (number : ℕ) (order : AreInOrder rows) (place : ℕ) (row : Row) → true ≡ nat_lt place (length rows) →
-    row ≡ get_or rows place row → row.no ≡ number → row_of rows number ≡ Some row
-row_at rows number order place row inside there is =
-    (the_row_of rows number order row).1 (subst (Contains rows) (sym there) (Contains-get_or rows place row (leb-true (suc place) (length rows) (sym inside))), is)
-
-module _ (rows : List Row) (number : ℕ) (order : AreInOrder rows) where
-  -- rows by number compare with a number in that order, as a search asks
-  numbers_rise : IsNonDecreasingBy (λ (row : Row). ordering_index (nat_cmp row.no number)) rows
+-- of what has a row each, and stands by the numbers of these
+module _ {X : Type 0} (row_in : X → Row) (xs : List X) (number : ℕ) (order : AreInOrder (map row_in xs)) where
+  -- each compares with a number in that order, as a search asks
+  numbers_rise : IsNonDecreasingBy (λ (x : X). ordering_index (nat_cmp (row_in x).no number)) xs
   numbers_rise i j d le below = elim (cases_lt i j) [
-    | inl less ↦ (let up : (get_or rows i d).no < (get_or rows j d).no = order.numbers i j d less below in grind (arith, nat_tests))
+    | inl less ↦
+        let inside : j < length (map row_in xs) = omega (arith, below, length-map xs row_in) in
+        let one : get_or (map row_in xs) i (row_in d) ≡ row_in (get_or xs i d) = get_or-map row_in xs i d (row_in d) (omega (arith, less, below)) in
+        let other : get_or (map row_in xs) j (row_in d) ≡ row_in (get_or xs j d) = get_or-map row_in xs j d (row_in d) below in
+        let up : (row_in (get_or xs i d)).no < (row_in (get_or xs j d)).no = rw (sym one, sym other) (order.numbers i j (row_in d) less inside) in
+        grind (arith, nat_tests)
     | inr same ↦
         let e : i ≡ j = omega (arith, le, same) in
-        omega (arith, ap (λ (k : ℕ). ordering_index (nat_cmp (get_or rows k d).no number)) e)
+        omega (arith, ap (λ (k : ℕ). ordering_index (nat_cmp (row_in (get_or xs k d)).no number)) e)
   ]
 
-  -- what a search by number finds is the row of the number, and where it finds none there is none
-  pub searched : (r : Result ℕ ℕ) → IsSearchInRange r (length rows) → IsBinarySearchResult (λ (row : Row). nat_cmp row.no number) rows r →
-      MatchResult r (λ i. (row : Row) → row ≡ get_or rows i row → Some row ≡ row_of rows number) (λ i. None ≡ row_of rows number)
-  searched (Ok i) inside equal = λ row is.
-      let held : Contains rows row = subst (Contains rows) (sym is) (Contains-get_or rows i row inside) in
-      let same : (get_or rows i row).no ≡ number = ranked (get_or rows i row).no number Equal (sym (equal row)) in
-      sym ((the_row_of rows number order row).1 (held, ap (λ (r : Row). r.no) is ∙ same))
-  searched (Err i) inside parted = none (row_of rows number) refl
+  -- what a search by number finds has the row of the number, and where it finds none there is none
+  pub searched : (r : Result ℕ ℕ) → IsSearchInRange r (length xs) → IsBinarySearchResult (λ (x : X). nat_cmp (row_in x).no number) xs r →
+      MatchResult r (λ i. (x : X) → x ≡ get_or xs i x → Some (row_in x) ≡ row_of (map row_in xs) number) (λ i. None ≡ row_of (map row_in xs) number)
+  searched (Ok i) inside equal = λ x is.
+      let held : Contains xs x = subst (Contains xs) (sym is) (Contains-get_or xs i x inside) in
+      let same : (row_in (get_or xs i x)).no ≡ number = ranked (row_in (get_or xs i x)).no number Equal (sym (equal x)) in
+      sym ((the_row_of (map row_in xs) number order (row_in x)).1 (contains_map row_in xs x held, ap (λ (y : X). (row_in y).no) is ∙ same))
+  searched (Err i) inside parted = none (row_of (map row_in xs) number) refl
     where
-      -- a row of the number stands neither before the place nor behind it
-      none : (found : Option Row) → row_of rows number ≡ found → None ≡ row_of rows number
+      -- what has a row of the number stands neither before the place nor behind it
+      nowhere : (x : X) → Contains xs x → (row_in x).no ≡ number → ⊥
+      nowhere x held of_number =
+          let p = place_of_member xs x held in
+          let there : get_or xs p.0 x ≡ x = get_or_from_slice_get xs p.0 x x p.1 in
+          let is : (row_in (get_or xs p.0 x)).no ≡ number = ap (λ (y : X). (row_in y).no) there ∙ of_number in
+          elim (cases_lt p.0 i) [
+            | inl before ↦
+                let less : (row_in (get_or xs p.0 x)).no < number =
+                ranked (row_in (get_or xs p.0 x)).no number Less (sym ((parted numbers_rise).0 p.0 x (omega arith) before)) in
+                absurd (omega (arith, less, is))
+            | inr behind ↦
+                let more : number < (row_in (get_or xs p.0 x)).no =
+                ranked (row_in (get_or xs p.0 x)).no number Greater (sym ((parted numbers_rise).1 p.0 x behind (slice_get_within xs p.0 x p.1))) in
+                absurd (omega (arith, more, is))
+          ]
+
+      none : (found : Option Row) → row_of (map row_in xs) number ≡ found → None ≡ row_of (map row_in xs) number
       none None e = sym e
       none (Some row) e =
-          let w = (the_row_of rows number order row).0 e in
-          let p = place_of_member rows row w.0 in
-          let there : get_or rows p.0 row ≡ row = get_or_from_slice_get rows p.0 row row p.1 in
-          let is : (get_or rows p.0 row).no ≡ number = ap (λ (r : Row). r.no) there ∙ w.1 in
-          absurd (elim (cases_lt p.0 i) [
-            | inl before ↦
-                let less : (get_or rows p.0 row).no < number = ranked (get_or rows p.0 row).no number Less (sym ((parted numbers_rise).0 p.0 row (omega arith) before)) in
-                omega (arith, less, is)
-            | inr behind ↦
-                let more : number < (get_or rows p.0 row).no =
-                ranked (get_or rows p.0 row).no number Greater (sym ((parted numbers_rise).1 p.0 row behind (slice_get_within rows p.0 row p.1))) in
-                omega (arith, more, is)
-          ])
+          let w = (the_row_of (map row_in xs) number order row).0 e in
+          let p = contains_from_map row_in xs row w.0 in
+          absurd (nowhere p.0 p.1 (ap (λ (r : Row). r.no) p.2 ∙ w.1))
+
+-- what stands at a place and has a row of the number has the row of that number
+pub row_at : {X : Type 0} (row_in : X → Row) (xs : List X) (number : ℕ) (order : AreInOrder (map row_in xs)) (place : ℕ) (x : X) →
+    true ≡ nat_lt place (length xs) → x ≡ get_or xs place x → (row_in x).no ≡ number → row_of (map row_in xs) number ≡ Some (row_in x)
+row_at row_in xs number order place x inside there is =
+    let held = subst (Contains xs) (sym there) (Contains-get_or xs place x (leb-true (suc place) (length xs) (sym inside))) in
+    (the_row_of (map row_in xs) number order (row_in x)).1 (contains_map row_in xs x held, is)
 
 -- trees of the domain go along its links
 pub trees_go_along_links : (d : Domain) (rows : List Row) → AreTrees d rows → AreAlongLinks d rows

@@ -5,3 +5,4 @@ pub mod Grants
 pub mod Tables
 pub mod Asking
 pub mod Commands
+pub mod Numbers

@@ -98,8 +98,8 @@ impl Admission {
     /// Refused with `HistoryFull`, before all else, where 100,000 entries aren't Seals; with `Memory` where a growth is
     /// refused; then with the first reason that is due, in this order: `BadName`, `BadOctets`, `UnknownNode`,
     /// `BrokenPath`, `LoopingPath`, `NotATree`, each over all branches before the next, `NameHeld`, `TooManyStreams` (1,024
-    /// are held), `BudgetShort`. `HistoryFull` and `Memory` change nothing; each other call enters the history with its
-    /// answer (profile).
+    /// are held), `BudgetShort`; and where none is, with `Memory` where there is none for the stream's row. `HistoryFull` and
+    /// `Memory` change nothing; each other call enters the history with its answer (profile).
     pub fn admit(&mut self, seat: u16, request: &Request) -> Result<Receipt, Refused>
         ensures answers { Answers self.old self.new seat (Admits (asked_of request.now)) result }
         ensures held { HoldsOneMore self.old self.new (asked_of request.now) result }
@@ -128,8 +128,10 @@ impl Admission {
         };
         match grant(&self.domain, &self.held, request, self.next, effect) {
             Ok(row) => {
+                let Ok(()) = self.held.push(self.alloc, row) else {
+                    return Err(Refused::Memory);
+                };
                 self.next += 1;
-                self.held.push(row);
                 enter(&mut self.history, seat, admit, Reply::Accepted(receipt));
                 Ok(receipt)
             }
@@ -167,7 +169,9 @@ impl Admission {
                     no: found.1,
                     effect,
                 };
-                self.held.end(found.0, effect);
+                let Ok(()) = self.held.end(self.alloc, found.0, effect) else {
+                    return Err(Refused::Memory);
+                };
                 enter(&mut self.history, seat, withdraw, Reply::Accepted(receipt));
                 Ok(receipt)
             }

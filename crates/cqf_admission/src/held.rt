@@ -1,5 +1,5 @@
 //! The streams that are held, by number and by name, with their costs and their links in columns.
-ghost use Rattle.std.specs.Prelude.{◌≡◌, ◌≢◌, ◌+◌, ◌<◌, ◌≤◌, ◌^◌, [], ◌∷◌, ◌++◌, length, filter, if◌then◌else◌, position, false, true, None, OnOk, IfOk, IfSome};
+ghost use Rattle.std.specs.Prelude.{◌≡◌, ◌≢◌, ◌+◌, ◌<◌, ◌≤◌, ◌^◌, [], ◌∷◌, ◌++◌, length, filter, if◌then◌else◌, map, position, slice_get, false, true, None, Some, OnErr, OnOk, IfOk, IfSome};
 ghost use Rattle.std.specs.Arc.{arc_value};
 ghost use Rattle.std.specs.List.{list_any};
 ghost use Rattle.cqf_model.specs.Domain.{is_text};
@@ -8,7 +8,8 @@ ghost use Rattle.cqf_admission.specs.Rows.{AreLasting, AreMoreBy, AreTotals, IsL
 ghost use Rattle.cqf_lanes.specs.Kernels.{has_bit, masked_total};
 
 use crate::listed::Listed;
-use crate::rows::{copied_rows, mask_of_row};
+use crate::numbers::Numbers;
+use crate::rows::{mask_of_row, shared_rows};
 use cqf_lanes::masked_sum;
 use cqf_model::Row;
 use cqf_units::{Cycle, Memory, Name, Octets, cost};
@@ -17,12 +18,16 @@ use std::alloc::Global;
 use std::marker::Model;
 use std::sync::Arc;
 
-/// The rows of held streams by number, at most 1,024. Beside them stand their names, what each costs of its links, and a
-/// mask of these links, so that what a link costs is one sum.
+/// How many rows may stand behind those that tables find by the numbers of their names: these are looked through one by
+/// one.
+const MOST_BEHIND: usize = 32;
+
+/// The rows of held streams by number, at most 1,024, as tables share them: a row that changes is another. Beside them stand
+/// their names, what each costs of its links, and a mask of these links, so that what a link costs is one sum.
 #[derive(Debug, Drop)]
 pub(crate) struct Held {
     names: IndexSet<Name>,
-    rows: Vec<Row>,
+    rows: Vec<Arc<Row>>,
     costs: Vec<u32>,
     masks: Vec<u64>,
     /// By link, the sum of the costs of those that go by it.
@@ -30,26 +35,33 @@ pub(crate) struct Held {
     /// Rows as tables share them, and whether they are these rows: whether nothing has changed since they were listed.
     shared: Arc<Listed>,
     is_shared: bool,
+    /// By these numbers tables find so many of the rows, from the first on.
+    numbers: Arc<Numbers>,
+    numbered: usize,
     /// A cycle from which on all rows are held for good: none, where a stream is withdrawn.
     lasting: Option<Cycle>,
 }
 
 impl Model for Held {
     ghost use Rattle.std.specs.Arc.{arc_value};
-    ghost use Rattle.std.specs.Prelude.{◌≡◌, ◌-◌, IfSome, min, true, vec_len, vec_capacity};
+    ghost use Rattle.std.specs.Prelude.{◌≡◌, ◌-◌, IfSome, map, min, true, vec_len, vec_capacity};
     ghost use Rattle.indexmap.specs.IndexSet.{spare};
+    ghost use Rattle.cqf_admission.specs.Numbers.{AreNumbered};
     ghost use Rattle.cqf_admission.specs.Rows.{AreLasting, AreSums, HaveColumns, HeldRows};
 
     ghost Value = { HeldRows };
 
     ghost view = { λ h. record {
-      rows = h.rows.items;
+      rows = map (λ row. arc_value row) h.rows.items;
       room = min (min (vec_capacity h.rows - vec_len h.rows) (spare h.names))
           (min (vec_capacity h.costs - vec_len h.costs) (vec_capacity h.masks - vec_len h.masks));
     } };
 
-    ghost invariant = { λ h. HaveColumns h.names.keys h.rows.items h.costs.items h.masks.items × AreSums h.rows.items h.sums
-        × (h.is_shared ≡ true → arc_value h.shared ≡ h.rows.items) × IfSome h.lasting (λ cycle. AreLasting cycle.0 h.rows.items) };
+    ghost invariant = { λ h. HaveColumns h.names.keys (map (λ row. arc_value row) h.rows.items) h.costs.items h.masks.items
+        × AreSums (map (λ row. arc_value row) h.rows.items) h.sums
+        × (h.is_shared ≡ true → arc_value h.shared ≡ map (λ row. arc_value row) h.rows.items)
+        × AreNumbered (arc_value h.numbers) h.numbered (map (λ row. arc_value row) h.rows.items)
+        × IfSome h.lasting (λ cycle. AreLasting cycle.0 (map (λ row. arc_value row) h.rows.items)) };
 }
 
 /// What a link's streams cost of it, where that is a sum and, if the mask has the link's bit, the octets.
@@ -105,8 +117,8 @@ fn is_lasting(row: &Row, cycle: Cycle) -> bool
 }
 
 /// Whether all rows are.
-fn are_lasting(rows: &[Row], cycle: Cycle) -> bool
-    ensures { result ≡ true → AreLasting cycle.0 rows.now }
+fn are_lasting(rows: &[Arc<Row>], cycle: Cycle) -> bool
+    ensures { result ≡ true → AreLasting cycle.0 (map (λ row. arc_value row) rows.now) }
 {
     rows.iter().all(|row| is_lasting(row, cycle))
 }
@@ -128,29 +140,39 @@ impl Held {
         ensures { IfOk result (λ held. held.rows ≡ []) }
     {
         let names = IndexSet::new(alloc);
-        let rows = Vec::new(alloc);
         let costs = Vec::new(alloc);
         let masks = Vec::new(alloc);
         let sums = sums_of(costs.as_slice(), masks.as_slice());
-        let listed = Listed::new(alloc, &names, rows.as_slice())?;
+        let numbers = Arc::new(alloc, Numbers::none(alloc))?;
+        let listed = Listed::new(Vec::new(alloc), Arc::try_clone(&numbers)?, 0);
         let shared = Arc::new(alloc, listed)?;
         Ok(Held {
             names,
-            rows,
+            rows: Vec::new(alloc),
             costs,
             masks,
             sums,
             shared,
             is_shared: true,
+            numbers,
+            numbered: 0,
             lasting: Some(Cycle(0)),
         })
     }
 
-    /// The rows, by number.
-    pub(crate) fn rows(&self) -> &[Row]
-        ensures { result.now ≡ self.now.rows }
+    /// How many streams are held.
+    pub(crate) fn len(&self) -> usize
+        ensures { result ≡ length self.now.rows }
     {
-        self.rows.as_slice()
+        self.rows.len()
+    }
+
+    /// The row at a place.
+    pub(crate) fn row(&self, place: usize) -> &Row
+        requires { place < length self.now.rows }
+        ensures { slice_get self.now.rows place ≡ Some result.now }
+    {
+        &self.rows[place]
     }
 
     /// The place of the row of a name.
@@ -182,19 +204,23 @@ impl Held {
         Ok(())
     }
 
-    /// Adds the row of a name that isn't held, behind the others, where there is room.
-    pub(crate) fn push(&mut self, row: Row)
+    /// Adds the row of a name that isn't held, behind the others, where there is room, unless memory runs out.
+    pub(crate) fn push(&mut self, alloc: Global, row: Row) -> Result<(), Memory>
         requires room { 0 < self.old.room }
         requires few { length self.old.rows < 1024 }
         requires octets { row.octets ≤ 60000 }
         requires free { list_any (λ other. is_text other.name row.name) self.old.rows ≡ false }
-        ensures { self.new.rows ≡ self.old.rows ++ row ∷ [] }
+        ensures rows { OnOk result (self.new.rows ≡ self.old.rows ++ row ∷ []) }
+        ensures same { OnErr result (self.new ≡ self.old) }
     {
+        let name = row.name.copied();
         let octets = cost(Octets(row.octets)).0;
         let mask = mask_of_row(&row);
-        self.lasting = lasting_with(self.lasting, &row);
-        self.names.insert(row.name.copied()).unwrap();
-        self.rows.push(row).unwrap();
+        let lasting = lasting_with(self.lasting, &row);
+        let shared = Arc::new(alloc, row)?;
+        self.lasting = lasting;
+        self.names.insert(name).unwrap();
+        self.rows.push(shared).unwrap();
         self.costs.push(octets).unwrap();
         self.masks.push(mask).unwrap();
         self.sums = sums_with(
@@ -205,17 +231,21 @@ impl Held {
             self.masks.as_slice(),
         );
         self.is_shared = false;
+        Ok(())
     }
 
-    /// Ends the stream of the row at this place from a cycle on.
-    pub(crate) fn end(&mut self, place: usize, cycle: Cycle)
+    /// Ends the stream of the row at this place from a cycle on, unless memory runs out.
+    pub(crate) fn end(&mut self, alloc: Global, place: usize, cycle: Cycle) -> Result<(), Memory>
         requires { place < length self.old.rows }
-        ensures { self.new.rows ≡ ended_at self.old.rows place cycle }
+        ensures rows { OnOk result (self.new.rows ≡ ended_at self.old.rows place cycle) }
+        ensures same { OnErr result (self.new ≡ self.old) }
     {
-        let row = &mut self.rows[place];
+        let mut row = self.rows[place].copied();
         row.withdrawn = Some(cycle);
+        self.rows[place] = Arc::new(alloc, row)?;
         self.is_shared = false;
         self.lasting = None;
+        Ok(())
     }
 
     /// Lets go of the streams that aren't held in a cycle.
@@ -247,6 +277,9 @@ impl Held {
                 let _ = self.names.shift_remove_index(place);
                 let _ = self.costs.remove(place);
                 let _ = self.masks.remove(place);
+                if place < self.numbered {
+                    self.numbered -= 1;
+                }
                 gone = true;
             }
         }
@@ -256,32 +289,50 @@ impl Held {
         }
     }
 
-    /// The rows for a table, which it shares with those before it where nothing has changed since, unless memory runs out.
+    /// Numbers the names anew, where too many rows stand behind those that are found by their numbers.
+    fn renumber(&mut self, alloc: Global) -> Result<(), Memory>
+        ensures { self.new ≡ self.old }
+    {
+        if self.rows.len() - self.numbered > MOST_BEHIND {
+            let numbers = Numbers::new(alloc, &self.names, self.rows.as_slice())?;
+            self.numbers = Arc::new(alloc, numbers)?;
+            self.numbered = self.rows.len();
+        }
+        Ok(())
+    }
+
+    /// The rows for a table, unless memory runs out. Where nothing has changed since the last one this is that one's list, and
+    /// else it has each row that stands in both from there.
     pub(crate) fn share(&mut self, alloc: Global) -> Result<Arc<Listed>, Memory>
         ensures same { self.new ≡ self.old }
         ensures rows { IfOk result (λ listed. arc_value listed ≡ self.old.rows) }
     {
-        if !self.is_shared {
-            let listed = Listed::new(alloc, &self.names, self.rows.as_slice())?;
-            let shared = Arc::new(alloc, listed)?;
-            self.shared = shared;
-            self.is_shared = true;
+        if self.is_shared {
+            return Arc::try_clone(&self.shared);
         }
-        Arc::try_clone(&self.shared)
+        self.renumber(alloc)?;
+        let rows = shared_rows(alloc, self.rows.as_slice())?;
+        let listed = Listed::new(rows, Arc::try_clone(&self.numbers)?, self.numbered);
+        let shared = Arc::new(alloc, listed)?;
+        self.shared = Arc::try_clone(&shared)?;
+        self.is_shared = true;
+        Ok(shared)
     }
 
-    /// The same streams again, unless memory runs out.
+    /// The same streams again, unless memory runs out. The two share their rows.
     pub(crate) fn try_copy(&self, alloc: Global) -> Result<Held, Memory>
         ensures { IfOk result (λ copy. copy.rows ≡ self.now.rows) }
     {
         Ok(Held {
             names: self.names.clone()?,
-            rows: copied_rows(alloc, self.rows.as_slice())?,
+            rows: shared_rows(alloc, self.rows.as_slice())?,
             costs: Vec::from_slice(alloc, self.costs.as_slice())?,
             masks: Vec::from_slice(alloc, self.masks.as_slice())?,
             sums: self.sums,
             shared: Arc::try_clone(&self.shared)?,
             is_shared: self.is_shared,
+            numbers: Arc::try_clone(&self.numbers)?,
+            numbered: self.numbered,
             lasting: None,
         })
     }

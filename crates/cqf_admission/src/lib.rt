@@ -21,6 +21,7 @@ mod branches;
 mod entries;
 mod held;
 mod listed;
+mod numbers;
 mod refusals;
 mod rows;
 mod table;

@@ -1,58 +1,128 @@
 //! The rows of a cycle, as several tables share them.
-ghost use Rattle.std.specs.Prelude.{◌≡◌, IfOk, map, option_copied};
-ghost use Rattle.cqf_model.specs.Table.{row_named};
+ghost use Rattle.std.specs.Arc.{arc_value};
+ghost use Rattle.std.specs.Prelude.{◌≡◌, IfSome, Some, map, option_copied};
+ghost use Rattle.cqf_model.specs.Domain.{is_text};
+ghost use Rattle.cqf_model.specs.Table.{row_named, row_of};
+ghost use Rattle.cqf_admission.specs.Numbers.{AreNumbered, row_numbered};
+ghost use Rattle.cqf_admission.specs.Tables.{AreInOrder};
 
-use crate::rows::copied_rows;
+use crate::numbers::Numbers;
 use cqf_model::Row;
-use cqf_units::{Memory, Name};
-use indexmap::IndexSet;
-use std::alloc::Global;
+use cqf_units::Name;
 use std::marker::Model;
+use std::sync::Arc;
 
-/// Rows that don't change any more, with their names to look them up by.
+/// Rows that don't change any more. A row that tables have in common is there once.
 #[derive(Debug, Drop)]
 pub(crate) struct Listed {
-    names: IndexSet<Name>,
-    rows: Vec<Row>,
+    rows: Vec<Arc<Row>>,
+    numbers: Arc<Numbers>,
+    /// How many of the rows, from the first on, are found by the numbers of their names.
+    numbered: usize,
 }
 
 impl Model for Listed {
-    ghost use Rattle.std.specs.Prelude.{◌≡◌, List, map};
+    ghost use Rattle.std.specs.Arc.{arc_value};
+    ghost use Rattle.std.specs.Prelude.{List, map};
     ghost use Rattle.cqf_model.specs.declared.topology.Row.{Row as ARow};
+    ghost use Rattle.cqf_admission.specs.Numbers.{AreNumbered};
 
     ghost Value = { List ARow };
 
-    ghost view = { λ l. l.rows.items };
+    ghost view = { λ l. map (λ row. arc_value row) l.rows.items };
 
-    ghost invariant = { λ l. l.names.keys ≡ map (λ (row : ARow). row.name) l.rows.items };
+    ghost invariant = { λ l. AreNumbered (arc_value l.numbers) l.numbered (map (λ row. arc_value row) l.rows.items) };
+}
+
+/// The row of a name, if one of them has it.
+fn find_named<'a>(rows: &'a [Arc<Row>], name: &Name) -> Option<&'a Row>
+    ensures { option_copied result ≡ row_named (map (λ row. arc_value row) rows.now) name.now }
+{
+    for row in rows {
+        if is_named(row, name) {
+            return Some(row);
+        }
+    }
+    None
+}
+
+/// Whether a row's stream has the name.
+fn is_named(row: &Row, name: &Name) -> bool
+    ensures { result ≡ is_text row.now.name name.now }
+{
+    row.name == *name
+}
+
+/// The row that stands at the place of its number, as each does while no stream has gone.
+fn row_in_place(rows: &[Arc<Row>], no: u32) -> Option<&Row>
+    requires { AreInOrder (map (λ row. arc_value row) rows.now) }
+    ensures { IfSome result (λ row. row_of (map (λ row. arc_value row) rows.now) no ≡ Some row.now) }
+{
+    let row = rows.get(no as usize)?;
+    if row.no == no { Some(row) } else { None }
+}
+
+/// Of rows that stand by number the one whose stream has the number.
+fn row_with_number(rows: &[Arc<Row>], no: u32) -> Option<&Row>
+    requires { AreInOrder (map (λ row. arc_value row) rows.now) }
+    ensures { option_copied result ≡ row_of (map (λ row. arc_value row) rows.now) no }
+{
+    if let Some(row) = row_in_place(rows, no) {
+        return Some(row);
+    }
+    match rows.binary_search_by_key(&no, |row| row.no) {
+        Ok(place) => Some(&rows[place]),
+        Err(_) => None,
+    }
+}
+
+/// The row of a name whose number is known, where both lead to one row.
+fn find_numbered<'a>(rows: &'a [Arc<Row>], numbers: &Numbers, name: &Name) -> Option<&'a Row>
+    requires { AreInOrder (map (λ row. arc_value row) rows.now) }
+    ensures { option_copied result ≡ row_numbered (map (λ row. arc_value row) rows.now) numbers.now name.now }
+{
+    let no = numbers.number_of(name)?;
+    let row = row_with_number(rows, no)?;
+    if is_named(row, name) { Some(row) } else { None }
 }
 
 impl Listed {
-    /// A copy of rows and of their names, unless memory runs out.
-    pub(crate) fn new(alloc: Global, names: &IndexSet<Name>, rows: &[Row]) -> Result<Listed, Memory>
-        requires { names.now.keys ≡ map (λ row. row.name) rows.now }
-        ensures { IfOk result (λ listed. listed ≡ rows.now) }
+    /// These rows, of which the first so many are found by the numbers of their names.
+    pub(crate) fn new(rows: Vec<Arc<Row>>, numbers: Arc<Numbers>, numbered: usize) -> Listed
+        requires { AreNumbered (arc_value numbers) numbered (map (λ row. arc_value row) rows.items) }
+        ensures { result ≡ map (λ row. arc_value row) rows.items }
     {
-        let names = names.clone()?;
-        let rows = copied_rows(alloc, rows)?;
-        Ok(Listed { names, rows })
+        Listed {
+            rows,
+            numbers,
+            numbered,
+        }
     }
 
     /// The rows.
-    pub(crate) fn rows(&self) -> &[Row]
-        ensures { result.now ≡ self.now }
+    pub(crate) fn rows(&self) -> &[Arc<Row>]
+        ensures { map (λ row. arc_value row) result.now ≡ self.now }
     {
         self.rows.as_slice()
     }
 
-    /// The first of the rows whose stream has the name.
+    /// The row whose stream has the name, where the rows stand in order.
     pub(crate) fn row_named(&self, name: &Name) -> Option<&Row>
+        requires { AreInOrder self.now }
         ensures { option_copied result ≡ row_named self.now name.now }
     {
         let rows = self.rows.as_slice();
-        match self.names.get_index_of(name) {
-            Some(place) => Some(&rows[place]),
-            None => None,
+        match find_numbered(rows, &self.numbers, name) {
+            Some(row) => Some(row),
+            None => find_named(&rows[self.numbered..], name),
         }
+    }
+
+    /// The row whose stream has the number, where the rows stand in order.
+    pub(crate) fn row_of(&self, no: u32) -> Option<&Row>
+        requires { AreInOrder self.now }
+        ensures { option_copied result ≡ row_of self.now no }
+    {
+        row_with_number(self.rows.as_slice(), no)
     }
 }

@@ -83,7 +83,7 @@ pub(crate) fn grant(
     if held.place_of(&name).is_some() {
         return Err(Refused::NameHeld);
     }
-    if held.rows().len() >= MOST_STREAMS {
+    if held.len() >= MOST_STREAMS {
         return Err(Refused::TooManyStreams);
     }
     let octets = cost(Octets(request.octets)).0;
@@ -111,8 +111,7 @@ pub(crate) fn find_open(held: &Held, text: &str) -> Result<(usize, u32), Refused
     let Some(place) = held.place_of(&name) else {
         return Err(Refused::NotHeld);
     };
-    let rows = held.rows();
-    let row = &rows[place];
+    let row = held.row(place);
     if row.withdrawn.is_some() {
         return Err(Refused::AlreadyWithdrawn);
     }

@@ -1,10 +1,12 @@
 //! The rows of streams, and what stands beside them.
-ghost use Rattle.std.specs.Prelude.{◌≡◌, IfOk};
+ghost use Rattle.std.specs.Arc.{arc_value};
+ghost use Rattle.std.specs.Prelude.{◌≡◌, IfOk, map};
 ghost use Rattle.cqf_admission.specs.Rows.{mask_of, with_link};
 
 use cqf_model::Row;
 use cqf_units::Memory;
 use std::alloc::Global;
+use std::sync::Arc;
 
 /// A mask with the bit of a link more, where it isn't beyond 63.
 fn with_bit(mask: u64, link: u8) -> u64
@@ -25,13 +27,13 @@ pub(crate) fn mask_of_row(row: &Row) -> u64
     mask
 }
 
-/// The same rows again, unless memory runs out.
-pub(crate) fn copied_rows(alloc: Global, rows: &[Row]) -> Result<Vec<Row>, Memory>
-    ensures { IfOk result (λ copies. copies.items ≡ rows.now) }
+/// The same rows again, each shared with these, unless memory runs out.
+pub(crate) fn shared_rows(alloc: Global, rows: &[Arc<Row>]) -> Result<Vec<Arc<Row>>, Memory>
+    ensures { IfOk result (λ shared. map (λ row. arc_value row) shared.items ≡ map (λ row. arc_value row) rows.now) }
 {
-    let mut copies = Vec::with_capacity(alloc, rows.len())?;
+    let mut shared = Vec::with_capacity(alloc, rows.len())?;
     for row in rows {
-        copies.push(row.copied())?;
+        shared.push(Arc::try_clone(row)?)?;
     }
-    Ok(copies)
+    Ok(shared)
 }

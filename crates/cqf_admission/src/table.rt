@@ -1,6 +1,6 @@
 //! The table of a cycle.
 ghost use Rattle.std.specs.Arc.{arc_value};
-ghost use Rattle.std.specs.Prelude.{◌≡◌, IfOk, IfSome, Some, option_copied};
+ghost use Rattle.std.specs.Prelude.{◌≡◌, IfOk, map, option_copied};
 ghost use Rattle.cqf_model.specs.Table.{row_named, row_of};
 ghost use Rattle.cqf_admission.specs.Tables.{AreInOrder, IsRowNamed, IsRowOf};
 
@@ -48,9 +48,9 @@ impl Table {
         self.cycle
     }
 
-    /// The streams that are held in the cycle, by number.
-    pub fn rows(&self) -> &[Row]
-        ensures rows { result.now ≡ self.now.rows }
+    /// The streams that are held in the cycle, by number. Tables share the rows that they have in common.
+    pub fn rows(&self) -> &[Arc<Row>]
+        ensures rows { map (λ row. arc_value row) result.now ≡ self.now.rows }
         ensures order { AreInOrder self.now.rows }
     {
         self.listed.rows()
@@ -69,7 +69,7 @@ impl Table {
         ensures found { option_copied result ≡ row_of self.now.rows no }
         ensures the_row { IsRowOf self.now.rows no (option_copied result) }
     {
-        row_with_number(self.listed.rows(), no)
+        self.listed.row_of(no)
     }
 
     /// The same table again, unless memory runs out. The two share their rows.
@@ -80,28 +80,5 @@ impl Table {
             cycle: self.cycle,
             listed: Arc::try_clone(&self.listed)?,
         })
-    }
-}
-
-/// The row that stands at the place of its number, as each does while no stream has gone.
-fn row_in_place(rows: &[Row], no: u32) -> Option<&Row>
-    requires { AreInOrder rows.now }
-    ensures { IfSome result (λ row. row_of rows.now no ≡ Some row.now) }
-{
-    let row = rows.get(no as usize)?;
-    if row.no == no { Some(row) } else { None }
-}
-
-/// Of rows that stand by number the one whose stream has the number.
-fn row_with_number(rows: &[Row], no: u32) -> Option<&Row>
-    requires { AreInOrder rows.now }
-    ensures { option_copied result ≡ row_of rows.now no }
-{
-    if let Some(row) = row_in_place(rows, no) {
-        return Some(row);
-    }
-    match rows.binary_search_by_key(&no, |row| row.no) {
-        Ok(place) => Some(&rows[place]),
-        Err(_) => None,
     }
 }

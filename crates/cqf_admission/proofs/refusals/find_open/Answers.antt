@@ -1,7 +1,5 @@
-use Rattle.std.proofs.Common.{◌≡◌, ◌∙◌, ap, sym, refl, ℕ, List, Some, false, length, position, arith}
-use Rattle.std.specs.Prelude.{slice_get}
+use Rattle.std.proofs.Common.{◌≡◌, ◌∙◌, ap, sym, refl, ℕ, List, false, position}
 use Rattle.std.proofs.lemmas.Bool.{both_ways, false_from_ne_true}
-use Rattle.std.proofs.lemmas.Option.{slice_get_read}
 use Rattle.cqf_units.specs.Name.{is_name}
 use Rattle.cqf_model.specs.declared.topology.Row.{Row}
 use Rattle.cqf_model.specs.Domain.{is_text}
@@ -25,34 +23,24 @@ returns-in_default-place_of c effect =
 pub returns-then-is_some : goal.returns-then-is_some
 returns-then-is_some c effect =
     let rows = c.args.held.now.rows in
-    let row = c.index-rows-place.result in
+    let row = c.row-row.result.now in
     let named : c.in-Some.name ≡ c.args.text.now = c.in-Some.ensures.value ∙ c.as_bytes.ensures.value in
     let found = named_at rows c.args.text.now c.in-Some-place_of.place
     (ap (λ (n : List ℕ). position (λ (r : Row). is_text r.name n) rows) (sym named) ∙ sym c.place_of.ensures ∙ c.in-Some-place_of.is) in
-    let shown : c.rows-rows.result.now ≡ rows = c.rows-rows.ensures in
-    let at : slice_get c.rows-rows.result.now c.in-Some-place_of.place ≡ Some row =
-    slice_get_read c.rows-rows.result.now (length c.rows-rows.result.now) c.in-Some-place_of.place row refl
-    (omega (arith, found.0, ap (λ (rs : List Row). length rs) shown)) c.index-rows-place.is in
-    ap (withdraw_reply effect) (found.1 ∙ ap (λ (rs : List Row). slice_get rs c.in-Some-place_of.place) (sym shown) ∙ at)
-    ∙ ended_reply effect row.no row.withdrawn (sym c.is_some.ensures ∙ c.if-is_some.true)
+    ap (withdraw_reply effect) (found.1 ∙ c.row-row.ensures) ∙ ended_reply effect row.no row.withdrawn (sym c.is_some.ensures ∙ c.if-is_some.true)
 
 pub returns : goal.returns
 returns c =
     let rows = c.args.held.now.rows in
-    let row = c.index-rows-place.result in
+    let row = c.row-row.result.now in
     let named : c.in-Some.name ≡ c.args.text.now = c.in-Some.ensures.value ∙ c.as_bytes.ensures.value in
     let found = named_at rows c.args.text.now c.in-Some-place_of.place
     (ap (λ (n : List ℕ). position (λ (r : Row). is_text r.name n) rows) (sym named) ∙ sym c.place_of.ensures ∙ c.in-Some-place_of.is) in
-    let shown : c.rows-rows.result.now ≡ rows = c.rows-rows.ensures in
-    let at : slice_get rows c.in-Some-place_of.place ≡ Some row =
-    ap (λ (rs : List Row). slice_get rs c.in-Some-place_of.place) (sym shown)
-    ∙ slice_get_read c.rows-rows.result.now (length c.rows-rows.result.now) c.in-Some-place_of.place row refl
-    (omega (arith, found.0, ap (λ (rs : List Row). length rs) shown)) c.index-rows-place.is in
     record {
       row = row;
       inside = found.0;
-      is = at;
-      named = found.1 ∙ at;
+      is = c.row-row.ensures;
+      named = found.1 ∙ c.row-row.ensures;
       open_end = none_from row.withdrawn (sym c.is_some.ensures ∙ c.if-is_some.false);
       numbered = refl;
     }

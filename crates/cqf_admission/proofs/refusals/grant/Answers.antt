@@ -44,8 +44,8 @@ returns-then-is_some c =
     ∙ c.if-is_some.true in
     later ∙ refusal_held d rows asked found
 
-pub returns-then-rows-ge-MOST_STREAMS : goal.returns-then-rows-ge-MOST_STREAMS
-returns-then-rows-ge-MOST_STREAMS c =
+pub returns-then-len-ge-MOST_STREAMS : goal.returns-then-len-ge-MOST_STREAMS
+returns-then-len-ge-MOST_STREAMS c =
     let d = c.args.domain.now in
     let rows = c.args.held.now.rows in
     let asked = asked_of c.args.request.now in
@@ -57,7 +57,7 @@ returns-then-rows-ge-MOST_STREAMS c =
     ap (λ (n : List ℕ). list_any (λ (row : Row). is_text row.name n) rows) (sym named)
     ∙ sym (position_any (λ (row : Row). is_text row.name c.in-Some.name) rows) ∙ ap is_some (sym c.place_of.ensures) ∙ sym c.is_some.ensures
     ∙ c.if-is_some.false in
-    let many : 1024 ≤ length rows = omega (arith, c.if-rows-ge-MOST_STREAMS.true, ap (λ (xs : List Row). length xs) c.rows.ensures) in
+    let many : 1024 ≤ length rows = omega (arith, c.if-len-ge-MOST_STREAMS.true, c.len.ensures) in
     later ∙ refusal_many d rows asked found many
 
 pub short_of-requires-clause-inside : goal.short_of-requires-clause-inside
@@ -81,7 +81,7 @@ returns-in-Some-short_of c =
     ∙ sym (position_any (λ (row : Row). is_text row.name c.in-Some.name) rows) ∙ ap is_some (sym c.place_of.ensures) ∙ sym c.is_some.ensures
     ∙ c.if-is_some.false in
     let linked : c.in_ok-tree.tree.items ≡ tree_of d asked.paths = c.in_ok-tree.ensures.1 ∙ ap (λ xs. tree_of d (branches_of xs)) c.as_slice.ensures.value in
-    let few : length rows < 1024 = omega (arith, c.if-rows-ge-MOST_STREAMS.false, ap (λ (xs : List Row). length xs) c.rows.ensures) in
+    let few : length rows < 1024 = omega (arith, c.if-len-ge-MOST_STREAMS.false, c.len.ensures) in
     let asked_same : short_refusal d rows (cost_of asked.octets) (tree_of d asked.paths) ≡ c.short_of.result =
     sym (c.short_of.ensures
     ∙ ap (λ (n : ℕ). short_refusal d rows n c.as_slice-2.result.now) c.cost-octets.ensures
@@ -102,7 +102,7 @@ returns c =
     ∙ sym (position_any (λ (row : Row). is_text row.name c.in-Some.name) rows) ∙ ap is_some (sym c.place_of.ensures) ∙ sym c.is_some.ensures
     ∙ c.if-is_some.false in
     let linked : c.in_ok-tree.tree.items ≡ tree_of d asked.paths = c.in_ok-tree.ensures.1 ∙ ap (λ xs. tree_of d (branches_of xs)) c.as_slice.ensures.value in
-    let few : length rows < 1024 = omega (arith, c.if-rows-ge-MOST_STREAMS.false, ap (λ (xs : List Row). length xs) c.rows.ensures) in
+    let few : length rows < 1024 = omega (arith, c.if-len-ge-MOST_STREAMS.false, c.len.ensures) in
     let asked_same : short_refusal d rows (cost_of asked.octets) (tree_of d asked.paths) ≡ c.short_of.result =
     sym (c.short_of.ensures
     ∙ ap (λ (n : ℕ). short_refusal d rows n c.as_slice-2.result.now) c.cost-octets.ensures

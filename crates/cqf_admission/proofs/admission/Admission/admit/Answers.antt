@@ -18,14 +18,14 @@ invariant_of-self-in-Ok-grant c =
     let laws = c.state_follows_history.ensures in
     (request_granted laws.goes_on laws.counted laws.granted c.args.seat c.in-Ok.asked (asked_of c.args.request.now) c.self.invariant c.self.view_is
     (omega (arith, c.if-len-self-ge-MOST_CALLS.false, c.len.ensures)) (ap asked_by c.in-Ok.ensures) c.reserve.ensures.items c.enter.ensures
-    c.reserve-2.ensures.same c.in-Ok-grant.ensures c.push.ensures).running
+    c.reserve-2.ensures.same c.in-Ok-grant.ensures c.in-Ok-push.ensures.rows).running
 
-pub returns-in-Ok-grant-clause-held : goal.returns-in-Ok-grant-clause-held
-returns-in-Ok-grant-clause-held c =
+pub returns-in-Ok-push-clause-held : goal.returns-in-Ok-push-clause-held
+returns-in-Ok-push-clause-held c =
     let laws = c.state_follows_history.ensures in
     (request_granted laws.goes_on laws.counted laws.granted c.args.seat c.in-Ok.asked (asked_of c.args.request.now) c.self.invariant c.self.view_is
     (omega (arith, c.if-len-self-ge-MOST_CALLS.false, c.len.ensures)) (ap asked_by c.in-Ok.ensures) c.reserve.ensures.items c.enter.ensures
-    c.reserve-2.ensures.same c.in-Ok-grant.ensures c.push.ensures).held
+    c.reserve-2.ensures.same c.in-Ok-grant.ensures c.in-Ok-push.ensures.rows).held
 
 pub invariant_of-self-in-Err : goal.invariant_of-self-in-Err
 invariant_of-self-in-Err c =

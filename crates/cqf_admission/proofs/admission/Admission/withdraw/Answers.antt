@@ -13,14 +13,14 @@ invariant_of-self-in-Ok-find_open c =
     let laws = c.state_follows_history.ensures in
     (withdrawal_done laws.goes_on laws.counted laws.withdrawn laws.held c.args.seat c.in-Ok.asked c.args.name.now c.self.invariant c.self.view_is
     (omega (arith, c.if-len-self-ge-MOST_CALLS.false, c.len.ensures)) c.in-Ok.ensures.ok c.reserve.ensures.items c.enter.ensures c.in-Ok-find_open.ensures
-    c.end.ensures).running
+    c.in-Ok-end.ensures.rows).running
 
-pub returns-in-Ok-find_open-clause-held : goal.returns-in-Ok-find_open-clause-held
-returns-in-Ok-find_open-clause-held c =
+pub returns-in-Ok-end-clause-held : goal.returns-in-Ok-end-clause-held
+returns-in-Ok-end-clause-held c =
     let laws = c.state_follows_history.ensures in
     (withdrawal_done laws.goes_on laws.counted laws.withdrawn laws.held c.args.seat c.in-Ok.asked c.args.name.now c.self.invariant c.self.view_is
     (omega (arith, c.if-len-self-ge-MOST_CALLS.false, c.len.ensures)) c.in-Ok.ensures.ok c.reserve.ensures.items c.enter.ensures c.in-Ok-find_open.ensures
-    c.end.ensures).held
+    c.in-Ok-end.ensures.rows).held
 
 pub invariant_of-self-in-Err : goal.invariant_of-self-in-Err
 invariant_of-self-in-Err c =

@@ -1,44 +1,78 @@
-use Rattle.std.proofs.Common.{◌∙◌, sym}
+use Rattle.std.proofs.Common.{◌-◌, ◌<◌, ◌∙◌, List, ap, arith, length, map, sym}
+use Rattle.std.specs.Arc.{arc_value}
 use Rattle.cqf_model.specs.declared.topology.Row.{Row}
 use Rattle.cqf_model.specs.Table.{is_held}
-use Rattle.cqf_admission.proofs.HeldLemmas.{swept_gone, swept_held}
+use Rattle.cqf_admission.proofs.HeldLemmas.{swept_gone, swept_held, swept_inside}
+use Rattle.cqf_admission.proofs.MappedRows.{mapped_at, mapped_less}
+use Rattle.cqf_admission.proofs.NumberedRows.{numbered_less, numbered_still}
 use Rattle.cqf_admission.proofs.SumLemmas.{sums_from_totals}
 use Rattle.cqf_admission.proofs.held.Held.sweep.Goals as goal
 
-pub loop-place-preserved-then-not-is_held : goal.loop-place-preserved-then-not-is_held
-loop-place-preserved-then-not-is_held c = (
-  swept_gone (λ (row : Row). is_held row c.args.cycle.0) c.self.inside.rows.items c.loop-place.place c.loop-place.self-inside.names.keys
-      c.loop-place.self-inside.rows.items c.loop-place.self-inside.costs.items c.loop-place.self-inside.masks.items c.loop-place.invariant.0
-      c.index.result.now c.shift_remove_index.new.self.keys c.remove.new.self.items c.remove-then-not-is_held.new.self.items
-      c.remove-then-not-is_held-2.new.self.items
-      c.loop-place-test.true c.index.ensures
-      (sym c.is_held.ensures ∙ c.if-not-is_held.true) c.remove.ensures.items c.shift_remove_index.ensures.keys c.remove-then-not-is_held.ensures.items
-      c.remove-then-not-is_held-2.ensures.items,
-  λ same. absurd cc,
-  c.loop-place.invariant.2,
-)
+pub loop-place-preserved-then-place-self : goal.loop-place-preserved-then-place-self
+loop-place-preserved-then-place-self c =
+    let all : List Row = map (λ row. arc_value row) c.self.inside.rows.items in
+    let now = c.loop-place.self-inside in
+    let rows : List Row = map (λ row. arc_value row) now.rows.items in
+    let gone = ap (λ (r : Row). is_held r c.args.cycle.0) (sym c.deref.ensures) ∙ sym c.is_held.ensures ∙ c.if-not-is_held.true in
+    let less = mapped_less (λ row. arc_value row) now.rows.items c.remove.new.self.items (c.loop-place.place - 1) c.remove.ensures.items in (
+      swept_gone (λ (row : Row). is_held row c.args.cycle.0) all c.loop-place.place now.names.keys rows now.costs.items now.masks.items
+          c.loop-place.invariant.0 (arc_value c.index.result.now) c.shift_remove_index.new.self.keys _ c.remove-then-not-is_held.new.self.items
+          c.remove-then-not-is_held-2.new.self.items c.loop-place-test.true
+          (mapped_at (λ row. arc_value row) now.rows.items (c.loop-place.place - 1) c.index.result.now c.index.ensures) gone less
+          c.shift_remove_index.ensures.keys c.remove-then-not-is_held.ensures.items c.remove-then-not-is_held-2.ensures.items,
+      λ same. absurd cc,
+      numbered_less (arc_value now.numbers) now.numbered rows _ (c.loop-place.place - 1) c.loop-place.invariant.2 c.if-place-self.true less,
+      c.loop-place.invariant.3,
+    )
+
+pub loop-place-preserved-else-place-self : goal.loop-place-preserved-else-place-self
+loop-place-preserved-else-place-self c =
+    let all : List Row = map (λ row. arc_value row) c.self.inside.rows.items in
+    let now = c.loop-place.self-inside in
+    let rows : List Row = map (λ row. arc_value row) now.rows.items in
+    let gone = ap (λ (r : Row). is_held r c.args.cycle.0) (sym c.deref.ensures) ∙ sym c.is_held.ensures ∙ c.if-not-is_held.true in
+    let less = mapped_less (λ row. arc_value row) now.rows.items c.remove.new.self.items (c.loop-place.place - 1) c.remove.ensures.items in
+    let known = swept_inside (λ (row : Row). is_held row c.args.cycle.0) all c.loop-place.place now.names.keys rows now.costs.items now.masks.items
+    c.loop-place.invariant.0 in
+    let inside : c.loop-place.place - 1 < length rows = omega (arith, known, c.loop-place-test.true) in (
+      swept_gone (λ (row : Row). is_held row c.args.cycle.0) all c.loop-place.place now.names.keys rows now.costs.items now.masks.items
+          c.loop-place.invariant.0 (arc_value c.index.result.now) c.shift_remove_index.new.self.keys _ c.remove-then-not-is_held.new.self.items
+          c.remove-then-not-is_held-2.new.self.items c.loop-place-test.true
+          (mapped_at (λ row. arc_value row) now.rows.items (c.loop-place.place - 1) c.index.result.now c.index.ensures) gone less
+          c.shift_remove_index.ensures.keys c.remove-then-not-is_held.ensures.items c.remove-then-not-is_held-2.ensures.items,
+      λ same. absurd cc,
+      numbered_still (arc_value now.numbers) now.numbered rows _ (c.loop-place.place - 1) c.loop-place.invariant.2 c.if-place-self.false inside less,
+      c.loop-place.invariant.3,
+    )
 
 pub loop-place-preserved : goal.loop-place-preserved
-loop-place-preserved c = (
-  swept_held (λ (row : Row). is_held row c.args.cycle.0) c.self.inside.rows.items c.loop-place.place c.loop-place.self-inside.names.keys
-      c.loop-place.self-inside.rows.items c.loop-place.self-inside.costs.items c.loop-place.self-inside.masks.items c.loop-place.invariant.0
-      c.index.result.now c.loop-place-test.true c.index.ensures (sym c.is_held.ensures ∙ c.if-not-is_held.false),
-  c.loop-place.invariant.1,
-  c.loop-place.invariant.2,
-)
+loop-place-preserved c =
+    let all : List Row = map (λ row. arc_value row) c.self.inside.rows.items in
+    let now = c.loop-place.self-inside in
+    let rows : List Row = map (λ row. arc_value row) now.rows.items in
+    let held = ap (λ (r : Row). is_held r c.args.cycle.0) (sym c.deref.ensures) ∙ sym c.is_held.ensures ∙ c.if-not-is_held.false in (
+      swept_held (λ (row : Row). is_held row c.args.cycle.0) all c.loop-place.place now.names.keys rows now.costs.items now.masks.items
+          c.loop-place.invariant.0 (arc_value c.index.result.now) c.loop-place-test.true
+          (mapped_at (λ row. arc_value row) now.rows.items (c.loop-place.place - 1) c.index.result.now c.index.ensures) held,
+      c.loop-place.invariant.1,
+      c.loop-place.invariant.2,
+      c.loop-place.invariant.3,
+    )
 
 pub invariant_of-self : goal.invariant_of-self
 invariant_of-self c =
     let now = c.loop-place.self-inside in
+    let rows : List Row = map (λ row. arc_value row) now.rows.items in
     let columns = c.loop-place.invariant.0.columns in (
       columns,
-      sums_from_totals now.names.keys now.rows.items now.costs.items now.masks.items c.sums_of-self-inside.result columns
+      sums_from_totals now.names.keys rows now.costs.items now.masks.items c.sums_of-self-inside.result columns
           (rw (c.as_slice.ensures.value, c.as_slice-then-gone.ensures.value) at c.sums_of-self-inside.ensures),
       λ same. absurd cc,
-      rw c.loop-place.invariant.2 tt,
+      c.loop-place.invariant.2,
+      rw c.loop-place.invariant.3 tt,
     )
 
 pub invariant_of-self-else-gone : goal.invariant_of-self-else-gone
 invariant_of-self-else-gone c =
     let kept = c.loop-place.invariant.1 c.if-gone.false in
-    (c.loop-place.invariant.0.columns, kept.0, kept.1, rw c.loop-place.invariant.2 tt)
+    (c.loop-place.invariant.0.columns, kept.0, kept.1, c.loop-place.invariant.2, rw c.loop-place.invariant.3 tt)

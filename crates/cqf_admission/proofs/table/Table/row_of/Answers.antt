@@ -10,7 +10,7 @@ use Rattle.cqf_admission.proofs.table.Table.row_of.Goals as goal
 pub returns-clause-the_row : goal.returns-clause-the_row
 returns-clause-the_row c =
     let rows = arc_value c.self.inside.listed in
-    let found : option_copied c.row_with_number.result ≡ row_of rows c.args.no = c.row_with_number.ensures
-    ∙ ap (λ (rs : List Row). row_of rs c.args.no) (c.rows.ensures ∙ c.deref.ensures) in
-    subst (λ (t : CycleTable). IsRowOf t.rows c.args.no (option_copied c.row_with_number.result)) c.self.view_is
+    let found : option_copied c.row_of.result ≡ row_of rows c.args.no = c.row_of.ensures
+    ∙ ap (λ (rs : List Row). row_of rs c.args.no) c.deref.ensures in
+    subst (λ (t : CycleTable). IsRowOf t.rows c.args.no (option_copied c.row_of.result)) c.self.view_is
     (subst (λ (o : Option Row). IsRowOf rows c.args.no o) (sym found) (the_row_of rows c.args.no c.self.invariant))

@@ -1,6 +1,0 @@
--- The rows so far have been copied.
-use Rattle.std.proofs.Common.{◌≡◌, take}
-use Rattle.cqf_admission.proofs.rows.copied_rows.Given as goal
-
-abbrev pub invariant-loop-row : goal.invariant-loop-row
-invariant-loop-row l = l.copies.items ≡ take l.row-index l.rows
