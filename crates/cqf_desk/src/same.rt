@@ -1,4 +1,5 @@
 //! Whether what a seat kept is what a history has.
+ghost use Rattle.std.specs.Arc.{arc_value};
 ghost use Rattle.std.specs.Prelude.{◌≡◌, true, map};
 ghost use Rattle.cqf_admission.specs.Admission.{act_of, recorded_of};
 ghost use Rattle.cqf_admission.specs.Asking.{asked_of};
@@ -7,6 +8,7 @@ ghost use Rattle.cqf_admission.specs.Branches.{branches_of};
 use cqf_admission::{Call, Entry, Row, Table};
 use cqf_model::Hop;
 use cqf_topology::Request;
+use std::sync::Arc;
 
 /// Whether two texts are the same.
 fn is_same_text(one: &str, other: &str) -> bool
@@ -124,8 +126,8 @@ fn is_same_row(one: &Row, other: &Row) -> bool
 }
 
 /// Whether two lists have the same rows.
-fn are_same_rows(these: &[Row], those: &[Row]) -> bool
-    ensures { result ≡ true → these.now ≡ those.now }
+fn are_same_rows(these: &[Arc<Row>], those: &[Arc<Row>]) -> bool
+    ensures { result ≡ true → map (λ row. arc_value row) these.now ≡ map (λ row. arc_value row) those.now }
 {
     if these.len() != those.len() {
         return false;
