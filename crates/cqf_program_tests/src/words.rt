@@ -131,7 +131,7 @@ const HELP: &[(&[&str], &str)] = &[
     (&["run", "--help"], "--threads "),
     (
         &["run", "--help"],
-        "100000 cycles and 6 million transmissions it takes about 10 seconds and 0.6 GB,",
+        "100000 cycles and 6 million transmissions it takes about 10 seconds and 0.5 GB,",
     ),
     (&["report", "--help"], "Usage: cqf report --cycles <N>\n"),
 ];

@@ -44,9 +44,9 @@ const RUN_INPUT: &str = r#"Standard input has four parts, which lines of %% divi
 The output is the history of the calls, a line of %%, and the book of every
 transmission and drop. A run keeps its input, the table of each cycle, all
 frames under way and its book in memory, and tells nothing before it ends: with
-100000 cycles and 6 million transmissions it takes about 10 seconds and 0.6 GB,
-with --threads 1.5 GB, and with 15 million 14 seconds and 1.2 GB. Where each of
-10000 cycles admits or withdraws beside 1000 held streams it takes 3.3 GB.
+100000 cycles and 6 million transmissions it takes about 10 seconds and 0.5 GB,
+with --threads 1.5 GB, and with 15 million 14 seconds and 1.1 GB. Where each of
+10000 cycles admits or withdraws beside 1000 held streams, that takes 0.1 GB.
 
 With --threads each bridge and each administrator of the script has a thread of
 its own. The lines of the script before its first seal are done before they
