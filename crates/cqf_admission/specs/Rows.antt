@@ -1,5 +1,5 @@
 -- The rows of streams that are held, and the columns that are kept beside them.
-use Rattle.std.specs.Prelude.{ℕ, ◌≡◌, ◌≤◌, All, None, ◌^◌, List, [], ◌∷◌, if◌then◌else◌, nat_lt, ◌+◌, ◌<◌, bit_or, fold, length, map, slice_index_or, Some, zero, suc}
+use Rattle.std.specs.Prelude.{ℕ, ◌≡◌, ◌≤◌, All, None, ◌^◌, List, [], ◌∷◌, if◌then◌else◌, nat_lt, ◌+◌, ◌<◌, bit_or, fold, length, map, slice_index_or, Some, zero, suc, false}
 use Rattle.cqf_units.specs.Timing.{cost_of}
 use Rattle.cqf_units.specs.declared.reservations.Cycle.{Cycle}
 use Rattle.cqf_model.specs.declared.topology.Row.{Row}
@@ -49,6 +49,11 @@ pub record AreTotals (costs masks sums : List ℕ) : Type 0 where
 abbrev pub AreMoreBy : List ℕ → ℕ → ℕ → List ℕ → List ℕ → Type 0
 AreMoreBy sums mask octets costs masks =
     (l : ℕ) → l < 64 → masked_total l costs masks ≡ slice_index_or sums l 0 + (if has_bit mask l then octets else 0)
+
+-- the columns say what the sums say of each link that a mask doesn't have
+abbrev pub AreSameBut : List ℕ → ℕ → List ℕ → List ℕ → Type 0
+AreSameBut sums mask costs masks =
+    (l : ℕ) → l < 64 → has_bit mask l ≡ false → slice_index_or sums l 0 ≡ masked_total l costs masks
 
 -- a row that is held from a cycle on for good: its stream is live by then and isn't withdrawn; and rows that all are
 abbrev pub IsLasting : ℕ → Row → Type 0

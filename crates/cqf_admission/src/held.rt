@@ -4,7 +4,7 @@ ghost use Rattle.std.specs.Arc.{arc_value};
 ghost use Rattle.std.specs.List.{list_any};
 ghost use Rattle.cqf_model.specs.Domain.{is_text};
 ghost use Rattle.cqf_model.specs.Table.{is_held, link_cost};
-ghost use Rattle.cqf_admission.specs.Rows.{AreLasting, AreMoreBy, AreTotals, IsLasting, ended_at};
+ghost use Rattle.cqf_admission.specs.Rows.{AreLasting, AreMoreBy, AreSameBut, AreTotals, IsLasting, ended_at};
 ghost use Rattle.cqf_lanes.specs.Kernels.{has_bit, masked_total};
 
 use crate::listed::Listed;
@@ -92,6 +92,35 @@ fn sums_with(sums: &[u64; 64], mask: u64, octets: u32, costs: &[u32], masks: &[u
     for link in 0..64u32 {
         let place = link as usize;
         after[place] = sum_with(sums[place], mask, octets, costs, masks, link);
+    }
+    after
+}
+
+/// What a link's streams cost of it, where it is what it was unless the mask has the link's bit.
+fn sum_again(sum: u64, mask: u64, costs: &[u32], masks: &[u64], link: u32) -> u64
+    requires side_by_side { length costs.now ≡ length masks.now }
+    requires few { length costs.now < 2 ^ 32 }
+    requires low { link < 64 }
+    requires same { has_bit mask link ≡ false → sum ≡ masked_total link costs.now masks.now }
+    ensures { result ≡ masked_total link costs.now masks.now }
+{
+    if mask & (1 << link) == 0 {
+        return sum;
+    }
+    masked_sum(costs, masks, link)
+}
+
+/// By link, what the columns cost of it, where it is what it was unless the mask has the link's bit.
+fn sums_again(sums: &[u64; 64], mask: u64, costs: &[u32], masks: &[u64]) -> [u64; 64]
+    requires side_by_side { length costs.now ≡ length masks.now }
+    requires few { length costs.now < 2 ^ 32 }
+    requires same { AreSameBut sums.now mask costs.now masks.now }
+    ensures { AreTotals costs.now masks.now result }
+{
+    let mut after = [0; 64];
+    for link in 0..64u32 {
+        let place = link as usize;
+        after[place] = sum_again(sums[place], mask, costs, masks, link);
     }
     after
 }
@@ -276,7 +305,13 @@ impl Held {
                 let _ = self.rows.remove(place);
                 let _ = self.names.shift_remove_index(place);
                 let _ = self.costs.remove(place);
-                let _ = self.masks.remove(place);
+                let mask = self.masks.remove(place);
+                self.sums = sums_again(
+                    &self.sums,
+                    mask,
+                    self.costs.as_slice(),
+                    self.masks.as_slice(),
+                );
                 if place < self.numbered {
                     self.numbered -= 1;
                 }
@@ -284,7 +319,6 @@ impl Held {
             }
         }
         if gone {
-            self.sums = sums_of(self.costs.as_slice(), self.masks.as_slice());
             self.is_shared = false;
         }
     }

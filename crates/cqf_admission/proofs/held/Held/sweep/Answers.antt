@@ -5,7 +5,7 @@ use Rattle.cqf_model.specs.Table.{is_held}
 use Rattle.cqf_admission.proofs.HeldLemmas.{swept_gone, swept_held, swept_inside}
 use Rattle.cqf_admission.proofs.MappedRows.{mapped_at, mapped_less}
 use Rattle.cqf_admission.proofs.NumberedRows.{numbered_less, numbered_still}
-use Rattle.cqf_admission.proofs.SumLemmas.{sums_from_totals}
+use Rattle.cqf_admission.proofs.SumLemmas.{same_but, sums_from_totals}
 use Rattle.cqf_admission.proofs.held.Held.sweep.Goals as goal
 
 pub loop-place-preserved-then-place-self : goal.loop-place-preserved-then-place-self
@@ -14,13 +14,18 @@ loop-place-preserved-then-place-self c =
     let now = c.loop-place.self-inside in
     let rows : List Row = map (λ row. arc_value row) now.rows.items in
     let gone = ap (λ (r : Row). is_held r c.args.cycle.0) (sym c.deref.ensures) ∙ sym c.is_held.ensures ∙ c.if-not-is_held.true in
-    let less = mapped_less (λ row. arc_value row) now.rows.items c.remove.new.self.items (c.loop-place.place - 1) c.remove.ensures.items in (
-      swept_gone (λ (row : Row). is_held row c.args.cycle.0) all c.loop-place.place now.names.keys rows now.costs.items now.masks.items
-          c.loop-place.invariant.0 (arc_value c.index.result.now) c.shift_remove_index.new.self.keys _ c.remove-then-not-is_held.new.self.items
-          c.remove-then-not-is_held-2.new.self.items c.loop-place-test.true
-          (mapped_at (λ row. arc_value row) now.rows.items (c.loop-place.place - 1) c.index.result.now c.index.ensures) gone less
-          c.shift_remove_index.ensures.keys c.remove-then-not-is_held.ensures.items c.remove-then-not-is_held-2.ensures.items,
-      λ same. absurd cc,
+    let less = mapped_less (λ row. arc_value row) now.rows.items c.remove.new.self.items (c.loop-place.place - 1) c.remove.ensures.items in
+    let swept = swept_gone (λ (row : Row). is_held row c.args.cycle.0) all c.loop-place.place now.names.keys rows now.costs.items now.masks.items
+    c.loop-place.invariant.0 (arc_value c.index.result.now) c.shift_remove_index.new.self.keys _ c.remove-then-not-is_held.new.self.items
+    c.remove-mask.new.self.items c.loop-place-test.true
+    (mapped_at (λ row. arc_value row) now.rows.items (c.loop-place.place - 1) c.index.result.now c.index.ensures) gone less
+    c.shift_remove_index.ensures.keys c.remove-then-not-is_held.ensures.items c.remove-mask.ensures.items in (
+      swept,
+      (
+        sums_from_totals _ _ _ _ c.sums_again-self-inside.result swept.columns
+            (rw (c.as_slice.ensures.value, c.as_slice-then-not-is_held.ensures.value) at c.sums_again-self-inside.ensures),
+        λ same. absurd cc,
+      ),
       numbered_less (arc_value now.numbers) now.numbered rows _ (c.loop-place.place - 1) c.loop-place.invariant.2 c.if-place-self.true less,
       c.loop-place.invariant.3,
     )
@@ -34,13 +39,18 @@ loop-place-preserved-else-place-self c =
     let less = mapped_less (λ row. arc_value row) now.rows.items c.remove.new.self.items (c.loop-place.place - 1) c.remove.ensures.items in
     let known = swept_inside (λ (row : Row). is_held row c.args.cycle.0) all c.loop-place.place now.names.keys rows now.costs.items now.masks.items
     c.loop-place.invariant.0 in
-    let inside : c.loop-place.place - 1 < length rows = omega (arith, known, c.loop-place-test.true) in (
-      swept_gone (λ (row : Row). is_held row c.args.cycle.0) all c.loop-place.place now.names.keys rows now.costs.items now.masks.items
-          c.loop-place.invariant.0 (arc_value c.index.result.now) c.shift_remove_index.new.self.keys _ c.remove-then-not-is_held.new.self.items
-          c.remove-then-not-is_held-2.new.self.items c.loop-place-test.true
-          (mapped_at (λ row. arc_value row) now.rows.items (c.loop-place.place - 1) c.index.result.now c.index.ensures) gone less
-          c.shift_remove_index.ensures.keys c.remove-then-not-is_held.ensures.items c.remove-then-not-is_held-2.ensures.items,
-      λ same. absurd cc,
+    let inside : c.loop-place.place - 1 < length rows = omega (arith, known, c.loop-place-test.true) in
+    let swept = swept_gone (λ (row : Row). is_held row c.args.cycle.0) all c.loop-place.place now.names.keys rows now.costs.items now.masks.items
+    c.loop-place.invariant.0 (arc_value c.index.result.now) c.shift_remove_index.new.self.keys _ c.remove-then-not-is_held.new.self.items
+    c.remove-mask.new.self.items c.loop-place-test.true
+    (mapped_at (λ row. arc_value row) now.rows.items (c.loop-place.place - 1) c.index.result.now c.index.ensures) gone less
+    c.shift_remove_index.ensures.keys c.remove-then-not-is_held.ensures.items c.remove-mask.ensures.items in (
+      swept,
+      (
+        sums_from_totals _ _ _ _ c.sums_again-self-inside.result swept.columns
+            (rw (c.as_slice.ensures.value, c.as_slice-then-not-is_held.ensures.value) at c.sums_again-self-inside.ensures),
+        λ same. absurd cc,
+      ),
       numbered_still (arc_value now.numbers) now.numbered rows _ (c.loop-place.place - 1) c.loop-place.invariant.2 c.if-place-self.false inside less,
       c.loop-place.invariant.3,
     )
@@ -59,20 +69,33 @@ loop-place-preserved c =
       c.loop-place.invariant.3,
     )
 
-pub invariant_of-self : goal.invariant_of-self
-invariant_of-self c =
+pub sums_again-self-inside-requires-clause-same : goal.sums_again-self-inside-requires-clause-same
+sums_again-self-inside-requires-clause-same c =
+    let all : List Row = map (λ row. arc_value row) c.self.inside.rows.items in
     let now = c.loop-place.self-inside in
     let rows : List Row = map (λ row. arc_value row) now.rows.items in
-    let columns = c.loop-place.invariant.0.columns in (
-      columns,
-      sums_from_totals now.names.keys rows now.costs.items now.masks.items c.sums_of-self-inside.result columns
-          (rw (c.as_slice.ensures.value, c.as_slice-then-gone.ensures.value) at c.sums_of-self-inside.ensures),
-      λ same. absurd cc,
-      c.loop-place.invariant.2,
-      rw c.loop-place.invariant.3 tt,
-    )
+    let gone = ap (λ (r : Row). is_held r c.args.cycle.0) (sym c.deref.ensures) ∙ sym c.is_held.ensures ∙ c.if-not-is_held.true in
+    let less = mapped_less (λ row. arc_value row) now.rows.items c.remove.new.self.items (c.loop-place.place - 1) c.remove.ensures.items in
+    let at = mapped_at (λ row. arc_value row) now.rows.items (c.loop-place.place - 1) c.index.result.now c.index.ensures in
+    let swept = swept_gone (λ (row : Row). is_held row c.args.cycle.0) all c.loop-place.place now.names.keys rows now.costs.items now.masks.items
+    c.loop-place.invariant.0 (arc_value c.index.result.now) c.shift_remove_index.new.self.keys _ c.remove-then-not-is_held.new.self.items c.remove-mask.new.self.items
+    c.loop-place-test.true at gone less c.shift_remove_index.ensures.keys c.remove-then-not-is_held.ensures.items c.remove-mask.ensures.items in
+    let known = swept_inside (λ (row : Row). is_held row c.args.cycle.0) all c.loop-place.place now.names.keys rows now.costs.items now.masks.items
+    c.loop-place.invariant.0 in
+    let inside : c.loop-place.place - 1 < length rows = omega (arith, known, c.loop-place-test.true) in
+    let same = same_but _ _ rows _ _ _ _ _ now.sums (arc_value c.index.result.now) (c.loop-place.place - 1) c.remove-mask.result
+    c.loop-place.invariant.1.0 c.loop-place.invariant.0.columns swept.columns inside at less c.remove-mask.ensures.value in
+    rw (c.as_slice.ensures.value, c.as_slice-then-not-is_held.ensures.value) same
+
+pub invariant_of-self : goal.invariant_of-self
+invariant_of-self c =
+    (c.loop-place.invariant.0.columns, c.loop-place.invariant.1.0, λ same. absurd cc, c.loop-place.invariant.2, rw c.loop-place.invariant.3 tt)
 
 pub invariant_of-self-else-gone : goal.invariant_of-self-else-gone
-invariant_of-self-else-gone c =
-    let kept = c.loop-place.invariant.1 c.if-gone.false in
-    (c.loop-place.invariant.0.columns, kept.0, kept.1, c.loop-place.invariant.2, rw c.loop-place.invariant.3 tt)
+invariant_of-self-else-gone c = (
+  c.loop-place.invariant.0.columns,
+  c.loop-place.invariant.1.0,
+  c.loop-place.invariant.1.1 c.if-gone.false,
+  c.loop-place.invariant.2,
+  rw c.loop-place.invariant.3 tt,
+)
