@@ -146,7 +146,8 @@ impl Admission {
     /// held on for as many cycles as its deepest link is deep.
     ///
     /// Refused with `HistoryFull` and `Memory` as [`Admission::admit`], then with `NotHeld` where no held stream has the
-    /// name, and `AlreadyWithdrawn` (profile).
+    /// name, and `AlreadyWithdrawn`; and where none is, with `Memory` where there is none for the row of a stream that ends
+    /// (profile).
     pub fn withdraw(&mut self, seat: u16, name: &str) -> Result<Receipt, Refused>
         ensures answers { Answers self.old self.new seat (Withdraws name.now) result }
         ensures held { EndsOne self.old self.new result }

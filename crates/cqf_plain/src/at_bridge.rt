@@ -172,7 +172,8 @@ fn list_drops(here: &mut Vec<Dropped>, drops: &mut Vec<Dropped>) -> Result<(), M
 
 /// The bridge takes a cycle that the ports have sent: the frames that came to it by the links into it since the cycle began, each
 /// port having started so many frames before it, and those of the offers that are at it. What passes is put behind `passed`,
-/// and what is dropped behind `drops`; `frames` lists what came, in place of what it listed before. It answers `Inside` for a frame that is lost, and else `Memory` where a growth is refused.
+/// and what is dropped behind `drops`; `frames` lists what came, in place of what it listed before. It answers `Inside` for a
+/// frame that is lost, and else `Memory` where a growth is refused.
 pub(crate) fn take_at_bridge(
     alloc: Global,
     domain: &Domain,
