@@ -1,5 +1,2 @@
-pub mod Listing
-pub mod Taken
-pub mod ThreeKeys
 pub mod BookSorts
-pub mod Left
+pub mod ThreeKeys

@@ -1,3 +1,1 @@
-pub mod InTime
 pub mod BookOrder
-pub mod Waiting
