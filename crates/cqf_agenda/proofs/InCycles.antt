@@ -44,13 +44,16 @@ module _ {X : Type 0} (key : X → ℕ) where
 pub offer_at : ℕ → Offered
 offer_at t = record { frame = 0; offer = record { at = record { 0 = t }; bridge = 0; stream = []; octets = 0 } }
 
+-- each instant is that of some offer
 pub offers_at_instants : (t : ℕ) → instant_of_offer (offer_at t) ≡ t
 unfolding offer_at
 offers_at_instants t = refl
 
+-- a background frame at an instant
 pub backed_at : ℕ → Backed
 backed_at t = record { frame = 0; background = record { at = record { 0 = t }; link = 0; class = 0; octets = 0 } }
 
+-- each instant is that of some background frame
 pub backed_at_instants : (t : ℕ) → instant_of_backed (backed_at t) ≡ t
 unfolding backed_at
 backed_at_instants t = refl

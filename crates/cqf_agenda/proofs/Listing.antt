@@ -5,7 +5,7 @@ use Rattle.std.specs.List.{enumerate_from}
 use Rattle.std.proofs.lemmas.Bool.{cond-false, cond-true}
 use Rattle.std.proofs.lemmas.List.{length-take-le, map-append, take_more}
 use Rattle.std.proofs.lemmas.List.Elements.{filter-append}
-use Rattle.cqf_order.proofs.Listing.{enumerate_from-push}
+use Rattle.cqf_lists.proofs.Places.{enumerate_from-push}
 
 module _ {X Y : Type 0} (with_number : ℕ × X → Y) (keep : Y → Bool) (xs : List X) (k : ℕ) (x d : X) (inside : k < length xs) (there : x ≡ get_or xs k d) where
   -- the first so many, each with its number

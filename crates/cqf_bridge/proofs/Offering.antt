@@ -5,18 +5,12 @@ use Rattle.std.specs.List.{enumerate_from}
 use Rattle.std.proofs.lemmas.Bool.{cond-false, cond-true}
 use Rattle.std.proofs.lemmas.List.{take_more, map-append, length-take-le}
 use Rattle.std.proofs.lemmas.List.Elements.{filter-append}
+use Rattle.cqf_lists.proofs.Places.{enumerate_from-push}
 use Rattle.cqf_model.specs.declared.frames.Offer.{Offer}
 use Rattle.cqf_model.specs.declared.frames.Offered.{Offered}
 use Rattle.cqf_model.specs.Domain.{Domain}
 use Rattle.cqf_model.specs.Traffic.{numbered}
 use Rattle.cqf_laws_pages.specs.Gathered.{is_offered_in}
-
--- one element more is numbered by how many stand before it
-numbered_push : {X : Type 0} (n : ℕ) (xs : List X) (x : X) → enumerate_from n (xs ++ x ∷ []) ≡ enumerate_from n xs ++ (n + length xs, x) ∷ []
-numbered_push n [] x = let e : n ≡ n + 0 = omega arith in ap (λ k. (k, x) ∷ []) e
-numbered_push n (y ∷ xs) x =
-    let e : (n + 1) + length xs ≡ n + length (y ∷ xs) = omega arith in
-    ap (λ zs. (n, y) ∷ zs) (numbered_push (n + 1) xs x ∙ ap (λ k. enumerate_from (n + 1) xs ++ (k, x) ∷ []) e)
 
 -- the offer at a place, with its number
 abbrev at_place : List Offer → ℕ → Offer → Offered
@@ -30,7 +24,7 @@ numbered_more offers k d below =
     let named : ℕ × Offer → Offered = λ x. record { frame = x.0; offer = x.1 } in
     let one : ℕ → Offered = λ n. record { frame = n; offer = get_or offers k d } in
     ap numbered (take_more offers k d below)
-    ∙ ap (map named) (numbered_push 1 (take k offers) (get_or offers k d))
+    ∙ ap (map named) (enumerate_from-push 1 (take k offers) (get_or offers k d))
     ∙ map-append named (enumerate_from 1 (take k offers)) ((1 + length (take k offers), get_or offers k d) ∷ [])
     ∙ ap (λ n. numbered (take k offers) ++ one n ∷ []) count
 
@@ -64,9 +58,11 @@ module _ (d : Domain) (offers : List Offer) (bridge cycle k : ℕ) (offer : Offe
 abbrev pub instant_of_offer : Offered → ℕ
 instant_of_offer x = x.offer.at.0
 
+-- an offer at an instant
 pub offer_at : ℕ → Offered
 offer_at t = record { frame = 0; offer = record { at = record { 0 = t }; bridge = 0; stream = []; octets = 0 } }
 
+-- each instant is that of some offer
 pub offers_at : (t : ℕ) → instant_of_offer (offer_at t) ≡ t
 unfolding offer_at
 offers_at t = refl

@@ -1,24 +1,15 @@
 -- What the gate of a reservation says of a frame, and what it counts, by the cycle.
-use Rattle.std.proofs.Common.{◌≡◌, ◌+◌, ◌≤◌, ◌<◌, ◌-◌, ◌%◌, ◌⊎◌, ℕ, suc, Bool, false, inl, inr, sym, ap, ap₂, ◌∙◌, arith, nat_lt, mod-lt, Option, Some}
+use Rattle.std.proofs.Common.{◌≡◌, ◌+◌, ◌≤◌, ◌<◌, ◌-◌, ◌%◌, ◌⊎◌, ℕ, Bool, false, inl, inr, sym, ap, ap₂, ◌∙◌, arith, mod-lt, Option, Some}
 use Rattle.std.specs.Prelude.{◌==◌, if◌then◌else◌, nat_le, slice_get}
 use Rattle.std.specs.Option.{option_and_then, option_map_or}
-use Rattle.std.proofs.lemmas.Bool.{cases_lt, cond-false, cond-true, le-leb, le-ltb, lt-leb, lt-ltb}
+use Rattle.std.proofs.lemmas.Bool.{cond-false, cond-true, le-leb, lt-leb}
 use Rattle.cqf_units.specs.Timing.{cycle_at}
 use Rattle.cqf_model.specs.declared.gates.StreamEntry.{StreamEntry}
-use Rattle.cqf_model.specs.StreamGate.{gate_class, place_at, place_in, stream_list, within}
+use Rattle.cqf_model.specs.StreamGate.{gate_class, place_at, stream_list, within}
+use Rattle.cqf_model.proofs.Reservations.{in_two}
 use Rattle.cqf_gates.specs.StreamGate.{Gate, gate_after, lets_pass, octet_max_at, taken_at, taken_behind, verdict_on}
 use Rattle.cqf_gates.specs.declared.streams.Passed.TheVariants.{Class, OverOctets}
 use Rattle.cqf_laws_cycle.specs.Compiled.{GateCountsCycles, GateGivesClass, given_class}
-
--- of two entries one is in force
-in_two : (n reserved offset : ℕ) → offset < n + n → (place_in (stream_list n reserved) offset ≡ 0) ⊎ (place_in (stream_list n reserved) offset ≡ 1)
-in_two n reserved offset inside = elim (cases_lt offset n) [
-  | inl first ↦ inl (cond-true (nat_lt offset n) 0 (suc (if nat_lt (offset - n) n then 0 else 1)) (lt-ltb offset n first))
-  | inr second ↦ inr (
-      cond-false (nat_lt offset n) 0 (suc (if nat_lt (offset - n) n then 0 else 1)) (le-ltb offset n second)
-      ∙ ap suc (cond-true (nat_lt (offset - n) n) 0 1 (lt-ltb (offset - n) n (omega (arith, inside, second))))
-      )
-]
 
 module _ (n reserved t : ℕ) (some : 0 < n) where
   place_two : (place_at (stream_list n reserved) t ≡ 0) ⊎ (place_at (stream_list n reserved) t ≡ 1)

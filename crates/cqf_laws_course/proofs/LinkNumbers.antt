@@ -1,13 +1,10 @@
 -- The links that end in a bridge.
-use Rattle.std.proofs.Common.{◌≡◌, ◌∷◌, [], ℕ, ◌<◌, AllPairs, Bool, Contains, List, arith, length, subst, sym}
-use Rattle.std.specs.Prelude.{false, if◌then◌else◌, true}
+use Rattle.std.proofs.Common.{◌≡◌, ◌∷◌, [], ℕ, ◌<◌, AllPairs, Contains, List, length, subst, sym}
+use Rattle.std.specs.Prelude.{if◌then◌else◌, true}
 use Rattle.std.proofs.lemmas.Bool.{cond-true}
-use Rattle.cqf_lists.specs.Lists.{each_below}
 use Rattle.cqf_lists.proofs.EachBelow.{contains_below}
-use Rattle.cqf_lists.proofs.Made.{contains_if_there}
-use Rattle.cqf_lists.proofs.Members.{contains_here, contains_one}
-use Rattle.cqf_lists.proofs.Numbers.{kept_number}
-use Rattle.cqf_lists.proofs.Pairs.{pairs_below, pairs_none, pairs_one}
+use Rattle.cqf_lists.proofs.Members.{contains_here}
+use Rattle.cqf_lists.proofs.Numbers.{kept_number, numbers_ascend}
 use Rattle.cqf_model.specs.Domain.{Domain, enters}
 use Rattle.cqf_model.proofs.LinkEnds.{enters_inside}
 use Rattle.cqf_bridge.specs.Receiving.{links_into}
@@ -26,22 +23,6 @@ link_listed d bridge l ends =
     contains_below (λ k. if enters d k bridge then k ∷ [] else []) (length d.links) l l (link_ending d bridge l ends)
     (subst (λ (ks : List ℕ). Contains ks l) (sym (cond-true (enters d l bridge) (l ∷ []) [] ends)) (contains_here l []))
 
--- numbers that pass a test ascend
-pub numbers_ascend : (test : ℕ → Bool) (n : ℕ) → AllPairs (λ (a b : ℕ). a < b) (each_below (λ k. if test k then k ∷ [] else []) n)
-numbers_ascend test n =
-    pairs_below (λ (a b : ℕ). a < b) (λ k. if test k then k ∷ [] else []) n (λ k below. one (test k) k)
-    (λ j k x y less below cx cy. omega (
-      arith,
-      less,
-      contains_one j x (contains_if_there (test j) (j ∷ []) x cx).1,
-      contains_one k y (contains_if_there (test k) (k ∷ []) y cy).1,
-    ))
-  where
-    -- one number, or none
-    one : (b : Bool) (k : ℕ) → AllPairs (λ (a c : ℕ). a < c) (if b then k ∷ [] else [])
-    one true k = pairs_one (λ (a c : ℕ). a < c) k
-    one false k = pairs_none (λ (a c : ℕ). a < c)
-
--- so do the links that end in a bridge
+-- the links that end in a bridge ascend
 pub links_ascend : (d : Domain) (bridge : ℕ) → AllPairs (λ (a b : ℕ). a < b) (links_into d bridge)
 links_ascend d bridge = numbers_ascend (λ k. enters d k bridge) (length d.links)

@@ -1,12 +1,13 @@
 -- The numbers below a bound that pass a test.
 use Rattle.std.proofs.Common.{◌≡◌, ℕ, zero, suc, ◌<◌, ◌≤◌, Bool, true, false, List, [], ◌∷◌, ◌++◌, if◌then◌else◌, length, length-append, sym, ap, ap₂, refl, ◌∙◌, arith}
-use Rattle.std.proofs.Common.{Contains, append-nil}
+use Rattle.std.proofs.Common.{AllPairs, Contains, append-nil}
 use Rattle.std.specs.List.{flat_map}
 use Rattle.std.proofs.lemmas.List.Concat.{flat_map-append}
 use Rattle.cqf_lists.specs.Lists.{each_below}
 use Rattle.cqf_lists.proofs.EachBelow.{contains_from_below}
 use Rattle.cqf_lists.proofs.Made.{contains_if_there}
 use Rattle.cqf_lists.proofs.Members.{contains_one}
+use Rattle.cqf_lists.proofs.Pairs.{pairs_below, pairs_none, pairs_one}
 
 -- the numbers below a bound that pass a test
 abbrev pub kept_below : (ℕ → Bool) → ℕ → List ℕ
@@ -42,3 +43,19 @@ made_of_kept {X} test g (suc n) =
     one : (b : Bool) → flat_map g (if b then n ∷ [] else []) ≡ (if b then g n else [])
     one true = append-nil (g n)
     one false = refl
+
+-- numbers that pass a test ascend
+pub numbers_ascend : (test : ℕ → Bool) (n : ℕ) → AllPairs (λ (a b : ℕ). a < b) (kept_below test n)
+numbers_ascend test n =
+    pairs_below (λ (a b : ℕ). a < b) (λ k. if test k then k ∷ [] else []) n (λ k below. one (test k) k)
+    (λ j k x y less below cx cy. omega (
+      arith,
+      less,
+      contains_one j x (contains_if_there (test j) (j ∷ []) x cx).1,
+      contains_one k y (contains_if_there (test k) (k ∷ []) y cy).1,
+    ))
+  where
+    -- one number, or none
+    one : (b : Bool) (k : ℕ) → AllPairs (λ (a c : ℕ). a < c) (if b then k ∷ [] else [])
+    one true k = pairs_one (λ (a c : ℕ). a < c) k
+    one false k = pairs_none (λ (a c : ℕ). a < c)

@@ -1,6 +1,7 @@
 -- Elements of a list by their places.
 use Rattle.std.proofs.Common.{◌≡◌, ◌∙◌, ℕ, ◌+◌, ◌-◌, ◌<◌, ◌⊎◌, List, Some, None, length, refl, ap, sym, subst, inl, inr, arith}
 use Rattle.std.proofs.Common.{get_or-append-add, length-append}
+use Rattle.std.specs.List.{enumerate_from}
 use Rattle.std.specs.Prelude.{[], ◌∷◌, ◌++◌, Contains, slice_get, slice_index_or, take, zero, suc}
 use Rattle.std.proofs.lemmas.Bool.{cases_lt}
 use Rattle.std.proofs.lemmas.List.Elements.{Contains-get_or}
@@ -56,3 +57,10 @@ in_either {X} xs ys p d l =
           ap (λ (i : ℕ). slice_index_or (xs ++ ys) i d) at ∙ get_or-append-add xs ys k d in
           inr (subst (λ (x : X). Contains ys x) (sym e) (Contains-get_or ys k d inside))
     ]
+
+-- one element more is numbered by how many stand before it
+pub enumerate_from-push : {X : Type 0} (n : ℕ) (xs : List X) (x : X) → enumerate_from n (xs ++ x ∷ []) ≡ enumerate_from n xs ++ (n + length xs, x) ∷ []
+enumerate_from-push n [] x = let e : n ≡ n + 0 = omega arith in ap (λ k. (k, x) ∷ []) e
+enumerate_from-push n (y ∷ xs) x =
+    let e : (n + 1) + length xs ≡ n + length (y ∷ xs) = omega arith in
+    ap (λ zs. (n, y) ∷ zs) (enumerate_from-push (n + 1) xs x ∙ ap (λ k. enumerate_from (n + 1) xs ++ (k, x) ∷ []) e)

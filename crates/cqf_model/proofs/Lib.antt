@@ -7,6 +7,7 @@ pub mod Legal
 pub mod LinkEnds
 pub mod Links
 pub mod Policing
+pub mod Reservations
 pub mod Residence
 pub mod Sending
 pub mod Starts

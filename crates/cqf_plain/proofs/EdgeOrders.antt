@@ -6,7 +6,7 @@ use Rattle.std.proofs.lemmas.Bool.{cond-false, cond-true, eq-eqb, ne_eqb}
 use Rattle.std.proofs.lemmas.List.{length-take-le, map-append, take_more}
 use Rattle.std.proofs.lemmas.List.Elements.{filter-append}
 use Rattle.cqf_lists.proofs.Filters.{filter_alike}
-use Rattle.cqf_order.proofs.Listing.{enumerate_from-push}
+use Rattle.cqf_lists.proofs.Places.{enumerate_from-push}
 use Rattle.cqf_units.proofs.Cycles.{cycle_from, cycle_is, cycle_upto}
 use Rattle.cqf_model.specs.declared.frames.Offer.{Offer}
 use Rattle.cqf_model.specs.declared.frames.Offered.{Offered}

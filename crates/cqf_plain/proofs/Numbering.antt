@@ -5,7 +5,7 @@ use Rattle.std.proofs.lemmas.List.{length-take-le, map-append, take_more}
 use Rattle.cqf_model.specs.declared.frames.Backed.{Backed}
 use Rattle.cqf_model.specs.declared.frames.Background.{Background}
 use Rattle.cqf_model.specs.Network.{numbered_background}
-use Rattle.cqf_order.proofs.Listing.{enumerate_from-push}
+use Rattle.cqf_lists.proofs.Places.{enumerate_from-push}
 
 -- the next has the next number
 pub one_numbered : (background : List Background) (place : ℕ) (d : Background) (frames after : List Backed) (x : Backed) → place < length background →

@@ -1,26 +1,17 @@
 -- The gate of a reservation lets pass what the reservation has left.
-use Rattle.std.proofs.Common.{◌≡◌, ℕ, suc, ◌+◌, ◌-◌, ◌%◌, ◌<◌, ◌⊎◌, ◌∷◌, [], List, Bool, true, false, inl, inr, sym, ap, ap₂, ◌∙◌, arith, refl, filter, map}
-use Rattle.std.proofs.Common.{sum_by, zero-add, mod-lt, slice_get, ◌==◌, ◌&&◌, nat_le, nat_lt, lt-ltb, le-ltb, if◌then◌else◌}
+use Rattle.std.proofs.Common.{◌≡◌, ℕ, ◌+◌, ◌-◌, ◌%◌, ◌<◌, ◌⊎◌, ◌∷◌, [], List, Bool, true, false, inl, inr, sym, ap, ap₂, ◌∙◌, arith, refl, filter, map}
+use Rattle.std.proofs.Common.{sum_by, zero-add, mod-lt, slice_get, ◌==◌, ◌&&◌, nat_le, if◌then◌else◌}
 use Rattle.std.specs.Option.{option_map_or}
-use Rattle.std.proofs.lemmas.Bool.{cases_lt, cond-true, cond-false}
+use Rattle.std.proofs.lemmas.Bool.{cond-true, cond-false}
 use Rattle.std.proofs.lemmas.List.Sums.{sum_by-cons}
 use Rattle.cqf_model.specs.declared.gates.StreamEntry.{StreamEntry}
 use Rattle.cqf_model.specs.declared.topology.Row.{Row}
-use Rattle.cqf_model.specs.StreamGate.{Call, stream_list, octets_in, same_interval, place_at, place_in, within}
+use Rattle.cqf_model.specs.StreamGate.{Call, stream_list, octets_in, same_interval, place_at, within}
 use Rattle.cqf_model.specs.Domain.{Domain, cycle_of}
 use Rattle.cqf_model.specs.Traffic.{Policed, calls_of, is_queued_of}
+use Rattle.cqf_model.proofs.Reservations.{in_two}
 use Rattle.cqf_laws_cycle.specs.Compiled.{GateCountsCycles}
 use Rattle.cqf_shift.specs.Edge.{GateIsReservation, octets_before}
-
--- within its round the gate has two places
-in_two : (n reserved offset : ℕ) → offset < n + n → (place_in (stream_list n reserved) offset ≡ 0) ⊎ (place_in (stream_list n reserved) offset ≡ 1)
-in_two n reserved offset inside = elim (cases_lt offset n) [
-  | inl first ↦ inl (cond-true (nat_lt offset n) 0 (suc (if nat_lt (offset - n) n then 0 else 1)) (lt-ltb offset n first))
-  | inr second ↦ inr (
-      cond-false (nat_lt offset n) 0 (suc (if nat_lt (offset - n) n then 0 else 1)) (le-ltb offset n second)
-      ∙ ap suc (cond-true (nat_lt (offset - n) n) 0 1 (lt-ltb (offset - n) n (omega (arith, inside, second))))
-      )
-]
 
 module _ (counts : GateCountsCycles) (d : Domain) (row : Row) (t : ℕ) (some : 0 < d.cycle_time) where
   -- the cycle time

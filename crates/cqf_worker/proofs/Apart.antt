@@ -13,7 +13,7 @@ use Rattle.std.proofs.lemmas.Option.{get_or_from_slice_get, same_Some, slice_get
 use Rattle.std.proofs.lemmas.Simd.{map-map}
 use Rattle.cqf_lists.proofs.EachBelow.{map_below}
 use Rattle.cqf_lists.proofs.Members.{contains_at, contains_cases, contains_from_filter, contains_from_map, contains_map, contains_none, find_member, find_some, place_of_member}
-use Rattle.cqf_lists.proofs.Numbers.{kept_number}
+use Rattle.cqf_lists.proofs.Numbers.{kept_number, numbers_ascend}
 use Rattle.cqf_lists.proofs.Pairs.{pairs_head, pairs_tail}
 use Rattle.cqf_model.specs.declared.frames.Page.{Page}
 use Rattle.cqf_model.specs.declared.topology.Link.{Link}
@@ -29,7 +29,7 @@ use Rattle.cqf_bridge.specs.Batch.{LinkBatch}
 use Rattle.cqf_bridge.specs.BridgeState.{links_from}
 use Rattle.cqf_bridge.specs.Receiving.{links_into}
 use Rattle.cqf_laws_course.specs.Courses.{Course, HasWorked, IsGiven, Traffic}
-use Rattle.cqf_laws_course.proofs.LinkNumbers.{link_listed, links_ascend, numbers_ascend}
+use Rattle.cqf_laws_course.proofs.LinkNumbers.{link_listed, links_ascend}
 use Rattle.cqf_laws_account.specs.Apart.{BridgesApartGiveTheBook, HavePosted, HaveWorkedApart}
 use Rattle.cqf_laws_account.specs.Gathered.{contents_of_page}
 use Rattle.cqf_laws_account.specs.Sealing.{cycle_tables}
