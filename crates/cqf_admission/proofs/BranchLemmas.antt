@@ -61,6 +61,7 @@ same_node_itself : (node : Node) → same_node node node ≡ true
 same_node_itself (Bridge number) = eq-eqb number number refl
 same_node_itself (Station number) = eq-eqb number number refl
 
+-- nodes that compare equal are one node
 same_node_is : (a b : Node) → same_node a b ≡ true → a ≡ b
 same_node_is (Bridge a) (Bridge b) same = ap (λ (number : ℕ). Bridge number) (eqb-true a b same)
 same_node_is (Bridge a) (Station b) same = absurd cc

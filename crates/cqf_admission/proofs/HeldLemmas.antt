@@ -171,5 +171,6 @@ stay cycle (row ∷ rows) lasting =
     (lasting_held cycle row (All-head (IsLasting cycle) row rows lasting))
     ∙ ap (λ (rs : List Row). row ∷ rs) (stay cycle rows (All-tail (IsLasting cycle) row rows lasting))
 
+-- rows that last beyond a cycle are all held in it
 pub lasting_stay : (from cycle : ℕ) (rows : List Row) → from ≤ cycle → AreLasting from rows → filter (λ (row : Row). is_held row cycle) rows ≡ rows
 lasting_stay from cycle rows le lasting = stay cycle rows (lasting_later from cycle rows le lasting)

@@ -77,6 +77,7 @@ each_ended list (suc n) (x ∷ rows) (suc place) cycle each =
     All-cons (IsNumbered list) x (take n (ended_at rows place cycle)) (All-head (IsNumbered list) x (take n rows) each)
     (each_ended list n rows place cycle (All-tail (IsNumbered list) x (take n rows) each))
 
+-- the names stay numbered where the stream at a place ends
 pub numbered_ended : (list : NumberList) (numbered : ℕ) (rows after : List Row) (place : ℕ) (cycle : Cycle) → AreNumbered list numbered rows →
     after ≡ ended_at rows place cycle → AreNumbered list numbered after
 numbered_ended list numbered rows after place cycle are is = record {
@@ -95,6 +96,7 @@ each_less list (suc n) (x ∷ rows) (suc place) each =
     All-cons (IsNumbered list) x (take n (remove rows place)) (All-head (IsNumbered list) x (take (suc n) rows) each)
     (each_less list n rows place (All-tail (IsNumbered list) x (take (suc n) rows) each))
 
+-- where a numbered stream is let go of, one less is numbered
 pub numbered_less : (list : NumberList) (numbered : ℕ) (rows after : List Row) (place : ℕ) → AreNumbered list numbered rows → place < numbered →
     after ≡ remove rows place → AreNumbered list (numbered - 1) after
 numbered_less list zero rows after place are some is = absurd (omega (arith, some))
@@ -114,6 +116,7 @@ take_before (suc n) [] (suc place) le = refl
 take_before (suc n) (x ∷ rows) zero le = absurd (omega (arith, le))
 take_before (suc n) (x ∷ rows) (suc place) le = ap (λ (rs : List Row). x ∷ rs) (take_before n rows place (omega (arith, le)))
 
+-- where a stream without a number is let go of, the numbered ones stay
 pub numbered_still : (list : NumberList) (numbered : ℕ) (rows after : List Row) (place : ℕ) → AreNumbered list numbered rows → numbered ≤ place →
     place < length rows → after ≡ remove rows place → AreNumbered list numbered after
 numbered_still list numbered rows after place are behind inside is = record {

@@ -35,6 +35,7 @@ one_port_more d number link here =
     sym (map-append (new_record d) so_far (link ∷ []))
     ∙ ap (λ (ls : List ℕ). map (new_record d) (so_far ++ ls)) (sym (cond-true (leaves d link number) (link ∷ []) [] here))
 
+-- a link that another bridge sends by adds no port
 pub no_port_more : (d : Domain) (number link : ℕ) → leaves d link number ≡ false →
     map (new_record d) (each_below (λ l. if leaves d l number then l ∷ [] else []) link)
     ≡ map (new_record d) (each_below (λ l. if leaves d l number then l ∷ [] else []) (suc link))

@@ -37,6 +37,7 @@ mapped_in_order {X} {Y} f key xs ys d h = record {
 abbrev pub instant_of_frame : Incoming → ℕ
 instant_of_frame x = x.at.0
 
+-- a drop's frame
 abbrev pub frame_of_drop : Dropped → ℕ
 frame_of_drop x = x.frame
 
@@ -44,6 +45,7 @@ frame_of_drop x = x.frame
 pub at_instant : ℕ → Incoming
 at_instant t = record { at = record { 0 = t }; octets = 0; frame = 0; came = ByLink 0 0 }
 
+-- each instant is that of some frame
 pub at_instants : (t : ℕ) → instant_of_frame (at_instant t) ≡ t
 unfolding at_instant
 at_instants t = refl
@@ -52,6 +54,7 @@ at_instants t = refl
 pub of_frame : ℕ → Dropped
 of_frame n = record { cycle = record { 0 = 0 }; bridge = 0; frame = n; octets = 0; reason = Unknown }
 
+-- each number is that of the frame of some drop
 pub of_frames : (n : ℕ) → frame_of_drop (of_frame n) ≡ n
 unfolding of_frame
 of_frames n = refl

@@ -336,6 +336,7 @@ verdict_lacking d rows bridge cycle gates x link stream came is =
     ap (verdict_by d rows bridge cycle (passes_by d.cycle_time gates x)) came
     ∙ ap (inside_verdict d bridge link (passes_by d.cycle_time gates x)) (sym is)
 
+-- a frame whose row leads on by no link of the bridge is lost there
 pub verdict_not_leading : (d : Domain) (rows : List Row) (bridge cycle : ℕ) (gates : List KeptGate) (x : Received) (link stream : ℕ) (row : Row) →
     x.way ≡ Relayed link stream → Some row ≡ row_of rows stream → goes_on d row (Some link) bridge ≡ false →
     verdict_of d rows bridge cycle gates x ≡ LacksRow
@@ -351,6 +352,7 @@ pub class_given : (b : Bool) (k m : ℕ) → Some k ≡ (if b then Some m else N
 class_given true k m given = (refl, cc)
 class_given false k m given = absurd cc
 
+-- nothing is given only where the test fails
 pub none_given : (b : Bool) (m : ℕ) → None ≡ (if b then Some m else None) → b ≡ false
 none_given true m given = absurd cc
 none_given false m given = refl

@@ -6,7 +6,8 @@ ghost use Rattle.cqf_model.specs.Domain.{cycle_of};
 ghost use Rattle.cqf_model.specs.Table.{goes_to};
 ghost use Rattle.cqf_model.specs.Traffic.{DroppedFor, Queued};
 ghost use Rattle.cqf_bridge.specs.PortRecord.{PortRecord};
-ghost use Rattle.cqf_bridge.specs.Taking.{AreReady, CanRecord, IsStopBy, IsWaiting, MayBeTaken, TakesFrame, class_in, queue_on, received_as, verdict_of, with_verdict};
+ghost use Rattle.cqf_bridge.specs.Taking.{AreReady, CanRecord, IsStopBy, IsWaiting, MayBeTaken, TakesFrame};
+ghost use Rattle.cqf_bridge.specs.Taking.{class_in, queue_on, received_as, verdict_of, with_verdict};
 
 use crate::BridgeFault;
 use crate::gates::StreamGates;
@@ -119,7 +120,8 @@ pub(crate) fn take_frame(
     requires ready { AreReady domain.now cycle.0 (frame.now.at.0 + 1) gates.old ports.old.items }
     ensures takes { OnOk result (TakesFrame domain.now table.now.rows number cycle.0 (received_as frame.now) gates.old gates.new
         ports.old.items ports.new.items drops.old.items drops.new.items) }
-    ensures stops { IfErr result (λ fault. IsStopBy (verdict_of domain.now table.now.rows number cycle.0 gates.old (received_as frame.now)) frame.now.frame fault) }
+    ensures stops { IfErr result (λ fault.
+        IsStopBy (verdict_of domain.now table.now.rows number cycle.0 gates.old (received_as frame.now)) frame.now.frame fault) }
 {
     let outcome = match police(domain, number, cycle, table, frame, gates) {
         Ok(outcome) => outcome,

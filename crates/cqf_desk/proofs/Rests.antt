@@ -36,6 +36,7 @@ pub front_is : {X : Type 0} (front rest : List X) → take (length front) (front
 front_is [] rest = refl
 front_is (x ∷ front) rest = (λ i. x ∷ front_is front rest i)
 
+-- what stands behind a front
 pub rest_is : {X : Type 0} (front rest : List X) → drop (length front) (front ++ rest) ≡ rest
 rest_is [] rest = refl
 rest_is (x ∷ front) rest = rest_is front rest

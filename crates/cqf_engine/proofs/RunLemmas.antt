@@ -371,9 +371,11 @@ job_within Compile name rows is = tt
 job_within (Run cycles threads) name rows is = number_within 1 100000 cycles (first_of (codes "cycles") rows) is.1
 job_within (Report cycles) name rows is = number_within 1 100000 cycles (first_of (codes "cycles") rows) is.1
 
+-- the numbers of a job that options give are within their ranges
 found_within : (job : Job) (found : Option (Text × List Row)) → IsJob job found → IsWithin job
 found_within job None is = absurd is
 found_within job (Some command) is = job_within job command.0 command.1 is
 
+-- so are those of a job that words mean
 pub IsWithin-means : (words : List Text) (job : Job) → Mean words job → IsWithin job
 IsWithin-means words job means = found_within job (subcommand_of cqf_app words) means.read

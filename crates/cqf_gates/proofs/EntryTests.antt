@@ -47,6 +47,7 @@ valued-from_good entry good =
       ]
     ]
 
+-- where no entry has a bad value, each value is 6 or 7
 pub valued-from_test : (entries : List StreamEntry) → list_any is_bad_ipv entries ≡ false → All (λ (entry : StreamEntry). (entry.ipv ≡ 6) ⊎ (entry.ipv ≡ 7)) entries
 valued-from_test entries none k d inside = valued-from_good (get_or entries k d) (list_any-false entries is_bad_ipv none k d inside)
 

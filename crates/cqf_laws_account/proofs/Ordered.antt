@@ -38,18 +38,23 @@ up_by_pairs {X} key xs pairs i j d le inside =
 abbrev pub cycle_in : Started → ℕ
 cycle_in x = x.cycle.0
 
+-- a start's link
 abbrev pub link_of : Started → ℕ
 link_of x = x.link
 
+-- a start's instant
 abbrev pub instant_of : Started → ℕ
 instant_of x = x.start.0
 
+-- a drop's cycle
 abbrev pub cycle_of_drop : Dropped → ℕ
 cycle_of_drop x = x.cycle.0
 
+-- a drop's bridge
 abbrev pub bridge_of_drop : Dropped → ℕ
 bridge_of_drop x = x.bridge
 
+-- a drop's frame
 abbrev pub frame_of_drop : Dropped → ℕ
 frame_of_drop x = x.frame
 

@@ -39,6 +39,7 @@ seals_nothing seat tables none = record {
   behind = sym (append-nil seat.tables) ∙ ap (λ (ts : List CycleTable). seat.tables ++ ts) (sym none);
 }
 
+-- a Seal more, with its table
 pub seals_more : (count : ℕ) (old now new : Sitting) (tables : List CycleTable) (table : CycleTable) → SealsMany count old now tables →
     SealsOne now new table → SealsMany (count + 1) old new (tables ++ table ∷ [])
 seals_more count old now new tables table many one = record {

@@ -19,6 +19,7 @@ all_false zero link = refl
 all_false (suc count) zero = refl
 all_false (suc count) (suc link) = all_false count link
 
+-- where all marks are false, no link is marked
 pub none_marked : (count : ℕ) (marks : List Bool) → marks ≡ replicate count false → AreMarked [] marks
 none_marked count marks is l marked =
     absurd (both_ways (slice_index_or marks l false) (ap (λ (ms : List Bool). slice_index_or ms l false) is ∙ all_false count l) marked)

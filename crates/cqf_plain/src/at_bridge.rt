@@ -196,7 +196,8 @@ pub(crate) fn take_at_bridge(
         IsPartOf domain.now number cycle table.now.rows ports.now counts.now (filter (is_at number) offers.now) run before →
         TakesAt run number cycle ports.now passed.old.items passed.new.items drops.old.items drops.new.items) }
     ensures stops { IfErr result (λ fault. (run : Run) (before : List LinkPort) →
-        IsPartOf domain.now number cycle table.now.rows ports.now counts.now (filter (is_at number) offers.now) run before → IsStopAt run number cycle ports.now fault) }
+        IsPartOf domain.now number cycle table.now.rows ports.now counts.now (filter (is_at number) offers.now) run before →
+        IsStopAt run number cycle ports.now fault) }
 {
     run_laws();
     gate_counts_cycles();

@@ -75,7 +75,8 @@ fn gather_link(
 ) -> Result<(), Memory>
     requires inside { link < length domain.now.links }
     requires ports { CanGather domain.now ports.now counts.now }
-    ensures { OnOk result (map received_as frames.new.items ≡ map received_as frames.old.items ++ brought_by domain.now (sent_since ports.now counts.now) link) }
+    ensures { OnOk result (map received_as frames.new.items
+        ≡ map received_as frames.old.items ++ brought_by domain.now (sent_since ports.now counts.now) link) }
 {
     let place = usize::from(link);
     gather_port(domain, link, &ports[place], counts[place], frames)?;

@@ -101,6 +101,7 @@ no_bridge None None e = refl
 no_bridge None (Some s) e = refl
 no_bridge (Some b) s e = absurd cc
 
+-- a name that none of the bridges has is of no bridge
 pub bridge_nowhere : (d : Domain) (name field : List ℕ) (end : ℕ) → name ≡ field → is_name field ≡ true → length d.bridges ≤ end → ((j : ℕ) → j < end
     → get_or d.bridges j [] ≢ name) → None ≡ bridge_named d field
 bridge_nowhere d name field end same named past before =

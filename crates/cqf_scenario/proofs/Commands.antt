@@ -180,6 +180,7 @@ pub seal-of : (b : Bool) (act : Act) → None ≡ (if b then None else Some act)
 seal-of true act e = refl
 seal-of false act e = absurd (cc)
 
+-- a call that is given as a command is no Seal, and is that command
 pub command-of : (b : Bool) (act found : Act) → Some found ≡ (if b then None else Some act) → (b ≡ false) × (found ≡ act)
 command-of true act found e = absurd (cc)
 command-of false act found e = (refl, cc)

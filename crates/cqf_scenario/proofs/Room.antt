@@ -12,6 +12,7 @@ use Rattle.cqf_scenario.specs.Calls.{HasRoom, HasRoomFor}
 pub seals-cons : (call : Called) (more : List Called) → seals_among (call ∷ more) ≡ (if is_seal call.1 then 1 else 0) + seals_among more
 seals-cons call more = sum_by-cons (λ (c : Called). if is_seal c.1 then 1 else 0) call more
 
+-- one call more counts where it is no Seal
 pub others-cons : (call : Called) (more : List Called) → others_among (call ∷ more) ≡ (if not (is_seal call.1) then 1 else 0) + others_among more
 others-cons call more = sum_by-cons (λ (c : Called). if not (is_seal c.1) then 1 else 0) call more
 

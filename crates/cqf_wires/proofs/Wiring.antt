@@ -62,6 +62,7 @@ into_below d bridge count l c =
     let w = contains_from_below (λ k. if enters d k bridge then k ∷ [] else []) count l c in
     subst (λ k. k < count) (contains_one w.0 l (contains_if_there (enters d w.0 bridge) (w.0 ∷ []) l w.2).1) w.1
 
+-- the links that go on to a bridge are below the count
 onward_below : (d : Domain) (bridge count l : ℕ) → Contains (first_onward d bridge count) l → l < count
 onward_below d bridge count l c =
     let below = contains_from_filter (ends_in_bridge d) (each_below (λ k. if leaves d k bridge then k ∷ [] else []) count) l c in
@@ -72,10 +73,12 @@ onward_below d bridge count l c =
 into_more : (d : Domain) (bridge link : ℕ) → enters d link bridge ≡ true → first_into d bridge (suc link) ≡ first_into d bridge link ++ link ∷ []
 into_more d bridge link ends = ap (λ ls. first_into d bridge link ++ ls) (cond-true (enters d link bridge) (link ∷ []) [] ends)
 
+-- a link that ends elsewhere adds none to those into a bridge
 into_same : (d : Domain) (bridge link : ℕ) → enters d link bridge ≡ false → first_into d bridge (suc link) ≡ first_into d bridge link
 into_same d bridge link none =
     ap (λ ls. first_into d bridge link ++ ls) (cond-false (enters d link bridge) (link ∷ []) [] none) ∙ append-nil (first_into d bridge link)
 
+-- a link from the bridge to another is one more that goes on
 onward_more : (d : Domain) (bridge link : ℕ) → leaves d link bridge ≡ true → ends_in_bridge d link ≡ true →
     first_onward d bridge (suc link) ≡ first_onward d bridge link ++ link ∷ []
 onward_more d bridge link begins ends =
@@ -85,12 +88,14 @@ onward_more d bridge link begins ends =
     ∙ filter-append p xs (link ∷ [])
     ∙ ap (λ ls. filter p xs ++ ls) (cond-true (p link) (link ∷ []) [] ends)
 
+-- a link of another bridge adds none
 onward_same : (d : Domain) (bridge link : ℕ) → leaves d link bridge ≡ false → first_onward d bridge (suc link) ≡ first_onward d bridge link
 onward_same d bridge link none =
     let p = ends_in_bridge d in
     let xs = each_below (λ l. if leaves d l bridge then l ∷ [] else []) link in
     ap (λ ls. filter p (xs ++ ls)) (cond-false (leaves d link bridge) (link ∷ []) [] none) ∙ ap (filter p) (append-nil xs)
 
+-- a link to a station adds none
 onward_ended : (d : Domain) (bridge link : ℕ) → ends_in_bridge d link ≡ false → first_onward d bridge (suc link) ≡ first_onward d bridge link
 onward_ended d bridge link none =
     let p = ends_in_bridge d in
@@ -164,6 +169,7 @@ out_other t wiring link number w none so = record {
   outs = subst (λ ls. ArePorts wiring ls w.outs.items) (sym (onward_same t.domain number link none)) so.outs;
 }
 
+-- a link whose putting end the worker got
 out_own : (t : Traffic) (wiring : Wiring) (link number : ℕ) (before after : Worker) (p : BatchPort) → HasOut before after p → p.link ≡ link → IsUnused p →
     IsOn wiring p → leaves t.domain link number ≡ true → ends_in_bridge t.domain link ≡ true → IsLaid t wiring link link number before →
     IsLaid t wiring link (suc link) number after
@@ -184,6 +190,7 @@ in_other t wiring link number w none so = record {
   outs = so.outs;
 }
 
+-- a link whose taking end the worker got
 in_own : (t : Traffic) (wiring : Wiring) (link number : ℕ) (before after : Worker) (p : BatchPort) → HasIn before after p → p.link ≡ link → IsUnused p →
     IsOn wiring p → enters t.domain link number ≡ true → IsLaid t wiring link (suc link) number before → IsLaid t wiring (suc link) (suc link) number after
 in_own t wiring link number before after p has of_link mine on ends so =
@@ -250,6 +257,7 @@ tables_kept workers place x y is kept =
 pub out_keeps_tables : (x y : Worker) (p : BatchPort) → HasOut x y p → tables_pipe y ≡ tables_pipe x
 out_keeps_tables x y p has = ap tables_pipe has.same
 
+-- a taking end leaves the pipe of tables as it was
 pub in_keeps_tables : (x y : Worker) (p : BatchPort) → HasIn x y p → tables_pipe y ≡ tables_pipe x
 in_keeps_tables x y p has = ap tables_pipe has.same
 
@@ -280,6 +288,7 @@ station_laid d link between station workers there ends t wiring is so =
 pub none_laid : (d : Domain) (workers : List Worker) → LaysFirst d 0 workers workers
 none_laid d workers t wiring is so = (wiring, so)
 
+-- one link more is laid
 pub more_laid : (d : Domain) (link : ℕ) (before middle after : List Worker) → LaysFirst d link before middle → LaysLink d link middle after →
     LaysFirst d (link + 1) before after
 more_laid d link before middle after first lays t wiring is so = let all = first t wiring is so in lays t all.0 is all.1
