@@ -101,6 +101,11 @@ fn are_alike<R: Wait>(
     }
 }
 
+/// A desk over the line, at which nobody asked, with so many seats.
+fn new_desk(alloc: Global, seats: u16) -> Result<(Desk, Vec<Seat>), Fail> {
+    Ok(Desk::new(alloc, admission(alloc)?, seats)?)
+}
+
 /// Makes all steps at a desk, and says whether they are answered as by an admission alone.
 fn work<R: Wait>(rt: &R, alloc: Global, desk: &Desk, seats: &mut Vec<Seat>) -> Result<bool, Fail> {
     let x = request(alloc, "x", 1500)?;
@@ -145,7 +150,7 @@ fn closes_with_steps(desk: Desk, seats: Vec<Seat>) -> bool {
 
 #[test]
 fn calls_at_a_desk_are_those_of_an_admission(rt: HostRuntime) -> Result<(), Fail> {
-    let (desk, mut seats) = Desk::new(rt.alloc(), admission(rt.alloc())?, 2)?;
+    let (desk, mut seats) = new_desk(rt.alloc(), 2)?;
     let alike = work(&rt, rt.alloc(), &desk, &mut seats);
     let closed = closes_with_steps(desk, seats);
     assert!(rt; alike?);
@@ -185,7 +190,7 @@ fn is_refused_with<R: Wait>(
     other: usize,
     wanted: CloseFault,
 ) -> Result<bool, Fail> {
-    let (desk, mut seats) = Desk::new(alloc, admission(alloc)?, 2)?;
+    let (desk, mut seats) = new_desk(alloc, 2)?;
     let worked = work_and_exchange(rt, alloc, &desk, &mut seats, place, other);
     let refused = is_refused(desk, seats, wanted);
     Ok(worked? && refused)
@@ -212,7 +217,7 @@ fn exchange_with_unused(
     place: usize,
     other: usize,
 ) -> Result<(), Fail> {
-    let (_unused, mut others) = Desk::new(alloc, admission(alloc)?, 2)?;
+    let (_unused, mut others) = new_desk(alloc, 2)?;
     exchange(seats.as_mut_slice(), others.as_mut_slice(), place, other);
     Ok(())
 }
@@ -234,7 +239,7 @@ fn forget_first(seats: &mut Vec<Seat>) {
 
 #[test]
 fn a_seat_is_missed(rt: HostRuntime) -> Result<(), Fail> {
-    let (desk, mut seats) = Desk::new(rt.alloc(), admission(rt.alloc())?, 2)?;
+    let (desk, mut seats) = new_desk(rt.alloc(), 2)?;
     let worked = work(&rt, rt.alloc(), &desk, &mut seats);
     forget_first(&mut seats);
     let refused = is_refused(desk, seats, CloseFault::SeatMissing);
@@ -245,7 +250,7 @@ fn a_seat_is_missed(rt: HostRuntime) -> Result<(), Fail> {
 
 /// Seals a cycle with the third seat of another desk.
 fn seal_as_a_stranger<R: Wait>(rt: &R, alloc: Global, desk: &Desk) -> Result<bool, Fail> {
-    let (_unused, mut others) = Desk::new(alloc, admission(alloc)?, 3)?;
+    let (_unused, mut others) = new_desk(alloc, 3)?;
     match others.as_mut_slice().last_mut() {
         Some(stranger) => Ok(stranger.number() == 2 && desk.seal(rt, stranger).is_ok()),
         None => Ok(false),
@@ -254,7 +259,7 @@ fn seal_as_a_stranger<R: Wait>(rt: &R, alloc: Global, desk: &Desk) -> Result<boo
 
 #[test]
 fn a_call_of_no_seat_is_noticed(rt: HostRuntime) -> Result<(), Fail> {
-    let (desk, seats) = Desk::new(rt.alloc(), admission(rt.alloc())?, 2)?;
+    let (desk, seats) = new_desk(rt.alloc(), 2)?;
     let sealed = seal_as_a_stranger(&rt, rt.alloc(), &desk);
     let refused = is_refused(desk, seats, CloseFault::SeatsDisagree(2));
     assert!(rt; sealed?);
@@ -279,7 +284,7 @@ fn exchange_both<R: Wait>(
     seats: &mut Vec<Seat>,
     turned: bool,
 ) -> Result<bool, Fail> {
-    let (other, mut others) = Desk::new(alloc, admission(alloc)?, 2)?;
+    let (other, mut others) = new_desk(alloc, 2)?;
     let sealed = seal_with_each(rt, &other, others.as_mut_slice());
     if turned {
         others.as_mut_slice().reverse();
@@ -304,7 +309,7 @@ fn work_and_exchange_both<R: Wait>(
 
 /// Whether a desk that worked names seat 0, where both seats are of another desk.
 fn names_the_least<R: Wait>(rt: &R, alloc: Global, turned: bool) -> Result<bool, Fail> {
-    let (desk, mut seats) = Desk::new(alloc, admission(alloc)?, 2)?;
+    let (desk, mut seats) = new_desk(alloc, 2)?;
     let worked = work_and_exchange_both(rt, alloc, &desk, &mut seats, turned);
     let refused = is_refused(desk, seats, CloseFault::SeatsDisagree(0));
     Ok(worked? && refused)
@@ -337,7 +342,7 @@ fn is_refused_with_a_stranger<R: Wait>(
     place: usize,
     wanted: CloseFault,
 ) -> Result<bool, Fail> {
-    let (desk, mut seats) = Desk::new(alloc, admission(alloc)?, 2)?;
+    let (desk, mut seats) = new_desk(alloc, 2)?;
     let worked = work_with_a_stranger(rt, alloc, &desk, &mut seats, place);
     let refused = is_refused(desk, seats, wanted);
     Ok(worked? && refused)
@@ -352,7 +357,7 @@ fn a_seat_is_named_before_a_stranger(rt: HostRuntime) -> Result<(), Fail> {
 
 /// Whether a desk knows its seat from that of another, which made the same call on a line that holds seven streams more.
 fn other_tables_are_noticed<R: Wait>(rt: &R, alloc: Global) -> Result<bool, Fail> {
-    let (desk, mut own) = Desk::new(alloc, admission(alloc)?, 1)?;
+    let (desk, mut own) = new_desk(alloc, 1)?;
     let (other, mut others) = Desk::new(alloc, line_of_seven(alloc)?, 1)?;
     let sealed = seal_with_each(rt, &desk, own.as_mut_slice())
         && seal_with_each(rt, &other, others.as_mut_slice());
