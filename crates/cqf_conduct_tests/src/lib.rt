@@ -10,10 +10,6 @@ mod both_begin;
 #[cfg(test)]
 mod calls_within;
 #[cfg(test)]
-mod failing;
-#[cfg(test)]
-mod faults;
-#[cfg(test)]
 mod flags;
 #[cfg(test)]
 mod refusals;
