@@ -23,7 +23,7 @@ use Rattle.cqf_model.proofs.Texts.{is_text_same}
 use Rattle.cqf_model.specs.Table.{row_named}
 use Rattle.cqf_laws_history.specs.StateLaws.{granted_row}
 use Rattle.cqf_admission.specs.Grants.{HaveNames, short_refusal}
-use Rattle.cqf_admission.specs.Branches.{tree_refusal}
+use Rattle.cqf_trees.specs.Branches.{tree_refusal}
 
 -- the first of five refusals, in two groups
 or_else_assoc : (a b c e rest : Option Refused) → or_else a (or_else b (or_else c (or_else e rest))) ≡ or_else (or_else a (or_else b (or_else c e))) rest

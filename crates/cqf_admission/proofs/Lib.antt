@@ -2,14 +2,9 @@ mod HeldLemmas
 mod SharedRows
 mod NumberedRows
 mod MappedRows
-mod BranchLemmas
-mod FaultLemmas
-mod NodeLemmas
-mod TreeLemmas
 mod ColumnLemmas
 mod SumLemmas
 mod TableLemmas
 mod GrantLemmas
 mod RunLemmas
 mod CallLemmas
-mod PartLemmas

@@ -1,6 +1,5 @@
 pub mod Admission
 pub mod Rows
-pub mod Branches
 pub mod Grants
 pub mod Tables
 pub mod Asking

@@ -6,7 +6,6 @@ ghost use Rattle.cqf_model.specs.Table.{link_cost};
 ghost use Rattle.cqf_admission.specs.Asking.{asked_of};
 ghost use Rattle.cqf_admission.specs.Admission.{Answers, Closes, EndsOne, HoldsOneMore, LetsGo, recorded_of};
 
-use crate::branches::count_places;
 use crate::entries::{Call, Entry, SealFault, copied_entries, enter};
 use crate::held::Held;
 use crate::refusals::{find_open, grant, taken_of};
@@ -14,6 +13,7 @@ use crate::table::Table;
 use cqf_laws_history::state_follows_history;
 use cqf_model::{Receipt, Refused, Reply};
 use cqf_topology::{Domain, Request};
+use cqf_trees::count_places;
 use cqf_units::{Cycle, Memory, Octets};
 use std::alloc::Global;
 use std::marker::Model;

@@ -1,5 +1,6 @@
 //! The streams that are held, by number and by name, with their costs and their links in columns.
-ghost use Rattle.std.specs.Prelude.{◌≡◌, ◌≢◌, ◌+◌, ◌<◌, ◌≤◌, ◌^◌, [], ◌∷◌, ◌++◌, length, filter, if◌then◌else◌, map, position, slice_get, false, true, None, Some, OnErr, OnOk, IfOk, IfSome};
+ghost use Rattle.std.specs.Prelude.{◌≡◌, ◌≢◌, ◌+◌, ◌-◌, ◌<◌, ◌≤◌, ◌^◌, [], ◌∷◌, ◌++◌, length, filter, if◌then◌else◌, map, position, slice_get, false, true, None, Some, OnErr, OnOk, IfOk, IfSome, vec_len, vec_capacity};
+ghost use Rattle.indexmap.specs.IndexSet.{spare};
 ghost use Rattle.std.specs.Arc.{arc_value};
 ghost use Rattle.std.specs.List.{list_any};
 ghost use Rattle.cqf_model.specs.Domain.{is_text};
@@ -62,6 +63,27 @@ impl Model for Held {
         × (h.is_shared ≡ true → arc_value h.shared ≡ map (λ row. arc_value row) h.rows.items)
         × AreNumbered (arc_value h.numbers) h.numbered (map (λ row. arc_value row) h.rows.items)
         × IfSome h.lasting (λ cycle. AreLasting cycle.0 (map (λ row. arc_value row) h.rows.items)) };
+}
+
+/// Makes room for one more in each column, unless memory runs out.
+fn reserve_each(
+    names: &mut IndexSet<Name>,
+    rows: &mut Vec<Arc<Row>>,
+    costs: &mut Vec<u32>,
+    masks: &mut Vec<u64>,
+) -> Result<(), Memory>
+    ensures names { names.new.keys ≡ names.old.keys }
+    ensures rows { rows.new.items ≡ rows.old.items }
+    ensures costs { costs.new.items ≡ costs.old.items }
+    ensures masks { masks.new.items ≡ masks.old.items }
+    ensures room { OnOk result (0 < spare names.new × 0 < vec_capacity rows.new - vec_len rows.new
+        × 0 < vec_capacity costs.new - vec_len costs.new × 0 < vec_capacity masks.new - vec_len masks.new) }
+{
+    names.reserve(1)?;
+    rows.reserve(1)?;
+    costs.reserve(1)?;
+    masks.reserve(1)?;
+    Ok(())
 }
 
 /// What a link's streams cost of it, where that is a sum and, if the mask has the link's bit, the octets.
@@ -226,11 +248,8 @@ impl Held {
         ensures same { self.new.rows ≡ self.old.rows }
         ensures room { OnOk result (0 < self.new.room) }
     {
-        self.names.reserve(1)?;
-        self.rows.reserve(1)?;
-        self.costs.reserve(1)?;
-        self.masks.reserve(1)?;
-        Ok(())
+        let (names, rows) = (&mut self.names, &mut self.rows);
+        reserve_each(names, rows, &mut self.costs, &mut self.masks)
     }
 
     /// Adds the row of a name that isn't held, behind the others, where there is room, unless memory runs out.

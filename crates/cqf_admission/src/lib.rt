@@ -17,7 +17,6 @@
 #![tactic(auto)]
 
 mod admission;
-mod branches;
 mod entries;
 mod held;
 mod listed;
@@ -25,7 +24,6 @@ mod numbers;
 mod refusals;
 mod rows;
 mod table;
-mod trees;
 
 pub use admission::{Admission, MOST_CALLS, MOST_SEALS};
 pub use cqf_model::{Receipt, Refused, Reply, Row};

@@ -3,13 +3,13 @@ ghost use Rattle.std.specs.Prelude.{◌≡◌, ◌<◌, ◌≤◌, ◌^◌, leng
 ghost use Rattle.cqf_model.specs.History.{left_on};
 ghost use Rattle.cqf_model.specs.Table.{link_cost};
 ghost use Rattle.cqf_admission.specs.Asking.{asked_of};
-ghost use Rattle.cqf_admission.specs.Branches.{branches_of, places_of};
+ghost use Rattle.cqf_trees.specs.Branches.{branches_of, places_of};
 ghost use Rattle.cqf_admission.specs.Grants.{CanBeAsked, FindsOpen, Grants, HaveNames, short_refusal};
 
 use crate::held::Held;
-use crate::trees::find_tree;
 use cqf_model::{Hop, Refused, Row};
 use cqf_topology::{Domain, Request};
+use cqf_trees::find_tree;
 use cqf_units::{Cycle, Name, Octets, budget, cost};
 
 /// The octets that a stream may reserve in a cycle (profile).

@@ -15,9 +15,9 @@ use Rattle.cqf_model.specs.StreamGate.{Call, octets_in, place_at, same_interval,
 use Rattle.cqf_model.specs.Table.{begins_at, goes_on, is_live, row_named, row_of, table_of}
 use Rattle.cqf_model.specs.Traffic.{AtEdge, DroppedFor, ExceedsGate, LacksRow, Policed, Queued, Received, Relayed, Verdict, Way, calls_of, edge_verdict, inside_verdict, is_queued_of, police, verdict_by, within_gate}
 use Rattle.cqf_laws_cycle.specs.Compiled.{GateCountsCycles}
-use Rattle.cqf_bridge.specs.declared.gates.KeptGate.{KeptGate}
+use Rattle.cqf_stream_gates.specs.declared.gates.KeptGate.{KeptGate}
 use Rattle.cqf_bridge.specs.declared.policing.Outcome.{Outcome}
-use Rattle.cqf_bridge.specs.Gates.{AreKept, HaveCounted}
+use Rattle.cqf_stream_gates.specs.Gates.{AreKept, HaveCounted}
 use Rattle.cqf_bridge.specs.Taking.{IsPolicedBehind, Polices, passes_by, taken_in, verdict_of}
 use Rattle.cqf_bridge.proofs.Verdicts.{gate_entries}
 

@@ -2,13 +2,11 @@ mod Behind
 mod Bridges
 mod Columns
 pub mod Coming
-mod GatePlaces
 mod Handing
 pub mod InOrder
-mod KeptGates
 mod MadeBatch
+mod PutGates
 mod Receives
-mod Reservations
 mod Offering
 pub mod OfferedRuns
 mod RunCycle

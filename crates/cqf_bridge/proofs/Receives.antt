@@ -18,10 +18,10 @@ use Rattle.cqf_model.proofs.Policing.{police_member}
 use Rattle.cqf_laws_pages.specs.BridgeCycle.{received_in}
 use Rattle.cqf_bridge.specs.declared.faults.BridgeFault.{BridgeFault}
 use Rattle.cqf_bridge.specs.declared.faults.BridgeFault.TheVariants as fault
-use Rattle.cqf_bridge.specs.declared.gates.KeptGate.{KeptGate}
+use Rattle.cqf_stream_gates.specs.declared.gates.KeptGate.{KeptGate}
 use Rattle.cqf_bridge.specs.Batch.{LinkBatch}
 use Rattle.cqf_bridge.specs.BridgeState.{BridgeState, IsBridge, IsInStep, IsSpentBy}
-use Rattle.cqf_bridge.specs.Gates.{AreKept}
+use Rattle.cqf_stream_gates.specs.Gates.{AreKept}
 use Rattle.cqf_bridge.specs.PortRecord.{PortRecord}
 use Rattle.cqf_bridge.specs.Receiving.{CanReceive, Handed, IsNextToReceive, IsReceiveFault, IsRunOf, ReceivesCycle, carried_by, port_queued, verdicts_in}
 use Rattle.cqf_bridge.specs.Taking.{AreReady, HasGates, TakesCycle, stop_of_run}

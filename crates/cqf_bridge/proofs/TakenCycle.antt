@@ -29,8 +29,8 @@ use Rattle.cqf_laws_cycle.specs.Compiled.{GateCountsCycles}
 use Rattle.cqf_laws_pages.specs.Gathered.{dropped_of}
 use Rattle.cqf_bridge.specs.declared.faults.BridgeFault.{BridgeFault}
 use Rattle.cqf_bridge.specs.declared.faults.BridgeFault.TheVariants as fault
-use Rattle.cqf_bridge.specs.declared.gates.KeptGate.{KeptGate}
-use Rattle.cqf_bridge.specs.Gates.{AreKept, IsKept, gate_or}
+use Rattle.cqf_stream_gates.specs.declared.gates.KeptGate.{KeptGate}
+use Rattle.cqf_stream_gates.specs.Gates.{AreKept, IsKept, gate_or}
 use Rattle.cqf_bridge.specs.PortRecord.{PortRecord, with_frames}
 use Rattle.cqf_bridge.specs.Taking.{AreReady, HasPoliced, IsStopBy, IsStopOf, IsWaiting, MayBeTaken, TakesFrame, policed_by, taken_in, verdict_of, with_verdict}
 use Rattle.cqf_bridge.proofs.Behind.{counted_behind, verdict_behind}

@@ -28,13 +28,13 @@ use Rattle.cqf_gates.specs.declared.streams.Passed.TheVariants.{Class, OverOctet
 use Rattle.cqf_laws_cycle.specs.Compiled.{GateCountsCycles, GateGivesClass}
 use Rattle.cqf_laws_pages.specs.PortCycle.{QueuedFramesWait}
 use Rattle.cqf_admission.specs.Tables.{AreInOrder}
-use Rattle.cqf_bridge.specs.declared.gates.KeptGate.{KeptGate}
-use Rattle.cqf_bridge.specs.Gates.{AreKept, IsKept, gate_in, gate_or, with_gate}
+use Rattle.cqf_stream_gates.specs.declared.gates.KeptGate.{KeptGate}
+use Rattle.cqf_stream_gates.specs.Gates.{AreKept, IsKept, gate_in, gate_or, with_gate}
 use Rattle.cqf_bridge.specs.PortRecord.{PortRecord}
 use Rattle.cqf_bridge.specs.declared.policing.Outcome.{Outcome}
 use Rattle.cqf_bridge.specs.Taking.{CanRecord, HasClass, IsWaiting, MayBeTaken, PassesGate, Polices, TakesFrame, class_in, passes_by, queue_on, taken_in, verdict_as, verdict_if, verdict_of, with_verdict}
-use Rattle.cqf_bridge.proofs.KeptGates.{gate_beside, gate_put, kept_cases}
-use Rattle.cqf_bridge.proofs.Reservations.{max_of_reservation, within_reservation}
+use Rattle.cqf_bridge.proofs.PutGates.{gate_beside, gate_put, kept_cases}
+use Rattle.cqf_model.proofs.Reservations.{max_of_reservation, within_reservation}
 use Rattle.cqf_bridge.proofs.Taking.{frames_none, not_out_of_order}
 
 -- what a gate's word tells of it

@@ -3,6 +3,5 @@ pub mod PortRecord
 pub mod BridgeState
 pub mod Faults
 pub mod Sending
-pub mod Gates
 pub mod Receiving
 pub mod Taking

@@ -6,7 +6,6 @@ ghost use Rattle.cqf_bridge.specs.Faults.{IsSendFault};
 ghost use Rattle.cqf_bridge.specs.Receiving.{CanReceive, IsReceiveFault, IsRunOf, ReceivesCycle};
 
 use crate::checking::are_batches;
-use crate::gates::StreamGates;
 use crate::outgoing::Outgoing;
 use crate::receiving::receive_frames;
 use crate::sending::send_ports;
@@ -14,6 +13,7 @@ use crate::{Batch, BridgeFault};
 use cqf_admission::Table;
 use cqf_compile::Plan;
 use cqf_model::{Backed, Dropped, Offered, Started};
+use cqf_stream_gates::StreamGates;
 use cqf_topology::Domain;
 use cqf_units::{Cycle, Memory};
 use std::alloc::Global;

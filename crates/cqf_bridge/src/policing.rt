@@ -4,16 +4,16 @@ ghost use Rattle.cqf_model.specs.declared.topology.Row.{Row as ARow};
 ghost use Rattle.cqf_model.specs.Domain.{cycle_of};
 ghost use Rattle.cqf_model.specs.Table.{table_of};
 ghost use Rattle.cqf_model.specs.Traffic.{AtEdge as Offering, Policed, Relayed, edge_verdict};
-ghost use Rattle.cqf_bridge.specs.Gates.{AreKept, HaveCounted};
+ghost use Rattle.cqf_stream_gates.specs.Gates.{AreKept, HaveCounted};
 ghost use Rattle.cqf_bridge.specs.Taking.{IsPolicedBehind, PassesGate, Polices, received_as, verdict_unless, way_of};
 
 use crate::checking::leads_on;
-use crate::gates::StreamGates;
 use crate::gathering::{Came, Incoming};
 use cqf_admission::Table;
 use cqf_gates::Passed;
 use cqf_laws_cycle::gate_counts_cycles;
 use cqf_model::{Reason, Row};
+use cqf_stream_gates::StreamGates;
 use cqf_topology::Domain;
 use cqf_units::{Cycle, Memory, Name, Octets};
 

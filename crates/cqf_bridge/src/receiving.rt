@@ -3,11 +3,10 @@ ghost use Rattle.std.specs.Prelude.{◌≡◌, ◌+◌, ◌*◌, ◌<◌, Contai
 ghost use Rattle.std.specs.List.Sorted.{IsNonDecreasingBy};
 ghost use Rattle.cqf_model.specs.Run.{Run};
 ghost use Rattle.cqf_model.specs.Traffic.{Received};
-ghost use Rattle.cqf_bridge.specs.Gates.{AreKept};
+ghost use Rattle.cqf_stream_gates.specs.Gates.{AreKept};
 ghost use Rattle.cqf_bridge.specs.Receiving.{AreBatchesOf, IsRunOf};
 ghost use Rattle.cqf_bridge.specs.Taking.{AreReady, HasPoliced, IsStopOf, MayBeTaken, TakesCycle, policed_by, received_as, stop_of_run};
 
-use crate::gates::StreamGates;
 use crate::gathering::{Incoming, in_order};
 use crate::outgoing::Outgoing;
 use crate::recording::take_frame;
@@ -16,6 +15,7 @@ use cqf_admission::Table;
 use cqf_laws_cycle::gate_counts_cycles;
 use cqf_laws_pages::{drops_are_of_the_cycle, frames_are_taken_in_order};
 use cqf_model::{Dropped, Offered};
+use cqf_stream_gates::StreamGates;
 use cqf_topology::Domain;
 use cqf_units::Cycle;
 use std::alloc::Global;

@@ -10,7 +10,6 @@ ghost use Rattle.cqf_bridge.specs.Taking.{AreReady, CanRecord, IsStopBy, IsWaiti
 ghost use Rattle.cqf_bridge.specs.Taking.{class_in, queue_on, received_as, verdict_of, with_verdict};
 
 use crate::BridgeFault;
-use crate::gates::StreamGates;
 use crate::gathering::Incoming;
 use crate::outgoing::Outgoing;
 use crate::policing::{Outcome, police};
@@ -18,6 +17,7 @@ use cqf_admission::Table;
 use cqf_laws_cycle::gate_gives_class;
 use cqf_laws_pages::queued_frames_wait;
 use cqf_model::{Arrival, Dropped, Reason, Row};
+use cqf_stream_gates::StreamGates;
 use cqf_topology::Domain;
 use cqf_units::{Cycle, Memory};
 

@@ -2,6 +2,7 @@ pub mod Arrivals
 pub mod ByCycle
 pub mod Coming
 pub mod Drops
+pub mod Hops
 pub mod InCycle
 pub mod Legal
 pub mod LinkEnds

@@ -25,7 +25,7 @@ use Rattle.cqf_model.proofs.Policing.{police_member}
 use Rattle.cqf_laws_cycle.specs.Compiled.{GateCountsCycles}
 use Rattle.cqf_laws_pages.specs.BridgeCycle.{BatchIsWholeInItsCycle, IsCompiledNetwork, policed_of, received_in}
 use Rattle.cqf_laws_pages.specs.Gathered.{AreWholeIn, DropsAreByFrame, FramesAreTakenInOrder, IsInOrderOf, dropped_of, gathered_in, offered_for}
-use Rattle.cqf_bridge.specs.Gates.{HaveCounted}
+use Rattle.cqf_stream_gates.specs.Gates.{HaveCounted}
 use Rattle.cqf_plain.specs.AtBridge.{IsPartOf, IsStopAt, TakesAt}
 use Rattle.cqf_plain.specs.Bridging.{PassesAt}
 use Rattle.cqf_plain.specs.declared.faults.RunFault.{RunFault}

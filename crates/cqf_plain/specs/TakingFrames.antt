@@ -8,8 +8,8 @@ use Rattle.cqf_model.specs.Network.{IsLoss, queued_frame}
 use Rattle.cqf_model.specs.Table.{table_of}
 use Rattle.cqf_model.specs.Traffic.{DroppedFor, ExceedsGate, LacksRow, Policed, Queued, Received, Verdict, came_by, police, police_all}
 use Rattle.cqf_laws_pages.specs.Gathered.{IsInOrderOf, dropped_of}
-use Rattle.cqf_bridge.specs.declared.gates.KeptGate.{KeptGate}
-use Rattle.cqf_bridge.specs.Gates.{AreKept, HaveCounted}
+use Rattle.cqf_stream_gates.specs.declared.gates.KeptGate.{KeptGate}
+use Rattle.cqf_stream_gates.specs.Gates.{AreKept, HaveCounted}
 use Rattle.cqf_plain.specs.Bridging.{PassesAt}
 use Rattle.cqf_plain.specs.declared.faults.RunFault.{RunFault}
 use Rattle.cqf_plain.specs.declared.faults.RunFault.TheVariants.{WrongTables, Inside, Memory}

@@ -7,7 +7,7 @@ ghost use Rattle.cqf_model.specs.Domain.{cycle_of};
 ghost use Rattle.cqf_model.specs.Run.{Run};
 ghost use Rattle.cqf_model.specs.Table.{table_of};
 ghost use Rattle.cqf_model.specs.Traffic.{DroppedFor, Policed, Queued, Received, police, police_all};
-ghost use Rattle.cqf_bridge.specs.Gates.{AreKept, HaveCounted};
+ghost use Rattle.cqf_stream_gates.specs.Gates.{AreKept, HaveCounted};
 ghost use Rattle.cqf_bridge.specs.Taking.{HasClass, class_in, received_as, verdict_as};
 ghost use Rattle.cqf_bridge.specs.Receiving.{links_into};
 ghost use Rattle.cqf_plain.specs.Edge.{is_at};

@@ -12,9 +12,9 @@ use Rattle.cqf_model.specs.declared.topology.Hop.{Hop}
 use Rattle.cqf_model.specs.History.{tree_of}
 use Rattle.cqf_admission.specs.Asking.{asked_of}
 use Rattle.cqf_admission.specs.Grants.{short_refusal}
-use Rattle.cqf_admission.specs.Branches.{branches_of, tree_refusal}
+use Rattle.cqf_trees.specs.Branches.{branches_of, tree_refusal}
 use Rattle.cqf_lists.proofs.Any.{position_any}
-use Rattle.cqf_admission.proofs.TreeLemmas.{hops_inside}
+use Rattle.cqf_model.proofs.Hops.{hops_inside}
 use Rattle.cqf_admission.proofs.GrantLemmas.{later_refusal, refusal_by_tree, refusal_held, refusal_last, refusal_later, refusal_many, row_granted}
 use Rattle.cqf_admission.proofs.refusals.grant.Goals as goal
 

@@ -2,7 +2,7 @@ use Rattle.std.proofs.Common.{◌∙◌, ◌+◌, None, Some, ap, arith, sym}
 use Rattle.std.proofs.lemmas.Bool.{cond-false, cond-true}
 use Rattle.cqf_model.specs.StreamGate.{gate_class}
 use Rattle.cqf_gates.specs.StreamGate.{Gate, lets_pass}
-use Rattle.cqf_bridge.specs.Gates.{gate_in}
+use Rattle.cqf_stream_gates.specs.Gates.{gate_in}
 use Rattle.cqf_bridge.specs.Taking.{class_in, passes_by, received_as}
 use Rattle.cqf_bridge.proofs.Verdicts.{gate_entries, gate_last, went_by_gate, word_class, word_over}
 use Rattle.cqf_bridge.proofs.policing.pass_gate.Goals as goal

@@ -1,0 +1,3 @@
+mod GatePlaces
+mod KeptGates
+mod Reservations

@@ -1,0 +1,5 @@
+mod BranchLemmas
+mod FaultLemmas
+mod NodeLemmas
+mod PartLemmas
+mod TreeLemmas
