@@ -20,9 +20,9 @@ use Rattle.cqf_topology.specs.declared.faults.DomainFault.{DomainFault}
 use Rattle.cqf_topology.specs.declared.faults.DomainFault.TheVariants as fault
 use Rattle.cqf_lists.specs.Results.{and_then, refuse}
 use Rattle.cqf_fields.specs.Fields.{and_first, read_at, whole_document, tables_at, number_from, names_at}
-use Rattle.cqf_topology.specs.DomainText.{DomainText, IsReadable, IsNumbered, IsDomain, NoLinkTwice, is_among, first_taken, place_of, apart, joined_link}
+use Rattle.cqf_topology.specs.DomainText.{DomainText, IsReadable, HasNames, IsNumbered, IsDomain, NoLinkTwice, is_among, first_taken, place_of, apart}
 use Rattle.cqf_topology.specs.DomainText.{joined, first_long_delay, first_long_gap, if_some, link_from, link_keys, domain_keys, domain_from, read_text, checked}
-use Rattle.cqf_topology.specs.DomainText.{with_links}
+use Rattle.cqf_topology.specs.DomainText.{joined_link, with_links}
 use Rattle.cqf_topology.specs.JoinedLink.{HasSmallEnds, IsSmallNode}
 use Rattle.cqf_topology.proofs.Distinct.{first_taken-None}
 use Rattle.cqf_topology.proofs.Refusals.{and_then-Ok, refuse-Ok, ok_or-Ok, number-range, names-named, if_some-Ok}
@@ -82,22 +82,20 @@ module _ (d : DomainText) where
   distinct-names bridges stations one two = first_taken-append [] d.bridges d.stations ∙ ap (λ o. option_or o (first_taken d.bridges d.stations)) one ∙ two
 
   -- a text whose names and links are numbered
-  pub numbered : (bridges stations : List (List ℕ)) (links : List Link) → IsReadable d
-      → refuse (first_taken [] d.bridges) fault.NameTaken (Ok d.bridges) ≡ Ok bridges
-      → refuse (first_taken bridges d.stations) fault.NameTaken (Ok d.stations) ≡ Ok stations
-      → joined bridges stations d.links ≡ Ok links → IsNumbered d bridges stations links
-  numbered bridges stations links readable h1 h2 h3 =
-      let (free, is) = refuse-Ok (first_taken [] d.bridges) fault.NameTaken (Ok d.bridges) bridges h1 in
+  pub numbered : (bridges stations : List (List ℕ)) (links : List Link) → HasNames d bridges stations → joined bridges stations d.links ≡ Ok links
+      → IsNumbered d bridges stations links
+  numbered bridges stations links names h =
+      let (free, is) = refuse-Ok (first_taken [] d.bridges) fault.NameTaken (Ok d.bridges) bridges names.has_bridges.bridges_are in
       let same : bridges ≡ d.bridges = cc in
-      let (free_too, is_too) = refuse-Ok (first_taken bridges d.stations) fault.NameTaken (Ok d.stations) stations h2 in
+      let (free_too, is_too) = refuse-Ok (first_taken bridges d.stations) fault.NameTaken (Ok d.stations) stations names.stations_are in
       let same_too : stations ≡ d.stations = cc in
       let free_there : first_taken d.bridges d.stations ≡ None = cc in
       record {
-        readable = readable;
+        readable = names.has_bridges.readable;
         bridges_are = same;
         stations_are = same_too;
         distinct = distinct-names bridges stations free free_there;
-        joined_are = (λ i. joined (sym same i) (sym same_too i) d.links) ∙ h3;
+        joined_are = (λ i. joined (sym same i) (sym same_too i) d.links) ∙ h;
       }
 
   -- a bridge's name is taken

@@ -7,3 +7,5 @@ pub mod Distinct
 pub mod Repeats
 pub mod Told
 pub mod Passed
+pub mod Fronts
+pub mod Copies

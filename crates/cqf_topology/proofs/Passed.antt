@@ -1,5 +1,5 @@
 -- A domain that passed the checks of its times and links.
-use Rattle.std.proofs.Common.{◌≡◌, ◌<◌, ◌≤◌, ◌||◌, Bool, true, false, ℕ, List, [], Option, Some, None, Ok, nat_le, nat_lt, length, arith, refl}
+use Rattle.std.proofs.Common.{◌≡◌, ◌<◌, ◌≤◌, ◌||◌, Bool, true, false, List, [], None, Ok, nat_le, nat_lt, length, arith, refl}
 use Rattle.std.proofs.lemmas.Bool.Decides.{nat_tests}
 use Rattle.cqf_model.specs.declared.topology.Link.{Link}
 use Rattle.cqf_topology.specs.declared.faults.DomainFault.TheVariants as fault

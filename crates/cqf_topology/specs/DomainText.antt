@@ -62,6 +62,11 @@ link_from table =
     and_then (read_at Delay (number_from 0 10000000) table) (λ delay.
     Ok (record { from = from; to = to; rate = rate; delay = delay })))))
 
+-- what was read already, before what is read of the rest
+abbrev pub with_front : {A E : Type 0} → List A → Result (List A) E → Result (List A) E
+with_front done (Ok rest) = Ok (done ++ rest)
+with_front done (Err e) = Err e
+
 -- a domain's table
 abbrev pub domain_from : Members → Result DomainText TomlFault
 domain_from table =
@@ -79,6 +84,10 @@ is_among name names = list_any (λ other. is_text other name) names
 abbrev pub first_taken : List (List ℕ) → List (List ℕ) → Option (List ℕ)
 first_taken earlier [] = None
 first_taken earlier (name ∷ names) = if is_among name earlier then Some name else first_taken (earlier ++ name ∷ []) names
+
+-- names behind those that are numbered, none of them among these or the others
+abbrev pub numbered_with : List (List ℕ) → List (List ℕ) → List (List ℕ) → Result (List (List ℕ)) DomainFault
+numbered_with others done names = refuse (first_taken (others ++ done) names) fault.NameTaken (Ok (done ++ names))
 
 -- a link with its ends found: its `from` has to name a bridge, and its `to` a node other than that
 abbrev pub apart : List ℕ → DraftLink → ℕ → Node → Result Link DomainFault
@@ -176,6 +185,16 @@ pub record IsReadable (d : DomainText) : Type 0 where
   pub some_bridge : 0 < length d.bridges
   pub bridges_named : All (λ name. IsTrue (is_name name)) d.bridges
   pub stations_named : All (λ name. IsTrue (is_name name)) d.stations
+
+-- a text's bridges by number: none of them stands twice
+pub record HasBridges (d : DomainText) (bridges : List (List ℕ)) : Type 0 where
+  pub readable : IsReadable d
+  pub bridges_are : refuse (first_taken [] d.bridges) fault.NameTaken (Ok d.bridges) ≡ Ok bridges
+
+-- and its stations: none of them stands twice or is a bridge
+pub record HasNames (d : DomainText) (bridges stations : List (List ℕ)) : Type 0 where
+  pub has_bridges : HasBridges d bridges
+  pub stations_are : refuse (first_taken bridges d.stations) fault.NameTaken (Ok d.stations) ≡ Ok stations
 
 -- a text's names and links by number: what its checks up to that of its ends give
 pub record IsNumbered (d : DomainText) (bridges stations : List (List ℕ)) (links : List Link) : Type 0 where

@@ -2,7 +2,8 @@
 ghost use Rattle.std.specs.Prelude.{◌≡◌, ◌<◌, ◌==◌, ◌&&◌, length, slice_get, position, Some, IfOk};
 ghost use Rattle.cqf_model.specs.Domain.{IsAccepted, node_named, link_between, same_node};
 ghost use Rattle.cqf_fields.specs.Fields.{Gives};
-ghost use Rattle.cqf_topology.specs.DomainText.{IsDomain, IsOnlyLink, IsReadable, IsNumbered, with_links, with_these, checked, domain_of_text};
+ghost use Rattle.cqf_topology.specs.DomainText.{IsDomain, IsOnlyLink, IsReadable, HasBridges, HasNames, IsNumbered};
+ghost use Rattle.cqf_topology.specs.DomainText.{with_links, with_these, checked, domain_of_text};
 
 use crate::DomainFault;
 use crate::draft::{Draft, read_draft};
@@ -10,6 +11,7 @@ use crate::joined::{
     JoinedLink, end_of_name, find_long_delay, find_long_gap, find_twice, join_links, links_of,
     node_of_end, numbered_names,
 };
+use crate::names::copied_names;
 use cqf_model::{Link, Node};
 use cqf_units::{Memory, Name, Nanos};
 use indexmap::IndexSet;
@@ -67,6 +69,23 @@ fn check(alloc: Global, draft: &Draft, joined: &[JoinedLink]) -> Result<(), Doma
     Ok(())
 }
 
+/// The links of a draft whose names are numbered, or the first check that the draft fails.
+fn checked_links(
+    alloc: Global,
+    draft: &Draft,
+    bridges: &IndexSet<Name>,
+    stations: &IndexSet<Name>,
+) -> Result<Vec<Link>, DomainFault>
+    requires { HasNames draft.now bridges.now.keys stations.now.keys }
+    ensures given { Gives DomainFault.Memory (λ links. with_these draft.now links.items) result (checked draft.now) }
+    ensures numbered { IfOk result (λ links. IsNumbered draft.now bridges.now.keys stations.now.keys links.items) }
+{
+    let joined = join_links(alloc, bridges, stations, draft.links())?;
+    check(alloc, draft, joined.as_slice())?;
+    let links = links_of(alloc, joined.as_slice())?;
+    Ok(links)
+}
+
 impl Domain {
     /// The domain that a text means, or the first fault of the text. Keys that mean nothing here are passed over.
     pub fn read(alloc: Global, text: &[u8]) -> Result<Domain, DomainFault>
@@ -83,24 +102,33 @@ impl Domain {
     {
         let none = IndexSet::new(alloc);
         let bridges = numbered_names(alloc, draft.bridges(), &none)?;
-        let stations = numbered_names(alloc, draft.stations(), &bridges)?;
-        let joined = join_links(alloc, &bridges, &stations, draft.links())?;
-        Domain::of_joined(alloc, draft, bridges, stations, joined.as_slice())
+        Domain::of_bridges(alloc, draft, bridges)
     }
 
-    /// The domain of a draft whose names and links are numbered, or the first check that these fail.
-    fn of_joined(
+    /// The domain of a draft whose bridges are numbered, or the first check that it fails.
+    fn of_bridges(
+        alloc: Global,
+        draft: &Draft,
+        bridges: IndexSet<Name>,
+    ) -> Result<Domain, DomainFault>
+        requires { HasBridges draft.now bridges.keys }
+        ensures { Gives DomainFault.Memory (λ domain. domain) result (checked draft.now) }
+    {
+        let stations = numbered_names(alloc, draft.stations(), &bridges)?;
+        Domain::of_names(alloc, draft, bridges, stations)
+    }
+
+    /// The domain of a draft whose names are numbered, or the first check that it fails.
+    fn of_names(
         alloc: Global,
         draft: &Draft,
         bridges: IndexSet<Name>,
         stations: IndexSet<Name>,
-        joined: &[JoinedLink],
     ) -> Result<Domain, DomainFault>
-        requires { IsNumbered draft.now bridges.keys stations.keys joined.now }
-        ensures { Gives DomainFault.Memory (λ domain. domain) result (with_links draft.now joined.now) }
+        requires { HasNames draft.now bridges.keys stations.keys }
+        ensures { Gives DomainFault.Memory (λ domain. domain) result (checked draft.now) }
     {
-        check(alloc, draft, joined)?;
-        let links = links_of(alloc, joined)?;
+        let links = checked_links(alloc, draft, &bridges, &stations)?;
         Ok(Domain {
             cycle_time: draft.cycle_time(),
             guard: draft.guard(),
@@ -202,12 +230,15 @@ impl Domain {
     pub fn try_copy(&self, alloc: Global) -> Result<Domain, Memory>
         ensures { IfOk result (λ copy. copy ≡ self.now) }
     {
+        let links = Vec::from_slice(alloc, self.links.as_slice())?;
+        let bridges = copied_names(&self.bridges)?;
+        let stations = copied_names(&self.stations)?;
         Ok(Domain {
             cycle_time: self.cycle_time,
             guard: self.guard,
-            bridges: self.bridges.clone()?,
-            stations: self.stations.clone()?,
-            links: Vec::from_slice(alloc, self.links.as_slice())?,
+            bridges,
+            stations,
+            links,
         })
     }
 }

@@ -1,10 +1,10 @@
 //! What a domain text says, before it is asked whether a network can be like that.
-ghost use Rattle.std.specs.Prelude.{◌≡◌, option_and_then, ok_or};
+ghost use Rattle.std.specs.Prelude.{◌≡◌, ◌++◌, ◌∷◌, [], OnOk, IsOkUnless, option_and_then, ok_or};
 ghost use Rattle.toml.specs.View.{view, table_view, items_view};
 ghost use Rattle.toml.specs.Data.{as_table};
 ghost use Rattle.cqf_lists.specs.Results.{and_then};
 ghost use Rattle.cqf_fields.specs.Fields.{Gives, read_at, tables_at, tables_from, names_at};
-ghost use Rattle.cqf_topology.specs.DomainText.{rate_of, rate_from, link_from, if_some, domain_from, read_text};
+ghost use Rattle.cqf_topology.specs.DomainText.{rate_of, rate_from, link_from, if_some, with_front, domain_from, read_text};
 
 use cqf_fields::{
     Key, TomlFault, are_all_tables, array_at, name_at, names_at, number_at, read_document, value_at,
@@ -15,7 +15,7 @@ use std::marker::Model;
 use toml::{Table, Value};
 
 /// A link by the names of its ends.
-#[derive(Debug, Drop)]
+#[derive(Drop)]
 pub(crate) struct DraftLink {
     pub from: Name,
     pub to: Name,
@@ -25,7 +25,7 @@ pub(crate) struct DraftLink {
 }
 
 /// A domain as its text says it: times in nanoseconds, and links by the names of their ends.
-#[derive(Debug, Drop)]
+#[derive(Drop)]
 pub(crate) struct Draft {
     cycle_time: u32,
     guard: u32,
@@ -144,15 +144,34 @@ fn link_in(value: &Value) -> Result<DraftLink, TomlFault>
     }
 }
 
+/// Adds a link to those that were read.
+fn add_link(links: &mut Vec<DraftLink>, link: DraftLink) -> Result<(), TomlFault>
+    ensures added { OnOk result (links.new.items ≡ links.old.items ++ link ∷ []) }
+    ensures fault { IsOkUnless result TomlFault.Memory }
+{
+    match links.push(link) {
+        Ok(()) => Ok(()),
+        Err(_) => Err(TomlFault::Memory),
+    }
+}
+
+/// The elements of the array of links, added to the links that were read.
+fn add_links(links: &mut Vec<DraftLink>, values: &[Value]) -> Result<(), TomlFault>
+    ensures { Gives TomlFault.Memory (λ _. links.new.items) result (with_front links.old.items (tables_from Key.Links link_from (items_view values.now))) }
+{
+    for value in values {
+        let link = link_in(value)?;
+        add_link(links, link)?;
+    }
+    Ok(())
+}
+
 /// The elements of the array of links.
 fn links_in(alloc: Global, values: &[Value]) -> Result<Vec<DraftLink>, TomlFault>
     ensures { Gives TomlFault.Memory (λ links. links.items) result (tables_from Key.Links link_from (items_view values.now)) }
 {
     let mut links = Vec::new(alloc);
-    for value in values {
-        let link = link_in(value)?;
-        links.push(link).map_err(|_| TomlFault::Memory)?;
-    }
+    add_links(&mut links, values)?;
     Ok(links)
 }
 

@@ -5,7 +5,8 @@ ghost use Rattle.cqf_units.specs.Timing.{nanos_of_octet};
 ghost use Rattle.cqf_model.specs.Domain.{node_or};
 ghost use Rattle.cqf_lists.specs.Results.{refuse};
 ghost use Rattle.cqf_fields.specs.Fields.{Gives};
-ghost use Rattle.cqf_topology.specs.DomainText.{is_among, first_taken, place_of, joined_link, joined, first_twice, first_long_delay, first_long_gap};
+ghost use Rattle.cqf_topology.specs.DomainText.{is_among, first_taken, numbered_with, place_of, joined_link, joined};
+ghost use Rattle.cqf_topology.specs.DomainText.{first_twice, first_long_delay, first_long_gap};
 ghost use Rattle.cqf_topology.specs.JoinedLink.{node_of, ends_held, ends_of, are_same_ends, IsSmallNode, HasSmallEnds};
 
 use crate::DomainFault;
@@ -18,14 +19,14 @@ use std::alloc::Global;
 use std::marker::Model;
 
 /// A node by its number among the bridges or among the stations, however many there are.
-#[derive(Clone, Copy, Debug, PartialEq, Eq, Hash)]
+#[derive(Clone, Copy, PartialEq, Eq, Hash)]
 pub(crate) enum End {
     Bridge(usize),
     Station(usize),
 }
 
 /// A link by the numbers of its ends.
-#[derive(Debug, Drop)]
+#[derive(Clone, Copy)]
 pub(crate) struct JoinedLink {
     from: usize,
     to: End,
@@ -35,11 +36,13 @@ pub(crate) struct JoinedLink {
 
 impl Model for JoinedLink {
     ghost use Rattle.cqf_model.specs.declared.topology.Link.{Link};
-    ghost use Rattle.cqf_topology.specs.JoinedLink.{node_of};
+    ghost use Rattle.cqf_topology.specs.JoinedLink.{node_of, end_of};
 
     ghost Value = { Link };
 
     ghost view = { λ l. record { from = l.from; to = node_of l.to; rate = l.rate; delay = l.delay } };
+
+    ghost inverse = { λ link. record { from = link.from; to = end_of link.to; rate = link.rate; delay = link.delay } };
 }
 
 /// Whether the name is among either names.
@@ -47,6 +50,23 @@ fn is_taken(others: &IndexSet<Name>, names: &IndexSet<Name>, name: &Name) -> boo
     ensures { result ≡ is_among name.now (others.now.keys ++ names.now.keys) }
 {
     has_name(others, name) || has_name(names, name)
+}
+
+/// Numbers the names behind those that are numbered: none of them is among these or the others, and none stands twice.
+fn number_names(
+    numbered: &mut IndexSet<Name>,
+    names: &[Name],
+    others: &IndexSet<Name>,
+) -> Result<(), DomainFault>
+    ensures { Gives DomainFault.Memory (λ _. numbered.new.keys) result (numbered_with others.now.keys numbered.old.keys names.now) }
+{
+    for name in names {
+        if is_taken(others, numbered, name) {
+            return Err(DomainFault::NameTaken(name.copied()));
+        }
+        add_name(numbered, name)?;
+    }
+    Ok(())
 }
 
 /// The names, numbered: none of them is among the others, and none stands twice.
@@ -59,12 +79,7 @@ pub(crate) fn numbered_names(
         (refuse (first_taken others.now.keys names.now) DomainFault.NameTaken (Ok names.now)) }
 {
     let mut numbered = IndexSet::new(alloc);
-    for name in names {
-        if is_taken(others, &numbered, name) {
-            return Err(DomainFault::NameTaken(name.copied()));
-        }
-        add_name(&mut numbered, name).map_err(|_| DomainFault::Memory)?;
-    }
+    number_names(&mut numbered, names, others)?;
     Ok(numbered)
 }
 
@@ -124,7 +139,9 @@ pub(crate) fn join_links(
     let mut joined = Vec::new(alloc);
     for link in links {
         let link = join_link(bridges, stations, link)?;
-        joined.push(link).map_err(|_| DomainFault::Memory)?;
+        if joined.push(link).is_err() {
+            return Err(DomainFault::Memory);
+        }
     }
     Ok(joined)
 }

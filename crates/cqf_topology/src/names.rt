@@ -1,5 +1,5 @@
 //! Names by number: sets in the order of insertion.
-ghost use Rattle.std.specs.Prelude.{◌≡◌, [], ◌∷◌, ◌++◌, false, OnOk};
+ghost use Rattle.std.specs.Prelude.{◌≡◌, [], ◌∷◌, ◌++◌, false, IfOk, OnOk};
 ghost use Rattle.cqf_topology.specs.DomainText.{is_among, place_of};
 
 use cqf_units::{Memory, Name};
@@ -26,4 +26,11 @@ pub(crate) fn add_name(names: &mut IndexSet<Name>, name: &Name) -> Result<(), Me
 {
     names.insert(name.copied())?;
     Ok(())
+}
+
+/// The same names again, unless memory runs out.
+pub(crate) fn copied_names(names: &IndexSet<Name>) -> Result<IndexSet<Name>, Memory>
+    ensures { IfOk result (λ copy. copy.keys ≡ names.now.keys) }
+{
+    names.clone()
 }

@@ -1,6 +1,5 @@
 use Rattle.std.proofs.Common.{◌≡◌, drop}
-use Rattle.cqf_topology.specs.DomainText.{joined}
-use Rattle.cqf_fields.proofs.Arrays.{with_front}
+use Rattle.cqf_topology.specs.DomainText.{joined, with_front}
 use Rattle.cqf_topology.proofs.joined.join_links.Given as goal
 
 abbrev pub invariant-loop-link : goal.invariant-loop-link

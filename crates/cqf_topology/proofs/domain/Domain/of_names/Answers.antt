@@ -1,0 +1,31 @@
+use Rattle.std.proofs.Common.{◌≡◌, ◌<◌, ◌∙◌, length, sym, ap, arith}
+use Rattle.cqf_topology.specs.declared.faults.DomainFault.TheVariants.{Memory}
+use Rattle.cqf_topology.specs.DomainText.{first_long_delay, first_long_gap, with_these}
+use Rattle.cqf_topology.proofs.Accepted.{checked-accepted, checked-numbered}
+use Rattle.cqf_topology.proofs.Passed.{passes}
+use Rattle.cqf_topology.proofs.Refusals.{Gives-residual}
+use Rattle.cqf_topology.proofs.Told.{no-link-twice}
+use Rattle.cqf_topology.proofs.domain.Domain.of_names.Goals as goal
+
+pub returns-in_err-links : goal.returns-in_err-links
+returns-in_err-links c =
+    Gives-residual Memory c.in_err-links.field-0.0 (λ domain. domain) c.from_residual.result _ c.from_residual.ensures.1 c.in_err-links.ensures.given
+
+pub invariant_of-result : goal.invariant_of-result
+invariant_of-result c =
+    let t = c.args.draft.now in
+    let links = c.in_ok-links.links.items in
+    let bridges = c.args.bridges.keys in
+    let stations = c.args.stations.keys in
+    let guard = c.guard.result in
+    let n = c.in_ok-links.ensures.numbered in
+    let p = passes t links (with_these t links) (sym (checked-numbered t bridges stations links n) ∙ c.in_ok-links.ensures.given) in
+    let same_guard : guard ≡ t.guard = c.guard.ensures in
+    let same_cycle : c.cycle_time.result ≡ t.cycle_time = c.cycle_time.ensures in
+    let short : guard < c.cycle_time.result = omega (arith, p.short, same_guard, same_cycle) in
+    checked-accepted t (record { cycle_time = c.cycle_time.result; guard = guard; bridges = bridges; stations = stations; links = links })
+    n same_cycle same_guard (no-link-twice links p.no_twice) short
+    (ap (λ g. first_long_delay g links) same_guard ∙ p.no_delay)
+    (ap (λ g. first_long_gap g links) same_guard ∙ p.no_gap)
+    (omega (arith, p.few_bridges, ap length n.bridges_are)) (omega (arith, p.few_stations, ap length n.stations_are))
+    p.few_links
