@@ -12,7 +12,8 @@
 //! - [`Sent`] is a frame that a link carries.
 //! - [`Started`] is a transmission and [`Dropped`] a dropped offer, with its [`Reason`]; a [`Book`] has all of a run.
 //!
-//! The types stand with the definitions, in `cqf_model`, and this crate hands them on.
+//! The types of frames and books stand with the definitions, in `cqf_model`, and [`StreamGates`] in `cqf_stream_gates`; this
+//! crate hands them on.
 #![tactic(auto)]
 
 mod batch;

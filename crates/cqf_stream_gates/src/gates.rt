@@ -66,7 +66,8 @@ impl KeptGate {
 /// So many gates are looked through one by one. Where there are no more, as in most cycles, no number is hashed.
 const FEW: usize = 16;
 
-/// The gates of the streams of which a bridge has seen frames: one for each number, looked up by it.
+/// The gates of the streams of which a bridge has seen frames: one for each number, looked up by it (IEEE 802.1Q, 8.6.5.1;
+/// that a gate counts octets by the cycle: profile).
 #[derive(Debug, Drop)]
 pub struct StreamGates {
     kept: Vec<KeptGate>,
@@ -135,10 +136,14 @@ impl StreamGates {
         Ok(())
     }
 
-    /// Passes a frame of a row's stream, of so many octets from the destination address to the FCS, by the stream's gate, or
-    /// not: by the gate that is kept for the number and the reservation, else by one that has seen no frame, which is kept from
-    /// then on. Calls of one stream's gate don't go back in time. `Memory` where there is no room to keep a gate; then no gate
-    /// has counted the frame.
+    /// Passes a frame of a row's stream, of so many octets from the destination address to the FCS, at an instant in
+    /// nanoseconds by the stream's gate, or not: by the gate that is kept for the number and the reservation, else by one that
+    /// has seen no frame, which is kept from then on. `Class` exactly where the octets and those that passed before in the same
+    /// cycle are within the row's: 6 in even cycles, 7 in odd ones; else `OverOctets`, and the frame takes nothing. Calls of one
+    /// stream's gate don't go back in time.
+    ///
+    /// # Errors
+    /// `Memory` where there is no room to keep a gate; nothing changes then.
     pub fn pass(
         &mut self,
         domain: &Domain,

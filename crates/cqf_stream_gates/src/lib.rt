@@ -1,4 +1,4 @@
-//! The stream gates of a bridge (IEEE 802.1Q, 8.6.5.1), by number of stream.
+//! The stream gates of a bridge (IEEE 802.1Q, 8.6.5.1; the rules of octets and of classes: profile), by number of stream.
 //!
 //! [`StreamGates`] has a gate for each stream of which the bridge has seen a frame, and passes frames by it: by the cycle it
 //! counts octets, and it says and counts just what the stream gate that is compiled for the row's reservation does.

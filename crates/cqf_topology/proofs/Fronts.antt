@@ -1,10 +1,9 @@
 -- A list read one element after the other, behind what was read already.
 use Rattle.std.proofs.Common.{◌≡◌, ◌<◌, ◌≤◌, ◌+◌, ℕ, suc, List, [], ◌∷◌, ◌++◌, Result, Ok, Err, length, get_or, drop}
-use Rattle.std.proofs.Common.{map, take, take-suc, drop-cons, add-one, append_assoc, refl, ap, sym, ◌∙◌}
-use Rattle.std.proofs.lemmas.List.{append-nil, drop_all}
+use Rattle.std.proofs.Common.{map, take, drop-cons, add-one, append_assoc, refl, ap, sym, ◌∙◌}
+use Rattle.std.proofs.lemmas.List.{append-nil, drop_all, map-append, take_more}
 use Rattle.cqf_fields.specs.Fields.{and_first}
 use Rattle.cqf_topology.specs.DomainText.{with_front}
-use Rattle.cqf_topology.proofs.HeldEnds.{map-push}
 
 -- what is read behind one element more is read behind the others with this one in front
 front-more : {A E : Type 0} (done : List A) (x : A) (rest : Result (List A) E) → with_front (done ++ x ∷ []) rest ≡ with_front done (and_first (Ok x) rest)
@@ -39,7 +38,7 @@ read-all each none values k past done = ap (λ rest. with_front done (each rest)
 module _ {X : Type 0} (xs : List X) (k : ℕ) (x : X) (inside : k < length xs) (at : x ≡ get_or xs k x) where
   -- the elements up to a place, and the one there
   take-one : take k xs ++ x ∷ [] ≡ take (k + 1) xs
-  take-one = ap (λ y. take k xs ++ y ∷ []) at ∙ sym (take-suc xs k x inside) ∙ ap (λ n. take n xs) (sym (add-one k))
+  take-one = ap (λ y. take k xs ++ y ∷ []) at ∙ sym (take_more xs k x inside)
 
   -- one element more is taken over
   pub take-more : (done done' : List X) (copy : X) → done' ≡ done ++ copy ∷ [] → copy ≡ x → done ≡ take k xs → done' ≡ take (k + 1) xs
@@ -49,4 +48,4 @@ module _ {X : Type 0} (xs : List X) (k : ℕ) (x : X) (inside : k < length xs) (
   pub copy-more : {Y : Type 0} (value : X → Y) (done done' : List X) (copy : X) → done' ≡ done ++ copy ∷ [] → value copy ≡ value x
       → map value done ≡ map value (take k xs) → map value done' ≡ map value (take (k + 1) xs)
   copy-more value done done' copy more same before =
-      ap (map value) more ∙ map-push value done copy ∙ (λ i. before i ++ same i ∷ []) ∙ sym (map-push value (take k xs) x) ∙ ap (map value) take-one
+      ap (map value) more ∙ map-append value done (copy ∷ []) ∙ (λ i. before i ++ same i ∷ []) ∙ sym (map-append value (take k xs) (x ∷ [])) ∙ ap (map value) take-one

@@ -1,7 +1,7 @@
 -- Ends of links in a set, compared.
 use Rattle.std.proofs.Common.{◌≡◌, ℕ, List, [], ◌∷◌, ◌++◌, true, false, ◌==◌, ◌&&◌, ◌||◌, map, cond, refl, ap, sym, ◌∙◌, Option, Some, ◌+◌, ◌<◌, length, take}
 use Rattle.std.proofs.Common.{drop, get_or, arith}
-use Rattle.std.proofs.lemmas.List.{take_more, drop_more, length-take-le}
+use Rattle.std.proofs.lemmas.List.{take_more, drop_more, length-take-le, map-append}
 use Rattle.std.specs.List.{list_any}
 use Rattle.std.specs.contracts.prelude.UsizePartialEq.TheImpl.{ghosts as number}
 use Rattle.cqf_model.specs.declared.topology.Link.{Link}
@@ -25,11 +25,6 @@ pub list_any-held : (from : ℕ) (to : End) (keys : List (ℕ × End))
     → list_any (λ y. number.eq from y.0 && end.eq to y.1) keys ≡ list_any (are_same_ends (from, node_of to)) (map ends_held keys)
 list_any-held from to [] = refl
 list_any-held from to (key ∷ keys) = (λ i. ((from == key.0) && end_eq-node to key.1 i) || list_any-held from to keys i)
-
--- one more pair of ends
-pub map-push : {A B : Type 0} (f : A → B) (xs : List A) (x : A) → map f (xs ++ x ∷ []) ≡ map f xs ++ f x ∷ []
-map-push f [] x = refl
-map-push f (y ∷ ys) x = ap (λ zs. f y ∷ zs) (map-push f ys x)
 
 -- the links whose ends those are
 pub list_any-ends : (link : Link) (links : List Link) → list_any (are_same_ends (ends_of link)) (map ends_of links) ≡ list_any (same_ends link) links
@@ -72,5 +67,5 @@ module _ (links : List Link) (i : ℕ) (link : Link) (held : List (ℕ × Node))
   pub held-next : held ++ ends_of link ∷ [] ≡ map ends_of (take (i + 1) links)
   held-next =
       ap (λ front. front ++ ends_of link ∷ []) holds
-      ∙ sym (map-push ends_of (take i links) link)
+      ∙ sym (map-append ends_of (take i links) (link ∷ []))
       ∙ ap (map ends_of) (sym (take_more links i link inside ∙ ap (λ l. take i links ++ l ∷ []) (sym is)))

@@ -5,13 +5,13 @@ use Rattle.std.specs.Prelude.{All, String, Vec, string_bytes, map, option_map, i
 use Rattle.std.specs.List.{flat_map, list_any}
 use Rattle.std.specs.declared.alloc.Global.{Global}
 use Rattle.std.specs.Option.{option_map_or}
-use Rattle.std.proofs.lemmas.Bool.{and_from, both_ways, cases_lt, eq-eqb, eqb-true, lt-ltb, or_parts}
+use Rattle.std.proofs.lemmas.Bool.{and_from, both_ways, cases_lt, lt-ltb, or_parts}
 use Rattle.std.proofs.lemmas.List.{length-map, take-map}
 use Rattle.std.proofs.lemmas.Option.{slice_get-map, slice_get_past, slice_get_read}
 use Rattle.std.proofs.lemmas.List.Elements.{All-cons, All-nil}
 use Rattle.cqf_model.specs.declared.topology.Node.{Node}
-use Rattle.cqf_model.specs.declared.topology.Node.TheVariants.{Bridge, Station}
 use Rattle.cqf_model.specs.Domain.{Domain, is_text, node_named, same_node}
+use Rattle.cqf_model.proofs.Links.{same_node_itself, same_node_true}
 use Rattle.cqf_model.proofs.Texts.{is_text_itself, is_text_same, named_once}
 use Rattle.cqf_lists.proofs.Places.{first_stays}
 use Rattle.cqf_lists.specs.Lists.{least, each_below}
@@ -58,18 +58,6 @@ looping_is {S} bytes d path earlier place node stands found front here =
     ∙ ap (λ (names : List (List ℕ)). list_any (λ name. is_same (node_named d name) node) names) (sym (take-map bytes place path))
     ∙ ap (λ (n : Option Node). list_any (λ name. is_same (node_named d name) n) (take place (map bytes path))) here
 
--- two nodes are the same where the test says so
-same_node_itself : (node : Node) → same_node node node ≡ true
-same_node_itself (Bridge number) = eq-eqb number number refl
-same_node_itself (Station number) = eq-eqb number number refl
-
--- nodes that compare equal are one node
-same_node_is : (a b : Node) → same_node a b ≡ true → a ≡ b
-same_node_is (Bridge a) (Bridge b) same = ap (λ (number : ℕ). Bridge number) (eqb-true a b same)
-same_node_is (Bridge a) (Station b) same = absurd cc
-same_node_is (Station a) (Bridge b) same = absurd cc
-same_node_is (Station a) (Station b) same = ap (λ (number : ℕ). Station number) (eqb-true a b same)
-
 -- a name is another exactly where their nodes are the same
 same_by_name : (d : Domain) (a b : List ℕ) (node : Node) → node_named d a ≡ Some node → is_text a b ≡ is_same (node_named d b) (Some node)
 same_by_name d a b node here = by (is_text a b) (node_named d b) refl refl
@@ -78,7 +66,7 @@ same_by_name d a b node here = by (is_text a b) (node_named d b) refl refl
     apart : (other : Node) (test : Bool) → is_text a b ≡ false → node_named d b ≡ Some other → same_node other node ≡ test → false ≡ test
     apart other false differs there same = refl
     apart other true differs there same =
-        let one : a ≡ b = named_once d a b node here (there ∙ ap (λ (n : Node). Some n) (same_node_is other node same)) in
+        let one : a ≡ b = named_once d a b node here (there ∙ ap (λ (n : Node). Some n) (same_node_true other node same)) in
         sym differs ∙ ap (λ (text : List ℕ). is_text text b) one ∙ is_text_itself b
 
     -- a name is the one exactly where what it finds is the same node

@@ -2,11 +2,11 @@
 use Rattle.std.proofs.Common.{◌≡◌, ◌≢◌, ℕ, ◌+◌, ◌<◌, ◌≤◌, Bool, true, false, cond, List, Option, Some, None, [], ◌∷◌, ◌++◌, length, position, drop, get_or}
 use Rattle.std.proofs.Common.{refl, ap, ◌∙◌, sym, arith, subst, inl, inr, nat_lt, not, length-append, zero-add, add_assoc}
 use Rattle.std.proofs.Math.Seq.{drop-cons}
-use Rattle.std.specs.Prelude.{Contains, String, Vec, if◌then◌else◌, is_none, option_map, string_bytes, zero, suc}
+use Rattle.std.specs.Prelude.{Contains, String, Vec, if◌then◌else◌, is_none, option_map, string_bytes, suc}
 use Rattle.std.specs.List.{flat_map, prefix_len}
 use Rattle.std.specs.declared.alloc.Global.{Global}
 use Rattle.std.proofs.lemmas.Bool.{lt-ltb, ltb-true}
-use Rattle.std.proofs.lemmas.List.{length-map}
+use Rattle.std.proofs.lemmas.List.{drop_all, length-map}
 use Rattle.std.proofs.lemmas.Option.{cond_some}
 use Rattle.cqf_lists.proofs.Any.{one_more}
 use Rattle.cqf_lists.specs.Lists.{each_below, least, or_else}
@@ -112,14 +112,7 @@ pub all_passed : (d : Domain) (check : Check) (paths : List (Vec (String Global)
     HavePassed d check paths index before → first_fault d check (branches_of paths) ≡ None
 all_passed d check paths index before past h =
     h.passed ∙ ap (λ (xs : List (Vec (String Global) Global)). option_map (λ place. before + place) (first_fault d check (branches_of xs)))
-    (drop_all paths index past)
-  where
-    -- behind all its elements a list has nothing
-    drop_all : (xs : List (Vec (String Global) Global)) (k : ℕ) → length xs ≤ k → drop k xs ≡ []
-    drop_all [] zero le = refl
-    drop_all [] (suc k) le = refl
-    drop_all (x ∷ xs) zero le = absurd (omega (arith, le))
-    drop_all (x ∷ xs) (suc k) le = drop_all xs k (omega (arith, le))
+    (drop_all index paths past)
 
 -- ---- a place in two lists end to end
 

@@ -1,13 +1,13 @@
 -- Branches that part, and those that are stray, by the names that are looked through.
 use Rattle.std.proofs.Common.{◌≡◌, ℕ, ◌<◌, ◌≤◌, Bool, false, List, Option, Some, [], ◌∷◌, not, length, drop, take, get_or, refl, ap, ◌∙◌, sym, arith, nat_eq}
 use Rattle.std.proofs.Common.{◌==◌, ◌&&◌}
-use Rattle.std.specs.Prelude.{String, Vec, option_map, slice_get, zero, suc}
+use Rattle.std.specs.Prelude.{String, Vec, option_map, slice_get}
 use Rattle.std.specs.Cmp.Lexicographic.{pointwise}
 use Rattle.std.specs.List.{list_any}
 use Rattle.std.specs.Option.{option_map_or}
 use Rattle.std.specs.declared.alloc.Global.{Global}
 use Rattle.std.proofs.lemmas.Bool.Decides.{nat_tests}
-use Rattle.std.proofs.lemmas.List.{take-map}
+use Rattle.std.proofs.lemmas.List.{drop_all, take-map}
 use Rattle.std.proofs.lemmas.Option.{slice_get-map, slice_get_read}
 use Rattle.cqf_lists.proofs.Any.{list_any-map}
 use Rattle.cqf_model.specs.Domain.{is_text}
@@ -28,20 +28,13 @@ same_text (x ∷ xs) (y ∷ ys) = (λ i. nat_eq-is x y i && same_text xs ys i)
 -- where one branch has no more names, the two don't part
 pub none_left : (names others : List (String Global)) (place : ℕ) → length others ≤ place →
     part (branch_of (drop place names)) (branch_of (drop place others)) ≡ false
-none_left names others place past = ap (λ (xs : List (String Global)). part (branch_of (drop place names)) (branch_of xs)) (drop_all others place past)
+none_left names others place past = ap (λ (xs : List (String Global)). part (branch_of (drop place names)) (branch_of xs)) (drop_all place others past)
     ∙ with_none (branch_of (drop place names))
   where
     -- no branch parts from one that has no names
     with_none : (xs : Branch) → part xs [] ≡ false
     with_none [] = refl
     with_none (x ∷ xs) = refl
-
-    -- behind all its elements a list has nothing
-    drop_all : (xs : List (String Global)) (k : ℕ) → length xs ≤ k → drop k xs ≡ []
-    drop_all [] zero le = refl
-    drop_all [] (suc k) le = refl
-    drop_all (x ∷ xs) zero le = absurd (omega (arith, le))
-    drop_all (x ∷ xs) (suc k) le = drop_all xs k (omega (arith, le))
 
 -- a branch that makes no tree with one before it, by the names that are looked through
 pub stray_is : (paths : List (Vec (String Global) Global)) (number : ℕ) (branch : Vec (String Global) Global) (names : List (String Global)) →

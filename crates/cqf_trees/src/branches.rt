@@ -21,7 +21,7 @@ pub(crate) enum Check {
     Simple,
 }
 
-/// How many places the branches have. None where no `usize` can count them.
+/// How many places the branches have, one for each of their names. `None` where no `usize` can count them.
 pub fn count_places(paths: &[Vec<String>]) -> Option<usize>
     ensures { MatchOption result (2 ^ 64 ≤ places_of (branches_of paths.now)) (λ count. count ≡ places_of (branches_of paths.now)) }
 {

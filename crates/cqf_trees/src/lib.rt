@@ -1,10 +1,11 @@
 //! Whether the branches of a stream's request are a tree in a domain, and its hops (profile).
 //!
-//! [`find_tree`] looks over a request's branches, each a list of names of nodes: the domain has each node, a link goes
-//! from each to the next, from a first bridge on to a station, none stands twice, and two branches part for good. What
-//! is asked first of all branches is asked first, and a place counts through the branches as one list.
+//! [`find_tree`] looks over a request's branches, each a list of names of nodes: the domain has each node; a link goes from
+//! each to the next, from a first bridge over at most 16 in all on to a station; no node stands twice in a branch; and any two
+//! branches begin at one bridge and part for good. Each of these is asked of all branches before the next, and a place counts
+//! through the branches as one list. No branch at all is `BrokenPath 0`.
 //!
-//! With links from a to b and to c, and from b to s and c to t:
+//! With links from bridge a to bridges b and c, from b to station s, and from c to station t:
 //!
 //! ```text
 //! a, b, s and a, c, t    a>b, b>s at depth 2 behind it, a>c, c>t at depth 2 behind it

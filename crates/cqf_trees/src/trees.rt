@@ -106,7 +106,15 @@ fn looping_place_of(domain: &Domain, nodes: &[Option<Node>], paths: &[Vec<String
     first_fault_of(domain, Check::Simple, nodes, paths)
 }
 
-/// The tree of some branches, or the first reason why they are none. Each check is made over all of them before the next.
+/// The tree of some branches: their hops, each link once, where it first stands. The branches have fewer than 2^64 places,
+/// as [`count_places`](crate::count_places) tells.
+///
+/// # Errors
+/// The first reason why they are no tree, each asked of all branches before the next (profile): `UnknownNode`, at the first
+/// place whose node the domain lacks; `BrokenPath`, at the first place that no link leads to from the one before, at which a
+/// branch begins with no bridge or ends with one, or behind a 16th bridge, and 0 where there is no branch; `LoopingPath`, at
+/// the first place whose node stood earlier in its branch; `NotATree`, with the number, from 0, of the first branch that
+/// begins elsewhere than one before it or doesn't part from it for good. Places count from 0 through all branches.
 pub fn find_tree(domain: &Domain, paths: &[Vec<String>]) -> Result<ArrayVec<Hop, 64>, Refused>
     requires { places_of (branches_of paths.now) < 2 ^ 64 }
     ensures { FindsTree domain.now (branches_of paths.now) result }

@@ -1,7 +1,8 @@
 use Rattle.std.proofs.Common.{◌∙◌, ◌++◌, ◌∷◌, [], ap, map, cond}
 use Rattle.std.specs.List.{list_any}
 use Rattle.cqf_topology.specs.JoinedLink.{ends_held, ends_of, are_same_ends}
-use Rattle.cqf_topology.proofs.HeldEnds.{list_any-held, map-push}
+use Rattle.std.proofs.lemmas.List.{map-append}
+use Rattle.cqf_topology.proofs.HeldEnds.{list_any-held}
 use Rattle.cqf_topology.proofs.joined.hold_ends.Goals as goal
 
 pub returns : goal.returns
@@ -11,5 +12,5 @@ returns c =
     let free = ap (λ link. list_any (are_same_ends (ends_of link)) (map ends_held keys)) c.link.view_is ∙ c.requires in
     let one_more = keys ++ (c.link.inside.from, c.link.inside.to) ∷ [] in
     ap (map ends_held) (c.in_ok-insert.ensures.keys ∙ ap (λ b. cond b keys one_more) (held ∙ free))
-    ∙ map-push ends_held keys (c.link.inside.from, c.link.inside.to)
+    ∙ map-append ends_held keys ((c.link.inside.from, c.link.inside.to) ∷ [])
     ∙ ap (λ link. map ends_held keys ++ ends_of link ∷ []) c.link.view_is

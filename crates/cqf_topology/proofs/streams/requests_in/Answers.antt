@@ -6,7 +6,7 @@ use Rattle.cqf_fields.specs.Fields.{tables_from}
 use Rattle.cqf_topology.specs.StreamsText.{request_from, request_text}
 use Rattle.cqf_topology.proofs.Fronts.{read-more, read-fault, read-all}
 use Rattle.cqf_topology.proofs.Refusals.{Gives-residual}
-use Rattle.cqf_topology.proofs.HeldEnds.{map-push}
+use Rattle.std.proofs.lemmas.List.{map-append}
 use Rattle.cqf_topology.proofs.streams.requests_in.Goals as goal
 
 pub loop-value-preserved : goal.loop-value-preserved
@@ -16,7 +16,7 @@ loop-value-preserved c =
     let pushed = c.is_err.ensures.negation ∙ ap not c.if-is_err.false in
     read-more _ (λ values. tables_from Streams request_from (items_view values)) (λ value values. refl) c.args.values.now c.loop-value.value-index
     c.value-item.result c.loop-value-test.true c.value-item.is (map request_text done) (request_text request) _ c.in_ok-request.ensures
-    (ap (map request_text) (c.push.ensures.items ∙ ap (λ ok. if ok then done ++ request ∷ [] else done) pushed) ∙ map-push request_text done request)
+    (ap (map request_text) (c.push.ensures.items ∙ ap (λ ok. if ok then done ++ request ∷ [] else done) pushed) ∙ map-append request_text done (request ∷ []))
     ∙ c.loop-value.invariant
 
 pub returns-in_err-request : goal.returns-in_err-request
