@@ -33,30 +33,50 @@
 use cqf_engine::{Heard, Told, engine, tell};
 use cqf_stop::Stop;
 use std::alloc::{AllocError, Global};
-use std::env::Env;
+use std::env::{Env, FillError};
 use std::io;
 use std::process::ExitCode;
 
-/// The words that the process was started with, the program's name first.
-fn arguments<R: Env + AllocGlobal>(rt: &R) -> io::Result<Vec<String>> {
-    let words = std::env::args(rt)?.collect(rt.alloc())?;
+/// The environment with the words behind the program's name alone. The name may be anything, bytes that are no text too, since
+/// nobody looks at it.
+#[derive(Drop)]
+struct BehindName<'r, R> {
+    rt: &'r R,
+}
+
+impl<R: Env> Env for BehindName<'_, R> {
+    fn arg(&self, i: usize, buf: &mut [u8]) -> Result<usize, FillError> {
+        match i.checked_add(1) {
+            Some(place) => self.rt.arg(place, buf),
+            None => Err(FillError::NotPresent),
+        }
+    }
+
+    fn var(&self, name: &str, buf: &mut [u8]) -> Result<usize, FillError> {
+        self.rt.var(name, buf)
+    }
+
+    fn var_at(&self, i: usize, buf: &mut [u8]) -> Result<usize, FillError> {
+        self.rt.var_at(i, buf)
+    }
+}
+
+/// The words that the process was started with, without the program's name.
+fn arguments<R: Env>(rt: &R, alloc: Global) -> io::Result<Vec<String>> {
+    let words = std::env::args(&(BehindName { rt }, alloc))?.collect(alloc)?;
     Ok(words)
 }
 
-/// The words behind the program's name.
+/// The words as texts.
 fn texts(alloc: Global, words: &[String]) -> Result<Vec<&str>, AllocError> {
-    words
-        .iter()
-        .skip(1)
-        .map(|word| word.as_str())
-        .collect(alloc)
+    words.iter().map(|word| word.as_str()).collect(alloc)
 }
 
 fn main(rt: HostRuntime) -> ExitCode {
     let alloc = rt.alloc();
     let mut input = Heard::new(alloc, rt.stdin());
     let (mut output, mut faults) = (Told::new(rt.stdout()), Told::new(rt.stderr()));
-    let words = match arguments(&rt) {
+    let words = match arguments(&rt, alloc) {
         Ok(words) => words,
         Err(error) => {
             let stop = Stop::without_words(alloc, &error);

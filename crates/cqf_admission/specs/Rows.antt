@@ -1,5 +1,5 @@
 -- The rows of streams that are held, and the columns that are kept beside them.
-use Rattle.std.specs.Prelude.{ℕ, ◌≡◌, ◌≤◌, All, None, ◌^◌, List, [], ◌∷◌, if◌then◌else◌, nat_lt, ◌+◌, ◌<◌, bit_or, fold, length, map, slice_index_or, Some, zero, suc, false}
+use Rattle.std.specs.Prelude.{ℕ, ◌≡◌, ◌≤◌, All, None, ◌^◌, List, [], ◌∷◌, if◌then◌else◌, nat_lt, ◌+◌, ◌-◌, ◌<◌, bit_or, fold, length, map, slice_index_or, Some, zero, suc}
 use Rattle.cqf_units.specs.Timing.{cost_of}
 use Rattle.cqf_units.specs.declared.reservations.Cycle.{Cycle}
 use Rattle.cqf_model.specs.declared.topology.Row.{Row}
@@ -45,15 +45,23 @@ pub record AreTotals (costs masks sums : List ℕ) : Type 0 where
   pub sixty_four : length sums ≡ 64
   pub each : (l : ℕ) → l < 64 → slice_index_or sums l 0 ≡ masked_total l costs masks
 
+-- what a stream of a mask and these octets costs of a link
+abbrev pub part_on : ℕ → ℕ → ℕ → ℕ
+part_on mask octets l = if has_bit mask l then octets else 0
+
 -- the columns say that much more of each link that a mask has
 abbrev pub AreMoreBy : List ℕ → ℕ → ℕ → List ℕ → List ℕ → Type 0
 AreMoreBy sums mask octets costs masks =
-    (l : ℕ) → l < 64 → masked_total l costs masks ≡ slice_index_or sums l 0 + (if has_bit mask l then octets else 0)
+    (l : ℕ) → l < 64 → masked_total l costs masks ≡ slice_index_or sums l 0 + part_on mask octets l
 
--- the columns say what the sums say of each link that a mask doesn't have
-abbrev pub AreSameBut : List ℕ → ℕ → List ℕ → List ℕ → Type 0
-AreSameBut sums mask costs masks =
-    (l : ℕ) → l < 64 → has_bit mask l ≡ false → slice_index_or sums l 0 ≡ masked_total l costs masks
+-- the sums have that much of each link that a mask has
+abbrev pub AreWithin : List ℕ → ℕ → ℕ → Type 0
+AreWithin sums mask octets = (l : ℕ) → l < 64 → part_on mask octets l ≤ slice_index_or sums l 0
+
+-- and these are the sums without that
+pub record AreLessBy (sums : List ℕ) (mask octets : ℕ) (after : List ℕ) : Type 0 where
+  pub sixty_four : length after ≡ 64
+  pub each : (l : ℕ) → l < 64 → slice_index_or after l 0 ≡ slice_index_or sums l 0 - part_on mask octets l
 
 -- a row that is held from a cycle on for good: its stream is live by then and isn't withdrawn; and rows that all are
 abbrev pub IsLasting : ℕ → Row → Type 0

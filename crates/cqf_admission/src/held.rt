@@ -5,7 +5,7 @@ ghost use Rattle.std.specs.Arc.{arc_value};
 ghost use Rattle.std.specs.List.{list_any};
 ghost use Rattle.cqf_model.specs.Domain.{is_text};
 ghost use Rattle.cqf_model.specs.Table.{is_held, link_cost};
-ghost use Rattle.cqf_admission.specs.Rows.{AreLasting, AreMoreBy, AreSameBut, AreTotals, IsLasting, ended_at};
+ghost use Rattle.cqf_admission.specs.Rows.{AreLasting, AreLessBy, AreMoreBy, AreTotals, AreWithin, IsLasting, ended_at, part_on};
 ghost use Rattle.cqf_lanes.specs.Kernels.{has_bit, masked_total};
 
 use crate::listed::Listed;
@@ -118,31 +118,27 @@ fn sums_with(sums: &[u64; 64], mask: u64, octets: u32, costs: &[u32], masks: &[u
     after
 }
 
-/// What a link's streams cost of it, where it is what it was unless the mask has the link's bit.
-fn sum_again(sum: u64, mask: u64, costs: &[u32], masks: &[u64], link: u32) -> u64
-    requires side_by_side { length costs.now ≡ length masks.now }
-    requires few { length costs.now < 2 ^ 32 }
+/// A link's sum without a stream, where the mask has the link's bit if it goes by it.
+fn sum_without(sum: u64, mask: u64, octets: u32, link: u32) -> u64
     requires low { link < 64 }
-    requires same { has_bit mask link ≡ false → sum ≡ masked_total link costs.now masks.now }
-    ensures { result ≡ masked_total link costs.now masks.now }
+    requires within { part_on mask octets link ≤ sum }
+    ensures { result ≡ sum - part_on mask octets link }
 {
     if mask & (1 << link) == 0 {
         return sum;
     }
-    masked_sum(costs, masks, link)
+    sum - u64::from(octets)
 }
 
-/// By link, what the columns cost of it, where it is what it was unless the mask has the link's bit.
-fn sums_again(sums: &[u64; 64], mask: u64, costs: &[u32], masks: &[u64]) -> [u64; 64]
-    requires side_by_side { length costs.now ≡ length masks.now }
-    requires few { length costs.now < 2 ^ 32 }
-    requires same { AreSameBut sums.now mask costs.now masks.now }
-    ensures { AreTotals costs.now masks.now result }
+/// By link, the sums without a stream of this mask and these octets.
+fn sums_without(sums: &[u64; 64], mask: u64, octets: u32) -> [u64; 64]
+    requires { AreWithin sums.now mask octets }
+    ensures { AreLessBy sums.now mask octets result }
 {
     let mut after = [0; 64];
     for link in 0..64u32 {
         let place = link as usize;
-        after[place] = sum_again(sums[place], mask, costs, masks, link);
+        after[place] = sum_without(sums[place], mask, octets, link);
     }
     after
 }
@@ -323,14 +319,9 @@ impl Held {
             if !self.rows[place].is_held(cycle) {
                 let _ = self.rows.remove(place);
                 let _ = self.names.shift_remove_index(place);
-                let _ = self.costs.remove(place);
+                let octets = self.costs.remove(place);
                 let mask = self.masks.remove(place);
-                self.sums = sums_again(
-                    &self.sums,
-                    mask,
-                    self.costs.as_slice(),
-                    self.masks.as_slice(),
-                );
+                self.sums = sums_without(&self.sums, mask, octets);
                 if place < self.numbered {
                     self.numbered -= 1;
                 }

@@ -8,30 +8,8 @@ use cqf_bridge::{Batch, Bridge, BridgeFault, Dropped, Offer, offers_of};
 use cqf_fixtures::are_offers;
 use cqf_model::{Backed, Background};
 use cqf_topology::Domain;
-use cqf_units::{Cycle, Name, Nanos};
+use cqf_units::Cycle;
 use std::alloc::Global;
-
-/// An offer for the stream `x`: its instant, its bridge and its octets.
-pub(crate) type Offering = (u64, u8, u32);
-
-/// Appends the offers of a run, in order.
-pub(crate) fn add_offers(cases: &[Offering], offers: &mut Vec<Offer>) -> bool {
-    for (at, bridge, octets) in cases {
-        let Some(stream) = Name::new(b"x") else {
-            return false;
-        };
-        let offer = Offer {
-            at: Nanos(*at),
-            bridge: *bridge,
-            stream,
-            octets: *octets,
-        };
-        if offers.push(offer).is_err() {
-            return false;
-        }
-    }
-    true
-}
 
 /// Receives a cycle with the bridge's of these offers.
 pub(crate) fn receive(

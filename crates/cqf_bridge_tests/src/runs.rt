@@ -1,12 +1,12 @@
 //! Bridges side by side, cycle by cycle: the books of runs, worked out by hand, and each batch's octets beside its book's.
 ghost use Rattle.std.specs.Prelude.{◌<◌};
 
-use crate::calls::{Offering, add_offers, receive, send};
+use crate::calls::{receive, send};
 use crate::tables::{Call, ONE_BRANCH, add_tables, plan_of};
 use cqf_admission::Table;
 use cqf_bridge::{Batch, Bridge, Dropped, Offer, Reason};
 use cqf_compile::Plan;
-use cqf_fixtures::{fork, line, one_link};
+use cqf_fixtures::{Offering, fork, line, offers_of, one_link};
 use cqf_model::Background;
 use cqf_units::{Cycle, Memory, Nanos};
 use std::alloc::Global;
@@ -248,10 +248,12 @@ fn has_book(
 /// Whether a run over a plan has the book that is told.
 fn gives_on(alloc: Global, plan: &Plan, run: &Run, told: &Told) -> bool {
     let mut tables = Vec::new(alloc);
-    let mut offers = Vec::new(alloc);
-    if !add_tables(alloc, plan, run.calls, &mut tables) || !add_offers(run.offers, &mut offers) {
+    if !add_tables(alloc, plan, run.calls, &mut tables) {
         return false;
     }
+    let Ok(offers) = offers_of(alloc, run.offers) else {
+        return false;
+    };
     match bridges_of(alloc, plan) {
         Ok(mut bridges) => has_book(
             alloc,
@@ -285,7 +287,12 @@ const WITHDRAWN: Run = Run {
         Call::Seal,
         Call::Seal,
     ],
-    offers: &[(0, 0, 64), (0, 1, 64), (125_000, 0, 64), (500_000, 0, 64)],
+    offers: &[
+        (0, 0, "x", 64),
+        (0, 1, "x", 64),
+        (125_000, 0, "x", 64),
+        (500_000, 0, "x", 64),
+    ],
     background: None,
 };
 
@@ -319,7 +326,7 @@ const BRANCHING: Run = Run {
         Call::Seal,
         Call::Seal,
     ],
-    offers: &[(0, 0, 64)],
+    offers: &[(0, 0, "x", 64)],
     background: Some(Background {
         at: Nanos(0),
         link: 3,
@@ -348,7 +355,7 @@ fn a_frame_of_a_tree_leaves_on_two_links(rt: HostRuntime) {
 /// 1,500 octets are reserved. A background frame comes within the guard time.
 const SPARING: Run = Run {
     calls: &[Call::Admit(1500, &[&["a", "s"]]), Call::Seal, Call::Seal],
-    offers: &[(0, 0, 1000), (10, 0, 600), (20, 0, 500)],
+    offers: &[(0, 0, "x", 1000), (10, 0, "x", 600), (20, 0, "x", 500)],
     background: Some(Background {
         at: Nanos(120_000),
         link: 0,

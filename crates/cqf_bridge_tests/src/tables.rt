@@ -1,17 +1,20 @@
 //! What the tests hand to a bridge of a plan: the plan, and the tables of an admission.
 use cqf_admission::{Admission, Table};
 use cqf_compile::{Plan, compile};
-use cqf_topology::{Domain, Request};
-use cqf_units::Memory;
+use cqf_fixtures::request;
+use cqf_topology::Domain;
 use std::alloc::Global;
 
+/// The branches of a stream by the names of their nodes.
+pub(crate) type Branches = &'static [&'static [&'static str]];
+
 /// The line's one branch.
-pub(crate) const ONE_BRANCH: &[&[&str]] = &[&["a", "b", "c", "s"]];
+pub(crate) const ONE_BRANCH: Branches = &[&["a", "b", "c", "s"]];
 
 /// A call of an administrator: the stream `x` is admitted with so many octets over these branches, or is withdrawn, or a
 /// cycle is closed.
 pub(crate) enum Call {
-    Admit(u32, &'static [&'static [&'static str]]),
+    Admit(u32, Branches),
     Withdraw,
     Seal,
 }
@@ -27,31 +30,9 @@ pub(crate) fn plan_of(alloc: Global, text: &str) -> Option<Plan> {
     }
 }
 
-/// The nodes of a branch.
-fn branch(alloc: Global, nodes: &[&str]) -> Result<Vec<String>, Memory> {
-    let mut branch = Vec::new(alloc);
-    for node in nodes {
-        branch.push(String::from_str(alloc, node)?)?;
-    }
-    Ok(branch)
-}
-
-/// A request for the stream `x` over these branches.
-fn request_x(alloc: Global, octets: u32, branches: &[&[&str]]) -> Result<Request, Memory> {
-    let mut paths = Vec::new(alloc);
-    for nodes in branches {
-        paths.push(branch(alloc, nodes)?)?;
-    }
-    Ok(Request {
-        name: String::from_str(alloc, "x")?,
-        octets,
-        paths,
-    })
-}
-
 /// Whether a request for the stream `x` is granted.
-fn admit(alloc: Global, asked: &mut Admission, octets: u32, branches: &[&[&str]]) -> bool {
-    match request_x(alloc, octets, branches) {
+fn admit(alloc: Global, asked: &mut Admission, octets: u32, branches: Branches) -> bool {
+    match request(alloc, &("x", octets, branches)) {
         Ok(request) => asked.admit(0, &request).is_ok(),
         Err(_) => false,
     }

@@ -1,12 +1,12 @@
 //! Cycles in turn: what a bridge refuses, and what stands after it.
 ghost use Rattle.std.specs.Prelude.{◌≡◌, ◌<◌, length};
 
-use crate::calls::{add_offers, receive};
+use crate::calls::receive;
 use crate::tables::{Call, ONE_BRANCH, add_tables, plan_of};
 use cqf_admission::Table;
 use cqf_bridge::{Batch, Bridge, BridgeFault, Offer};
 use cqf_compile::Plan;
-use cqf_fixtures::line;
+use cqf_fixtures::{line, offers_of};
 use cqf_units::Cycle;
 use std::alloc::Global;
 
@@ -78,37 +78,6 @@ fn wants_its_batch(alloc: Global, first: &mut Bridge, bridge: &mut Bridge, table
         && sends_an_empty_batch(alloc, bridge, Cycle(1), 1)
 }
 
-/// Whether it does so beside the first bridge of its plan.
-fn goes_in_turn(alloc: Global, plan: &Plan, tables: &[Table]) -> bool {
-    if plan.domain().bridges() != 3 || tables.len() != 1 {
-        return false;
-    }
-    let Ok(mut first) = Bridge::new(alloc, plan, 0) else {
-        return false;
-    };
-    let Ok(mut bridge) = Bridge::new(alloc, plan, 1) else {
-        return false;
-    };
-    takes_turns(alloc, &mut bridge) && wants_its_batch(alloc, &mut first, &mut bridge, &tables[0])
-}
-
-/// Whether the line's second bridge goes in turn, where no stream is held.
-fn line_goes_in_turn(alloc: Global) -> bool {
-    let mut tables = Vec::new(alloc);
-    match plan_of(alloc, line()) {
-        Some(plan) => {
-            add_tables(alloc, &plan, &[Call::Seal], &mut tables)
-                && goes_in_turn(alloc, &plan, tables.as_slice())
-        }
-        None => false,
-    }
-}
-
-#[test]
-fn cycles_are_sent_and_received_in_turn(rt: HostRuntime) {
-    assert!(rt; line_goes_in_turn(rt.alloc()));
-}
-
 /// Admissions of two cycles each: one that holds 1,500 octets for `x`, one that holds 64, and one that holds no stream.
 const ADMISSIONS: &[&[Call]] = &[
     &[Call::Admit(1500, ONE_BRANCH), Call::Seal, Call::Seal],
@@ -166,18 +135,52 @@ fn spends_the_next(
         && is_spent_by(alloc, bridge, tables, empty.as_slice(), full.as_slice())
 }
 
-/// Whether it is so on a plan.
-fn disagree(alloc: Global, plan: &Plan, tables: &[Table], offers: &[Offer]) -> bool {
+/// What is tried with the first two bridges of the line.
+#[derive(Clone, Copy)]
+enum Trial {
+    /// The second one goes in turn, where no stream is held.
+    InTurn,
+    /// It is spent by what the first one sends.
+    Spent,
+}
+
+/// Whether it goes so with the two.
+fn goes_so(
+    alloc: Global,
+    first: &mut Bridge,
+    bridge: &mut Bridge,
+    tables: &[Table],
+    offers: &[Offer],
+    trial: Trial,
+) -> bool
+    requires { length tables.now ≡ 6 }
+{
+    match trial {
+        Trial::InTurn => {
+            takes_turns(alloc, bridge) && wants_its_batch(alloc, first, bridge, &tables[4])
+        }
+        Trial::Spent => spends_the_next(alloc, first, bridge, tables, offers),
+    }
+}
+
+/// Whether it does on a plan, with two new bridges.
+fn goes_so_on(
+    alloc: Global,
+    plan: &Plan,
+    tables: &[Table],
+    offers: &[Offer],
+    trial: Trial,
+) -> bool {
     if plan.domain().bridges() != 3 || tables.len() != 6 {
         return false;
     }
     let Ok(mut first) = Bridge::new(alloc, plan, 0) else {
         return false;
     };
-    let Ok(mut bridge) = Bridge::new(alloc, plan, 1) else {
-        return false;
-    };
-    spends_the_next(alloc, &mut first, &mut bridge, tables, offers)
+    match Bridge::new(alloc, plan, 1) {
+        Ok(mut bridge) => goes_so(alloc, &mut first, &mut bridge, tables, offers, trial),
+        Err(_) => false,
+    }
 }
 
 /// Appends the tables of each of the admissions.
@@ -190,21 +193,32 @@ fn add_each(alloc: Global, plan: &Plan, tables: &mut Vec<Table>) -> bool {
     true
 }
 
-/// Whether it is so on the line, where 1,500 octets are offered.
-fn line_disagrees(alloc: Global) -> bool {
+/// Whether it does on a plan by the tables of the admissions, where 1,500 octets are offered.
+fn goes_so_by(alloc: Global, plan: &Plan, trial: Trial) -> bool {
     let mut tables = Vec::new(alloc);
-    let mut offers = Vec::new(alloc);
+    if !add_each(alloc, plan, &mut tables) {
+        return false;
+    }
+    match offers_of(alloc, &[(0, 0, "x", 1500)]) {
+        Ok(offers) => goes_so_on(alloc, plan, tables.as_slice(), offers.as_slice(), trial),
+        Err(_) => false,
+    }
+}
+
+/// Whether it does on the line.
+fn line_goes_so(alloc: Global, trial: Trial) -> bool {
     match plan_of(alloc, line()) {
-        Some(plan) => {
-            add_each(alloc, &plan, &mut tables)
-                && add_offers(&[(0, 0, 1500)], &mut offers)
-                && disagree(alloc, &plan, tables.as_slice(), offers.as_slice())
-        }
+        Some(plan) => goes_so_by(alloc, &plan, trial),
         None => false,
     }
 }
 
 #[test]
+fn cycles_are_sent_and_received_in_turn(rt: HostRuntime) {
+    assert!(rt; line_goes_so(rt.alloc(), Trial::InTurn));
+}
+
+#[test]
 fn a_frame_that_exceeds_its_gate_inside_spends_the_bridge(rt: HostRuntime) {
-    assert!(rt; line_disagrees(rt.alloc()));
+    assert!(rt; line_goes_so(rt.alloc(), Trial::Spent));
 }

@@ -93,7 +93,7 @@ const FIVE_CYCLES: Scenario = Scenario {
 /// Whether all bridges of the line meet in each cycle, where the run ends with an account.
 fn bridges_meet<R: Threads + Wait + Sync>(rt: &R, alloc: Global) -> Option<bool> {
     let pace = Together::new(alloc)?;
-    account_over(rt, alloc, line(), &FIVE_CYCLES, &[], &[], &pace)?;
+    account_over(rt, alloc, line(), &FIVE_CYCLES, &pace)?;
     Some(pace.all_met())
 }
 

@@ -110,7 +110,7 @@ fn have_called(entries: &[Entry]) -> bool {
 /// Whether both call within a run over one link.
 fn calls_come_within<R: Threads + Wait + Sync>(rt: &R, alloc: Global) -> bool {
     let pace = Within::new();
-    match account_over(rt, alloc, one_link(), &TWO_STREAMS, &[], &[], &pace) {
+    match account_over(rt, alloc, one_link(), &TWO_STREAMS, &pace) {
         Some(account) => pace.all_came() && have_called(account.history.entries.as_slice()),
         None => false,
     }

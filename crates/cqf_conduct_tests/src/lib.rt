@@ -1,10 +1,9 @@
-//! Tests of runs on threads, with values from outside. A crate that has tests is proved twice, so these stand in one of their own.
+//! Tests of runs on threads, with values from outside. A crate that has tests is proved twice, so these stand in one of their own; runs
+//! whose history is always the same are in the stored runs of `runs/`.
 #![tactic(auto)]
 
 #[cfg(test)]
 mod asking;
-#[cfg(test)]
-mod books;
 #[cfg(test)]
 mod both_begin;
 #[cfg(test)]
@@ -15,8 +14,6 @@ mod flags;
 mod refusals;
 #[cfg(test)]
 mod replays;
-#[cfg(test)]
-mod rows;
 #[cfg(test)]
 mod running;
 #[cfg(test)]

@@ -4,76 +4,88 @@ use crate::running::outcome_of;
 use cqf_admission::Command;
 use cqf_fixtures::one_link;
 use cqf_topology::Domain;
-use cqf_units::Memory;
-use cqf_worker::{Account, ConductFault, Free};
+use cqf_worker::{ConductFault, Free};
 use std::alloc::Global;
 use std::sync::Wait;
 use std::thread::Threads;
 
-/// What comes of a run of one cycle over one link, in which nothing is offered and administrators have these commands.
-fn outcome_with<R: Threads + Wait + Sync>(
+/// How many entries the history of a run has, or why it gives none.
+type Ending = Result<usize, ConductFault>;
+
+/// Whether a run of one cycle over a domain, in which nothing is offered and administrators have these commands, ends so.
+fn ends_over<R: Threads + Wait + Sync>(
+    rt: &R,
+    alloc: Global,
+    domain: &Domain,
+    admins: Vec<Vec<Command>>,
+    wanted: Ending,
+) -> bool {
+    match outcome_of(rt, alloc, domain, &[], admins, 1, &[], &Free) {
+        Some(Ok(account)) => wanted == Ok(account.history.entries.len()),
+        Some(Err(fault)) => wanted == Err(fault),
+        None => false,
+    }
+}
+
+/// Whether it does over one link.
+fn ends<R: Threads + Wait + Sync>(
     rt: &R,
     alloc: Global,
     admins: Vec<Vec<Command>>,
-) -> Option<Result<Account, ConductFault>> {
+    wanted: Ending,
+) -> bool {
     match Domain::read(alloc, one_link().as_bytes()) {
-        Ok(domain) => outcome_of(rt, alloc, &domain, &[], admins, 1, &[], &[], &Free),
-        Err(_) => None,
-    }
-}
-
-/// So many administrators who call for nothing.
-fn idle(alloc: Global, count: u32) -> Result<Vec<Vec<Command>>, Memory> {
-    let mut admins = Vec::new(alloc);
-    for _admin in 0..count {
-        admins.push(Vec::new(alloc))?;
-    }
-    Ok(admins)
-}
-
-/// Whether a run with so many of them is refused for want of threads.
-fn are_too_many<R: Threads + Wait + Sync>(rt: &R, alloc: Global, count: u32) -> bool {
-    match idle(alloc, count) {
-        Ok(admins) => matches!(
-            outcome_with(rt, alloc, admins),
-            Some(Err(ConductFault::Spawn))
-        ),
+        Ok(domain) => ends_over(rt, alloc, &domain, admins, wanted),
         Err(_) => false,
     }
 }
 
+/// Appends so many administrators who call for nothing.
+fn add_idle(alloc: Global, count: u32, admins: &mut Vec<Vec<Command>>) -> bool {
+    for _admin in 0..count {
+        if admins.push(Vec::new(alloc)).is_err() {
+            return false;
+        }
+    }
+    true
+}
+
+/// Whether a run with so many of them ends so.
+fn ends_with_idle<R: Threads + Wait + Sync>(
+    rt: &R,
+    alloc: Global,
+    count: u32,
+    wanted: Ending,
+) -> bool {
+    let mut admins = Vec::new(alloc);
+    add_idle(alloc, count, &mut admins) && ends(rt, alloc, admins, wanted)
+}
+
 #[test]
 fn more_administrators_than_seats_are_refused(rt: HostRuntime) {
-    assert!(rt; are_too_many(&rt, rt.alloc(), 65_535));
-    assert!(rt; are_too_many(&rt, rt.alloc(), 65_536));
+    assert!(rt; ends_with_idle(&rt, rt.alloc(), 65_535, Err(ConductFault::Spawn)));
+    assert!(rt; ends_with_idle(&rt, rt.alloc(), 65_536, Err(ConductFault::Spawn)));
 }
 
 /// An administrator who withdraws a stream that nobody has asked for: the call is refused, and enters the history.
 const IN_VAIN: &[&[Ask]] = &[&[Ask::Withdraw("x")]];
 
-/// What comes of a run in which it does so, so often.
-fn outcome_of_calls<R: Threads + Wait + Sync>(
+/// Whether a run in which it does so, so often, ends so.
+fn ends_with_calls<R: Threads + Wait + Sync>(
     rt: &R,
     alloc: Global,
     calls: u32,
-) -> Option<Result<Account, ConductFault>> {
+    wanted: Ending,
+) -> bool {
     match all_commands(alloc, IN_VAIN, calls) {
-        Ok(admins) => outcome_with(rt, alloc, admins),
-        Err(_) => None,
+        Ok(admins) => ends(rt, alloc, admins, wanted),
+        Err(_) => false,
     }
 }
 
 #[test]
-fn a_history_holds_a_hundred_thousand_calls(rt: HostRuntime) {
-    let whole = match outcome_of_calls(&rt, rt.alloc(), 100_000) {
-        Some(Ok(account)) => account.history.entries.len() == 100_001,
-        _ => false,
-    };
-    assert!(rt; whole);
-}
-
-#[test]
-fn a_call_more_is_no_account(rt: HostRuntime) {
-    let outcome = outcome_of_calls(&rt, rt.alloc(), 100_001);
-    assert!(rt; matches!(outcome, Some(Err(ConductFault::DeskDisagrees))));
+fn a_history_holds_a_hundred_thousand_calls_and_no_more(rt: HostRuntime) {
+    assert!(rt; ends_with_calls(&rt, rt.alloc(), 100_000, Ok(100_001)));
+    let disagrees = Err(ConductFault::DeskDisagrees);
+    assert!(rt; ends_with_calls(&rt, rt.alloc(), 100_001, disagrees));
 }

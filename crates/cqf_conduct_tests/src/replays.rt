@@ -161,7 +161,7 @@ fn says_it_again(alloc: Global, plan: &Plan, offers: &[Offer], account: &Account
 
 /// Whether the account of a run does.
 fn agrees<R: Threads + Wait + Sync>(rt: &R, alloc: Global, plan: &Plan, offers: &[Offer]) -> bool {
-    match account_of(rt, alloc, plan.domain(), &TWO_STREAMS, offers, &[], &Free) {
+    match account_of(rt, alloc, plan.domain(), &TWO_STREAMS, offers, &Free) {
         Some(account) => says_it_again(alloc, plan, offers, &account),
         None => false,
     }

@@ -1,13 +1,12 @@
-//! The largest runs: of as many bridges, links and administrators as there can be, and of as many cycles.
+//! The widest run: of as many bridges, links and administrators as there can be.
 use crate::asking::Ask;
-use crate::books::{NOTHING, Written, is_quiet, is_written};
-use crate::running::{Scenario, account_of, account_over};
+use crate::running::{Scenario, account_of};
 use cqf_admission::{Call, Entry};
-use cqf_fixtures::{Offering, offers_of, one_link};
-use cqf_model::Offer;
+use cqf_fixtures::{Begun, are_begun, offers_of};
+use cqf_model::{Book, Offer};
 use cqf_topology::Domain;
 use cqf_worker::{Account, Free};
-use std::alloc::{AllocError, Global};
+use std::alloc::Global;
 use std::sync::Wait;
 use std::thread::Threads;
 
@@ -28,32 +27,30 @@ rate = 1000
 delay = 500
 "#;
 
-/// A link from a bridge to another as a text.
-fn link_text(alloc: Global, from: u32, to: u32) -> Result<String, AllocError> {
-    let text = format!(in alloc;
+/// Writes a link from a bridge to another behind a text.
+fn add_link(alloc: Global, text: &mut String, from: u32, to: u32) -> bool {
+    match format!(in alloc;
         "\n[[links]]\nfrom = \"b{from}\"\nto = \"b{to}\"\nrate = 1000\ndelay = 500\n"
-    )?;
-    Ok(text)
-}
-
-/// Writes a link behind a text.
-fn add_link(alloc: Global, text: &mut String, from: u32, to: u32) -> Result<(), AllocError> {
-    let link = link_text(alloc, from, to)?;
-    text.push_str(link.as_str())?;
-    Ok(())
+    ) {
+        Ok(link) => text.push_str(link.as_str()).is_ok(),
+        Err(_) => false,
+    }
 }
 
 /// Writes the links: 0 to 31 from each bridge to the next and from the last to the first, 32 to 62 back from each but the first, and
 /// 63 from the last to the station.
-fn add_links(alloc: Global, text: &mut String) -> Result<(), AllocError> {
+fn add_links(alloc: Global, text: &mut String) -> bool {
     for bridge in 0..32 {
-        add_link(alloc, text, bridge, (bridge + 1) % 32)?;
+        if !add_link(alloc, text, bridge, (bridge + 1) % 32) {
+            return false;
+        }
     }
     for bridge in 0..31 {
-        add_link(alloc, text, bridge + 1, bridge)?;
+        if !add_link(alloc, text, bridge + 1, bridge) {
+            return false;
+        }
     }
-    text.push_str(LAST_LINK)?;
-    Ok(())
+    text.push_str(LAST_LINK).is_ok()
 }
 
 /// The domain of these bridges and links.
@@ -61,7 +58,7 @@ fn wide_domain(alloc: Global) -> Option<Domain> {
     let Ok(mut text) = String::from_str(alloc, BRIDGES) else {
         return None;
     };
-    if add_links(alloc, &mut text).is_err() {
+    if !add_links(alloc, &mut text) {
         return None;
     }
     match Domain::read(alloc, text.as_str().as_bytes()) {
@@ -94,27 +91,24 @@ const EIGHT: Scenario = Scenario {
 };
 
 /// A frame of the stream that is admitted before goes a link a cycle, to the station.
-const ALONG_SIXTEEN: Written = Written {
-    starts: &[
-        (1, 16, 1, 64, 125000),
-        (2, 17, 1, 64, 250000),
-        (3, 18, 1, 64, 375000),
-        (4, 19, 1, 64, 500000),
-        (5, 20, 1, 64, 625000),
-        (6, 21, 1, 64, 750000),
-        (7, 22, 1, 64, 875000),
-        (8, 23, 1, 64, 1000000),
-        (9, 24, 1, 64, 1125000),
-        (10, 25, 1, 64, 1250000),
-        (11, 26, 1, 64, 1375000),
-        (12, 27, 1, 64, 1500000),
-        (13, 28, 1, 64, 1625000),
-        (14, 29, 1, 64, 1750000),
-        (15, 30, 1, 64, 1875000),
-        (16, 63, 1, 64, 2000000),
-    ],
-    ..NOTHING
-};
+const ALONG_SIXTEEN: &[Begun] = &[
+    (1, 16, 1, 64, 125000),
+    (2, 17, 1, 64, 250000),
+    (3, 18, 1, 64, 375000),
+    (4, 19, 1, 64, 500000),
+    (5, 20, 1, 64, 625000),
+    (6, 21, 1, 64, 750000),
+    (7, 22, 1, 64, 875000),
+    (8, 23, 1, 64, 1000000),
+    (9, 24, 1, 64, 1125000),
+    (10, 25, 1, 64, 1250000),
+    (11, 26, 1, 64, 1375000),
+    (12, 27, 1, 64, 1500000),
+    (13, 28, 1, 64, 1625000),
+    (14, 29, 1, 64, 1750000),
+    (15, 30, 1, 64, 1875000),
+    (16, 63, 1, 64, 2000000),
+];
 
 /// How many entries of a history are Seals of the seat.
 fn seals_of(entries: &[Entry], seat: u16) -> usize {
@@ -124,13 +118,20 @@ fn seals_of(entries: &[Entry], seat: u16) -> usize {
         .count()
 }
 
+/// Whether a book has the starts of that frame alone.
+fn is_along_sixteen(book: &Book) -> bool {
+    are_begun(book.starts.as_slice(), ALONG_SIXTEEN)
+        && book.background.is_empty()
+        && book.drops.is_empty()
+}
+
 /// Whether an account is that of the eight: the opening call, two of each administrator, and a Seal a cycle of the ninth seat.
 fn is_of_eight(account: &Account) -> bool {
     let entries = account.history.entries.as_slice();
     account.history.opening == 1
         && entries.len() == 35
         && seals_of(entries, 8) == 18
-        && is_written(&account.book, &ALONG_SIXTEEN)
+        && is_along_sixteen(&account.book)
 }
 
 /// Whether the eight have such an account where this is offered.
@@ -140,7 +141,7 @@ fn eight_end<R: Threads + Wait + Sync>(
     domain: &Domain,
     offers: &[Offer],
 ) -> bool {
-    match account_of(rt, alloc, domain, &EIGHT, offers, &[], &Free) {
+    match account_of(rt, alloc, domain, &EIGHT, offers, &Free) {
         Some(account) => is_of_eight(&account),
         None => false,
     }
@@ -163,39 +164,4 @@ fn widest_ends<R: Threads + Wait + Sync>(rt: &R, alloc: Global) -> bool {
 #[test]
 fn the_widest_run_ends(rt: HostRuntime) {
     assert!(rt; widest_ends(&rt, rt.alloc()));
-}
-
-/// Two administrators who call for nothing, over as many cycles as a run can have.
-const LONG: Scenario = Scenario {
-    streams: &[("x", 1500, &[&["a", "s"]])],
-    admins: &[&[], &[]],
-    times: 1,
-    cycles: 100_000,
-};
-
-/// A frame at the first instant, and one in the last cycle but one.
-const FIRST_AND_LAST: &[Offering] = &[(0, 0, "x", 64), (12499750000, 0, "x", 64)];
-
-/// They leave in the cycles behind their own.
-const FAR_APART: Written = Written {
-    starts: &[(1, 0, 1, 64, 125000), (99999, 0, 2, 64, 12499875000)],
-    ..NOTHING
-};
-
-/// Whether an account is that of the two.
-fn is_of_long(account: &Account) -> bool {
-    is_quiet(&account.history, 1, 2, 100_000) && is_written(&account.book, &FAR_APART)
-}
-
-/// Whether the two have such an account over one link.
-fn longest_ends<R: Threads + Wait + Sync>(rt: &R, alloc: Global) -> bool {
-    match account_over(rt, alloc, one_link(), &LONG, FIRST_AND_LAST, &[], &Free) {
-        Some(account) => is_of_long(&account),
-        None => false,
-    }
-}
-
-#[test]
-fn the_longest_run_ends(rt: HostRuntime) {
-    assert!(rt; longest_ends(&rt, rt.alloc()));
 }

@@ -1,12 +1,12 @@
 //! A desk that is closed with its own seats, and with others.
-use crate::words::{admission, line_of_seven, request};
+use crate::words::{NONE, SEVEN, X, line_with};
 use cqf_admission::{Admission, Call, Entry, Receipt, Reply, Table};
 use cqf_desk::{CloseFault, Desk, History, Seat};
+use cqf_fixtures::{Asked, request};
 use cqf_topology::Request;
-use cqf_units::{Cycle, Memory};
+use cqf_units::Cycle;
 use std::alloc::Global;
 use std::sync::Wait;
-use std::test::Fail;
 
 /// What two seats call for: seat 0 for x and its withdrawal, seat 1 for Seals. With each Seal stands how many rows its
 /// table has: x goes three links, so it is held for three cycles from its withdrawal on.
@@ -67,12 +67,14 @@ fn seals_alike<R: Wait>(
 fn steps_alike<R: Wait>(
     rt: &R,
     desk: &Desk,
-    asking: &mut Seat,
-    sealing: &mut Seat,
+    seats: &mut [Seat],
     alone: &mut Admission,
     x: &Request,
     step: Step,
 ) -> bool {
+    let [asking, sealing] = seats else {
+        return false;
+    };
     match step {
         Step::Admit => desk.admit(rt, asking, x) == alone.admit(0, x),
         Step::Withdraw => desk.withdraw(rt, asking, "x") == alone.withdraw(0, "x"),
@@ -81,36 +83,41 @@ fn steps_alike<R: Wait>(
 }
 
 /// Whether all steps are.
-fn are_alike<R: Wait>(
+fn all_alike<R: Wait>(
     rt: &R,
     desk: &Desk,
     seats: &mut [Seat],
     alone: &mut Admission,
     x: &Request,
 ) -> bool {
-    match seats {
-        [asking, sealing] => {
-            for step in STEPS {
-                if !steps_alike(rt, desk, asking, sealing, alone, x, *step) {
-                    return false;
-                }
-            }
-            true
+    for step in STEPS {
+        if !steps_alike(rt, desk, seats, alone, x, *step) {
+            return false;
         }
-        _ => false,
+    }
+    true
+}
+
+/// Whether they are beside an admission of its own.
+fn all_alike_beside<R: Wait>(
+    rt: &R,
+    alloc: Global,
+    desk: &Desk,
+    seats: &mut [Seat],
+    x: &Request,
+) -> bool {
+    match line_with(alloc, NONE) {
+        Some(mut alone) => all_alike(rt, desk, seats, &mut alone, x),
+        None => false,
     }
 }
 
-/// A desk over the line, at which nobody asked, with so many seats.
-fn new_desk(alloc: Global, seats: u16) -> Result<(Desk, Vec<Seat>), Fail> {
-    Ok(Desk::new(alloc, admission(alloc)?, seats)?)
-}
-
-/// Makes all steps at a desk, and says whether they are answered as by an admission alone.
-fn work<R: Wait>(rt: &R, alloc: Global, desk: &Desk, seats: &mut Vec<Seat>) -> Result<bool, Fail> {
-    let x = request(alloc, "x", 1500)?;
-    let mut alone = admission(alloc)?;
-    Ok(are_alike(rt, desk, seats.as_mut_slice(), &mut alone, &x))
+/// Makes all steps at a desk over the line, and says whether they are answered as by an admission alone.
+fn works<R: Wait>(rt: &R, alloc: Global, desk: &Desk, seats: &mut [Seat]) -> bool {
+    match request(alloc, &X) {
+        Ok(x) => all_alike_beside(rt, alloc, desk, seats, &x),
+        Err(_) => false,
+    }
 }
 
 /// Whether an entry is one of a seat, with that reply, and a Seal or not.
@@ -118,157 +125,68 @@ fn is_entry(entry: &Entry, seat: u16, seals: bool, reply: Reply) -> bool {
     entry.seat == seat && matches!(entry.call, Call::Seal) == seals && entry.reply == reply
 }
 
+/// The answer to a call for x with effect from this cycle on.
+fn accepted(effect: u32) -> Reply {
+    Reply::Accepted(Receipt {
+        no: 0,
+        effect: Cycle(effect),
+    })
+}
+
 /// Whether the history is what the steps make: x is accepted with number 0 and effect 0, and withdrawn with effect 1.
 fn is_of_steps(history: &History) -> bool {
     let entries = history.entries.as_slice();
-    let accepted = Reply::Accepted(Receipt {
-        no: 0,
-        effect: Cycle(0),
-    });
-    let withdrawn = Reply::Accepted(Receipt {
-        no: 0,
-        effect: Cycle(1),
-    });
     if history.opening != 0 || entries.len() != 8 {
         return false;
     }
-    is_entry(&entries[0], 0, false, accepted)
+    is_entry(&entries[0], 0, false, accepted(0))
         && is_entry(&entries[1], 1, true, Reply::Sealed)
-        && is_entry(&entries[2], 0, false, withdrawn)
+        && is_entry(&entries[2], 0, false, accepted(1))
         && entries[3..]
             .iter()
             .all(|entry| is_entry(entry, 1, true, Reply::Sealed))
 }
 
-/// Whether a desk that is closed with its seats has that history.
-fn closes_with_steps(desk: Desk, seats: Vec<Seat>) -> bool {
+/// Whether a desk that is closed with these seats has the history of the steps, or is refused so.
+fn closes(desk: Desk, seats: Vec<Seat>, fault: Option<CloseFault>) -> bool {
     match desk.close(seats) {
-        Ok(history) => is_of_steps(&history),
-        Err(_) => false,
+        Ok(history) => fault.is_none() && is_of_steps(&history),
+        Err(cause) => fault == Some(cause),
     }
 }
 
-#[test]
-fn calls_at_a_desk_are_those_of_an_admission(rt: HostRuntime) -> Result<(), Fail> {
-    let (desk, mut seats) = new_desk(rt.alloc(), 2)?;
-    let alike = work(&rt, rt.alloc(), &desk, &mut seats);
-    let closed = closes_with_steps(desk, seats);
-    assert!(rt; alike?);
-    assert!(rt; closed);
-    Ok(())
-}
-
-/// Whether a desk that is closed with these seats is refused so.
-fn is_refused(desk: Desk, seats: Vec<Seat>, wanted: CloseFault) -> bool {
-    match desk.close(seats) {
-        Ok(_) => false,
-        Err(fault) => fault == wanted,
-    }
-}
-
-/// Puts another desk's seat in the place of one.
-fn exchange(own: &mut [Seat], others: &mut [Seat], place: usize, other: usize) {
-    if let (Some(ours), Some(theirs)) = (own.get_mut(place), others.get_mut(other)) {
-        std::mem::swap(ours, theirs);
-    }
-}
-
-/// The places of a seat of two that worked and of the seat of a desk that nobody asked that is handed in for it, and what
-/// the close comes to.
-const EXCHANGED: &[(usize, usize, CloseFault)] = &[
-    (0, 0, CloseFault::SeatsDisagree(0)),
-    (1, 1, CloseFault::SeatsDisagree(1)),
-    (0, 1, CloseFault::SeatMissing),
-    (1, 0, CloseFault::SeatMissing),
-];
-
-/// Whether a desk that worked is refused so with a seat of another.
-fn is_refused_with<R: Wait>(
-    rt: &R,
-    alloc: Global,
-    place: usize,
-    other: usize,
-    wanted: CloseFault,
-) -> Result<bool, Fail> {
-    let (desk, mut seats) = new_desk(alloc, 2)?;
-    let worked = work_and_exchange(rt, alloc, &desk, &mut seats, place, other);
-    let refused = is_refused(desk, seats, wanted);
-    Ok(worked? && refused)
-}
-
-/// Makes all steps at a desk, and puts another desk's seat in the place of one.
-fn work_and_exchange<R: Wait>(
-    rt: &R,
-    alloc: Global,
-    desk: &Desk,
-    seats: &mut Vec<Seat>,
-    place: usize,
-    other: usize,
-) -> Result<bool, Fail> {
-    let worked = work(rt, alloc, desk, seats)?;
-    exchange_with_unused(alloc, seats, place, other)?;
-    Ok(worked)
-}
-
-/// Puts a seat of a desk that nobody asked in the place of one.
-fn exchange_with_unused(
-    alloc: Global,
-    seats: &mut Vec<Seat>,
-    place: usize,
-    other: usize,
-) -> Result<(), Fail> {
-    let (_unused, mut others) = new_desk(alloc, 2)?;
-    exchange(seats.as_mut_slice(), others.as_mut_slice(), place, other);
-    Ok(())
-}
-
-#[test]
-fn a_desk_knows_its_seats(rt: HostRuntime) -> Result<(), Fail> {
-    for (place, other, wanted) in EXCHANGED {
-        let refused = is_refused_with(&rt, rt.alloc(), *place, *other, *wanted)?;
-        assert!(rt; refused, "{place} for {other}");
-    }
-    Ok(())
+/// What is done to the seats of a desk at which all steps were made, before it is closed with them.
+#[derive(Clone, Copy)]
+enum Change {
+    /// The first seat is let go of.
+    Missing,
+    /// At this place stands the seat at the other place of a desk that nobody asked.
+    Unused(usize, usize),
+    /// Both are those of a desk at which each sealed a cycle, in their order or the other way round.
+    Both(bool),
+    /// They stay, and the third seat of another desk seals a cycle here.
+    Stranger,
 }
 
 /// Lets go of a desk's first seat.
-fn forget_first(seats: &mut Vec<Seat>) {
+fn forget_first(seats: &mut Vec<Seat>) -> bool {
     seats.as_mut_slice().reverse();
-    drop(seats.pop());
+    seats.pop().is_some()
 }
 
-#[test]
-fn a_seat_is_missed(rt: HostRuntime) -> Result<(), Fail> {
-    let (desk, mut seats) = new_desk(rt.alloc(), 2)?;
-    let worked = work(&rt, rt.alloc(), &desk, &mut seats);
-    forget_first(&mut seats);
-    let refused = is_refused(desk, seats, CloseFault::SeatMissing);
-    assert!(rt; worked?);
-    assert!(rt; refused);
-    Ok(())
-}
-
-/// Seals a cycle with the third seat of another desk.
-fn seal_as_a_stranger<R: Wait>(rt: &R, alloc: Global, desk: &Desk) -> Result<bool, Fail> {
-    let (_unused, mut others) = new_desk(alloc, 3)?;
-    match others.as_mut_slice().last_mut() {
-        Some(stranger) => Ok(stranger.number() == 2 && desk.seal(rt, stranger).is_ok()),
-        None => Ok(false),
+/// Puts another desk's seat in the place of one.
+fn exchange(own: &mut [Seat], others: &mut [Seat], place: usize, other: usize) -> bool {
+    match (own.get_mut(place), others.get_mut(other)) {
+        (Some(ours), Some(theirs)) => {
+            std::mem::swap(ours, theirs);
+            true
+        }
+        _ => false,
     }
 }
 
-#[test]
-fn a_call_of_no_seat_is_noticed(rt: HostRuntime) -> Result<(), Fail> {
-    let (desk, seats) = new_desk(rt.alloc(), 2)?;
-    let sealed = seal_as_a_stranger(&rt, rt.alloc(), &desk);
-    let refused = is_refused(desk, seats, CloseFault::SeatsDisagree(2));
-    assert!(rt; sealed?);
-    assert!(rt; refused);
-    Ok(())
-}
-
-/// Seals a cycle with each of a desk's seats.
-fn seal_with_each<R: Wait>(rt: &R, desk: &Desk, seats: &mut [Seat]) -> bool {
+/// Whether each of a desk's seats seals a cycle.
+fn each_seals<R: Wait>(rt: &R, desk: &Desk, seats: &mut [Seat]) -> bool {
     for seat in seats {
         if desk.seal(rt, seat).is_err() {
             return false;
@@ -277,95 +195,175 @@ fn seal_with_each<R: Wait>(rt: &R, desk: &Desk, seats: &mut [Seat]) -> bool {
     true
 }
 
-/// Puts the two seats of a desk at which each sealed a cycle in the places of two, in their order or the other way round.
+/// Puts the two seats of a desk at which each seals a cycle in the places of two, in their order or the other way round.
 fn exchange_both<R: Wait>(
     rt: &R,
-    alloc: Global,
-    seats: &mut Vec<Seat>,
+    other: &Desk,
+    own: &mut [Seat],
+    others: &mut [Seat],
     turned: bool,
-) -> Result<bool, Fail> {
-    let (other, mut others) = new_desk(alloc, 2)?;
-    let sealed = seal_with_each(rt, &other, others.as_mut_slice());
-    if turned {
-        others.as_mut_slice().reverse();
+) -> bool {
+    if !each_seals(rt, other, others) {
+        return false;
     }
-    exchange(seats.as_mut_slice(), others.as_mut_slice(), 0, 0);
-    exchange(seats.as_mut_slice(), others.as_mut_slice(), 1, 1);
-    Ok(sealed)
+    if turned {
+        others.reverse();
+    }
+    exchange(own, others, 0, 0) && exchange(own, others, 1, 1)
 }
 
-/// Makes all steps at a desk, and exchanges both seats.
-fn work_and_exchange_both<R: Wait>(
+/// Whether the third seat of another desk seals a cycle at this one.
+fn seals_as_a_stranger<R: Wait>(rt: &R, desk: &Desk, others: &mut [Seat]) -> bool {
+    match others.last_mut() {
+        Some(stranger) => stranger.number() == 2 && desk.seal(rt, stranger).is_ok(),
+        None => false,
+    }
+}
+
+/// Makes a change with another desk and its seats.
+fn change_by<R: Wait>(
+    rt: &R,
+    desk: &Desk,
+    seats: &mut Vec<Seat>,
+    other: &Desk,
+    others: &mut [Seat],
+    change: Change,
+) -> bool {
+    match change {
+        Change::Missing => forget_first(seats),
+        Change::Unused(place, other) => exchange(seats.as_mut_slice(), others, place, other),
+        Change::Both(turned) => exchange_both(rt, other, seats.as_mut_slice(), others, turned),
+        Change::Stranger => seals_as_a_stranger(rt, desk, others),
+    }
+}
+
+/// A desk over the line with these streams, with so many seats.
+fn desk_with(alloc: Global, streams: &[Asked], seats: u16) -> Option<(Desk, Vec<Seat>)> {
+    match Desk::new(alloc, line_with(alloc, streams)?, seats) {
+        Ok(made) => Some(made),
+        Err(_) => None,
+    }
+}
+
+/// How many seats the other desk of a change has.
+fn seats_of(change: Change) -> u16 {
+    match change {
+        Change::Stranger => 3,
+        _ => 2,
+    }
+}
+
+/// Makes a change, with another desk of its own.
+fn is_changed<R: Wait>(
     rt: &R,
     alloc: Global,
     desk: &Desk,
     seats: &mut Vec<Seat>,
-    turned: bool,
-) -> Result<bool, Fail> {
-    let worked = work(rt, alloc, desk, seats)?;
-    let sealed = exchange_both(rt, alloc, seats, turned)?;
-    Ok(worked && sealed)
+    change: Change,
+) -> bool {
+    match desk_with(alloc, NONE, seats_of(change)) {
+        Some((other, mut others)) => {
+            change_by(rt, desk, seats, &other, others.as_mut_slice(), change)
+        }
+        None => false,
+    }
 }
 
-/// Whether a desk that worked names seat 0, where both seats are of another desk.
-fn names_the_least<R: Wait>(rt: &R, alloc: Global, turned: bool) -> Result<bool, Fail> {
-    let (desk, mut seats) = new_desk(alloc, 2)?;
-    let worked = work_and_exchange_both(rt, alloc, &desk, &mut seats, turned);
-    let refused = is_refused(desk, seats, CloseFault::SeatsDisagree(0));
-    Ok(worked? && refused)
-}
-
-#[test]
-fn of_two_seats_that_disagree_the_least_is_named(rt: HostRuntime) -> Result<(), Fail> {
-    assert!(rt; names_the_least(&rt, rt.alloc(), false)?);
-    assert!(rt; names_the_least(&rt, rt.alloc(), true)?);
-    Ok(())
-}
-
-/// Makes all steps at a desk, seals a cycle as a stranger, and puts another desk's seat in the place of its own.
-fn work_with_a_stranger<R: Wait>(
+/// Makes all steps at a desk, and then the changes.
+fn works_and_is_changed<R: Wait>(
     rt: &R,
     alloc: Global,
     desk: &Desk,
     seats: &mut Vec<Seat>,
-    place: usize,
-) -> Result<bool, Fail> {
-    let worked = work_and_exchange(rt, alloc, desk, seats, place, place)?;
-    let sealed = seal_as_a_stranger(rt, alloc, desk)?;
-    Ok(worked && sealed)
+    changes: &[Change],
+) -> bool {
+    if !works(rt, alloc, desk, seats.as_mut_slice()) {
+        return false;
+    }
+    for change in changes {
+        if !is_changed(rt, alloc, desk, seats, *change) {
+            return false;
+        }
+    }
+    true
 }
 
-/// Whether a desk that sealed for a stranger is refused so with a seat of another.
-fn is_refused_with_a_stranger<R: Wait>(
+/// Changes, and why the desk is refused then.
+const CASES: &[(&[Change], Option<CloseFault>)] = &[
+    // calls at a desk are those of an admission
+    (&[], None),
+    // a desk knows its seats
+    (&[Change::Missing], Some(CloseFault::SeatMissing)),
+    (&[Change::Unused(0, 0)], Some(CloseFault::SeatsDisagree(0))),
+    (&[Change::Unused(1, 1)], Some(CloseFault::SeatsDisagree(1))),
+    (&[Change::Unused(0, 1)], Some(CloseFault::SeatMissing)),
+    (&[Change::Unused(1, 0)], Some(CloseFault::SeatMissing)),
+    // a call of no seat is noticed
+    (&[Change::Stranger], Some(CloseFault::SeatsDisagree(2))),
+    // of two seats that disagree the least is named
+    (&[Change::Both(false)], Some(CloseFault::SeatsDisagree(0))),
+    (&[Change::Both(true)], Some(CloseFault::SeatsDisagree(0))),
+    // a seat is named before a stranger
+    (
+        &[Change::Unused(0, 0), Change::Stranger],
+        Some(CloseFault::SeatsDisagree(0)),
+    ),
+    (
+        &[Change::Unused(1, 1), Change::Stranger],
+        Some(CloseFault::SeatsDisagree(1)),
+    ),
+];
+
+/// Whether a desk over the line closes so behind these changes.
+fn closes_behind<R: Wait>(
     rt: &R,
     alloc: Global,
-    place: usize,
-    wanted: CloseFault,
-) -> Result<bool, Fail> {
-    let (desk, mut seats) = new_desk(alloc, 2)?;
-    let worked = work_with_a_stranger(rt, alloc, &desk, &mut seats, place);
-    let refused = is_refused(desk, seats, wanted);
-    Ok(worked? && refused)
+    changes: &[Change],
+    fault: Option<CloseFault>,
+) -> bool {
+    match desk_with(alloc, NONE, 2) {
+        Some((desk, mut seats)) => {
+            let changed = works_and_is_changed(rt, alloc, &desk, &mut seats, changes);
+            changed & closes(desk, seats, fault)
+        }
+        None => false,
+    }
 }
 
 #[test]
-fn a_seat_is_named_before_a_stranger(rt: HostRuntime) -> Result<(), Fail> {
-    assert!(rt; is_refused_with_a_stranger(&rt, rt.alloc(), 0, CloseFault::SeatsDisagree(0))?);
-    assert!(rt; is_refused_with_a_stranger(&rt, rt.alloc(), 1, CloseFault::SeatsDisagree(1))?);
-    Ok(())
+fn a_desk_closes_with_its_own_seats_alone(rt: HostRuntime) {
+    for (place, (changes, fault)) in CASES.iter().enumerate() {
+        assert!(rt;
+            closes_behind(&rt, rt.alloc(), changes, *fault),
+            "case {place}"
+        );
+    }
+}
+
+/// Whether a desk is refused with another's seats, where each of both sealed a cycle.
+fn is_refused_with<R: Wait>(
+    rt: &R,
+    desk: Desk,
+    own: &mut [Seat],
+    other: &Desk,
+    mut seats: Vec<Seat>,
+) -> bool {
+    let sealed = each_seals(rt, &desk, own) && each_seals(rt, other, seats.as_mut_slice());
+    sealed & closes(desk, seats, Some(CloseFault::SeatsDisagree(0)))
 }
 
 /// Whether a desk knows its seat from that of another, which made the same call on a line that holds seven streams more.
-fn other_tables_are_noticed<R: Wait>(rt: &R, alloc: Global) -> Result<bool, Fail> {
-    let (desk, mut own) = new_desk(alloc, 1)?;
-    let (other, mut others) = Desk::new(alloc, line_of_seven(alloc)?, 1)?;
-    let sealed = seal_with_each(rt, &desk, own.as_mut_slice())
-        && seal_with_each(rt, &other, others.as_mut_slice());
-    Ok(sealed && is_refused(desk, others, CloseFault::SeatsDisagree(0)))
+fn other_tables_are_noticed<R: Wait>(rt: &R, alloc: Global) -> bool {
+    let Some((desk, mut own)) = desk_with(alloc, NONE, 1) else {
+        return false;
+    };
+    match desk_with(alloc, SEVEN, 1) {
+        Some((other, seats)) => is_refused_with(rt, desk, own.as_mut_slice(), &other, seats),
+        None => false,
+    }
 }
 
 #[test]
-fn a_seat_with_other_tables_is_noticed(rt: HostRuntime) -> Result<(), Fail> {
-    assert!(rt; other_tables_are_noticed(&rt, rt.alloc())?);
-    Ok(())
+fn a_seat_with_other_tables_is_noticed(rt: HostRuntime) {
+    assert!(rt; other_tables_are_noticed(&rt, rt.alloc()));
 }

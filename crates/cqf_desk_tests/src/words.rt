@@ -1,58 +1,73 @@
 //! Admissions and requests over the line of three bridges.
-use cqf_admission::{Admission, Receipt, Refused};
-use cqf_fixtures::line;
-use cqf_topology::{Domain, Request};
-use cqf_units::Memory;
+use cqf_admission::Admission;
+use cqf_fixtures::{Asked, line, request};
+use cqf_topology::Domain;
 use std::alloc::Global;
-use std::test::Fail;
 
 /// The path of the line.
-const PATH: [&str; 4] = ["a", "b", "c", "s"];
+const PATH: &[&[&str]] = &[&["a", "b", "c", "s"]];
 
-/// An admission over the line.
-pub(crate) fn admission(alloc: Global) -> Result<Admission, Fail> {
-    let domain = Domain::read(alloc, line().as_bytes())?;
-    Ok(Admission::new(alloc, &domain)?)
-}
+/// The stream x.
+pub(crate) const X: Asked = ("x", 1500, PATH);
 
-/// A request for a stream along the line.
-pub(crate) fn request(alloc: Global, name: &str, octets: u32) -> Result<Request, Memory> {
-    let mut path = Vec::new(alloc);
-    for node in PATH {
-        path.push(String::from_str(alloc, node)?)?;
+/// Two streams, of which the line with seven others has room for one.
+pub(crate) const Y: Asked = ("y", 980, PATH);
+
+pub(crate) const Z: Asked = ("z", 980, PATH);
+
+/// No stream, and seven of 1,500 octets, which leave room for one of 980 octets.
+pub(crate) const NONE: &[Asked] = &[];
+
+pub(crate) const SEVEN: &[Asked] = &[
+    ("n0", 1500, PATH),
+    ("n1", 1500, PATH),
+    ("n2", 1500, PATH),
+    ("n3", 1500, PATH),
+    ("n4", 1500, PATH),
+    ("n5", 1500, PATH),
+    ("n6", 1500, PATH),
+];
+
+/// Whether a stream is granted.
+fn is_granted(alloc: Global, line: &mut Admission, asked: &Asked) -> bool {
+    match request(alloc, asked) {
+        Ok(wanted) => line.admit(9, &wanted).is_ok(),
+        Err(_) => false,
     }
-    let mut paths = Vec::new(alloc);
-    paths.push(path)?;
-    Ok(Request {
-        name: String::from_str(alloc, name)?,
-        octets,
-        paths,
-    })
 }
 
-/// Asks for a stream along the line.
-fn ask(
-    asked: &mut Admission,
-    alloc: Global,
-    name: &str,
-    octets: u32,
-) -> Result<Result<Receipt, Refused>, Memory> {
-    let wanted = request(alloc, name, octets)?;
-    Ok(asked.admit(9, &wanted))
-}
-
-/// Asks for seven streams of 1,500 octets, which are granted.
-fn ask_seven(asked: &mut Admission, alloc: Global) -> Result<(), Fail> {
-    for number in 0..7 {
-        let name = format!(in alloc; "n{number}")?;
-        ask(asked, alloc, name.as_str(), 1500)??;
+/// Whether streams are granted, one after the other.
+fn are_granted(alloc: Global, line: &mut Admission, streams: &[Asked]) -> bool {
+    for asked in streams {
+        if !is_granted(alloc, line, asked) {
+            return false;
+        }
     }
-    Ok(())
+    true
 }
 
-/// The line with seven streams, which leave room for one of 980 octets.
-pub(crate) fn line_of_seven(alloc: Global) -> Result<Admission, Fail> {
-    let mut line = admission(alloc)?;
-    ask_seven(&mut line, alloc)?;
-    Ok(line)
+/// An admission over a domain that holds nothing yet.
+fn admission_over(alloc: Global, domain: &Domain) -> Option<Admission> {
+    match Admission::new(alloc, domain) {
+        Ok(admission) => Some(admission),
+        Err(_) => None,
+    }
+}
+
+/// An admission over the line that holds nothing yet.
+fn new_line(alloc: Global) -> Option<Admission> {
+    match Domain::read(alloc, line().as_bytes()) {
+        Ok(domain) => admission_over(alloc, &domain),
+        Err(_) => None,
+    }
+}
+
+/// An admission over the line that has granted these streams.
+pub(crate) fn line_with(alloc: Global, streams: &[Asked]) -> Option<Admission> {
+    let mut line = new_line(alloc)?;
+    if are_granted(alloc, &mut line, streams) {
+        Some(line)
+    } else {
+        None
+    }
 }

@@ -1,2 +1,3 @@
 mod EdgeLemmas
 mod RunLemmas
+mod ToldLemmas

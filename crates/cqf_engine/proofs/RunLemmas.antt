@@ -5,10 +5,11 @@ use Rattle.std.specs.Io.KnownBytes.{IsAtEnd, Keeps}
 use Rattle.cqf_stop.specs.Stops.{EndsWith, line_of}
 use Rattle.clap.specs.Words.{Row, Text, first_of, subcommand_of}
 use Rattle.cqf_words.specs.Words.{EndsWords, IsJob, IsJobOf, IsNumberIn, Mean, cqf_app}
-use Rattle.cqf_engine.specs.Edge.{HasTold, IsHeard, Marks, Reading, Writing}
-use Rattle.cqf_engine.specs.Run.{first_line, input_of, words_of, Ends, EndsInput, EndsRead, HandsOver, HasCause, HasFault, HasRun, IsBehindWords, IsEnd, IsFailure, IsInputFault, IsOutput, IsOutputFault, IsRefusal, IsRunFault, IsStopped, IsToldOutput, IsTooLong, IsWithin, Tells}
+use Rattle.cqf_engine.specs.Edge.{IsHeard, Marks, Reading}
+use Rattle.cqf_press.specs.Edge.{HasTold, Writing}
+use Rattle.cqf_engine.specs.Run.{first_line, input_of, version_line, words_of, AskForVersion, Ends, EndsInput, EndsRead, HandsOver, HasCause, HasFault, HasRun, IsBehindWords, IsEnd, IsFailure, IsInputFault, IsOutput, IsOutputFault, IsRefusal, IsRunFault, IsStopped, IsToldOutput, IsTooLong, IsWithin, Tells}
 use Rattle.cqf_threads_command.specs.ThreadsOutput.{EndsThreads, IsThreadsOutput}
-use Rattle.cqf_engine.proofs.EdgeLemmas.{Appends-whole}
+use Rattle.cqf_press.proofs.EdgeLemmas.{Appends-whole}
 use Rattle.cqf_stop.specs.declared.stops.Stop.{Stop}
 use Rattle.cqf_engine.specs.declared.heard.Broken.{Broken}
 use Rattle.cqf_engine.specs.declared.heard.Broken.TheVariants.{Memory, Fault}
@@ -19,7 +20,7 @@ use Rattle.cqf_words.specs.declared.words.Job.TheVariants.{Compile, Line, Port, 
 HasCause-given : (words : List (List ℕ)) (bytes : List ℕ) (stop : Stop) → words ≢ [] → EndsWords words stop → HasCause words bytes stop
 HasCause-given [] bytes stop some e = absurd (some refl)
 HasCause-given (word ∷ words) bytes stop some e = record {
-  help = e.help;
+  answered = λ zero_is. inl (e.help zero_is);
   refused = λ one. absurd (elim e.statuses [ inl zero_is ↦ omega arith | inr other ↦ elim other [ inl two ↦ omega arith | inr three ↦ omega arith ] ]);
   misused = λ two. record { status = two; short = λ none. absurd (some none); cause = inr ((λ none. absurd (some none)), e.mistake two, e.no_job (λ three. omega arith)) };
   memory = e.memory;
@@ -40,11 +41,47 @@ IsStopped-by_words words input stop some sound e =
       at_end = λ none _. absurd (some none);
     }
 
+-- the version, which was asked for, stops the run before anything is read
+pub IsStopped-by_version : (words : List (List ℕ)) (input : Reading) (stop : Stop) → words ≢ [] → input.failed ≡ false → AskForVersion words
+    → EndsWith 0 version_line stop → IsStopped words input stop
+IsStopped-by_version words input stop some sound asks e = record {
+  statuses = elim e.statuses [ inl zero_is ↦ omega arith | inr three ↦ omega arith ];
+  cause = λ _. record {
+    answered = λ zero_is. inr (asks, e.line_is zero_is);
+    refused = λ one. absurd (elim e.statuses [ inl zero_is ↦ omega arith | inr three ↦ omega arith ]);
+    misused = λ two. absurd (elim e.statuses [ inl zero_is ↦ omega arith | inr three ↦ omega arith ]);
+    memory = e.memory;
+    failed = λ four. absurd (elim e.statuses [ inl zero_is ↦ omega arith | inr three ↦ omega arith ]);
+  };
+  fault = λ four. absurd (elim e.statuses [ inl zero_is ↦ omega arith | inr three ↦ omega arith ]);
+  sound = λ _. sound;
+  whole = λ one. absurd (elim e.statuses [ inl zero_is ↦ omega arith | inr three ↦ omega arith ]);
+  at_end = λ none _. absurd (some none);
+}
+
+-- words that mean no job end so too where the stop is told otherwise
+pub EndsWords-told : (words : List Text) (stop told : Stop) → EndsWords words stop → (told.status ≡ stop.status) ⊎ (told.status ≡ 3)
+    → (told.status ≡ 3 → told.text.items ≡ []) → EndsWords words told
+EndsWords-told words stop told e (inl same) memory = record {
+  statuses = elim e.statuses [ inl zero_is ↦ inl (same ∙ zero_is) | inr other ↦ inr (elim other [ inl two ↦ inl (same ∙ two) | inr three ↦ inr (same ∙ three) ]) ];
+  no_job = λ known. e.no_job (λ three. known (same ∙ three));
+  help = λ zero_is. e.help (sym same ∙ zero_is);
+  mistake = λ two. e.mistake (sym same ∙ two);
+  memory = memory;
+}
+EndsWords-told words stop told e (inr three) memory = record {
+  statuses = inr (inr three);
+  no_job = λ known. absurd (known three);
+  help = λ zero_is. absurd (omega arith);
+  mistake = λ two. absurd (omega arith);
+  memory = memory;
+}
+
 -- words of the first line that mean no job stop it too
 pub HasCause-by_line : (bytes : List ℕ) (stop : Stop) → length bytes ≤ 67108864 → IsUtf8 (first_line bytes) → EndsWords (words_of [] bytes) stop
     → HasCause [] bytes stop
 HasCause-by_line bytes stop short text e = record {
-  help = e.help;
+  answered = λ zero_is. inl (e.help zero_is);
   refused = λ one. absurd (elim e.statuses [ inl zero_is ↦ omega arith | inr other ↦ elim other [ inl two ↦ omega arith | inr three ↦ omega arith ] ]);
   misused = λ two. record { status = two; short = λ none. short; cause = inr ((λ none. text), e.mistake two, e.no_job (λ three. omega arith)) };
   memory = e.memory;
@@ -55,7 +92,7 @@ HasCause-by_line bytes stop short text e = record {
 pub HasCause-by_bytes : (bytes : List ℕ) (stop : Stop) → length bytes ≤ 67108864 → ¬ IsUtf8 (first_line bytes)
     → EndsWith 2 (line_of (codes "cqf: words")) stop → HasCause [] bytes stop
 HasCause-by_bytes bytes stop short no_text e = record {
-  help = λ zero_is. absurd (elim e.statuses [ inl two ↦ omega arith | inr three ↦ omega arith ]);
+  answered = λ zero_is. absurd (elim e.statuses [ inl two ↦ omega arith | inr three ↦ omega arith ]);
   refused = λ one. absurd (elim e.statuses [ inl two ↦ omega arith | inr three ↦ omega arith ]);
   misused = λ two. record { status = two; short = λ none. short; cause = inl (refl, no_text, e.line_is two) };
   memory = e.memory;
@@ -105,7 +142,7 @@ EndsInput-long input stop long sound ended =
 HasCause-read : (words : List (List ℕ)) (input : Reading) (stop : Stop) → EndsInput input stop → (words ≢ [] → (job : Job) × Mean words job)
     → stop.status ≢ 4 → HasCause words input.bytes stop
 HasCause-read words input stop e means not_four = record {
-  help = λ zero_is. absurd (elim e.statuses [ inl one ↦ omega arith | inr other ↦ elim other [ inl three ↦ omega arith | inr four ↦ omega arith ] ]);
+  answered = λ zero_is. absurd (elim e.statuses [ inl one ↦ omega arith | inr other ↦ elim other [ inl three ↦ omega arith | inr four ↦ omega arith ] ]);
   refused = λ one. record { status = one; length_first = inl (e.long one, e.long_line one, means) };
   misused = λ two. absurd (elim e.statuses [ inl one ↦ omega arith | inr other ↦ elim other [ inl three ↦ omega arith | inr four ↦ omega arith ] ]);
   memory = e.memory;
@@ -200,7 +237,7 @@ HasCause-by_refusal : (words : List (List ℕ)) (bytes : List ℕ) (job : Job) (
 HasCause-by_refusal words bytes job stop short text means h =
     let statuses = refusal_statuses job (input_of words bytes) stop h in
     record {
-      help = λ zero_is. absurd (elim statuses [ inl one ↦ omega arith | inr three ↦ omega arith ]);
+      answered = λ zero_is. absurd (elim statuses [ inl one ↦ omega arith | inr three ↦ omega arith ]);
       refused = λ one. record { status = one; length_first = inr (short, text, (job, means, h)) };
       misused = λ two. absurd (elim statuses [ inl one ↦ omega arith | inr three ↦ omega arith ]);
       memory = refusal_memory job (input_of words bytes) stop h;
@@ -213,7 +250,7 @@ HasCause-by_failure : (words : List (List ℕ)) (bytes : List ℕ) (job : Job) (
 HasCause-by_failure words bytes job stop short text means h =
     let four : stop.status ≡ 4 = failure_status job (input_of words bytes) stop h in
     record {
-      help = λ zero_is. absurd (omega arith);
+      answered = λ zero_is. absurd (omega arith);
       refused = λ one. absurd (omega arith);
       misused = λ two. absurd (omega arith);
       memory = λ three. absurd (omega arith);
@@ -300,7 +337,7 @@ pub Ends-helped : (words : List (List ℕ)) (input : Reading) (output faults : W
     → IsStopped words input stop → stop.status ≡ 0 → HandsOver stop.text.items output faults status → Ends words input output faults status
 Ends-helped words input output faults stop status heard behind_words s help h =
     Ends-told words input output faults stop.text.items status heard behind_words
-    (inr ((s.cause (λ four. omega arith)).help help, (λ none. s.at_end none (inl help)))) (s.sound (omega arith)) h
+    (inr ((s.cause (λ four. omega arith)).answered help, (λ none. s.at_end none (inl help)))) (s.sound (omega arith)) h
 
 -- a run that is stopped with status 4 ends with the fault of the reader, or of the run
 fault_told : (words : List (List ℕ)) (input : Reading) (output faults : Writing) (stop : Stop) → HasFault words input stop

@@ -1,12 +1,13 @@
 -- What a run of the program comes to, for the words that it is given and the bytes that its reader has (profile).
-use Rattle.std.specs.Prelude.{ℕ, ◌≡◌, ◌≢◌, ◌⊎◌, ◌≤◌, ◌<◌, ◌==◌, Bool, true, false, List, [], ◌∷◌, Ok, ⊤, codes, length}
+use Rattle.std.specs.Prelude.{ℕ, ◌≡◌, ◌≢◌, ◌⊎◌, ◌≤◌, ◌<◌, ◌==◌, ◌++◌, Bool, true, false, List, [], ◌∷◌, Ok, ⊤, codes, length}
 use Rattle.std.specs.Io.KnownBytes.{Appends, IsAtEnd, Keeps}
 use Rattle.std.specs.List.{slice_split, before_first, after_first}
 use Rattle.std.specs.Str.{IsUtf8}
 use Rattle.cqf_text.specs.Lines.{is_line_feed}
 use Rattle.cqf_engine.specs.declared.heard.Broken.{Broken}
 use Rattle.cqf_engine.specs.declared.heard.Broken.TheVariants.{Memory, Fault}
-use Rattle.cqf_engine.specs.Edge.{HasTold, IsHeard, Reading, Writing}
+use Rattle.cqf_engine.specs.Edge.{IsHeard, Reading}
+use Rattle.cqf_press.specs.Edge.{HasTold, Writing}
 use Rattle.cqf_compile_command.specs.CompileOutput.{compiled_input}
 use Rattle.cqf_stop.specs.Stops.{EndsWith, IsRefused, line_of}
 use Rattle.cqf_line_command.specs.LineOutput.{IsLineOutput, line_input}
@@ -17,6 +18,7 @@ use Rattle.cqf_scenario.specs.Scenario.{scenario_input}
 use Rattle.cqf_threads_command.specs.ThreadsOutput.{IsThreadsOutput, TellsFault}
 use Rattle.cqf_words.specs.Words.{AreMistaken, AskForHelp, Mean}
 use Rattle.cqf_stop.specs.declared.stops.Stop.{Stop}
+use Rattle.cqf_engine.specs.declared.runs.TheConstants.{VERSION}
 use Rattle.cqf_words.specs.declared.words.Job.{Job}
 use Rattle.cqf_words.specs.declared.words.Job.TheVariants.{Compile, Line, Port, Report, Run}
 
@@ -139,9 +141,31 @@ pub record EndsInput (input : Reading) (stop : Stop) : Type 0 where
   pub fault_line : stop.status ≡ 4 → stop.text.items ≡ line_of (codes "cqf: input fault")
   pub memory : stop.status ≡ 3 → stop.text.items ≡ []
 
+-- whether the word asks for the program's version
+abbrev pub IsVersionWord : Bool → List ℕ → Type 0
+IsVersionWord true word = (word ≡ codes "--version") ⊎ (word ≡ codes "-V")
+IsVersionWord false word = ¬ ((word ≡ codes "--version") ⊎ (word ≡ codes "-V"))
+
+-- the program's version is asked for, by one of these words alone
+abbrev pub AskForVersion : List (List ℕ) → Type 0
+AskForVersion words = (words ≡ codes "--version" ∷ []) ⊎ (words ≡ codes "-V" ∷ [])
+
+-- whether it is
+abbrev pub IsAsking : Bool → List (List ℕ) → Type 0
+IsAsking true words = AskForVersion words
+IsAsking false words = ¬ AskForVersion words
+
+-- the line of the program's version
+abbrev pub version_line : List ℕ
+version_line = codes "cqf " ++ line_of VERSION.now
+
+-- a question about the program is answered, and no job is done: help, by a text of clap's, or the version
+abbrev pub IsAnswered : List (List ℕ) → List ℕ → List ℕ → Type 0
+IsAnswered words bytes text = AskForHelp (words_of words bytes) ⊎ (AskForVersion words × (text ≡ version_line))
+
 -- why a run ends before it is done, where no read failed
 pub record HasCause (words : List (List ℕ)) (bytes : List ℕ) (stop : Stop) : Type 0 where
-  pub help : stop.status ≡ 0 → AskForHelp (words_of words bytes)
+  pub answered : stop.status ≡ 0 → IsAnswered words bytes stop.text.items
   pub refused : stop.status ≡ 1 → IsRefusedRun words bytes stop
   pub misused : stop.status ≡ 2 → IsMisuse words bytes stop
   pub memory : stop.status ≡ 3 → stop.text.items ≡ []
@@ -167,6 +191,12 @@ pub record HasRun (words : List (List ℕ)) (input : Reading) (output : List ℕ
   pub at_end : IsAtEnd input.after
   pub sound : input.failed ≡ false
 
+-- how an output that was told ends: nothing is on the writer of faults; or the output refused some of it, and the line that tells so is
+pub record EndsTold (refused : Bool) (faults : Writing) (status : ℕ) : Type 0 where
+  pub statuses : (status ≡ 0) ⊎ (status ≡ 4)
+  pub done : status ≡ 0 → (refused ≡ false) × Keeps faults.before faults.after
+  pub fault : status ≡ 4 → (refused ≡ true) × HasTold faults (line_of (codes "cqf: output fault"))
+
 -- the text was handed over: all of it was written, and nothing on the writer of faults; or the output refused some of
 -- it, and the writer of faults got the line that tells so
 pub record HandsOver (text : List ℕ) (output faults : Writing) (status : ℕ) : Type 0 where
@@ -183,10 +213,10 @@ pub record Tells (stop : Stop) (output faults : Writing) (status : ℕ) : Type 0
   pub line : stop.status ≢ 0 → stop.status ≢ 3 → HasTold faults stop.text.items
   pub memory_line : stop.status ≡ 3 → HasTold faults (line_of (codes "cqf: out of memory"))
 
--- what the run has for its output: the job's, or the help that was asked for
+-- what the run has for its output: the job's, or the help or the version that was asked for
 abbrev pub IsToldOutput : List (List ℕ) → Reading → List ℕ → Type 0
 IsToldOutput words input text = (IsDone words input.bytes text × IsAtEnd input.after)
-    ⊎ (AskForHelp (words_of words input.bytes) × (words ≡ [] → IsAtEnd input.after))
+    ⊎ (IsAnswered words input.bytes text × (words ≡ [] → IsAtEnd input.after))
 
 -- the reader failed: nothing is on the output, and the line that tells so is on the writer of faults
 pub record IsInputFault (input : Reading) (output faults : Writing) : Type 0 where

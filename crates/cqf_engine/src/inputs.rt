@@ -4,6 +4,7 @@ ghost use Rattle.std.specs.Io.KnownBytes.{IsAtEnd};
 ghost use Rattle.cqf_engine.specs.Edge.{IsHeard, IsUnheard, reading};
 ghost use Rattle.cqf_engine.specs.Run.{EndsInput, EndsRead};
 
+use crate::filled::STEP;
 use crate::heard::{Broken, Heard};
 use cqf_stop::{FAULT, REFUSED, Stop};
 use std::alloc::Global;
@@ -11,9 +12,6 @@ use std::io::Read;
 
 /// The most bytes that the program reads (profile).
 pub const MOST_BYTES: usize = 67_108_864;
-
-/// How many bytes are read at a time.
-const CHUNK: usize = 65_536;
 
 /// The end of a read that was broken off.
 fn stop_of(alloc: Global, cause: Broken) -> Stop
@@ -32,12 +30,12 @@ pub fn read_input<R: Read>(alloc: Global, input: &mut Heard<R>) -> Result<(), St
     requires { IsUnheard input.old }
     ensures heard { IsHeard (reading R.remaining input.old input.new) }
     ensures end { OnOk result (IsAtEnd (R.remaining input.new.reader)) }
-    ensures short { OnOk result (length input.new.bytes.items ≤ 67108864) }
+    ensures short { OnOk result (length input.new.bytes ≤ 67108864) }
     ensures sound { OnOk result (input.new.failed ≡ false) }
     ensures err { IfErr result (EndsInput (reading R.remaining input.old input.new)) }
 {
     while input.bytes().len() <= MOST_BYTES {
-        let room = CHUNK.min(MOST_BYTES + 1 - input.bytes().len());
+        let room = STEP.min(MOST_BYTES + 1 - input.bytes().len());
         match input.read(room) {
             Ok(0) => return Ok(()),
             Ok(_) => {}

@@ -1,26 +1,72 @@
 //! A run of the program, from its words and its input to its output or its end.
-ghost use Rattle.std.specs.Prelude.{◌≡◌, ◌≢◌, ◌≤◌, [], false, IfOk, IfErr, MatchOption, map, length, true};
+ghost use Rattle.std.specs.Prelude.{◌≡◌, ◌≢◌, ◌≤◌, [], false, IfOk, IfErr, MatchOption, map, length, string_bytes, true};
 ghost use Rattle.std.specs.List.{slice_split};
-ghost use Rattle.cqf_engine.specs.Edge.{IsHeard, IsUnheard, reading, writing};
-ghost use Rattle.cqf_engine.specs.Run.{IsWithin, IsOutput, IsEnd, IsRefusal, IsBehindWords, Ends, HandsOver, HasCause, HasRun, IsDone, IsStopped, Tells, is_space, is_threaded, first_line, behind_first_line};
+ghost use Rattle.cqf_engine.specs.Edge.{IsHeard, IsUnheard, reading};
+ghost use Rattle.cqf_engine.specs.Prepared.{text_of};
+ghost use Rattle.cqf_press.specs.Edge.{writing};
+ghost use Rattle.cqf_threads_command.specs.ThreadsOutput.{EndsThreads, IsThreadsOutput};
+ghost use Rattle.cqf_words.specs.Words.{EndsWords, Mean};
+ghost use Rattle.cqf_stop.specs.Stops.{EndsWith};
+ghost use Rattle.cqf_engine.specs.Run.{version_line, IsAsking, IsVersionWord, IsWithin, IsOutput, IsEnd, IsRefusal, IsBehindWords, Ends, EndsTold, HandsOver, HasCause, HasRun, IsDone, IsStopped, Tells, is_space, is_threaded, first_line, behind_first_line};
 
 use crate::heard::Heard;
 use crate::inputs::read_input;
-use crate::outputs::write_out;
-use crate::told::Told;
+use crate::prepared::Prepared;
+use crate::shown::stop_of_line;
 use cqf_compile_command::compile_output;
 use cqf_line_command::line_output;
 use cqf_port_command::port_output;
+use cqf_press::{Told, write_out};
 use cqf_report_command::report_output;
 use cqf_run_command::run_output;
 use cqf_stop::{DONE, FAULT, NO_MEMORY, Stop, USAGE};
 use cqf_text::split_line;
 use cqf_threads_command::threads_output;
+use cqf_units::Memory;
 use cqf_words::{Job, read_words};
 use std::alloc::{AllocError, Global};
 use std::io::{Read, Write};
 use std::sync::Wait;
 use std::thread::Threads;
+
+/// The output of a job for its input, ready to be told, unless it is a run on threads; `rt` is for the threads of `report`. `Err`
+/// with status 1 and the line of the first fault of the input, and with status 3 for want of memory.
+fn prepare(
+    rt: &(impl Threads + Sync),
+    alloc: Global,
+    job: &Job,
+    input: &[u8],
+) -> Result<Prepared, Stop>
+    requires within { IsWithin job.now }
+    requires unthreaded { is_threaded job.now ≡ false }
+    ensures ok { IfOk result (λ output. IsOutput job.now input.now (text_of output)) }
+    ensures err { IfErr result (IsRefusal job.now input.now) }
+{
+    match *job {
+        Job::Port { until, rate } => Ok(Prepared::Text(port_output(alloc, until, rate, input)?)),
+        Job::Line { cycles } => Ok(Prepared::Line(line_output(alloc, cycles, input)?)),
+        Job::Compile => Ok(Prepared::Text(compile_output(alloc, input)?)),
+        Job::Run {
+            cycles,
+            threads: false,
+        } => Ok(Prepared::Run(run_output(alloc, cycles, input)?)),
+        Job::Run { threads: true, .. } => unreachable!(),
+        Job::Report { cycles } => Ok(Prepared::Text(report_output(rt, alloc, cycles, input)?)),
+    }
+}
+
+/// What an output tells, as one text. The error is want of memory.
+fn text_told(alloc: Global, output: Prepared) -> Result<Vec<u8>, Memory>
+    ensures { IfOk result (λ text. text.items ≡ text_of output) }
+{
+    let mut told = Told::new(Vec::new(alloc));
+    output.tell(&mut told);
+    // a list of bytes refuses only what it has no memory for
+    if told.is_refused() {
+        return Err(AllocError);
+    }
+    Ok(told.into_writer())
+}
 
 /// The output of a job for its input, unless it is a run on threads; `rt` is for the threads of `report`. `Err` with status 1
 /// and the line of the first fault of the input, and with status 3 for want of memory.
@@ -35,16 +81,10 @@ pub fn answer(
     ensures ok { IfOk result (λ output. IsOutput job.now input.now output.items) }
     ensures err { IfErr result (IsRefusal job.now input.now) }
 {
-    match *job {
-        Job::Port { until, rate } => port_output(alloc, until, rate, input),
-        Job::Line { cycles } => line_output(alloc, cycles, input),
-        Job::Compile => compile_output(alloc, input),
-        Job::Run {
-            cycles,
-            threads: false,
-        } => run_output(alloc, cycles, input),
-        Job::Run { threads: true, .. } => unreachable!(),
-        Job::Report { cycles } => report_output(rt, alloc, cycles, input),
+    let output = prepare(rt, alloc, job, input)?;
+    match text_told(alloc, output) {
+        Ok(text) => Ok(text),
+        Err(_) => Err(Stop::memory(alloc)),
     }
 }
 
@@ -61,22 +101,77 @@ fn threaded_cycles(job: &Job) -> Option<u32>
     }
 }
 
-/// The output of any job for its input; `rt` is for the threads of a run and of `report`. `Err` with status 1 and the line of
-/// the first fault of the input, with status 3 for want of memory, and with status 4 where a run on threads fails.
+/// The output of a run on threads, ready to be told.
+fn prepare_threads(
+    rt: &(impl Threads + Wait + Sync),
+    alloc: Global,
+    cycles: u32,
+    input: &[u8],
+) -> Result<Prepared, Stop>
+    requires { cycles ≤ 100000 }
+    ensures ok { IfOk result (λ output. IsThreadsOutput cycles input.now (text_of output)) }
+    ensures err { IfErr result (EndsThreads cycles input.now) }
+{
+    match threads_output(rt, alloc, cycles, input) {
+        Ok(output) => Ok(Prepared::Account(output)),
+        Err(stop) => Err(stop),
+    }
+}
+
+/// The output of any job for its input, ready to be told; `rt` is for the threads of a run and of `report`. `Err` with status 1
+/// and the line of the first fault of the input, with status 3 for want of memory, and with status 4 where a run on threads fails.
 fn output_of(
     rt: &(impl Threads + Wait + Sync),
     alloc: Global,
     job: &Job,
     input: &[u8],
-) -> Result<Vec<u8>, Stop>
+) -> Result<Prepared, Stop>
     requires { IsWithin job.now }
-    ensures ok { IfOk result (λ output. IsOutput job.now input.now output.items) }
+    ensures ok { IfOk result (λ output. IsOutput job.now input.now (text_of output)) }
     ensures err { IfErr result (IsEnd job.now input.now) }
 {
     match threaded_cycles(job) {
-        Some(cycles) => threads_output(rt, alloc, cycles, input),
-        None => answer(rt, alloc, job, input),
+        Some(cycles) => prepare_threads(rt, alloc, cycles, input),
+        None => prepare(rt, alloc, job, input),
     }
+}
+
+/// The version of the program.
+pub const VERSION: &str = "1.0.0";
+
+/// Whether the word asks for the program's version.
+fn is_version_word(word: &str) -> bool
+    ensures { IsVersionWord result word.now }
+{
+    if word == "--version" {
+        return true;
+    }
+    word == "-V"
+}
+
+/// Whether the words ask for the program's version, which one word alone does.
+fn ask_for_version(words: &[&str]) -> bool
+    ensures { IsAsking result (map (λ word. word.now) words.now) }
+{
+    match *words {
+        [word] => is_version_word(word),
+        _ => false,
+    }
+}
+
+/// The end of a run that is asked for the program's version.
+fn stop_of_version(alloc: Global) -> Stop
+    ensures { EndsWith 0 version_line result }
+{
+    Stop::with_text(alloc, DONE, version_text(alloc))
+}
+
+/// The line of the program's version.
+fn version_text(alloc: Global) -> Result<String, AllocError>
+    ensures { IfOk result (λ text. string_bytes text ≡ version_line) }
+{
+    let text = format!(in alloc; "cqf {VERSION}\n")?;
+    Ok(text)
 }
 
 /// The words of a line, which single spaces divide.
@@ -92,14 +187,17 @@ fn run_given<R: Read>(
     alloc: Global,
     words: &[&str],
     input: &mut Heard<R>,
-) -> Result<Vec<u8>, Stop>
+) -> Result<Prepared, Stop>
     requires given { map (λ word. word.now) words.now ≢ [] }
     requires unheard { IsUnheard input.old }
     ensures heard { IsHeard (reading R.remaining input.old input.new) }
     ensures behind_words { IsBehindWords (map (λ word. word.now) words.now) (reading R.remaining input.old input.new) }
-    ensures ok { IfOk result (λ output. HasRun (map (λ word. word.now) words.now) (reading R.remaining input.old input.new) output.items) }
+    ensures ok { IfOk result (λ output. HasRun (map (λ word. word.now) words.now) (reading R.remaining input.old input.new) (text_of output)) }
     ensures err { IfErr result (IsStopped (map (λ word. word.now) words.now) (reading R.remaining input.old input.new)) }
 {
+    if ask_for_version(words) {
+        return Err(stop_of_version(alloc));
+    }
     let job = match read_words(alloc, words) {
         Ok(job) => job,
         Err(stop) => return Err(stop),
@@ -121,10 +219,26 @@ fn split_first_line(bytes: &[u8]) -> (&[u8], &[u8])
     }
 }
 
+/// The job that the words of a line mean. `Err` as [`read_words`] has it, but a long line, or one with unprintable characters, isn't echoed as
+/// it is.
+fn read_line(alloc: Global, line: &str, words: &[&str]) -> Result<Job, Stop>
+    ensures ok { IfOk result (Mean (map (λ word. word.now) words.now)) }
+    ensures err { IfErr result (EndsWords (map (λ word. word.now) words.now)) }
+{
+    match read_words(alloc, words) {
+        Ok(job) => Ok(job),
+        Err(stop) => Err(stop_of_line(alloc, line, stop)),
+    }
+}
+
 /// The run of the words in the first line.
-fn run_line(rt: &(impl Threads + Wait + Sync), alloc: Global, bytes: &[u8]) -> Result<Vec<u8>, Stop>
+fn run_line(
+    rt: &(impl Threads + Wait + Sync),
+    alloc: Global,
+    bytes: &[u8],
+) -> Result<Prepared, Stop>
     requires { length bytes.now ≤ 67108864 }
-    ensures ok { IfOk result (λ output. IsDone [] bytes.now output.items) }
+    ensures ok { IfOk result (λ output. IsDone [] bytes.now (text_of output)) }
     ensures err { IfErr result (HasCause [] bytes.now) }
     ensures status { IfErr result (λ stop. stop.status ≤ 4) }
 {
@@ -135,7 +249,7 @@ fn run_line(rt: &(impl Threads + Wait + Sync), alloc: Global, bytes: &[u8]) -> R
     let Ok(words) = split_words(alloc, line) else {
         return Err(Stop::memory(alloc));
     };
-    let job = match read_words(alloc, words.as_slice()) {
+    let job = match read_line(alloc, line, words.as_slice()) {
         Ok(job) => job,
         Err(stop) => return Err(stop),
     };
@@ -147,10 +261,10 @@ fn run_taken<R: Read>(
     rt: &(impl Threads + Wait + Sync),
     alloc: Global,
     input: &mut Heard<R>,
-) -> Result<Vec<u8>, Stop>
+) -> Result<Prepared, Stop>
     requires { IsUnheard input.old }
     ensures heard { IsHeard (reading R.remaining input.old input.new) }
-    ensures ok { IfOk result (λ output. HasRun [] (reading R.remaining input.old input.new) output.items) }
+    ensures ok { IfOk result (λ output. HasRun [] (reading R.remaining input.old input.new) (text_of output)) }
     ensures err { IfErr result (IsStopped [] (reading R.remaining input.old input.new)) }
 {
     if let Err(stop) = read_input(alloc, input) {
@@ -165,11 +279,11 @@ fn run<R: Read>(
     alloc: Global,
     words: &[&str],
     input: &mut Heard<R>,
-) -> Result<Vec<u8>, Stop>
+) -> Result<Prepared, Stop>
     requires { IsUnheard input.old }
     ensures heard { IsHeard (reading R.remaining input.old input.new) }
     ensures behind_words { IsBehindWords (map (λ word. word.now) words.now) (reading R.remaining input.old input.new) }
-    ensures ok { IfOk result (λ output. HasRun (map (λ word. word.now) words.now) (reading R.remaining input.old input.new) output.items) }
+    ensures ok { IfOk result (λ output. HasRun (map (λ word. word.now) words.now) (reading R.remaining input.old input.new) (text_of output)) }
     ensures err { IfErr result (IsStopped (map (λ word. word.now) words.now) (reading R.remaining input.old input.new)) }
 {
     if words.is_empty() {
@@ -179,16 +293,35 @@ fn run<R: Read>(
     }
 }
 
-/// Writes all of the output, and the status of that: 4 where the output refuses some of it.
-fn hand_over<O: Write, F: Write>(text: &[u8], output: &mut Told<O>, faults: &mut Told<F>) -> u8
-    ensures { HandsOver text.now (writing O.contents output.old output.new) (writing F.contents faults.old faults.new) result }
+/// The status of an output that was told: 4 where it refused some of it, which is told on the writer of faults.
+fn end_told<O: Write, F: Write>(output: &Told<O>, faults: &mut Told<F>) -> u8
+    ensures { EndsTold output.now.refused (writing F.contents faults.old faults.new) result }
 {
-    write_out(output, text);
     if output.is_refused() {
         write_out(faults, b"cqf: output fault\n");
         return FAULT;
     }
     DONE
+}
+
+/// Writes all of a text, and the status of that: 4 where the output refuses some of it.
+fn hand_over<O: Write, F: Write>(text: &[u8], output: &mut Told<O>, faults: &mut Told<F>) -> u8
+    ensures { HandsOver text.now (writing O.contents output.old output.new) (writing F.contents faults.old faults.new) result }
+{
+    write_out(output, text);
+    end_told(output, faults)
+}
+
+/// Tells all of an output, and the status of that: 4 where the writer refuses some of it.
+fn tell_output<O: Write, F: Write>(
+    prepared: Prepared,
+    output: &mut Told<O>,
+    faults: &mut Told<F>,
+) -> u8
+    ensures { HandsOver (text_of prepared) (writing O.contents output.old output.new) (writing F.contents faults.old faults.new) result }
+{
+    prepared.tell(output);
+    end_told(output, faults)
 }
 
 /// Tells the end: help on the output, and anything else on the writer of faults. The status of that.
@@ -225,7 +358,7 @@ pub fn engine<R: Read, O: Write, F: Write>(
         (writing F.contents faults.old faults.new) result }
 {
     match run(rt, alloc, words, input) {
-        Ok(text) => hand_over(text.as_slice(), output, faults),
+        Ok(prepared) => tell_output(prepared, output, faults),
         Err(stop) => tell(&stop, output, faults),
     }
 }

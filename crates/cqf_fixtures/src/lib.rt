@@ -2,7 +2,7 @@
 //!
 //! - [`line`] is a domain of three bridges in a line, [`one_link`] one of a single bridge, and [`ring`] one whose first
 //!   and last bridge have links to each other too; [`fork`] is a line that branches.
-//! - [`line_and_link`] and [`one_link_with`] are changed forms of them; a test makes others with `replacen`.
+//! - A test makes changed forms of them with `replacen`.
 //! - [`are_offers`] and [`are_background`] tell what a run of a domain may be given.
 //! - [`request`], [`offers_of`] and [`background_of`] make what is asked for and offered of plain values, and [`are_begun`] and
 //!   [`are_dropped`] tell whether a book has such values.
@@ -18,7 +18,6 @@ mod told;
 pub use asked::{Asked, request};
 pub use given::{are_background, are_offers};
 pub use offered::{Backing, Offering, background_of, offers_of};
-use std::alloc::{AllocError, Global};
 pub use told::{Begun, Fell, are_begun, are_dropped};
 
 /// Bridges a, b and c, and station s.
@@ -145,20 +144,4 @@ pub fn ring() -> &'static str {
 /// Bridges a, b and c in a line to station s, and station t at bridge b: links 0 c>s, 1 a>b, 2 b>c and 3 b>t.
 pub fn fork() -> &'static str {
     FORK
-}
-
-/// The line with a link more: link 3, from one node to another by their names.
-pub fn line_and_link(alloc: Global, from: &str, to: &str) -> Result<String, AllocError> {
-    let text = format!(in alloc;
-        "{LINE}\n[[links]]\nfrom = \"{from}\"\nto = \"{to}\"\nrate = 1000\ndelay = 500\n"
-    )?;
-    Ok(text)
-}
-
-/// The one link with another guard time in nanoseconds, and another rate in Mb/s.
-pub fn one_link_with(alloc: Global, guard: u32, rate: u32) -> Result<String, AllocError> {
-    let text = format!(in alloc;
-        "cycle = 125000\nguard = {guard}\nbridges = [\"a\"]\nstations = [\"s\"]\n\n[[links]]\nfrom = \"a\"\nto = \"s\"\nrate = {rate}\ndelay = 500\n"
-    )?;
-    Ok(text)
 }

@@ -1,5 +1,5 @@
 -- The line's scenario may be run.
-use Rattle.std.proofs.Common.{ℕ, ◌≡◌, ◌≤◌, List, length, arith, sym, subst}
+use Rattle.std.proofs.Common.{ℕ, ◌≡◌, ◌≤◌, List, Result, Ok, Err, IfOk, length, arith, sym, subst}
 use Rattle.cqf_model.specs.declared.frames.Offer.{Offer}
 use Rattle.cqf_model.specs.Run.{AreOffers}
 use Rattle.cqf_scenario.specs.Closing.{MayBeRun}
@@ -16,3 +16,9 @@ MayBeRun-line cycles offers s same good few = subst (λ (t : Scenario). MayBeRun
   few_offers = few;
   few_background = omega arith;
 })
+
+-- what two facts of a value give, where there is one
+pub IfOk-both : {A E : Type 0} (result : Result A E) (P Q R : A → Type 0) → ((value : A) → P value → Q value → R value) → IfOk result P → IfOk result Q
+    → IfOk result R
+IfOk-both (Ok value) P Q R step p q = step value p q
+IfOk-both (Err fault) P Q R step p q = tt

@@ -1,5 +1,6 @@
-//! Tests of runs of the network on one thread, with values from outside. A crate that has tests is proved twice, so these stand in one of their own.
+//! Tests of tables that a run on one thread refuses, with values from outside. A crate that has tests is proved twice, so these stand in
+//! one of their own; what a run gives is in the stored runs of `runs/`.
 #![tactic(auto)]
 
 #[cfg(test)]
-mod runs;
+mod tables;

@@ -1,25 +1,204 @@
 //! Streams admitted and withdrawn.
 use cqf_admission::{Admission, Call, Receipt, Refused, Reply, SealFault, Table};
-use cqf_topology::{Domain, Request};
-use cqf_units::{Cycle, Memory, Name, Octets};
+use cqf_fixtures::{Asked, fork, line, request, ring};
+use cqf_topology::Domain;
+use cqf_units::{Cycle, Name};
 use std::alloc::Global;
-use std::test::Fail;
 
-/// Bridges a, b, c in a line to station s.
-const LINE: &str =
-    "cycle = 125000\nguard = 5000\nbridges = [\"a\", \"b\", \"c\"]\nstations = [\"s\"]\n[[links]]\nfrom = \"a\"\nto = \"b\"\nrate = 1000\ndelay = 500\n[[links]]\nfrom = \"b\"\nto = \"c\"\nrate = 1000\ndelay = 500\n[[links]]\nfrom = \"c\"\nto = \"s\"\nrate = 1000\ndelay = 500\n";
+/// The answer to a call: the number of its stream and from which cycle on it holds, or why it is refused.
+type Answer = Result<(u32, u32), Refused>;
 
-/// The links from a and b to c, from c to s, to a and to b, and from a to b.
-const RING: &str =
-    "cycle = 125000\nguard = 5000\nbridges = [\"a\", \"b\", \"c\"]\nstations = [\"s\"]\n[[links]]\nfrom = \"a\"\nto = \"b\"\nrate = 1000\ndelay = 500\n[[links]]\nfrom = \"b\"\nto = \"c\"\nrate = 1000\ndelay = 500\n[[links]]\nfrom = \"c\"\nto = \"a\"\nrate = 1000\ndelay = 500\n[[links]]\nfrom = \"a\"\nto = \"c\"\nrate = 1000\ndelay = 500\n[[links]]\nfrom = \"c\"\nto = \"s\"\nrate = 1000\ndelay = 500\n";
+/// A call or a look at an admission, and what comes of it.
+enum Step {
+    Admit(Asked, Answer),
+    Withdraw(&'static str, Answer),
+    /// A name that isn't held is withdrawn so often.
+    WithdrawOften(u32),
+    /// So many cycles are closed.
+    Seal(u32),
+    /// No further cycle is.
+    SealFails(SealFault),
+    /// The cycle of this number is closed, and this is seen in its table.
+    Table(u32, &'static [Look]),
+    /// What is held on each link.
+    Held(&'static [u32]),
+    /// How many entries the history has, the last reply, and the cycle that is closed next.
+    History(usize, Reply, u32),
+}
 
-/// One bridge and one station.
-const WIDE: &str =
-    "cycle = 10000000\nguard = 5000\nbridges = [\"a\"]\nstations = [\"s\"]\n[[links]]\nfrom = \"a\"\nto = \"s\"\nrate = 1000\ndelay = 500\n";
+/// What is seen in a table.
+enum Look {
+    /// How many rows it has.
+    Rows(usize),
+    /// Whether the stream of this name is live in this cycle.
+    Named(&'static str, u32, bool),
+    /// Whether the stream of this number is.
+    Numbered(u32, u32, bool),
+}
 
-/// Bridges a, b, c in a line to station s, and station t at bridge b.
-const FORK: &str =
-    "cycle = 125000\nguard = 5000\nbridges = [\"a\", \"b\", \"c\"]\nstations = [\"s\", \"t\"]\n[[links]]\nfrom = \"a\"\nto = \"b\"\nrate = 1000\ndelay = 500\n[[links]]\nfrom = \"b\"\nto = \"c\"\nrate = 1000\ndelay = 500\n[[links]]\nfrom = \"c\"\nto = \"s\"\nrate = 1000\ndelay = 500\n[[links]]\nfrom = \"b\"\nto = \"t\"\nrate = 1000\ndelay = 500\n";
+/// What an admission is asked where nothing is held, and what it and a copy of it are then asked, one after the other.
+type Case = (&'static [Step], &'static [Step]);
+
+/// The path of the line.
+const WHOLE: &[&[&str]] = &[&["a", "b", "c", "s"]];
+
+/// Streams over the line.
+const OVER_LINE: &[Case] = &[
+    // a link takes as many streams as its budget has room for; a table has the streams that were accepted
+    (
+        &[
+            Step::Admit(("n0", 1500, WHOLE), Ok((0, 0))),
+            Step::Admit(("n1", 1500, WHOLE), Ok((1, 0))),
+            Step::Admit(("n2", 1500, WHOLE), Ok((2, 0))),
+            Step::Admit(("n3", 1500, WHOLE), Ok((3, 0))),
+            Step::Admit(("n4", 1500, WHOLE), Ok((4, 0))),
+            Step::Admit(("n5", 1500, WHOLE), Ok((5, 0))),
+            Step::Admit(("n6", 1500, WHOLE), Ok((6, 0))),
+        ],
+        &[
+            Step::Table(0, &[Look::Rows(7)]),
+            Step::History(8, Reply::Sealed, 1),
+            Step::Admit(("n7", 1500, WHOLE), Err(SHORT)),
+            Step::Admit(("n7", 1000, WHOLE), Err(SHORT)),
+            Step::Admit(("n7", 980, WHOLE), Ok((7, 1))),
+            Step::Held(&[15_000, 15_000, 15_000]),
+        ],
+    ),
+    // a withdrawn stream lets go when its last frame has left
+    (
+        FULL,
+        &[
+            Step::History(6, Reply::Sealed, 5),
+            Step::Withdraw("old", Ok((0, 5))),
+            Step::Seal(2),
+            Step::Admit(("new", 11_440, WHOLE), Err(FULL_UP)),
+            Step::Seal(1),
+            Step::Admit(("new", 11_440, WHOLE), Ok((1, 8))),
+        ],
+    ),
+    // and stays in the tables
+    (
+        FULL,
+        &[
+            Step::Withdraw("old", Ok((0, 5))),
+            Step::Seal(1),
+            Step::Table(
+                6,
+                &[
+                    Look::Named("old", 6, false),
+                    Look::Numbered(0, 4, true),
+                    Look::Numbered(0, 5, false),
+                ],
+            ),
+        ],
+    ),
+    // a request of bad form is refused, and what is no path at its place
+    (
+        &[],
+        &[
+            Step::Admit(("X!", 10, WHOLE), Err(Refused::BadName)),
+            Step::Admit(("x", 63, WHOLE), Err(Refused::BadOctets)),
+            Step::Admit(("x", 60_001, WHOLE), Err(Refused::BadOctets)),
+            Step::Admit(("x", 60_000, WHOLE), Err(TOO_MUCH)),
+            Step::Admit(("x", 64, &[&["a", "q", "s"]]), Err(Refused::UnknownNode(1))),
+            Step::Admit(("x", 64, &[&["a", "c", "s"]]), Err(Refused::BrokenPath(1))),
+            Step::Admit(("x", 64, &[&["a", "b"]]), Err(Refused::BrokenPath(1))),
+            Step::Admit(("x", 64, &[&[]]), Err(Refused::BrokenPath(0))),
+        ],
+    ),
+    // a name is held as long as its stream
+    (
+        &[Step::Admit(("x", 64, WHOLE), Ok((0, 0)))],
+        &[
+            Step::Withdraw("x", Ok((0, 0))),
+            Step::Admit(("x", 64, WHOLE), Err(Refused::NameHeld)),
+            Step::Withdraw("x", Err(Refused::AlreadyWithdrawn)),
+            Step::Withdraw("q", Err(Refused::NotHeld)),
+            Step::History(5, Reply::Refused(Refused::NotHeld), 0),
+        ],
+    ),
+    // a history takes 100,000 calls, and as many Seals
+    (
+        &[
+            Step::WithdrawOften(99_999),
+            Step::Withdraw("q", Err(Refused::NotHeld)),
+            Step::Withdraw("q", Err(Refused::HistoryFull)),
+            Step::Seal(100_000),
+            Step::SealFails(SealFault::CyclesSpent),
+        ],
+        &[],
+    ),
+];
+
+/// Seven streams leave room for one of 980 octets.
+const SHORT: Refused = Refused::BudgetShort {
+    link: 0,
+    left: 1280,
+};
+
+/// 11,440 octets leave none, and 60,000 are more than a link has.
+const FULL_UP: Refused = Refused::BudgetShort { link: 0, left: 0 };
+
+const TOO_MUCH: Refused = Refused::BudgetShort {
+    link: 0,
+    left: 15_000,
+};
+
+/// The line is filled by one stream, and five cycles are closed.
+const FULL: &[Step] = &[
+    Step::Admit(("old", 11_440, WHOLE), Ok((0, 0))),
+    Step::Seal(5),
+];
+
+/// Streams over the ring, none of which is a tree.
+const OVER_RING: &[Case] = &[(
+    &[],
+    &[
+        // a path that comes back to a bridge
+        Step::Admit(
+            ("x", 64, &[&["a", "b", "c", "a", "c", "s"]]),
+            Err(Refused::LoopingPath(3)),
+        ),
+        // a branch that joins, is there again, or begins elsewhere, and one with an unknown node
+        Step::Admit(
+            ("x", 1500, &[&["a", "b", "c", "s"], &["a", "c", "s"]]),
+            Err(Refused::NotATree(1)),
+        ),
+        Step::Admit(
+            ("x", 1500, &[&["a", "c", "s"], &["a", "c", "s"]]),
+            Err(Refused::NotATree(1)),
+        ),
+        Step::Admit(
+            ("x", 1500, &[&["a", "c", "s"], &["b", "c", "s"]]),
+            Err(Refused::NotATree(1)),
+        ),
+        Step::Admit(
+            ("x", 1500, &[&["a", "c", "s"], &["a", "q", "s"]]),
+            Err(Refused::UnknownNode(4)),
+        ),
+    ],
+)];
+
+/// A stream over the fork: a shared link is charged once, until the deepest branch is empty. Then one on its last link alone.
+const OVER_FORK: &[Case] = &[(
+    &[
+        Step::Admit(
+            ("x", 1500, &[&["a", "b", "c", "s"], &["a", "b", "t"]]),
+            Ok((0, 0)),
+        ),
+        Step::Held(&[1960; 4]),
+        Step::Seal(5),
+        Step::Withdraw("x", Ok((0, 5))),
+        Step::Seal(2),
+    ],
+    &[
+        Step::Held(&[1960; 4]),
+        Step::Seal(1),
+        Step::Held(&[0; 4]),
+        Step::Admit(("y", 64, &[&["b", "t"]]), Ok((1, 8))),
+        Step::Held(&[0, 0, 0, 84]),
+    ],
+)];
 
 /// 17 bridges in a row, from 0 to 16, to station s.
 const CHAIN: &str =
@@ -42,456 +221,222 @@ const CHAIN: &str =
     { from = \"15\", to = \"16\", rate = 1000, delay = 500 }, \
     { from = \"16\", to = \"s\", rate = 1000, delay = 500 }]\n";
 
-/// The path of the row.
-const LONG: [&str; 18] = [
-    "0", "1", "2", "3", "4", "5", "6", "7", "8", "9", "10", "11", "12", "13", "14", "15", "16", "s",
-];
+/// Paths over the row: of 17 bridges, and of 16.
+const OVER_CHAIN: &[Case] = &[(
+    &[],
+    &[
+        Step::Admit(
+            (
+                "x",
+                64,
+                &[&[
+                    "0", "1", "2", "3", "4", "5", "6", "7", "8", "9", "10", "11", "12", "13", "14",
+                    "15", "16", "s",
+                ]],
+            ),
+            Err(Refused::BrokenPath(17)),
+        ),
+        Step::Admit(
+            (
+                "x",
+                64,
+                &[&[
+                    "1", "2", "3", "4", "5", "6", "7", "8", "9", "10", "11", "12", "13", "14",
+                    "15", "16", "s",
+                ]],
+            ),
+            Ok((0, 0)),
+        ),
+    ],
+)];
 
-/// The path of the line.
-const WHOLE: [&str; 4] = ["a", "b", "c", "s"];
-
-fn admission(alloc: Global, text: &str) -> Result<Admission, Fail> {
-    let domain = Domain::read(alloc, text.as_bytes())?;
-    Ok(Admission::new(alloc, &domain)?)
-}
-
-/// The names of a path.
-fn path_of(alloc: Global, nodes: &[&str]) -> Result<Vec<String>, Memory> {
-    let mut path = Vec::new(alloc);
-    for node in nodes {
-        path.push(String::from_str(alloc, node)?)?;
+/// Whether a call is answered so.
+fn is_answer(answer: Result<Receipt, Refused>, wanted: Answer) -> bool {
+    match answer {
+        Ok(receipt) => wanted == Ok((receipt.no, receipt.effect.0)),
+        Err(refused) => wanted == Err(refused),
     }
-    Ok(path)
 }
 
-/// A request for a stream of one branch.
-fn request(alloc: Global, name: &str, octets: u32, nodes: &[&str]) -> Result<Request, Memory> {
-    let mut paths = Vec::new(alloc);
-    paths.push(path_of(alloc, nodes)?)?;
-    Ok(Request {
-        name: String::from_str(alloc, name)?,
-        octets,
-        paths,
-    })
-}
-
-/// A request for the stream x of 1,500 octets and two branches.
-fn request_of_two(alloc: Global, first: &[&str], second: &[&str]) -> Result<Request, Memory> {
-    let mut paths = Vec::new(alloc);
-    paths.push(path_of(alloc, first)?)?;
-    paths.push(path_of(alloc, second)?)?;
-    Ok(Request {
-        name: String::from_str(alloc, "x")?,
-        octets: 1500,
-        paths,
-    })
-}
-
-/// The answer to a request.
-fn ask(
-    asked: &mut Admission,
-    alloc: Global,
-    name: &str,
-    octets: u32,
-    nodes: &[&str],
-) -> Result<Result<Receipt, Refused>, Memory> {
-    let wanted = request(alloc, name, octets, nodes)?;
-    Ok(asked.admit(0, &wanted))
-}
-
-/// Asks for so many streams, which are granted.
-fn ask_often(
-    asked: &mut Admission,
-    alloc: Global,
-    count: u32,
-    octets: u32,
-    nodes: &[&str],
-) -> Result<(), Fail> {
-    for number in 0..count {
-        let name = format!(in alloc; "n{number}")?;
-        ask(asked, alloc, name.as_str(), octets, nodes)??;
+/// Whether a request is.
+fn admits(alloc: Global, asked: &mut Admission, stream: &Asked, wanted: Answer) -> bool {
+    match request(alloc, stream) {
+        Ok(request) => is_answer(asked.admit(0, &request), wanted),
+        Err(_) => false,
     }
-    Ok(())
+}
+
+/// Withdraws a name that isn't held, so often.
+fn withdraw_often(asked: &mut Admission, count: u32) -> bool {
+    for _time in 0..count {
+        if asked.withdraw(0, "q").is_ok() {
+            return false;
+        }
+    }
+    true
 }
 
 /// Closes so many cycles.
-fn seal_often(asked: &mut Admission, count: u32) -> Result<(), SealFault> {
-    for _ in 0..count {
-        asked.seal(0)?;
+fn seal_often(asked: &mut Admission, count: u32) -> bool {
+    for _time in 0..count {
+        if asked.seal(0).is_err() {
+            return false;
+        }
     }
-    Ok(())
+    true
 }
 
-/// Why a request is refused where nothing is held.
-fn refused_on(
-    alloc: Global,
-    text: &str,
-    name: &str,
-    octets: u32,
-    nodes: &[&str],
-) -> Result<Option<Refused>, Fail> {
-    let mut asked = admission(alloc, text)?;
-    let answer = ask(&mut asked, alloc, name, octets, nodes);
-    drop(asked);
-    Ok(answer?.err())
-}
-
-/// The answer to a request of two branches.
-fn ask_two(
-    asked: &mut Admission,
-    alloc: Global,
-    first: &[&str],
-    second: &[&str],
-) -> Result<Result<Receipt, Refused>, Memory> {
-    let wanted = request_of_two(alloc, first, second)?;
-    Ok(asked.admit(0, &wanted))
-}
-
-/// Why two branches are refused over the ring where nothing is held.
-fn refused_of_two(alloc: Global, first: &[&str], second: &[&str]) -> Result<Option<Refused>, Fail> {
-    let mut ring = admission(alloc, RING)?;
-    let answer = ask_two(&mut ring, alloc, first, second);
-    drop(ring);
-    Ok(answer?.err())
-}
-
-/// What is held on the first link, where there is one.
-fn held_on_first(asked: &Admission) -> Option<Octets> {
-    if asked.domain().links() == 0 {
-        return None;
-    }
-    Some(asked.held_on(0))
-}
-
-/// The last reply of the history.
-fn last_reply(asked: &Admission) -> Option<Reply> {
-    asked.history().last().map(|entry| entry.reply)
-}
-
-/// The line, with seven streams of 1,500 octets.
-fn line_of_seven(alloc: Global) -> Result<Admission, Fail> {
-    let mut line = admission(alloc, LINE)?;
-    ask_often(&mut line, alloc, 7, 1500, &WHOLE)?;
-    Ok(line)
-}
-
-/// Why a line of seven refuses one request more, and one of fewer octets, and one of fewer still.
-fn ask_more(line: &mut Admission, alloc: Global) -> Result<[Option<Refused>; 3], Memory> {
-    let most = ask(line, alloc, "n7", 1500, &WHOLE)?;
-    let fewer = ask(line, alloc, "n7", 1000, &WHOLE)?;
-    let least = ask(line, alloc, "n7", 980, &WHOLE)?;
-    Ok([most.err(), fewer.err(), least.err()])
-}
-
-#[test]
-fn a_link_takes_as_many_streams_as_its_budget_has_room_for(rt: HostRuntime) -> Result<(), Fail> {
-    let mut line = line_of_seven(rt.alloc())?;
-    let answers = ask_more(&mut line, rt.alloc());
-    let held = held_on_first(&line);
-    drop(line);
-    let short = Some(Refused::BudgetShort {
-        link: 0,
-        left: 1280,
-    });
-    assert!(rt; answers? == [short, short, None]);
-    assert!(rt; held == Some(Octets(15_000)));
-    Ok(())
-}
-
-/// Whether the last call of the history is a Seal.
-fn ends_in_a_seal(asked: &Admission) -> bool {
-    match asked.history().last() {
-        Some(entry) => matches!(entry.call, Call::Seal),
+/// Whether the stream of a name is live in a cycle, or isn't, where the table has it.
+fn is_named(table: &Table, name: &str, cycle: u32, live: bool) -> bool {
+    match Name::new(name.as_bytes()) {
+        Some(name) => match table.row_named(&name) {
+            Some(row) => row.live(Cycle(cycle)) == live,
+            None => false,
+        },
         None => false,
     }
 }
 
-/// How many rows the next table has.
-fn count_sealed(asked: &mut Admission) -> Result<usize, SealFault> {
-    Ok(asked.seal(9)?.rows().len())
+/// Whether this is seen in a table.
+fn is_seen(table: &Table, look: &Look) -> bool {
+    match *look {
+        Look::Rows(count) => table.rows().len() == count,
+        Look::Named(name, cycle, live) => is_named(table, name, cycle, live),
+        Look::Numbered(no, cycle, live) => match table.row_of(no) {
+            Some(row) => row.live(Cycle(cycle)) == live,
+            None => false,
+        },
+    }
 }
 
-#[test]
-fn a_table_has_the_streams_that_were_accepted(rt: HostRuntime) -> Result<(), Fail> {
-    let mut line = line_of_seven(rt.alloc())?;
-    let rows = count_sealed(&mut line);
-    let next = line.next_cycle();
-    let sealed = ends_in_a_seal(&line);
-    drop(line);
-    assert!(rt; rows? == 7);
-    assert!(rt; sealed);
-    assert!(rt; next == Cycle(1));
-    Ok(())
+/// Whether a table is of this cycle, and all this is seen in it.
+fn is_table(table: &Table, cycle: u32, looks: &[Look]) -> bool {
+    table.cycle() == Cycle(cycle) && looks.iter().all(|look| is_seen(table, look))
 }
 
-/// Fills the line by one stream, and closes five cycles.
-fn fill(line: &mut Admission, alloc: Global) -> Result<(), Fail> {
-    ask(line, alloc, "old", 11_440, &WHOLE)??;
-    seal_often(line, 5)?;
-    Ok(())
+/// Whether a copy of a table is such.
+fn is_copied(alloc: Global, table: &Table, cycle: u32, looks: &[Look]) -> bool {
+    match table.try_copy(alloc) {
+        Ok(copy) => is_table(&copy, cycle, looks),
+        Err(_) => false,
+    }
 }
 
-/// The line, full by one stream, after five Seals.
-fn full_line(alloc: Global) -> Result<Admission, Fail> {
-    let mut line = admission(alloc, LINE)?;
-    fill(&mut line, alloc)?;
-    Ok(line)
+/// Whether a cycle is closed with such a table.
+fn seals(alloc: Global, asked: &mut Admission, cycle: u32, looks: &[Look]) -> bool {
+    match asked.seal(9) {
+        Ok(table) => is_table(&table, cycle, looks) && is_copied(alloc, &table, cycle, looks),
+        Err(_) => false,
+    }
 }
 
-/// Withdraws the stream, and gives the answers of the full line before and after it lets go.
-fn refill(line: &mut Admission, alloc: Global) -> Result<(Option<Refused>, Receipt), Fail> {
-    line.withdraw(0, "old")?;
-    seal_often(line, 2)?;
-    let early = ask(line, alloc, "new", 11_440, &WHOLE)?.err();
-    seal_often(line, 1)?;
-    let late = ask(line, alloc, "new", 11_440, &WHOLE)??;
-    Ok((early, late))
+/// Whether a cycle isn't closed, for this cause.
+fn seal_fails(asked: &mut Admission, fault: SealFault) -> bool {
+    match asked.seal(0) {
+        Ok(_) => false,
+        Err(cause) => cause == fault,
+    }
 }
 
-/// The answers of two full lines.
-fn refill_both(
-    line: &mut Admission,
-    other: &mut Admission,
-    alloc: Global,
-) -> Result<[(Option<Refused>, Receipt); 2], Fail> {
-    let first = refill(line, alloc)?;
-    let second = refill(other, alloc)?;
-    Ok([first, second])
+/// Whether this is held on the links.
+fn holds(asked: &Admission, costs: &[u32]) -> bool {
+    let links = asked.domain().links();
+    if usize::from(links) != costs.len() {
+        return false;
+    }
+    for link in 0..links {
+        if asked.held_on(link).0 != costs[usize::from(link)] {
+            return false;
+        }
+    }
+    true
 }
 
-/// The answers of a full line and then those of a copy from before, and how many entries the copy began with.
-fn refill_and_copy(
-    line: &mut Admission,
-    alloc: Global,
-) -> Result<([(Option<Refused>, Receipt); 2], usize), Fail> {
-    let mut copy = line.try_copy(alloc)?;
-    let entries = copy.history().len();
-    let answers = refill_both(line, &mut copy, alloc);
-    drop(copy);
-    Ok((answers?, entries))
+/// Whether the history has so many entries, and the last one has this reply and is a Seal exactly where that is.
+fn ends_in(asked: &Admission, entries: usize, reply: Reply) -> bool {
+    match asked.history().last() {
+        Some(entry) => {
+            asked.history().len() == entries
+                && entry.reply == reply
+                && matches!(entry.call, Call::Seal) == (reply == Reply::Sealed)
+        }
+        None => false,
+    }
 }
 
-#[test]
-fn a_withdrawn_stream_lets_go_when_its_last_frame_has_left(rt: HostRuntime) -> Result<(), Fail> {
-    let mut line = full_line(rt.alloc())?;
-    let answers = refill_and_copy(&mut line, rt.alloc());
-    drop(line);
-    let short = Some(Refused::BudgetShort { link: 0, left: 0 });
-    let receipt = Receipt {
-        no: 1,
-        effect: Cycle(8),
+/// Whether this comes of a step.
+fn goes_so(alloc: Global, asked: &mut Admission, step: &Step) -> bool {
+    match *step {
+        Step::Admit(stream, answer) => admits(alloc, asked, &stream, answer),
+        Step::Withdraw(name, answer) => is_answer(asked.withdraw(0, name), answer),
+        Step::WithdrawOften(count) => withdraw_often(asked, count),
+        Step::Seal(count) => seal_often(asked, count),
+        Step::SealFails(fault) => seal_fails(asked, fault),
+        Step::Table(cycle, looks) => seals(alloc, asked, cycle, looks),
+        Step::Held(costs) => holds(asked, costs),
+        Step::History(entries, reply, next) => {
+            asked.next_cycle() == Cycle(next) && ends_in(asked, entries, reply)
+        }
+    }
+}
+
+/// Whether it does of all steps.
+fn all_go_so(alloc: Global, asked: &mut Admission, steps: &[Step]) -> bool {
+    for step in steps {
+        if !goes_so(alloc, asked, step) {
+            return false;
+        }
+    }
+    true
+}
+
+/// Whether it does of an admission, and then of a copy from before.
+fn both_go_so(alloc: Global, asked: &mut Admission, steps: &[Step]) -> bool {
+    match asked.try_copy(alloc) {
+        Ok(mut copy) => all_go_so(alloc, asked, steps) && all_go_so(alloc, &mut copy, steps),
+        Err(_) => false,
+    }
+}
+
+/// Whether a case over a domain comes out.
+fn comes_out(alloc: Global, domain: &Domain, case: &Case) -> bool {
+    match Admission::new(alloc, domain) {
+        Ok(mut asked) => {
+            all_go_so(alloc, &mut asked, case.0) && both_go_so(alloc, &mut asked, case.1)
+        }
+        Err(_) => false,
+    }
+}
+
+/// The first case over the domain of a text that doesn't come out, where there is one.
+fn first_wrong(alloc: Global, text: &str, cases: &[Case]) -> Option<usize> {
+    let Ok(domain) = Domain::read(alloc, text.as_bytes()) else {
+        return Some(0);
     };
-    assert!(rt; answers? == ([(short, receipt), (short, receipt)], 6));
-    Ok(())
-}
-
-/// Whether the stream is in a table as one that is withdrawn, and was live before.
-fn is_leaving(table: &Table) -> Result<bool, Fail> {
-    let name = Name::new(b"old").ok_or("a name was refused")?;
-    let named = table.row_named(&name).map(|row| row.live(Cycle(6)));
-    let numbered = table.row_of(0).map(|row| row.live(Cycle(4)));
-    let at_its_end = table.row_of(0).map(|row| row.live(Cycle(5)));
-    Ok(named == Some(false) && numbered == Some(true) && at_its_end == Some(false))
-}
-
-/// A copy of the next table.
-fn sealed_copy(line: &mut Admission, alloc: Global) -> Result<Table, Fail> {
-    let table = line.seal(0)?;
-    Ok(table.try_copy(alloc)?)
-}
-
-/// Withdraws the stream, and gives from when on, and the second table after that.
-fn leave(line: &mut Admission, alloc: Global) -> Result<(Cycle, Table), Fail> {
-    let receipt = line.withdraw(0, "old")?;
-    seal_often(line, 1)?;
-    let table = sealed_copy(line, alloc)?;
-    Ok((receipt.effect, table))
-}
-
-#[test]
-fn a_withdrawn_stream_stays_in_the_tables(rt: HostRuntime) -> Result<(), Fail> {
-    let mut line = full_line(rt.alloc())?;
-    let left = leave(&mut line, rt.alloc());
-    drop(line);
-    let (effect, table) = left?;
-    assert!(rt; effect == Cycle(5));
-    assert!(rt; table.cycle() == Cycle(6));
-    let leaving = is_leaving(&table);
-    drop(table);
-    assert!(rt; leaving?);
-    Ok(())
-}
-
-#[test]
-fn a_request_of_bad_form_is_refused(rt: HostRuntime) -> Result<(), Fail> {
-    let short = Refused::BudgetShort {
-        link: 0,
-        left: 15_000,
-    };
-    for (name, octets, refused) in [
-        ("X!", 10, Refused::BadName),
-        ("x", 63, Refused::BadOctets),
-        ("x", 60_001, Refused::BadOctets),
-        ("x", 60_000, short),
-    ] {
-        assert!(rt; refused_on(rt.alloc(), LINE, name, octets, &WHOLE)? == Some(refused));
+    for place in 0..cases.len() {
+        if !comes_out(alloc, &domain, &cases[place]) {
+            return Some(place);
+        }
     }
-    Ok(())
+    None
 }
 
 #[test]
-fn what_is_no_path_is_refused_at_its_place(rt: HostRuntime) -> Result<(), Fail> {
-    let unknown = refused_on(rt.alloc(), LINE, "x", 64, &["a", "q", "s"])?;
-    let broken = refused_on(rt.alloc(), LINE, "x", 64, &["a", "c", "s"])?;
-    let ends_in_bridge = refused_on(rt.alloc(), LINE, "x", 64, &["a", "b"])?;
-    let empty = refused_on(rt.alloc(), LINE, "x", 64, &[])?;
-    assert!(rt; unknown == Some(Refused::UnknownNode(1)));
-    assert!(rt; broken == Some(Refused::BrokenPath(1)));
-    assert!(rt; ends_in_bridge == Some(Refused::BrokenPath(1)));
-    assert!(rt; empty == Some(Refused::BrokenPath(0)));
-    Ok(())
+fn streams_on_a_line_are_held_within_its_budget_until_they_have_left(rt: HostRuntime) {
+    assert_eq!(rt; first_wrong(rt.alloc(), line(), OVER_LINE), None);
 }
 
 #[test]
-fn a_path_has_16_bridges_at_most(rt: HostRuntime) -> Result<(), Fail> {
-    let most = refused_on(rt.alloc(), CHAIN, "x", 64, &LONG[1..])?;
-    let more = refused_on(rt.alloc(), CHAIN, "x", 64, &LONG)?;
-    assert!(rt; most == None);
-    assert!(rt; more == Some(Refused::BrokenPath(17)));
-    Ok(())
+fn a_path_has_16_bridges_at_most(rt: HostRuntime) {
+    assert_eq!(rt; first_wrong(rt.alloc(), CHAIN, OVER_CHAIN), None);
 }
 
 #[test]
-fn a_path_that_comes_back_to_a_bridge_is_refused(rt: HostRuntime) -> Result<(), Fail> {
-    let back = ["a", "b", "c", "a", "c", "s"];
-    let refused = refused_on(rt.alloc(), RING, "x", 64, &back)?;
-    assert!(rt; refused == Some(Refused::LoopingPath(3)));
-    Ok(())
-}
-
-/// Withdraws a stream, and gives why its name is refused then, to a request and to two withdrawals.
-fn use_names(line: &mut Admission, alloc: Global) -> Result<[Option<Refused>; 3], Fail> {
-    ask(line, alloc, "x", 64, &WHOLE)??;
-    line.withdraw(0, "x")?;
-    let again = ask(line, alloc, "x", 64, &WHOLE)?.err();
-    let twice = line.withdraw(0, "x").err();
-    let other = line.withdraw(0, "q").err();
-    Ok([again, twice, other])
+fn branches_that_make_no_tree_are_refused(rt: HostRuntime) {
+    assert_eq!(rt; first_wrong(rt.alloc(), ring(), OVER_RING), None);
 }
 
 #[test]
-fn a_name_is_held_as_long_as_its_stream(rt: HostRuntime) -> Result<(), Fail> {
-    let mut line = admission(rt.alloc(), LINE)?;
-    let answers = use_names(&mut line, rt.alloc());
-    let entries = line.history().len();
-    let last = last_reply(&line);
-    drop(line);
-    let wanted = [
-        Some(Refused::NameHeld),
-        Some(Refused::AlreadyWithdrawn),
-        Some(Refused::NotHeld),
-    ];
-    assert!(rt; answers? == wanted);
-    assert!(rt; entries == 5);
-    assert!(rt; last == Some(Reply::Refused(Refused::NotHeld)));
-    Ok(())
-}
-
-/// Fills the wide link with 1,024 streams of 64 octets, and gives why one more is refused.
-fn overfill(wide: &mut Admission, alloc: Global) -> Result<Option<Refused>, Fail> {
-    ask_often(wide, alloc, 1024, 64, &["a", "s"])?;
-    Ok(ask(wide, alloc, "x", 64, &["a", "s"])?.err())
-}
-
-#[test]
-fn no_more_than_1024_streams_are_held(rt: HostRuntime) -> Result<(), Fail> {
-    let mut wide = admission(rt.alloc(), WIDE)?;
-    let refused = overfill(&mut wide, rt.alloc());
-    drop(wide);
-    assert!(rt; refused? == Some(Refused::TooManyStreams));
-    Ok(())
-}
-
-/// Makes so many withdrawals of a name that isn't held.
-fn withdraw_often(line: &mut Admission, count: u32) {
-    for _ in 0..count {
-        let _ = line.withdraw(0, "q");
-    }
-}
-
-/// Makes 100,000 calls and one more, and gives why the last two are refused.
-fn spend_calls(line: &mut Admission) -> [Option<Refused>; 2] {
-    withdraw_often(line, 99_999);
-    let last = line.withdraw(0, "q").err();
-    let past = line.withdraw(0, "q").err();
-    [last, past]
-}
-
-/// Makes 100,000 Seals and one more, and gives why that is refused.
-fn spend_cycles(line: &mut Admission) -> Result<Option<SealFault>, SealFault> {
-    seal_often(line, 100_000)?;
-    Ok(line.seal(0).err())
-}
-
-#[test]
-fn a_history_takes_100000_calls_and_as_many_seals(rt: HostRuntime) -> Result<(), Fail> {
-    let mut line = admission(rt.alloc(), LINE)?;
-    let calls = spend_calls(&mut line);
-    let cycles = spend_cycles(&mut line);
-    drop(line);
-    assert!(rt; calls == [Some(Refused::NotHeld), Some(Refused::HistoryFull)]);
-    assert!(rt; cycles? == Some(SealFault::CyclesSpent));
-    Ok(())
-}
-
-/// What is held on the four links of the fork.
-fn held_on_fork(fork: &Admission) -> [u32; 4] {
-    if fork.domain().links() < 4 {
-        return [0; 4];
-    }
-    [
-        fork.held_on(0).0,
-        fork.held_on(1).0,
-        fork.held_on(2).0,
-        fork.held_on(3).0,
-    ]
-}
-
-/// What is held on the fork for a stream to both of its stations: at once, and of a stream withdrawn with effect 5 in
-/// cycles 7 and 8; and then for a stream of 64 octets on its last link alone.
-fn hold_fork(fork: &mut Admission, alloc: Global) -> Result<[[u32; 4]; 4], Fail> {
-    ask_two(fork, alloc, &WHOLE, &["a", "b", "t"])??;
-    let granted = held_on_fork(fork);
-    seal_often(fork, 5)?;
-    fork.withdraw(0, "x")?;
-    seal_often(fork, 2)?;
-    let before = held_on_fork(fork);
-    seal_often(fork, 1)?;
-    let after = held_on_fork(fork);
-    ask(fork, alloc, "y", 64, &["b", "t"])??;
-    Ok([granted, before, after, held_on_fork(fork)])
-}
-
-#[test]
-fn a_shared_link_is_charged_once_until_the_deepest_branch_is_empty(
-    rt: HostRuntime,
-) -> Result<(), Fail> {
-    let mut fork = admission(rt.alloc(), FORK)?;
-    let held = hold_fork(&mut fork, rt.alloc());
-    drop(fork);
-    assert!(rt; held? == [[1960; 4], [1960; 4], [0; 4], [0, 0, 0, 84]]);
-    Ok(())
-}
-
-#[test]
-fn branches_that_make_no_tree_are_refused(rt: HostRuntime) -> Result<(), Fail> {
-    let joins = refused_of_two(rt.alloc(), &WHOLE, &["a", "c", "s"])?;
-    let again = refused_of_two(rt.alloc(), &["a", "c", "s"], &["a", "c", "s"])?;
-    let other = refused_of_two(rt.alloc(), &["a", "c", "s"], &["b", "c", "s"])?;
-    let unknown = refused_of_two(rt.alloc(), &["a", "c", "s"], &["a", "q", "s"])?;
-    assert!(rt; joins == Some(Refused::NotATree(1)));
-    assert!(rt; again == Some(Refused::NotATree(1)));
-    assert!(rt; other == Some(Refused::NotATree(1)));
-    assert!(rt; unknown == Some(Refused::UnknownNode(4)));
-    Ok(())
+fn a_shared_link_is_charged_once_until_the_deepest_branch_is_empty(rt: HostRuntime) {
+    assert_eq!(rt; first_wrong(rt.alloc(), fork(), OVER_FORK), None);
 }

@@ -1,10 +1,8 @@
-//! Tests of orders, domains, admission, scripts, compiled lists and pages, with values from outside. A crate that has tests is proved twice, so these stand in one of their own.
+//! Tests of orders, domains, admission, scripts and pages, with values from outside. A crate that has tests is proved twice, so these stand in one of their own.
 #![tactic(auto)]
 
 #[cfg(test)]
 mod admission;
-#[cfg(test)]
-mod compiled;
 #[cfg(test)]
 mod order;
 #[cfg(test)]

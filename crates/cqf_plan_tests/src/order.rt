@@ -1,48 +1,57 @@
 //! Drops in the order of a book, with values by hand.
+use cqf_fixtures::{Fell, are_dropped};
 use cqf_model::{Dropped, Reason};
 use cqf_order::sort_drops;
-use cqf_units::{Cycle, Memory};
+use cqf_units::Cycle;
 use std::alloc::Global;
 
-/// A drop by its cycle, bridge and frame.
-type Case = (u32, u8, u32);
+/// Why all are dropped.
+const OCTETS: Reason = Reason::Octets;
 
 /// Drops as they come.
-const COME: &[Case] = &[(1, 0, 4), (0, 2, 3), (0, 1, 5), (1, 0, 1), (0, 1, 2)];
+const COME: &[Fell] = &[
+    (1, 0, 4, 64, OCTETS),
+    (0, 2, 3, 64, OCTETS),
+    (0, 1, 5, 64, OCTETS),
+    (1, 0, 1, 64, OCTETS),
+    (0, 1, 2, 64, OCTETS),
+];
 
 /// The same as they stand in a book.
-const STAND: &[Case] = &[(0, 1, 2), (0, 1, 5), (0, 2, 3), (1, 0, 1), (1, 0, 4)];
+const STAND: &[Fell] = &[
+    (0, 1, 2, 64, OCTETS),
+    (0, 1, 5, 64, OCTETS),
+    (0, 2, 3, 64, OCTETS),
+    (1, 0, 1, 64, OCTETS),
+    (1, 0, 4, 64, OCTETS),
+];
 
-/// Drops of 64 octets.
-fn drops_of(alloc: Global, cases: &[Case]) -> Result<Vec<Dropped>, Memory> {
-    let mut drops = Vec::new(alloc);
-    for (cycle, bridge, frame) in cases {
-        drops.push(Dropped {
+/// Appends drops.
+fn add_drops(rows: &[Fell], drops: &mut Vec<Dropped>) -> bool {
+    for (cycle, bridge, frame, octets, reason) in rows {
+        let dropped = Dropped {
             cycle: Cycle(*cycle),
             bridge: *bridge,
             frame: *frame,
-            octets: 64,
-            reason: Reason::Octets,
-        })?;
+            octets: *octets,
+            reason: *reason,
+        };
+        if drops.push(dropped).is_err() {
+            return false;
+        }
     }
-    Ok(drops)
+    true
 }
 
-/// Whether the drops are sorted into these.
-fn are_sorted(drops: &mut Vec<Dropped>, wanted: &[Dropped]) -> bool {
-    match sort_drops(drops) {
-        Ok(()) => drops.as_slice() == wanted,
-        Err(_) => false,
-    }
+/// Whether drops that come so are sorted into these.
+fn are_sorted(alloc: Global, come: &[Fell], stand: &[Fell]) -> bool {
+    let mut drops = Vec::new(alloc);
+    add_drops(come, &mut drops)
+        && sort_drops(&mut drops).is_ok()
+        && are_dropped(drops.as_slice(), stand)
 }
 
 #[test]
-fn drops_stand_by_cycle_bridge_and_frame(rt: HostRuntime) -> Result<(), Memory> {
-    let wanted = drops_of(rt.alloc(), STAND)?;
-    let mut drops = drops_of(rt.alloc(), COME)?;
-    let sorted = are_sorted(&mut drops, wanted.as_slice());
-    drop(drops);
-    drop(wanted);
-    assert!(rt; sorted);
-    Ok(())
+fn drops_stand_by_cycle_bridge_and_frame(rt: HostRuntime) {
+    assert!(rt; are_sorted(rt.alloc(), COME, STAND));
 }

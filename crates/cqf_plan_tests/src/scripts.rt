@@ -1,104 +1,85 @@
 //! Scripts read, and refused.
 use cqf_admission::Call;
+use cqf_fixtures::{Asked, request};
 use cqf_script::{ScriptFault, read_script};
 use cqf_topology::Request;
-use cqf_units::Memory;
 use std::alloc::Global;
-use std::test::Fail;
 
 /// A call by its seat, what it calls for, and the name of its stream.
 type Wanted = (u16, &'static str, &'static str);
 
-/// A script, its cycles, and its calls.
-type Read = (&'static str, u32, &'static [Wanted]);
+/// A script, its cycles, and its calls, or the fault of the first line that has one.
+type Case = (&'static str, u32, Result<&'static [Wanted], &'static str>);
 
 /// The stream `x` may be admitted.
-const READ: &[Read] = &[
+const CASES: &[Case] = &[
     // a stream admitted; and withdrawn behind a Seal, which the administrator behind the last makes
-    ("0 admit x\n", 5, &[(0, "admit", "x")]),
+    ("0 admit x\n", 5, Ok(&[(0, "admit", "x")])),
     (
         "0 admit x\nseal\n0 withdraw x\n",
         6,
-        &[(0, "admit", "x"), (1, "seal", ""), (0, "withdraw", "x")],
+        Ok(&[(0, "admit", "x"), (1, "seal", ""), (0, "withdraw", "x")]),
     ),
     // no lines; the last without its line feed; as many Seals as cycles; Seals alone
-    ("", 0, &[]),
-    ("1 admit x", 0, &[(1, "admit", "x")]),
-    ("seal\nseal\n", 2, &[(0, "seal", ""), (0, "seal", "")]),
+    ("", 0, Ok(&[])),
+    ("1 admit x", 0, Ok(&[(1, "admit", "x")])),
+    ("seal\nseal\n", 2, Ok(&[(0, "seal", ""), (0, "seal", "")])),
     // the greatest administrator, also behind the Seal; any word may be withdrawn
     (
         "3 withdraw !~\nseal\n7 withdraw y\nseal",
         2,
-        &[
+        Ok(&[
             (3, "withdraw", "!~"),
             (8, "seal", ""),
             (7, "withdraw", "y"),
             (8, "seal", ""),
-        ],
+        ]),
     ),
     (
         "0 withdraw 0123456789012345678901234567890123456789012345678901234567890123\n",
         0,
-        &[(
+        Ok(&[(
             0,
             "withdraw",
             "0123456789012345678901234567890123456789012345678901234567890123",
-        )],
+        )]),
     ),
-];
-
-/// Scripts, their cycles, and their faults.
-const REFUSED: &[(&str, u32, &str)] = &[
     // lines of another form
-    ("\n", 1, "BadLine 1"),
-    ("0 admit x\n\nseal\n", 1, "BadLine 2"),
-    ("8 admit x\n", 1, "BadLine 1"),
-    ("00 admit x\n", 1, "BadLine 1"),
-    (" admit x\n", 1, "BadLine 1"),
-    ("0  admit x\n", 1, "BadLine 1"),
-    ("0 admit  x\n", 1, "BadLine 1"),
-    ("0 admit x \n", 1, "BadLine 1"),
-    ("0 admit x\r\n", 1, "BadLine 1"),
-    ("0 admit \n", 1, "BadLine 1"),
-    ("0 admit\n", 1, "BadLine 1"),
-    ("0 Admit x\n", 1, "BadLine 1"),
-    ("0 withdraw x\x7f\n", 1, "BadLine 1"),
-    ("0 withdraw é\n", 1, "BadLine 1"),
-    ("0 seal\n", 1, "BadLine 1"),
-    ("seal \n", 1, "BadLine 1"),
+    ("\n", 1, Err("BadLine 1")),
+    ("0 admit x\n\nseal\n", 1, Err("BadLine 2")),
+    ("8 admit x\n", 1, Err("BadLine 1")),
+    ("00 admit x\n", 1, Err("BadLine 1")),
+    (" admit x\n", 1, Err("BadLine 1")),
+    ("0  admit x\n", 1, Err("BadLine 1")),
+    ("0 admit  x\n", 1, Err("BadLine 1")),
+    ("0 admit x \n", 1, Err("BadLine 1")),
+    ("0 admit x\r\n", 1, Err("BadLine 1")),
+    ("0 admit \n", 1, Err("BadLine 1")),
+    ("0 admit\n", 1, Err("BadLine 1")),
+    ("0 Admit x\n", 1, Err("BadLine 1")),
+    ("0 withdraw x\x7f\n", 1, Err("BadLine 1")),
+    ("0 withdraw é\n", 1, Err("BadLine 1")),
+    ("0 seal\n", 1, Err("BadLine 1")),
+    ("seal \n", 1, Err("BadLine 1")),
     (
         "0 withdraw 01234567890123456789012345678901234567890123456789012345678901234\n",
         1,
-        "BadLine 1",
+        Err("BadLine 1"),
     ),
     // a stream that isn't asked for
-    ("seal\n0 admit y\n", 1, "UnknownStream 2"),
-    ("0 admit xx\n", 1, "UnknownStream 1"),
+    ("seal\n0 admit y\n", 1, Err("UnknownStream 2")),
+    ("0 admit xx\n", 1, Err("UnknownStream 1")),
     // more Seals than cycles
-    ("seal\n", 0, "TooMany 1"),
-    ("seal\n0 admit x\nseal\n", 1, "TooMany 3"),
+    ("seal\n", 0, Err("TooMany 1")),
+    ("seal\n0 admit x\nseal\n", 1, Err("TooMany 3")),
     // the first line that has a fault
-    ("seal\nseal\n0 admit y\n9\n", 1, "TooMany 2"),
-    ("0 admit y\n9\nseal\n", 0, "UnknownStream 1"),
-    ("9\n0 admit y\nseal\n", 0, "BadLine 1"),
+    ("seal\nseal\n0 admit y\n9\n", 1, Err("TooMany 2")),
+    ("0 admit y\n9\nseal\n", 0, Err("UnknownStream 1")),
+    ("9\n0 admit y\nseal\n", 0, Err("BadLine 1")),
 ];
 
-/// A request for the stream `x`.
-fn request_x(alloc: Global, octets: u32) -> Result<Request, Memory> {
-    Ok(Request {
-        name: String::from_str(alloc, "x")?,
-        octets,
-        paths: Vec::new(alloc),
-    })
-}
-
-/// Two requests for `x`, of which the first is for 1,500 octets.
-fn requests_x(alloc: Global) -> Result<Vec<Request>, Memory> {
-    let mut requests = Vec::new(alloc);
-    requests.push(request_x(alloc, 1500)?)?;
-    requests.push(request_x(alloc, 64)?)?;
-    Ok(requests)
-}
+/// Two requests for `x`: a script means the first.
+const REQUESTS: &[Asked] = &[("x", 1500, &[]), ("x", 64, &[])];
 
 /// Whether the call is the wanted one.
 fn is_call(call: &(u16, Call), wanted: &Wanted) -> bool {
@@ -115,25 +96,11 @@ fn is_call(call: &(u16, Call), wanted: &Wanted) -> bool {
 
 /// Whether the calls are the wanted ones.
 fn are_calls(calls: &[(u16, Call)], wanted: &[Wanted]) -> bool {
-    let mut same = calls.len() == wanted.len();
-    for (call, other) in calls.iter().zip(wanted.iter()) {
-        same = same && is_call(call, other);
-    }
-    same
-}
-
-/// Whether the script is read as these calls.
-fn is_read(
-    alloc: Global,
-    requests: &[Request],
-    script: &str,
-    cycles: u32,
-    wanted: &[Wanted],
-) -> bool {
-    match read_script(alloc, script.as_bytes(), requests, cycles) {
-        Ok(calls) => are_calls(calls.as_slice(), wanted),
-        Err(_) => false,
-    }
+    calls.len() == wanted.len()
+        && calls
+            .iter()
+            .zip(wanted)
+            .all(|(call, other)| is_call(call, other))
 }
 
 /// Whether the fault prints so.
@@ -144,64 +111,45 @@ fn prints(alloc: Global, fault: ScriptFault, wanted: &str) -> bool {
     }
 }
 
-/// Whether the script is refused so.
-fn is_refused(
-    alloc: Global,
-    requests: &[Request],
-    script: &str,
-    cycles: u32,
-    wanted: &str,
-) -> bool {
+/// Whether the script of a case is read or refused so.
+fn is_answered(alloc: Global, requests: &[Request], case: &Case) -> bool {
+    let (script, cycles, wanted) = *case;
     match read_script(alloc, script.as_bytes(), requests, cycles) {
-        Ok(_) => false,
-        Err(fault) => prints(alloc, fault, wanted),
+        Ok(calls) => matches!(wanted, Ok(rows) if are_calls(calls.as_slice(), rows)),
+        Err(fault) => matches!(wanted, Err(text) if prints(alloc, fault, text)),
     }
 }
 
-/// So many withdrawals, and a last line.
-fn withdrawals(alloc: Global, many: u32, last: &str) -> Result<String, Memory> {
-    let mut script = String::new(alloc);
-    for _line in 0..many {
-        script.push_str("0 withdraw x\n")?;
+/// Appends the requests.
+fn add_requests(alloc: Global, requests: &mut Vec<Request>) -> bool {
+    for asked in REQUESTS {
+        match request(alloc, asked) {
+            Ok(wanted) => {
+                if requests.push(wanted).is_err() {
+                    return false;
+                }
+            }
+            Err(_) => return false,
+        }
     }
-    script.push_str(last)?;
-    Ok(script)
+    true
 }
 
-#[test]
-fn scripts_are_read(rt: HostRuntime) -> Result<(), Fail> {
-    let requests = requests_x(rt.alloc())?;
-    for (script, cycles, wanted) in READ {
-        assert!(rt;
-            is_read(rt.alloc(), requests.as_slice(), script, *cycles, wanted),
-            "{script}"
-        );
+/// The first case that is answered otherwise, where there is one.
+fn first_wrong(alloc: Global) -> Option<usize> {
+    let mut requests = Vec::new(alloc);
+    if !add_requests(alloc, &mut requests) {
+        return Some(0);
     }
-    Ok(())
-}
-
-#[test]
-fn the_first_fault_of_a_script_is_told(rt: HostRuntime) -> Result<(), Fail> {
-    let requests = requests_x(rt.alloc())?;
-    for (script, cycles, wanted) in REFUSED {
-        assert!(rt;
-            is_refused(rt.alloc(), requests.as_slice(), script, *cycles, wanted),
-            "{script}"
-        );
+    for place in 0..CASES.len() {
+        if !is_answered(alloc, requests.as_slice(), &CASES[place]) {
+            return Some(place);
+        }
     }
-    Ok(())
+    None
 }
 
 #[test]
-fn a_script_has_100_000_calls_beside_seals(rt: HostRuntime) -> Result<(), Fail> {
-    let requests = requests_x(rt.alloc())?;
-    for (last, wanted) in [
-        ("0 admit x\n", "TooMany 100001"),
-        ("0 admit y\n", "UnknownStream 100001"),
-        ("seal\nseal\n", "TooMany 100002"),
-    ] {
-        let script = withdrawals(rt.alloc(), 100_000, last)?;
-        assert!(rt; is_refused(rt.alloc(), requests.as_slice(), script.as_str(), 1, wanted));
-    }
-    Ok(())
+fn scripts_are_read_or_their_first_fault_is_told(rt: HostRuntime) {
+    assert_eq!(rt; first_wrong(rt.alloc()), None);
 }

@@ -1,48 +1,34 @@
 //! Domains and streams read, or refused.
-use cqf_fixtures::{line, line_and_link, one_link_with, ring};
-use cqf_topology::{Domain, Link, Node, Request, read_streams};
+use cqf_fixtures::{line, one_link, ring};
+use cqf_topology::{Domain, DomainFault, Link, Node, Request, StreamsFault, read_streams};
 use cqf_units::{Nanos, Rate};
-use std::alloc::{AllocError, Global};
-use std::process::Abort;
+use std::alloc::Global;
 
-/// The text of 32 bridges, but for the end of their array.
-const MANY: &str = "cycle = 125000\nguard = 5000\nstations = []\nlinks = []\nbridges = [\
-    \"0\", \"1\", \"2\", \"3\", \"4\", \"5\", \"6\", \"7\", \"8\", \"9\", \"10\", \"11\", \"12\", \"13\", \"14\", \"15\", \"16\", \
-    \"17\", \"18\", \"19\", \"20\", \"21\", \"22\", \"23\", \"24\", \"25\", \"26\", \"27\", \"28\", \"29\", \"30\", \"31\"";
-
-/// What a domain text is answered with: its fault as it prints, or that it is read.
-fn answer(alloc: Global, text: &[u8]) -> Result<String, AllocError> {
-    match Domain::read(alloc, text) {
-        Ok(_domain) => String::from_str(alloc, "read"),
-        Err(fault) => {
-            let line = format!(in alloc; "{fault}")?;
-            Ok(line)
-        }
+/// Whether a fault of a domain's text prints so.
+fn domain_prints(alloc: Global, fault: DomainFault, wanted: &str) -> bool {
+    match format!(in alloc; "{fault}") {
+        Ok(text) => text.as_str() == wanted,
+        Err(_) => false,
     }
 }
 
-/// Whether a domain text is answered with this.
+/// Whether a domain's text is read, where that is the answer, or refused with a fault that prints so.
 fn answers(alloc: Global, text: &[u8], wanted: &str) -> bool {
-    match answer(alloc, text) {
-        Ok(line) => line.as_str() == wanted,
+    match Domain::read(alloc, text) {
+        Ok(_domain) => wanted == "read",
+        Err(fault) => domain_prints(alloc, fault, wanted),
+    }
+}
+
+/// Whether a text with another in the place of a part of it is answered so.
+fn changed_answers(alloc: Global, text: &str, old: &str, new: &str, wanted: &str) -> bool {
+    match text.replacen(alloc, old, new, 1) {
+        Ok(changed) => answers(alloc, changed.as_bytes(), wanted),
         Err(_) => false,
     }
 }
 
-/// Whether a text that was made is answered with this.
-fn text_answers(alloc: Global, text: Result<String, AllocError>, wanted: &str) -> bool {
-    match text {
-        Ok(text) => answers(alloc, text.as_bytes(), wanted),
-        Err(_) => false,
-    }
-}
-
-/// Whether the line with another text at one place is answered with this.
-fn changed_line_answers(alloc: Global, old: &str, new: &str, wanted: &str) -> bool {
-    text_answers(alloc, line().replacen(alloc, old, new, 1), wanted)
-}
-
-/// A text of the line, another in its place, and the answer.
+/// A part of the line's text, another in its place, and the answer.
 const CHANGES: &[(&str, &str, &str)] = &[
     ("", "", "read"),
     ("delay = 500", "delay = 4999", "read"),
@@ -71,84 +57,95 @@ const CHANGES: &[(&str, &str, &str)] = &[
     ("cycle = 125000", "cycle =", "NotToml"),
     ("[\"a\", \"b\", \"c\"]", "[]", "BadValue bridges"),
     ("rate = 1000", "rate = 100", "read"),
+    // one link more, behind the last
+    (
+        LAST_LINK,
+        "to = \"s\"\nrate = 1000\ndelay = 500\n[[links]]\nfrom = \"b\"\nto = \"s\"\nrate = 1000\ndelay = 500\n",
+        "read",
+    ),
+    (
+        LAST_LINK,
+        "to = \"s\"\nrate = 1000\ndelay = 500\n[[links]]\nfrom = \"a\"\nto = \"q\"\nrate = 1000\ndelay = 500\n",
+        "UnknownName q",
+    ),
+    (
+        LAST_LINK,
+        "to = \"s\"\nrate = 1000\ndelay = 500\n[[links]]\nfrom = \"s\"\nto = \"a\"\nrate = 1000\ndelay = 500\n",
+        "UnknownName s",
+    ),
+    (
+        LAST_LINK,
+        "to = \"s\"\nrate = 1000\ndelay = 500\n[[links]]\nfrom = \"b\"\nto = \"b\"\nrate = 1000\ndelay = 500\n",
+        "UnknownName b",
+    ),
+    (
+        LAST_LINK,
+        "to = \"s\"\nrate = 1000\ndelay = 500\n[[links]]\nfrom = \"a\"\nto = \"b\"\nrate = 1000\ndelay = 500\n",
+        "LinkTwice 3",
+    ),
 ];
+
+/// The end of the line's text.
+const LAST_LINK: &str = "to = \"s\"\nrate = 1000\ndelay = 500\n";
 
 #[test]
 fn a_changed_line_is_refused_by_its_first_fault(rt: HostRuntime) {
     for (old, new, wanted) in CHANGES {
         assert!(rt;
-            changed_line_answers(rt.alloc(), old, new, wanted),
+            changed_answers(rt.alloc(), line(), old, new, wanted),
             "{new}: {wanted}"
         );
     }
 }
 
-/// The ends of one link more, and the answer.
-const LINKS_MORE: &[(&str, &str, &str)] = &[
-    ("b", "s", "read"),
-    ("a", "q", "UnknownName q"),
-    ("s", "a", "UnknownName s"),
-    ("b", "b", "UnknownName b"),
-    ("a", "b", "LinkTwice 3"),
+/// The guard time and the rate of the one link, others in their places, and the answer: a gap is within the guard time.
+const GAPS: &[(&str, &str)] = &[
+    (
+        "guard = 9600\nbridges = [\"a\"]\nstations = [\"s\"]\n\n[[links]]\nfrom = \"a\"\nto = \"s\"\nrate = 10\n",
+        "read",
+    ),
+    (
+        "guard = 9599\nbridges = [\"a\"]\nstations = [\"s\"]\n\n[[links]]\nfrom = \"a\"\nto = \"s\"\nrate = 10\n",
+        "GapTooLong 0",
+    ),
+    (
+        "guard = 5000\nbridges = [\"a\"]\nstations = [\"s\"]\n\n[[links]]\nfrom = \"a\"\nto = \"s\"\nrate = 11\n",
+        "BadValue rate",
+    ),
 ];
 
-#[test]
-fn one_link_more_is_refused_where_it_leads_wrong(rt: HostRuntime) {
-    let alloc = rt.alloc();
-    for (from, to, wanted) in LINKS_MORE {
-        assert!(rt;
-            text_answers(alloc, line_and_link(alloc, from, to), wanted),
-            "{from}>{to}"
-        );
-    }
-}
+/// What they stand in place of.
+const NO_GAP: &str =
+    "guard = 5000\nbridges = [\"a\"]\nstations = [\"s\"]\n\n[[links]]\nfrom = \"a\"\nto = \"s\"\nrate = 1000\n";
 
-/// A guard time, a rate, and the answer.
-const GAPS: &[(u32, u32, &str)] = &[
-    (9600, 10, "read"),
-    (9599, 10, "GapTooLong 0"),
-    (5000, 11, "BadValue rate"),
+/// 32 bridges.
+const MANY: &str = "cycle = 125000\nguard = 5000\nstations = []\nlinks = []\nbridges = [\
+    \"0\", \"1\", \"2\", \"3\", \"4\", \"5\", \"6\", \"7\", \"8\", \"9\", \"10\", \"11\", \"12\", \"13\", \"14\", \"15\", \"16\", \
+    \"17\", \"18\", \"19\", \"20\", \"21\", \"22\", \"23\", \"24\", \"25\", \"26\", \"27\", \"28\", \"29\", \"30\", \"31\"]";
+
+/// Other texts, and the answers.
+const OTHERS: &[(&[u8], &str)] = &[
+    (b"", "Missing cycle"),
+    (b"bridges = [\"\xff\"]", "NotToml"),
+    (
+        b"cycle = 125000\nguard = 5000\nbridges = [\"a\"]\nstations = []\nlinks = [7]\n",
+        "BadValue links",
+    ),
 ];
-
-#[test]
-fn a_gap_is_within_the_guard_time(rt: HostRuntime) {
-    let alloc = rt.alloc();
-    for (guard, rate, wanted) in GAPS {
-        assert!(rt;
-            text_answers(alloc, one_link_with(alloc, *guard, *rate), wanted),
-            "{wanted}"
-        );
-    }
-}
-
-/// Whether the text of 32 bridges with this end is answered with this.
-fn many_answer(alloc: Global, end: &str, wanted: &str) -> bool {
-    let text = match format!(in alloc; "{MANY}{end}") {
-        Ok(text) => text,
-        Err(_) => return false,
-    };
-    answers(alloc, text.as_bytes(), wanted)
-}
 
 #[test]
 fn other_texts_are_refused_by_their_first_fault(rt: HostRuntime) {
-    let alloc = rt.alloc();
-    assert!(rt; answers(alloc, b"", "Missing cycle"));
-    assert!(rt; answers(alloc, b"bridges = [\"\xff\"]", "NotToml"));
-    let no_table = "cycle = 125000\nguard = 5000\nbridges = [\"a\"]\nstations = []\nlinks = [7]\n";
-    assert!(rt; answers(alloc, no_table.as_bytes(), "BadValue links"));
-    assert!(rt; many_answer(alloc, "]", "read"));
-    assert!(rt; many_answer(alloc, ", \"32\"]", "TooMany"));
-}
-
-/// Asserts the times and names of the line.
-fn has_times_and_names_of_line(rt: &impl Abort, domain: &Domain) {
-    assert_eq!(rt; domain.cycle_time(), Nanos(125_000));
-    assert_eq!(rt; domain.guard(), Nanos(5000));
-    assert_eq!(rt; domain.bridges(), 3);
-    assert_eq!(rt; domain.stations(), 1);
-    assert_eq!(rt; domain.bridge_name(2).as_str(), "c");
-    assert_eq!(rt; domain.station_name(0).as_str(), "s");
+    for (new, wanted) in GAPS {
+        assert!(rt;
+            changed_answers(rt.alloc(), one_link(), NO_GAP, new, wanted),
+            "{wanted}"
+        );
+    }
+    for (text, wanted) in OTHERS {
+        assert!(rt; answers(rt.alloc(), text, wanted), "{wanted}");
+    }
+    assert!(rt; changed_answers(rt.alloc(), MANY, "", "", "read"));
+    assert!(rt; changed_answers(rt.alloc(), MANY, "\"31\"]", "\"31\", \"32\"]", "TooMany"));
 }
 
 /// Names, and the nodes of the line that have them.
@@ -159,55 +156,33 @@ const NODES: &[(&str, Option<Node>)] = &[
     ("A", None),
 ];
 
-/// Asserts the nodes of the line.
-fn has_nodes_of_line(rt: &impl Abort, domain: &Domain) {
-    for (name, wanted) in NODES {
-        assert_eq!(rt; domain.find(name), *wanted, "{name}");
+/// The last link of the line.
+const LAST: Link = Link {
+    from: 2,
+    to: Node::Station(0),
+    rate: Rate::Mb1000,
+    delay: 500,
+};
+
+/// Whether a domain has the times, names, nodes and the last link of the line.
+fn is_line(domain: &Domain) -> bool {
+    if domain.bridges() != 3 || domain.stations() != 1 || domain.links() != 3 {
+        return false;
     }
+    domain.cycle_time() == Nanos(125_000)
+        && domain.guard() == Nanos(5000)
+        && domain.bridge_name(2).as_str() == "c"
+        && domain.station_name(0).as_str() == "s"
+        && domain.link(2) == LAST
+        && NODES.iter().all(|(name, node)| domain.find(name) == *node)
 }
 
-/// Asserts the last link of the line.
-fn has_last_link_of_line(rt: &impl Abort, domain: &Domain) {
-    assert_eq!(rt; domain.links(), 3);
-    let last = Link {
-        from: 2,
-        to: Node::Station(0),
-        rate: Rate::Mb1000,
-        delay: 500,
-    };
-    assert_eq!(rt; domain.link(2), last);
-}
-
-/// Asserts all that is asked of the line.
-fn is_line(rt: &impl Abort, domain: &Domain) {
-    has_times_and_names_of_line(rt, domain);
-    has_nodes_of_line(rt, domain);
-    has_last_link_of_line(rt, domain);
-}
-
-/// Asserts all that is asked of the line, of a domain and of its copy, which is made.
-fn are_line(rt: &impl Abort, alloc: Global, domain: &Domain) -> bool {
+/// Whether a domain and its copy are the line.
+fn are_line(alloc: Global, domain: &Domain) -> bool {
     match domain.try_copy(alloc) {
-        Ok(copy) => {
-            is_line(rt, &copy);
-            is_line(rt, domain);
-            true
-        }
+        Ok(copy) => is_line(&copy) && is_line(domain),
         Err(_) => false,
     }
-}
-
-/// Asserts the same of the line's text, which is read.
-fn is_read_and_copied(rt: &impl Abort, alloc: Global) -> bool {
-    match Domain::read(alloc, line().as_bytes()) {
-        Ok(domain) => are_line(rt, alloc, &domain),
-        Err(_) => false,
-    }
-}
-
-#[test]
-fn a_line_of_bridges_is_read_and_copied(rt: HostRuntime) {
-    assert!(rt; is_read_and_copied(&rt, rt.alloc()));
 }
 
 /// A bridge, a node, and the number of the ring's link between them.
@@ -219,28 +194,28 @@ const LINKS_OF_RING: &[(u8, Node, Option<u8>)] = &[
     (1, Node::Bridge(0), None),
 ];
 
-/// Asserts the numbers of the ring's links.
-fn has_links_of_ring(rt: &impl Abort, domain: &Domain) {
-    assert_eq!(rt; domain.links(), 5);
-    for (from, to, wanted) in LINKS_OF_RING {
-        assert_eq!(rt; domain.find_link(*from, *to), *wanted);
-    }
+/// Whether a domain's links have the numbers of the ring's.
+fn is_ring(domain: &Domain) -> bool {
+    domain.links() == 5
+        && LINKS_OF_RING.iter().all(|(from, to, number)| domain.find_link(*from, *to) == *number)
 }
 
-/// Asserts the same of the ring's text, which is read.
-fn is_read_as_ring(rt: &impl Abort, alloc: Global) -> bool {
-    match Domain::read(alloc, ring().as_bytes()) {
-        Ok(domain) => {
-            has_links_of_ring(rt, &domain);
-            true
-        }
+/// Whether the line's text is read and copied, and the ring's read.
+fn are_read(alloc: Global) -> bool {
+    let is_line = match Domain::read(alloc, line().as_bytes()) {
+        Ok(domain) => are_line(alloc, &domain),
         Err(_) => false,
-    }
+    };
+    let is_ring = match Domain::read(alloc, ring().as_bytes()) {
+        Ok(domain) => is_ring(&domain),
+        Err(_) => false,
+    };
+    is_line && is_ring
 }
 
 #[test]
-fn links_are_numbered_in_their_order(rt: HostRuntime) {
-    assert!(rt; is_read_as_ring(&rt, rt.alloc()));
+fn domains_are_read_and_copied_and_links_numbered_in_their_order(rt: HostRuntime) {
+    assert!(rt; are_read(rt.alloc()));
 }
 
 /// Whether the request is for 1,500 octets of the stream x, in so many branches, of which the last has this length and ends
@@ -297,22 +272,19 @@ fn streams_have_one_branch_or_several(rt: HostRuntime) {
     assert!(rt; asks_for(rt.alloc(), two, 2, 3, "t"));
 }
 
-/// What a streams text is answered with: its fault as it prints, or that it is read.
-fn answer_to_streams(alloc: Global, text: &str) -> Result<String, AllocError> {
-    match read_streams(alloc, text.as_bytes()) {
-        Ok(_requests) => String::from_str(alloc, "read"),
-        Err(fault) => {
-            let line = format!(in alloc; "{fault}")?;
-            Ok(line)
-        }
+/// Whether a fault of a streams text prints so.
+fn streams_print(alloc: Global, fault: StreamsFault, wanted: &str) -> bool {
+    match format!(in alloc; "{fault}") {
+        Ok(text) => text.as_str() == wanted,
+        Err(_) => false,
     }
 }
 
 /// Whether a streams text is answered with this.
 fn streams_answer(alloc: Global, text: &str, wanted: &str) -> bool {
-    match answer_to_streams(alloc, text) {
-        Ok(line) => line.as_str() == wanted,
-        Err(_) => false,
+    match read_streams(alloc, text.as_bytes()) {
+        Ok(_requests) => wanted == "read",
+        Err(fault) => streams_print(alloc, fault, wanted),
     }
 }
 

@@ -9,4 +9,5 @@ pub mod Staying
 pub mod Chosen
 pub mod Waiting
 pub mod Coming
+pub mod Fitting
 pub mod Kept

@@ -1,41 +1,14 @@
--- What isn't ready stays so until a head comes or a gate changes.
-use Rattle.std.proofs.Common.{ℕ, ◌≡◌, ◌+◌, ◌*◌, ◌≤◌, ◌<◌, List, Option, None, get_or, IsBitSet, inl, inr, sym, subst, ◌∙◌, arith}
+-- What isn't ready stays so until a head comes or fits.
+use Rattle.std.proofs.Common.{ℕ, ◌≡◌, ◌+◌, ◌*◌, ◌≤◌, ◌<◌, List, Option, None, Some, get_or, min, inl, inr, ap, sym, ◌∙◌, subst, arith}
 use Rattle.std.proofs.lemmas.Bool.{cases_lt}
 use Rattle.cqf_model.specs.declared.ports.Arrival.{Arrival}
-use Rattle.cqf_model.specs.GateList.{Entry, states_at}
-use Rattle.cqf_model.specs.Port.{PortRules, Transmission, class_of, octets_of}
+use Rattle.cqf_model.specs.GateList.{IsOpenThrough}
+use Rattle.cqf_model.specs.Port.{PortRules, Transmission, IsEligible, instant_of, class_of, octets_of}
 use Rattle.cqf_port.specs.PortState.{AreTaken}
-use Rattle.cqf_port.specs.Progress.{NoneReady, IsAbreast, IsChosen, IsAfterStart, StepsTo}
-use Rattle.cqf_port.specs.Quiet.{IsQuiet, IsQuietOf}
+use Rattle.cqf_port.specs.Progress.{IsAbreast, IsChosen, IsAfterStart, StepsTo}
+use Rattle.cqf_port.specs.Quiet.{FitsNowhere, IsIdleOf, IsIdleUntil, OneTurns, Turns}
 use Rattle.cqf_port.specs.declared.progress.Progress.{Progress}
-use Rattle.cqf_model.proofs.Legal.{ends_later}
 use Rattle.cqf_port.proofs.Steps.{abreast_busy, abreast_none}
-
--- where nothing can change, what isn't ready stays so
-pub none_stays_ready : (rules : PortRules) (arrivals : List Arrival) (heads : List (Option ℕ)) (t until : ℕ) → 0 < rules.octet_time → IsQuiet rules.entries arrivals heads t until → NoneReady rules arrivals heads t 0 → (s : ℕ) → t ≤ s → s < until → NoneReady rules arrivals heads s 0
-none_stays_ready rules arrivals heads t until some quiet none s from soon class place lowest low ready =
-    let same = quiet class s place low from soon ready.is_head ready.come in
-    let sends = ends_later s (octets_of arrivals place) rules.octet_time some in
-    none class place lowest low (record {
-      is_head = ready.is_head;
-      come = same.0;
-      eligible = λ u after before. elim (cases_lt u s) [
-        | inl early ↦
-            let here = ready.eligible s (omega arith) sends in
-            subst (λ x. IsBitSet x (class_of arrivals place)) (same.1 s from (omega arith) ∙ sym (same.1 u after (omega arith))) here
-        | inr late ↦ ready.eligible u late (omega arith)
-      ];
-    })
-
--- the least of what two classes are quiet for
-pub quiet_less : (arrivals : List Arrival) (head : Option ℕ) (t boundary until less : ℕ) → IsQuietOf arrivals head t boundary until → less ≤ until → IsQuietOf arrivals head t boundary less
-quiet_less arrivals head t boundary until less quiet shorter s place from soon = quiet s place from (omega arith)
-
--- where each class is quiet, the choice is
-pub quiet_each : (entries : List Entry) (arrivals : List Arrival) (heads : List (Option ℕ)) (t boundary until : ℕ) → ((class : ℕ) → class < 8 → IsQuietOf arrivals (get_or heads class None) t boundary until) → ((s : ℕ) → t ≤ s → s < boundary → states_at entries s ≡ states_at entries t) → IsQuiet entries arrivals heads t until
-quiet_each entries arrivals heads t boundary until each steady class s place low from soon is_head come =
-    let both = each class low s place from soon is_head come in
-    (both.0, λ u after before. steady u after (omega arith))
 
 -- a port that isn't idle yet
 pub steps_busy : (rules : PortRules) (arrivals : List Arrival) (t : ℕ) (starts : List Transmission) (before : Progress) → IsAbreast rules arrivals t starts before → t < before.idle_from.0 → StepsTo rules arrivals t starts before before.idle_from.0
@@ -45,10 +18,10 @@ steps_busy rules arrivals t starts before abreast busy = record {
 }
 
 -- a port whose heads aren't ready
-pub steps_none : (rules : PortRules) (arrivals : List Arrival) (t until : ℕ) (starts : List Transmission) (before : Progress) → 0 < rules.octet_time → AreTaken arrivals → IsAbreast rules arrivals t starts before → t < until → IsQuiet rules.entries arrivals before.heads t until → NoneReady rules arrivals before.heads t 0 → StepsTo rules arrivals t starts before until
-steps_none rules arrivals t until starts before some taken abreast later quiet none = record {
+pub steps_none : (rules : PortRules) (arrivals : List Arrival) (t until : ℕ) (starts : List Transmission) (before : Progress) → AreTaken arrivals → IsAbreast rules arrivals t starts before → t < until → IsIdleUntil rules arrivals before.heads t until → StepsTo rules arrivals t starts before until
+steps_none rules arrivals t until starts before taken abreast later idle = record {
   later = later;
-  abreast = λ e after within. abreast_none rules arrivals t e starts before taken abreast (omega arith) (λ s from soon. none_stays_ready rules arrivals before.heads t until some quiet none s from (omega arith));
+  abreast = λ e after within. abreast_none rules arrivals t e starts before taken abreast (omega arith) (λ s from soon. idle s from (omega arith));
 }
 
 -- a frame and its gap take some time
@@ -64,9 +37,43 @@ steps_start rules arrivals t place starts all before after some taken abreast fr
       abreast = λ e behind until. abreast_busy rules arrivals (t + 1) e all after started (omega arith) until;
     }
 
--- one more class that is quiet
-pub quiet_one_more : (arrivals : List Arrival) (heads : List (Option ℕ)) (t boundary until other less seen : ℕ) → ((class : ℕ) → class < seen → IsQuietOf arrivals (get_or heads class None) t boundary until) → IsQuietOf arrivals (get_or heads seen None) t boundary other → less ≤ until → less ≤ other → (class : ℕ) → class < seen + 1 → IsQuietOf arrivals (get_or heads class None) t boundary less
-quiet_one_more arrivals heads t boundary until other less seen so_far here shorter also class below = elim (cases_lt class seen) [
-  | inl before ↦ quiet_less arrivals (get_or heads class None) t boundary until less (so_far class before) shorter
-  | inr last ↦ subst (λ k. IsQuietOf arrivals (get_or heads k None) t boundary less) (let same : seen ≡ class = omega arith in same) (quiet_less arrivals (get_or heads seen None) t boundary other less here also)
+-- one more class is idle
+pub idle_one_more : (rules : PortRules) (arrivals : List Arrival) (heads : List (Option ℕ)) (t until other less seen : ℕ) → ((class : ℕ) → class < seen → IsIdleOf rules arrivals (get_or heads class None) t until) → IsIdleOf rules arrivals (get_or heads seen None) t other → less ≤ until → less ≤ other → (class : ℕ) → class < seen + 1 → IsIdleOf rules arrivals (get_or heads class None) t less
+idle_one_more rules arrivals heads t until other less seen so_far here shorter also class below = elim (cases_lt class seen) [
+  | inl before ↦ λ s place from soon. so_far class before s place from (omega arith)
+  | inr last ↦ subst (λ k. IsIdleOf rules arrivals (get_or heads k None) t less) (let same : seen ≡ class = omega arith in same) (λ s place from soon. here s place from (omega arith))
+]
+
+-- where each class is idle, no head is ready
+pub idle_each : (rules : PortRules) (arrivals : List Arrival) (heads : List (Option ℕ)) (t until : ℕ) → ((class : ℕ) → class < 8 → IsIdleOf rules arrivals (get_or heads class None) t until) → IsIdleUntil rules arrivals heads t until
+idle_each rules arrivals heads t until each s from soon class place lowest low ready = each class low s place from soon ready.is_head ready.come ready.eligible
+
+-- the place of a head
+abbrev place_in : Option ℕ → ℕ
+place_in None = 0
+place_in (Some place) = place
+
+-- where it fits nowhere, the head is not eligible
+pub idle_nowhere : (rules : PortRules) (arrivals : List Arrival) (head : Option ℕ) (class t until place need : ℕ) → head ≡ Some place → class_of arrivals place ≡ class → need ≡ (octets_of arrivals place + 8) * rules.octet_time → FitsNowhere rules.entries class need t until → IsIdleOf rules arrivals head t until
+idle_nowhere rules arrivals head class t until place need was of_class takes_so nowhere s other from soon is_head come eligible =
+    let same : place ≡ other = ap place_in (sym was ∙ is_head) in
+    let here : IsEligible rules arrivals place s = subst (λ n. IsEligible rules arrivals n s) (sym same) eligible in
+    let ends : s + (octets_of arrivals place + 8) * rules.octet_time ≡ s + need = ap (λ n. s + n) (sym takes_so) in
+    nowhere s from soon (subst (λ n. IsOpenThrough rules.entries class s n) ends (subst (λ k. IsOpenThrough rules.entries k s (s + (octets_of arrivals place + 8) * rules.octet_time)) of_class here))
+
+-- where it fits once it has come, the head turns
+pub turns_fits : (rules : PortRules) (arrivals : List Arrival) (head : Option ℕ) (class t place need : ℕ) → head ≡ Some place → class_of arrivals place ≡ class → need ≡ (octets_of arrivals place + 8) * rules.octet_time → instant_of arrivals place ≤ t → IsOpenThrough rules.entries class t (t + need) → Turns rules arrivals head t
+turns_fits rules arrivals head class t place need was of_class takes_so come fits =
+    let ends : t + need ≡ t + (octets_of arrivals place + 8) * rules.octet_time = ap (λ n. t + n) takes_so in
+    record {
+      place = place;
+      is_head = was;
+      turns = inr (come, subst (λ k. IsOpenThrough rules.entries k t (t + (octets_of arrivals place + 8) * rules.octet_time)) (sym of_class) (subst (λ n. IsOpenThrough rules.entries class t n) ends fits));
+    }
+
+-- the lesser of two instants at which a head turns is one
+pub turns_less : (rules : PortRules) (arrivals : List Arrival) (heads : List (Option ℕ)) (until other less seen most : ℕ) → seen < 8 → until ≤ most → (until < most → OneTurns rules arrivals heads until) → (other < until → Turns rules arrivals (get_or heads seen None) other) → less ≡ min until other → less < most → OneTurns rules arrivals heads less
+turns_less rules arrivals heads until other less seen most low within so_far here is soon = elim (cases_lt other until) [
+  | inl sooner ↦ (let same : other ≡ less = omega (arith, is) in record { class = seen; low = low; head = subst (λ n. Turns rules arrivals (get_or heads seen None) n) same (here sooner) })
+  | inr later ↦ (let same : until ≡ less = omega (arith, is) in subst (λ n. OneTurns rules arrivals heads n) same (so_far (omega arith)))
 ]

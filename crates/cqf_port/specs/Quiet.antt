@@ -1,16 +1,31 @@
--- For how long the choice of a port stays as it is.
-use Rattle.std.specs.Prelude.{ℕ, ◌≡◌, ◌≤◌, ◌<◌, List, Option, Some, None, slice_index_or}
+-- For how long nothing can start.
+use Rattle.std.specs.Prelude.{ℕ, ◌≡◌, ◌+◌, ◌≤◌, ◌<◌, ◌⊎◌, List, Option, Some, None, slice_index_or}
 use Rattle.cqf_model.specs.declared.ports.Arrival.{Arrival}
-use Rattle.cqf_model.specs.GateList.{Entry, states_at}
-use Rattle.cqf_model.specs.Port.{instant_of}
+use Rattle.cqf_model.specs.GateList.{Entry, IsOpenThrough}
+use Rattle.cqf_model.specs.Port.{PortRules, IsEligible, instant_of}
+use Rattle.cqf_port.specs.Progress.{NoneReady}
 
--- before an instant, where the head has come it had come by t, and the entry's end isn't reached
-abbrev pub IsQuietOf : List Arrival → Option ℕ → ℕ → ℕ → ℕ → Type 0
-IsQuietOf arrivals head t boundary until =
-    (s place : ℕ) → t ≤ s → s < until → head ≡ Some place → instant_of arrivals place ≤ s → (instant_of arrivals place ≤ t) × (s < boundary)
+-- from no instant from the first one up to and without the last does the class stay open for so long
+abbrev pub FitsNowhere : List Entry → ℕ → ℕ → ℕ → ℕ → Type 0
+FitsNowhere entries class need first last = (s : ℕ) → first ≤ s → s < last → ¬ IsOpenThrough entries class s (s + need)
 
--- before an instant, where the head of a class has come it had come by t, and no gate has changed since
-abbrev pub IsQuiet : List Entry → List Arrival → List (Option ℕ) → ℕ → ℕ → Type 0
-IsQuiet entries arrivals heads t until =
-    (class s place : ℕ) → class < 8 → t ≤ s → s < until → slice_index_or heads class None ≡ Some place → instant_of arrivals place ≤ s →
-    (instant_of arrivals place ≤ t) × ((u : ℕ) → t ≤ u → u ≤ s → states_at entries u ≡ states_at entries t)
+-- at no instant from the first one up to and without the last has the head come and is eligible
+abbrev pub IsIdleOf : PortRules → List Arrival → Option ℕ → ℕ → ℕ → Type 0
+IsIdleOf rules arrivals head first last =
+    (s place : ℕ) → first ≤ s → s < last → head ≡ Some place → instant_of arrivals place ≤ s → ¬ IsEligible rules arrivals place s
+
+-- from t up to and without an instant no head is ready
+abbrev pub IsIdleUntil : PortRules → List Arrival → List (Option ℕ) → ℕ → ℕ → Type 0
+IsIdleUntil rules arrivals heads t until = (s : ℕ) → t ≤ s → s < until → NoneReady rules arrivals heads s 0
+
+-- at the instant the head comes, or has come and is eligible
+pub record Turns (rules : PortRules) (arrivals : List Arrival) (head : Option ℕ) (t : ℕ) : Type 0 where
+  pub place : ℕ
+  pub is_head : head ≡ Some place
+  pub turns : (instant_of arrivals place ≡ t) ⊎ ((instant_of arrivals place ≤ t) × IsEligible rules arrivals place t)
+
+-- at the instant some head comes or is ready
+pub record OneTurns (rules : PortRules) (arrivals : List Arrival) (heads : List (Option ℕ)) (t : ℕ) : Type 0 where
+  pub class : ℕ
+  pub low : class < 8
+  pub head : Turns rules arrivals (slice_index_or heads class None) t

@@ -21,7 +21,7 @@ struct Asked {
 }
 
 /// How long a frame of so many octets takes on the wire, in nanoseconds, with preamble and start delimiter (IEEE 802.3).
-fn need_of(octets: u32, rate: Rate) -> u64
+pub(crate) fn need_of(octets: u32, rate: Rate) -> u64
     ensures value { result ≡ (octets + 8) * nanos_of_octet rate }
     ensures short { result < 2 ^ 43 }
     ensures some { 0 < result }

@@ -5,7 +5,7 @@ ghost use Rattle.cqf_port.specs.Progress.{AreInside};
 ghost use Rattle.cqf_port.specs.NextStart.{HaveCome, IsNextReady, NeverReady};
 
 use crate::choice::choose;
-use crate::quiet::quiet_until;
+use crate::quiet::idle_until;
 use crate::spans::Schedule;
 use cqf_laws_port::mask_is_in_force;
 use cqf_model::Arrival;
@@ -50,7 +50,7 @@ pub(crate) fn next_ready(
     'events: while t < horizon {
         match choose(schedule, rate, arrivals, heads, Nanos(t)) {
             Some(_) => return Some(Nanos(t)),
-            None => t = quiet_until(schedule, arrivals, heads, Nanos(t))
+            None => t = idle_until(schedule, rate, arrivals, heads, Nanos(t))
                 .0
                 .min(horizon),
         }

@@ -1,46 +1,70 @@
 //! For how long nothing can start.
-ghost use Rattle.std.specs.Prelude.{◌≡◌, ◌+◌, ◌^◌, ◌<◌, ℕ, Some, length};
-ghost use Rattle.cqf_port.specs.Progress.{AreInside};
-ghost use Rattle.cqf_port.specs.Quiet.{IsQuiet, IsQuietOf};
+ghost use Rattle.std.specs.Prelude.{◌≡◌, ◌+◌, ◌-◌, ◌^◌, ◌<◌, ◌≤◌, ℕ, Some, length};
+ghost use Rattle.cqf_model.specs.Port.{IsEligible, class_of, instant_of};
+ghost use Rattle.cqf_port.specs.PortState.{rules_of};
+ghost use Rattle.cqf_port.specs.Progress.{AreInside, NoneReady};
+ghost use Rattle.cqf_port.specs.Quiet.{IsIdleOf, IsIdleUntil, OneTurns, Turns};
+ghost use Rattle.cqf_port.specs.Spans.{IsAhead};
 
-use crate::spans::Schedule;
+use crate::choice::need_of;
+use crate::spans::{Ahead, Schedule};
 use cqf_model::Arrival;
-use cqf_units::Nanos;
+use cqf_units::{Nanos, Rate};
 
-/// The next instant at which the choice among the heads can be another for the class: the head comes, or it has come
-/// and the next entry begins.
-fn quiet_of(arrivals: &[Arrival], head: Option<usize>, t: Nanos, boundary: Nanos) -> Nanos
+/// The first instant behind one at which the head of the class can start: it comes, or it has come and an entry begins
+/// from whose beginning its gate stays open long enough. It looks for no entry behind the last instant.
+fn idle_of(
+    schedule: &Schedule,
+    rate: Rate,
+    arrivals: &[Arrival],
+    head: Option<usize>,
+    class: u8,
+    t: Nanos,
+    ahead: Ahead,
+    last: u64,
+) -> Nanos
+    requires gate { class < 8 }
+    requires early { t.0 < 2 ^ 63 + 2 ^ 62 }
+    requires ahead { IsAhead schedule.now t.0 ahead.place ahead.begins ahead.again }
     requires inside { (place : ℕ) → head ≡ Some place → place < length arrivals.now }
-    requires later { t.0 < boundary.0 }
+    requires of_class { (place : ℕ) → head ≡ Some place → class_of arrivals.now place ≡ class }
+    requires waits { (place : ℕ) → head ≡ Some place → instant_of arrivals.now place ≤ t.0 → ¬ IsEligible (rules_of schedule.now rate) arrivals.now place t.0 }
     ensures later { t.0 < result.0 }
-    ensures quiet { IsQuietOf arrivals.now head t.0 boundary.0 result.0 }
+    ensures idle { IsIdleOf (rules_of schedule.now rate) arrivals.now head t.0 result.0 }
+    ensures turns { result.0 < last → Turns (rules_of schedule.now rate) arrivals.now head result.0 }
 {
     match head {
         None => Nanos(u64::MAX),
         Some(place) => {
-            let at = arrivals[place].at;
-            if t < at { at } else { boundary }
+            let arrival = arrivals[place];
+            if t < arrival.at {
+                return arrival.at;
+            }
+            schedule.next_fit(t, class, need_of(arrival.octets, rate), ahead, last)
         }
     }
 }
 
-/// The next instant at which the choice among the heads can be another: a head comes, or one has come and the next entry
-/// begins.
-pub(crate) fn quiet_until(
+/// The first instant behind one at which no head is ready at which one can be: a head comes, or one that has come fits.
+pub(crate) fn idle_until(
     schedule: &Schedule,
+    rate: Rate,
     arrivals: &[Arrival],
     heads: &[Option<usize>; 8],
     t: Nanos,
 ) -> Nanos
     requires early { t.0 < 2 ^ 63 + 2 ^ 62 }
     requires inside { AreInside arrivals.now heads.now }
+    requires none { NoneReady (rules_of schedule.now rate) arrivals.now heads.now t.0 0 }
     ensures later { t.0 < result.0 }
-    ensures quiet { IsQuiet schedule.now arrivals.now heads.now t.0 result.0 }
+    ensures idle { IsIdleUntil (rules_of schedule.now rate) arrivals.now heads.now t.0 result.0 }
+    ensures turns { result.0 < 2 ^ 64 - 1 → OneTurns (rules_of schedule.now rate) arrivals.now heads.now result.0 }
 {
-    let boundary = schedule.next_boundary(t);
+    let ahead = schedule.ahead(t);
     let mut until = u64::MAX;
-    for class in 0..8 {
-        until = until.min(quiet_of(arrivals, heads[class], t, boundary).0);
+    for class in 0..8u8 {
+        let head = heads[usize::from(class)];
+        until = until.min(idle_of(schedule, rate, arrivals, head, class, t, ahead, until).0);
     }
     Nanos(until)
 }

@@ -5,7 +5,7 @@ ghost use Rattle.cqf_port.specs.Progress.{AreMore, IsAbreast, StepsTo};
 
 use crate::choice::choose;
 use crate::progress::{Progress, after_start};
-use crate::quiet::quiet_until;
+use crate::quiet::idle_until;
 use crate::spans::Schedule;
 use cqf_model::{Arrival, Start};
 use cqf_units::{Memory, Nanos, Rate};
@@ -36,7 +36,10 @@ fn step(
             let after = after_start(arrivals, rate, place, t, before);
             Ok((after, after.idle_from))
         }
-        None => Ok((before, quiet_until(schedule, arrivals, &before.heads, t))),
+        None => Ok((
+            before,
+            idle_until(schedule, rate, arrivals, &before.heads, t),
+        )),
     }
 }
 

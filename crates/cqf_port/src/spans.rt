@@ -1,7 +1,8 @@
 //! How long the classes of a gate list stay open.
-ghost use Rattle.std.specs.Prelude.{◌≡◌, ◌+◌, ◌^◌, ◌<◌, ◌≤◌, ◌↔◌, IsTrue, ℕ};
-ghost use Rattle.cqf_port.specs.Spans.{AreLess, AreSpans, AreSpansAt, IsSpan};
-ghost use Rattle.cqf_model.specs.GateList.{IsOpen, round_of, states_at};
+ghost use Rattle.std.specs.Prelude.{◌≡◌, ◌+◌, ◌^◌, ◌<◌, ◌≤◌, ◌↔◌, ◌-◌, IsTrue, ℕ, slice_index_or};
+ghost use Rattle.cqf_port.specs.Spans.{AreLess, AreSpans, AreSpansAt, IsAhead, IsSpan};
+ghost use Rattle.cqf_port.specs.Quiet.{FitsNowhere};
+ghost use Rattle.cqf_model.specs.GateList.{InForce, IsOpen, IsOpenThrough, round_of, states_at};
 
 use cqf_gates::{OpenFor, TxList};
 use cqf_laws_port::mask_is_in_force;
@@ -15,6 +16,17 @@ pub(crate) struct Schedule {
     list: TxList,
     /// By entry and class, in nanoseconds: 0 where the class is closed, and 2^64 - 1 where it never closes.
     spans: [[u64; 8]; 16],
+}
+
+/// What comes behind the entry in force at an instant.
+#[derive(Clone, Copy, Debug)]
+pub(crate) struct Ahead {
+    /// The place of the next entry.
+    place: usize,
+    /// The instant at which that begins, in nanoseconds.
+    begins: u64,
+    /// The instant from which on all is as it was, a round later.
+    again: u64,
 }
 
 impl Model for Schedule {
@@ -95,6 +107,56 @@ fn less(row: [u64; 8], nanoseconds: u32) -> [u64; 8]
     left
 }
 
+/// The entry behind one in force, and the instant at which it begins.
+fn entry_behind(list: &TxList, t: u64, place: usize, offset: u32) -> (usize, u64)
+    requires force { InForce list.now t place offset }
+    requires early { t < 2 ^ 63 + 2 ^ 62 + 2 ^ 38 }
+    ensures force { InForce list.now result.1 result.0 0 }
+    ensures later { t < result.1 }
+    ensures value { result.1 ≡ t + ((slice_index_or list.now place (0, 0)).1 - offset) }
+    ensures short { (slice_index_or list.now place (0, 0)).1 < 2 ^ 32 }
+{
+    let entries = list.entries();
+    let after = if place + 1 == entries.len() {
+        0
+    } else {
+        place + 1
+    };
+    (after, t + widened(entries[place].1 - offset))
+}
+
+/// The first beginning of an entry, from one on, from which the class stays open for so long, or one not before an end.
+fn fit_from(
+    list: &TxList,
+    spans: &[[u64; 8]; 16],
+    class: u8,
+    need: u64,
+    first: usize,
+    begins: u64,
+    end: u64,
+) -> u64
+    requires gate { class < 8 }
+    requires some { 0 < need }
+    requires short { need < 2 ^ 62 }
+    requires early { end < 2 ^ 63 + 2 ^ 62 + 2 ^ 38 }
+    requires spans { AreSpans list.now spans.now }
+    requires force { InForce list.now begins first 0 }
+    ensures later { begins ≤ result }
+    ensures nowhere { FitsNowhere list.now class need begins result }
+    ensures fits { result < end → IsOpenThrough list.now class result (result + need) }
+{
+    mask_is_in_force();
+    let mut place = first;
+    let mut t = begins;
+    while t < end {
+        if spans[place][usize::from(class)] >= need {
+            return t;
+        }
+        (place, t) = entry_behind(list, t, place, 0);
+    }
+    t
+}
+
 impl Schedule {
     /// The schedule of the list.
     pub(crate) fn new(list: TxList) -> Schedule
@@ -138,5 +200,51 @@ impl Schedule {
     {
         let (place, offset) = self.list.entry_at(t);
         later_by(t, self.list.entries()[place].1 - offset)
+    }
+
+    /// What comes behind the entry in force at the instant.
+    pub(crate) fn ahead(&self, t: Nanos) -> Ahead
+        requires { t.0 < 2 ^ 63 + 2 ^ 62 }
+        ensures { IsAhead self.now t.0 result.place result.begins result.again }
+    {
+        let (place, offset) = self.list.entry_at(t);
+        let (next, begins) = entry_behind(&self.list, t.0, place, offset);
+        Ahead {
+            place: next,
+            begins,
+            again: t.0 + self.list.round().0,
+        }
+    }
+
+    /// The first instant behind one at which the class doesn't stay open for so long from which on it does: the beginning
+    /// of an entry. It looks no further than a round, since what doesn't fit in one never does, and than the last instant;
+    /// where there is none up to that, it answers one past all that was looked at.
+    pub(crate) fn next_fit(&self, t: Nanos, class: u8, need: u64, ahead: Ahead, last: u64) -> Nanos
+        requires gate { class < 8 }
+        requires early { t.0 < 2 ^ 63 + 2 ^ 62 }
+        requires some { 0 < need }
+        requires short { need < 2 ^ 62 }
+        requires ahead { IsAhead self.now t.0 ahead.place ahead.begins ahead.again }
+        requires waits { ¬ IsOpenThrough self.now class t.0 (t.0 + need) }
+        ensures later { t.0 < result.0 }
+        ensures nowhere { FitsNowhere self.now class need t.0 result.0 }
+        ensures fits { result.0 < last → IsOpenThrough self.now class result.0 (result.0 + need) }
+    {
+        mask_is_in_force();
+        let end = ahead.again.min(last);
+        let fit = fit_from(
+            &self.list,
+            &self.spans,
+            class,
+            need,
+            ahead.place,
+            ahead.begins,
+            end,
+        );
+        if fit < ahead.again {
+            Nanos(fit)
+        } else {
+            Nanos(u64::MAX)
+        }
     }
 }

@@ -1,76 +1,96 @@
 //! Gate lists as texts.
-use cqf_gates::{ListFault, StreamEntry, StreamList, TextFault, read_tx, write_stream, write_tx};
-use std::test::Fail;
+use cqf_gates::{
+    ListFault, StreamEntry, StreamList, TextFault, TxList, read_tx, write_stream, write_tx,
+};
+use std::alloc::Global;
 
-#[test]
-fn each_fault_of_a_text_is_told(rt: HostRuntime) {
-    let seventeen_lines =
-        b"FF 1\nFF 1\nFF 1\nFF 1\nFF 1\nFF 1\nFF 1\nFF 1\nFF 1\nFF 1\nFF 1\nFF 1\nFF 1\nFF 1\nFF 1\nFF 1\nFF 1\n";
-    for (text, fault) in [
-        (b"".as_slice(), TextFault::List(ListFault::Empty)),
-        (b"80 120000\n0G 5000\n".as_slice(), TextFault::BadLine(2)),
-        (b"80 0".as_slice(), TextFault::List(ListFault::ZeroInterval)),
-        (
-            seventeen_lines.as_slice(),
-            TextFault::List(ListFault::TooMany),
-        ),
-    ] {
-        assert!(rt; read_tx(text).err() == Some(fault));
+/// Texts, and the entries that they are, and as which text these are written.
+const READ: &[(&[u8], &[(u8, u32)], &[u8])] = &[
+    (b"80 120000", &[(0x80, 120_000)], b"80 120000\n"),
+    // lower case and leading zeros
+    (b"c0 007", &[(0xC0, 7)], b"C0 7\n"),
+    (
+        b"fF 4294967295",
+        &[(0xFF, 4_294_967_295)],
+        b"FF 4294967295\n",
+    ),
+];
+
+/// Texts that are refused, and the first fault of each.
+const REFUSED: &[(&[u8], TextFault)] = &[
+    (b"", TextFault::List(ListFault::Empty)),
+    (b"80 0", TextFault::List(ListFault::ZeroInterval)),
+    (
+        b"FF 1\nFF 1\nFF 1\nFF 1\nFF 1\nFF 1\nFF 1\nFF 1\nFF 1\nFF 1\nFF 1\nFF 1\nFF 1\nFF 1\nFF 1\nFF 1\nFF 1\n",
+        TextFault::List(ListFault::TooMany),
+    ),
+    (b"80 120000\n0G 5000\n", TextFault::BadLine(2)),
+    // an entry is two hexadecimal digits and an interval
+    (b"\n", TextFault::BadLine(1)),
+    (b"80", TextFault::BadLine(1)),
+    (b"80 ", TextFault::BadLine(1)),
+    (b"0G 5000", TextFault::BadLine(1)),
+    (b"8 5000", TextFault::BadLine(1)),
+    (b"80  5000", TextFault::BadLine(1)),
+    (b"80 5000\r", TextFault::BadLine(1)),
+    (b"80 4294967296", TextFault::BadLine(1)),
+];
+
+/// Whether the list is written so.
+fn is_written(alloc: Global, list: &TxList, wanted: &[u8]) -> bool {
+    match write_tx(alloc, list) {
+        Ok(text) => text.as_slice() == wanted,
+        Err(_) => false,
     }
 }
 
-#[test]
-fn lower_case_and_leading_zeros_are_read(rt: HostRuntime) -> Result<(), Fail> {
-    let list = read_tx(b"c0 007")?;
-    assert!(rt; list.entries() == [(0xC0, 7)].as_slice());
-    assert!(rt; write_tx(rt.alloc(), &list)?.as_slice() == b"C0 7\n".as_slice());
-    Ok(())
+/// Whether the text is read as these entries, which are written so.
+fn is_read(alloc: Global, text: &[u8], entries: &[(u8, u32)], wanted: &[u8]) -> bool {
+    match read_tx(text) {
+        Ok(list) => list.entries() == entries && is_written(alloc, &list, wanted),
+        Err(_) => false,
+    }
+}
+
+/// Whether the text is refused so.
+fn is_refused(text: &[u8], fault: TextFault) -> bool {
+    read_tx(text).err() == Some(fault)
 }
 
 #[test]
-fn the_list_of_a_reservation_is_written(rt: HostRuntime) -> Result<(), Fail> {
-    let limited = StreamEntry {
+fn lists_are_read_and_written_or_their_first_fault_is_told(rt: HostRuntime) {
+    for (text, entries, wanted) in READ {
+        assert!(rt; is_read(rt.alloc(), text, entries, wanted));
+    }
+    for (text, fault) in REFUSED {
+        assert!(rt; is_refused(text, *fault));
+    }
+}
+
+/// A reservation's list, with a maximum and without one.
+const LIMITED_AND_NOT: &[StreamEntry] = &[
+    StreamEntry {
         ipv: 6,
         interval: 125_000,
         octet_max: Some(1500),
-    };
-    let unlimited = StreamEntry {
+    },
+    StreamEntry {
         ipv: 7,
         interval: 125_000,
         octet_max: None,
-    };
-    let list = StreamList::new(&[limited, unlimited])?;
-    let text = write_stream(rt.alloc(), &list)?;
-    assert!(rt; text.as_slice() == b"open 6 125000 1500\nopen 7 125000 -\n".as_slice());
-    Ok(())
+    },
+];
+
+/// Whether the list of these entries is written so.
+fn stream_is_written(alloc: Global, entries: &[StreamEntry], wanted: &[u8]) -> bool {
+    match StreamList::new(entries) {
+        Ok(list) => { matches!(write_stream(alloc, &list), Ok(text) if text.as_slice() == wanted) }
+        Err(_) => false,
+    }
 }
 
-/// Lines, and the entries that they are.
-const LINES: &[(&[u8], (u8, u32))] = &[
-    (b"80 120000", (0x80, 120_000)),
-    (b"c0 007", (0xC0, 7)),
-    (b"fF 4294967295", (0xFF, 4_294_967_295)),
-];
-
-/// Lines that are no entry.
-const BAD_LINES: &[&[u8]] = &[
-    b"\n",
-    b"80",
-    b"80 ",
-    b"0G 5000",
-    b"8 5000",
-    b"80  5000",
-    b"80 5000\r",
-    b"80 4294967296",
-];
-
 #[test]
-fn an_entry_is_two_hexadecimal_digits_and_an_interval(rt: HostRuntime) -> Result<(), Fail> {
-    for (line, entry) in LINES {
-        assert!(rt; read_tx(line)?.entries() == [*entry].as_slice());
-    }
-    for line in BAD_LINES {
-        assert!(rt; read_tx(line).err() == Some(TextFault::BadLine(1)));
-    }
-    Ok(())
+fn the_list_of_a_reservation_is_written(rt: HostRuntime) {
+    let wanted = b"open 6 125000 1500\nopen 7 125000 -\n".as_slice();
+    assert!(rt; stream_is_written(rt.alloc(), LIMITED_AND_NOT, wanted));
 }

@@ -4,110 +4,157 @@ use cqf_lanes::{
     eligible, eligible_plain, highest, highest_plain, masked_sum, masked_sum_plain, octet_sum,
     octet_sum_plain, open_run, open_run_plain,
 };
-use std::alloc::{AllocError, Global};
-use std::test::Fail;
+use std::alloc::Global;
 
-/// So many costs and masks, spread over their ranges.
-fn places(alloc: Global, many: usize) -> Result<(Vec<u32>, Vec<u64>), AllocError> {
-    let mut costs = Vec::new(alloc);
-    let mut masks = Vec::new(alloc);
-    let mut spread: u64 = 1;
-    for _ in 0..many {
-        spread = spread
+/// The longest of the lists that are tried.
+const LONGEST: usize = 70;
+
+/// The first and last bits of the two halves of a mask.
+const BITS: &[u32] = &[0, 31, 32, 63];
+
+/// Appends costs and masks that are spread over their ranges, and gate states that are open but for class 3 at place 70.
+fn spread(costs: &mut Vec<u32>, masks: &mut Vec<u64>, states: &mut Vec<u8>) -> bool {
+    let mut number: u64 = 1;
+    for place in 0..2 * LONGEST + 1 {
+        number = number
             .wrapping_mul(6_364_136_223_846_793_005)
             .wrapping_add(1);
-        costs.push((spread >> 32) as u32)?;
-        masks.push(spread ^ (spread >> 31))?;
+        let state = if place == LONGEST { 0xF7 } else { 0xFF };
+        if costs.push((number >> 32) as u32).is_err()
+            || masks.push(number ^ (number >> 31)).is_err()
+            || states.push(state).is_err()
+        {
+            return false;
+        }
     }
-    Ok((costs, masks))
+    true
 }
 
 /// Whether the sums are those of their plain forms.
 fn sums_agree(costs: &[u32], masks: &[u64]) -> bool {
-    if costs.len() != masks.len()
-        || costs.len() > 70
-        || octet_sum(costs) != octet_sum_plain(costs)
-    {
+    if costs.len() != masks.len() || costs.len() > LONGEST {
         return false;
     }
-    [0, 31, 32, 63].iter().all(|bit| *bit < 64
-        && masked_sum(costs, masks, *bit) == masked_sum_plain(costs, masks, *bit))
+    for bit in BITS {
+        if *bit > 63 || masked_sum(costs, masks, *bit) != masked_sum_plain(costs, masks, *bit) {
+            return false;
+        }
+    }
+    octet_sum(costs) == octet_sum_plain(costs)
 }
 
-/// Whether the run is that of its plain form, for class 3, where all entries open it up to one.
-fn runs_agree(alloc: Global, many: usize, closed: usize) -> Result<bool, AllocError> {
-    let mut states = Vec::from_elem(alloc, 0xFFu8, many)?;
-    if closed < states.len() {
-        states[closed] = 0xF7;
+/// Whether the run among so many states, of which the one at this place is closed, is that of its plain form.
+fn runs_agree(states: &[u8], many: usize, closed: usize) -> bool {
+    let from = LONGEST.saturating_sub(closed);
+    match states.get(from..from.saturating_add(many)) {
+        Some(some) => open_run(some, 3) == open_run_plain(some, 3),
+        None => false,
     }
-    Ok(open_run(&states, 3) == open_run_plain(&states, 3))
+}
+
+/// Whether each kernel agrees with its plain form on the first of these, so many.
+fn tail_agrees(costs: &[u32], masks: &[u64], states: &[u8], many: usize) -> bool {
+    for closed in 0..=many {
+        if !runs_agree(states, many, closed) {
+            return false;
+        }
+    }
+    match (costs.get(..many), masks.get(..many)) {
+        (Some(costs), Some(masks)) => sums_agree(costs, masks),
+        _ => false,
+    }
+}
+
+/// The first length at which a kernel doesn't agree with its plain form, where there is one; the longest and one more where memory lacks.
+fn first_wrong_tail(alloc: Global) -> Option<usize> {
+    let mut costs = Vec::new(alloc);
+    let mut masks = Vec::new(alloc);
+    let mut states = Vec::new(alloc);
+    if !spread(&mut costs, &mut masks, &mut states) {
+        return Some(LONGEST + 1);
+    }
+    for many in 0..=LONGEST {
+        if !tail_agrees(&costs, &masks, &states, many) {
+            return Some(many);
+        }
+    }
+    None
 }
 
 #[test]
-fn every_tail(rt: HostRuntime) -> Result<(), Fail> {
-    for many in 0..71 {
-        let (costs, masks) = places(rt.alloc(), many)?;
-        assert!(rt; sums_agree(&costs, &masks), "{many} places");
-        for closed in 0..many + 1 {
-            assert!(rt; runs_agree(rt.alloc(), many, closed)?, "{closed} of {many}");
+fn every_tail(rt: HostRuntime) {
+    assert!(rt; first_wrong_tail(rt.alloc()) == None);
+}
+
+/// What each class needs, and of what is left the numbers that are tried.
+const NEED: [u32; 8] = [1, 2, 3, 4, 5, 6, 7, u32::MAX];
+
+const LEFT: &[u32] = &[0, 3, 4, 7, u32::MAX];
+
+/// Whether the classes of these gates are chosen as by the plain forms.
+fn choices_agree(gates: u8) -> bool {
+    for most in LEFT {
+        let left = [*most; 8];
+        if eligible(gates, &NEED, &left) != eligible_plain(gates, &NEED, &left) {
+            return false;
         }
     }
-    Ok(())
+    highest(gates) == highest_plain(gates)
 }
 
 #[test]
 fn each_choice(rt: HostRuntime) {
     for gates in 0..=255u8 {
-        assert_eq!(rt; highest(gates), highest_plain(gates));
-        let need = [1, 2, 3, 4, 5, 6, 7, u32::MAX];
-        for most in [0, 3, 4, 7, u32::MAX] {
-            let left = [most; 8];
-            assert_eq!(rt;
-                eligible(gates, &need, &left),
-                eligible_plain(gates, &need, &left)
-            );
-        }
+        assert!(rt; choices_agree(gates));
     }
 }
 
-#[test]
-fn octets_are_summed(rt: HostRuntime) {
-    assert_eq!(rt; octet_sum(&[]), 0);
-    assert_eq!(rt; octet_sum(&[1522; 17]), 25_874);
-}
+/// 17 frames of 1,522 octets.
+const SEVENTEEN: [u32; 17] = [1522; 17];
+
+/// Costs, and their masks: 1 + 3 + .. + 9 have bit 0, and 2 + .. + 8 bit 1.
+const COSTS: [u32; 9] = [1, 2, 3, 4, 5, 6, 7, 8, 9];
+
+const MASKS: [u64; 9] = [1, 2, 1, 2, 1, 2, 1, 2, 1];
 
 #[test]
-fn costs_are_summed_where_the_mask_has_the_bit(rt: HostRuntime) {
-    let costs = [1, 2, 3, 4, 5, 6, 7, 8, 9];
-    let masks = [1, 2, 1, 2, 1, 2, 1, 2, 1];
-    assert_eq!(rt; masked_sum(&costs, &masks, 0), 25);
-    assert_eq!(rt; masked_sum(&costs, &masks, 1), 20);
+fn octets_and_costs_are_summed(rt: HostRuntime) {
+    assert!(rt; octet_sum(&[]) == 0);
+    assert!(rt; octet_sum(&SEVENTEEN) == 25_874);
+    assert!(rt; masked_sum(&COSTS, &MASKS, 0) == 25);
+    assert!(rt; masked_sum(&COSTS, &MASKS, 1) == 20);
 }
+
+/// Gate states, and how many from the first on open class 7.
+const RUNS: &[(&[u8], usize)] = &[
+    (&[0x80, 0xC0, 0x40], 2),
+    (
+        &[
+            0x80, 0x40, 0x80, 0x40, 0x80, 0x80, 0x80, 0x80, 0x80, 0x80, 0x80, 0x80, 0x80, 0x80,
+            0x80, 0x80,
+        ],
+        1,
+    ),
+];
 
 #[test]
 fn a_run_ends_where_the_class_is_closed(rt: HostRuntime) {
-    assert_eq!(rt; open_run(&[0x80, 0xC0, 0x40], 7), 2);
-    let mut states = [0x80; 16];
-    states[1] = 0x40;
-    states[3] = 0x40;
-    assert_eq!(rt; open_run(&states, 7), 1);
+    for (states, many) in RUNS {
+        assert!(rt; open_run(states, 7) == *many);
+    }
 }
 
-#[test]
-fn a_class_is_eligible_that_needs_just_what_is_left(rt: HostRuntime) {
-    let need = [0, 0, 0, 0, 0, 0, 576, 12_240];
-    assert_eq!(rt;
-        eligible(0xC0, &need, &[0, 0, 0, 0, 0, 0, 1000, 12_239]),
-        0x40
-    );
-    assert_eq!(rt;
-        eligible(0xC0, &need, &[0, 0, 0, 0, 0, 0, 1000, 12_240]),
-        0xC0
-    );
-}
+/// What each class needs, and what is left to it: a nanosecond too little for class 7, and enough.
+const NEEDED: [u32; 8] = [0, 0, 0, 0, 0, 0, 576, 12_240];
+
+const ONE_SHORT: [u32; 8] = [0, 0, 0, 0, 0, 0, 1000, 12_239];
+
+const ENOUGH: [u32; 8] = [0, 0, 0, 0, 0, 0, 1000, 12_240];
 
 #[test]
-fn strict_priority_selects_the_highest_class(rt: HostRuntime) {
-    assert_eq!(rt; highest(0xC0), Some(7));
-    assert_eq!(rt; highest(0), None);
+fn the_highest_class_goes_that_needs_just_what_is_left(rt: HostRuntime) {
+    assert!(rt; eligible(0xC0, &NEEDED, &ONE_SHORT) == 0x40);
+    assert!(rt; eligible(0xC0, &NEEDED, &ENOUGH) == 0xC0);
+    assert!(rt; highest(0xC0) == Some(7));
+    assert!(rt; highest(0) == None);
 }

@@ -1,115 +1,186 @@
-//! Ports.
-ghost use Rattle.std.specs.Prelude.{◌≡◌};
-
+//! Ports, asked one thing after the other.
 use cqf_gates::TxList;
 use cqf_port::{Arrival, Port, PortFault, Start};
 use cqf_units::{Nanos, Rate};
-use std::test::Fail;
+use std::alloc::Global;
 
-const ALTERNATING: [(u8, u32); 4] = [(0x80, 120_000), (0x00, 5000), (0x40, 120_000), (0x00, 5000)];
+/// A frame: the instant at which it comes or starts, its class, and its octets. Its number is its class.
+type Frame = (u64, u8, u32);
 
-fn arrival(at: u64, class: u8, octets: u32) -> Arrival
-    ensures { result ≡ record { at = record { 0 = at }; class = class; octets = octets; frame = class } }
-{
-    Arrival {
+/// What a port is asked, and its answer.
+enum Step {
+    /// A frame comes, and is taken or refused.
+    Offer(Frame, Option<PortFault>),
+    /// The port goes on to an instant, and hands out the starts up to it.
+    Advance(u64, &'static [Frame]),
+    NextStart(Option<u64>),
+    Waiting(u8, usize),
+    Now(u64),
+}
+
+const ALTERNATING: &[(u8, u32)] = &[(0x80, 120_000), (0x00, 5000), (0x40, 120_000), (0x00, 5000)];
+
+/// What a case shows, its gate list, and its steps.
+type Case = (&'static str, &'static [(u8, u32)], &'static [Step]);
+
+const CASES: &[Case] = &[
+    (
+        "a frame waits until its class opens",
+        ALTERNATING,
+        &[
+            Step::Now(0),
+            Step::Offer((10, 6, 64), None),
+            Step::Waiting(6, 1),
+            Step::Advance(125_000, &[]),
+            Step::Advance(125_001, &[(125_000, 6, 64)]),
+            Step::Waiting(6, 0),
+            Step::Now(125_001),
+        ],
+    ),
+    (
+        "a frame starts where it just fits its gate",
+        ALTERNATING,
+        &[
+            Step::Offer((107_760, 7, 1522), None),
+            Step::Advance(250_001, &[(107_760, 7, 1522)]),
+        ],
+    ),
+    (
+        "a frame that fits nowhere waits, however long",
+        &[(0x00, 1)],
+        &[
+            Step::Offer((0, 7, 64), None),
+            Step::Advance(100_000_000, &[]),
+            Step::Waiting(7, 1),
+            Step::NextStart(None),
+        ],
+    ),
+    (
+        "a frame that comes a nanosecond later waits for the next round",
+        ALTERNATING,
+        &[
+            Step::Offer((107_761, 7, 1522), None),
+            Step::Advance(250_001, &[(250_000, 7, 1522)]),
+        ],
+    ),
+    (
+        "the next start is told",
+        ALTERNATING,
+        &[
+            Step::NextStart(None),
+            Step::Offer((107_761, 7, 1522), None),
+            Step::NextStart(Some(250_000)),
+            Step::Offer((107_762, 7, 64), None),
+            Step::Advance(250_001, &[(250_000, 7, 1522)]),
+            Step::NextStart(Some(262_336)),
+            Step::Offer((1_000_000, 7, 64), None),
+            Step::Advance(300_000, &[(262_336, 7, 64)]),
+            Step::NextStart(Some(1_000_000)),
+        ],
+    ),
+    (
+        "a frame that never fits never starts",
+        ALTERNATING,
+        &[
+            Step::Offer((10, 7, 15_000), None),
+            Step::Offer((10, 5, 64), None),
+            Step::NextStart(None),
+        ],
+    ),
+    (
+        "the higher class goes first",
+        &[(0xC0, 1000), (0x80, 1000)],
+        &[
+            Step::Offer((425, 6, 64), None),
+            Step::Offer((900, 7, 64), None),
+            Step::Waiting(6, 1),
+            Step::Advance(3000, &[(900, 7, 64), (2000, 6, 64)]),
+        ],
+    ),
+    (
+        "only a frame whose class was open is late",
+        &[(0x80, 1000), (0x40, 1000)],
+        &[
+            Step::Advance(500, &[]),
+            Step::Offer((100, 7, 64), Some(PortFault::Late)),
+            Step::Offer((100, 6, 64), None),
+            Step::Offer((100, 6, 64), None),
+            Step::Offer((50, 6, 64), Some(PortFault::OutOfOrder)),
+            Step::Advance(1500, &[(1000, 6, 64)]),
+            Step::Offer((1200, 6, 64), Some(PortFault::Late)),
+            Step::Offer((0, 6, 64), Some(PortFault::Late)),
+        ],
+    ),
+];
+
+/// Later than all that happens here.
+const LATEST: u64 = 100_000_000;
+
+/// Whether a frame that comes is taken, or refused so.
+fn is_taken(port: &mut Port, frame: Frame, fault: Option<PortFault>) -> bool {
+    let (at, class, octets) = frame;
+    if class > 7 || at > LATEST {
+        return false;
+    }
+    let arrival = Arrival {
         at: Nanos(at),
         class,
         octets,
         frame: u32::from(class),
+    };
+    port.offer(arrival).err() == fault
+}
+
+/// Whether starts are these.
+fn are_starts(starts: &[Start], frames: &[Frame]) -> bool {
+    starts.len() == frames.len()
+        && starts.iter().zip(frames).all(|(start, frame)| {
+            (start.start.0, start.class, start.octets) == *frame
+                && start.frame == u32::from(start.class)
+        })
+}
+
+/// Whether the port goes on to an instant, and hands out these starts.
+fn is_advanced(alloc: Global, port: &mut Port, until: u64, frames: &[Frame]) -> bool {
+    if until > LATEST {
+        return false;
+    }
+    let mut given = Vec::new(alloc);
+    port.advance(Nanos(until), &mut given).is_ok() && are_starts(given.as_slice(), frames)
+}
+
+/// Whether the port answers so.
+fn answers(alloc: Global, port: &mut Port, step: &Step) -> bool {
+    match *step {
+        Step::Offer(frame, fault) => is_taken(port, frame, fault),
+        Step::Advance(until, frames) => is_advanced(alloc, port, until, frames),
+        Step::NextStart(wanted) => port.next_start().map(|at| at.0) == wanted,
+        Step::Waiting(class, count) => class < 8 && port.waiting(class) == count,
+        Step::Now(wanted) => port.now().0 == wanted,
     }
 }
 
-fn start(at: u64, class: u8, octets: u32) -> Start {
-    Start {
-        start: Nanos(at),
-        class,
-        octets,
-        frame: u32::from(class),
+/// Whether the port answers so to each step.
+fn answers_all(alloc: Global, port: &mut Port, steps: &[Step]) -> bool {
+    for step in steps {
+        if !answers(alloc, port, step) {
+            return false;
+        }
+    }
+    true
+}
+
+/// Whether a port with this gate list at 1,000 Mb/s answers so.
+fn goes_so(alloc: Global, list: &[(u8, u32)], steps: &[Step]) -> bool {
+    match TxList::new(list) {
+        Ok(list) => answers_all(alloc, &mut Port::new(alloc, list, Rate::Mb1000), steps),
+        Err(_) => false,
     }
 }
 
 #[test]
-fn a_frame_waits_until_its_class_opens(rt: HostRuntime) -> Result<(), Fail> {
-    let mut port = Port::new(rt.alloc(), TxList::new(&ALTERNATING)?, Rate::Mb1000);
-    let mut given = Vec::new(rt.alloc());
-    assert_eq!(rt; port.now(), Nanos(0));
-    port.offer(arrival(10, 6, 64))?;
-    assert_eq!(rt; port.waiting(6), 1);
-    port.advance(Nanos(125_000), &mut given)?;
-    assert!(rt; given.is_empty());
-    port.advance(Nanos(125_001), &mut given)?;
-    assert!(rt; given.as_slice() == [start(125_000, 6, 64)].as_slice());
-    assert_eq!(rt; port.waiting(6), 0);
-    assert_eq!(rt; port.now(), Nanos(125_001));
-    Ok(())
-}
-
-#[test]
-fn a_frame_starts_where_it_just_fits_its_gate(rt: HostRuntime) -> Result<(), Fail> {
-    for (at, begins) in [(107_760, 107_760), (107_761, 250_000)] {
-        let mut port = Port::new(rt.alloc(), TxList::new(&ALTERNATING)?, Rate::Mb1000);
-        let mut given = Vec::new(rt.alloc());
-        port.offer(arrival(at, 7, 1522))?;
-        port.advance(Nanos(250_001), &mut given)?;
-        assert!(rt;
-            given.as_slice() == [start(begins, 7, 1522)].as_slice(),
-            "from {at}"
-        );
+fn ports_start_what_fits_its_gate(rt: HostRuntime) {
+    for (what, list, steps) in CASES {
+        assert!(rt; goes_so(rt.alloc(), list, steps), "{what}");
     }
-    Ok(())
-}
-
-#[test]
-fn the_next_start_is_told(rt: HostRuntime) -> Result<(), Fail> {
-    let mut port = Port::new(rt.alloc(), TxList::new(&ALTERNATING)?, Rate::Mb1000);
-    let mut given = Vec::new(rt.alloc());
-    assert_eq!(rt; port.next_start(), None);
-    port.offer(arrival(107_761, 7, 1522))?;
-    assert_eq!(rt; port.next_start(), Some(Nanos(250_000)));
-    port.offer(arrival(107_762, 7, 64))?;
-    port.advance(Nanos(250_001), &mut given)?;
-    assert_eq!(rt; port.next_start(), Some(Nanos(262_336)));
-    port.offer(arrival(1_000_000, 7, 64))?;
-    port.advance(Nanos(300_000), &mut given)?;
-    assert_eq!(rt; port.next_start(), Some(Nanos(1_000_000)));
-    Ok(())
-}
-
-#[test]
-fn a_frame_that_never_fits_never_starts(rt: HostRuntime) -> Result<(), Fail> {
-    let mut port = Port::new(rt.alloc(), TxList::new(&ALTERNATING)?, Rate::Mb1000);
-    port.offer(arrival(10, 7, 15_000))?;
-    port.offer(arrival(10, 5, 64))?;
-    assert_eq!(rt; port.next_start(), None);
-    Ok(())
-}
-
-#[test]
-fn the_higher_class_goes_first(rt: HostRuntime) -> Result<(), Fail> {
-    let list = TxList::new(&[(0xC0, 1000), (0x80, 1000)])?;
-    let mut port = Port::new(rt.alloc(), list, Rate::Mb1000);
-    let mut given = Vec::new(rt.alloc());
-    port.offer(arrival(425, 6, 64))?;
-    port.offer(arrival(900, 7, 64))?;
-    assert_eq!(rt; port.waiting(6), 1);
-    port.advance(Nanos(3000), &mut given)?;
-    assert!(rt; given.as_slice() == [start(900, 7, 64), start(2000, 6, 64)].as_slice());
-    Ok(())
-}
-
-#[test]
-fn only_a_frame_whose_class_was_open_is_late(rt: HostRuntime) -> Result<(), Fail> {
-    let list = TxList::new(&[(0x80, 1000), (0x40, 1000)])?;
-    let mut port = Port::new(rt.alloc(), list, Rate::Mb1000);
-    let mut given = Vec::new(rt.alloc());
-    port.advance(Nanos(500), &mut given)?;
-    assert!(rt; port.offer(arrival(100, 7, 64)).err() == Some(PortFault::Late));
-    port.offer(arrival(100, 6, 64))?;
-    port.offer(arrival(100, 6, 64))?;
-    assert!(rt; port.offer(arrival(50, 6, 64)).err() == Some(PortFault::OutOfOrder));
-    port.advance(Nanos(1500), &mut given)?;
-    assert!(rt; given.as_slice() == [start(1000, 6, 64)].as_slice());
-    assert!(rt; port.offer(arrival(1200, 6, 64)).err() == Some(PortFault::Late));
-    assert!(rt; port.offer(arrival(0, 6, 64)).err() == Some(PortFault::Late));
-    Ok(())
 }

@@ -1,46 +1,66 @@
 //! Stream gates.
+ghost use Rattle.std.specs.Prelude.{◌≤◌};
+
 use cqf_gates::{ListFault, Passed, StreamEntry, StreamGate, StreamList};
 use cqf_units::{Nanos, Octets};
-use std::test::Fail;
 
-/// An entry with this internal priority value, 125 microseconds, and 1,500 octets at most.
-const fn limited(ipv: u8) -> StreamEntry {
-    StreamEntry {
-        ipv,
-        interval: 125_000,
-        octet_max: Some(1500),
-    }
+/// Class 6, 125 microseconds, and 1,500 octets at most.
+const SIX: StreamEntry = StreamEntry {
+    ipv: 6,
+    interval: 125_000,
+    octet_max: Some(1500),
+};
+
+/// The same of class 7, and of class 5, which is no class of CQF.
+const SEVEN: StreamEntry = StreamEntry { ipv: 7, ..SIX };
+
+const FIVE: StreamEntry = StreamEntry { ipv: 5, ..SIX };
+
+/// An entry that lasts no time.
+const NO_TIME: StreamEntry = StreamEntry { interval: 0, ..SIX };
+
+const SEVENTEEN: [StreamEntry; 17] = [SIX; 17];
+
+/// Entries that make no list, and why.
+const FAULTS: &[(&[StreamEntry], ListFault)] = &[
+    (&[], ListFault::Empty),
+    (&SEVENTEEN, ListFault::TooMany),
+    (&[FIVE, NO_TIME], ListFault::ZeroInterval),
+    (&[SIX, FIVE], ListFault::BadIpv),
+    (&[FIVE], ListFault::BadIpv),
+];
+
+/// Whether the entries are refused so.
+fn is_refused(entries: &[StreamEntry], fault: ListFault) -> bool {
+    StreamList::new(entries).err() == Some(fault)
 }
 
 #[test]
 fn each_fault_is_told(rt: HostRuntime) {
-    let lasting_none = StreamEntry {
-        interval: 0,
-        ..limited(6)
-    };
-    for (entries, fault) in [
-        ([].as_slice(), ListFault::Empty),
-        ([limited(6); 17].as_slice(), ListFault::TooMany),
-        (
-            [limited(5), lasting_none].as_slice(),
-            ListFault::ZeroInterval,
-        ),
-        ([limited(6), limited(5)].as_slice(), ListFault::BadIpv),
-        ([limited(5)].as_slice(), ListFault::BadIpv),
-    ] {
-        assert!(rt; StreamList::new(entries).err() == Some(fault));
+    for (entries, fault) in FAULTS {
+        assert!(rt; is_refused(entries, *fault));
+    }
+}
+
+/// Whether a gate passes four frames so: a smaller one passes behind one that is over.
+fn passes_smaller(gate: &mut StreamGate) -> bool
+    requires { gate.old.last ≤ 0 }
+{
+    gate.pass(Nanos(0), Octets(1000)) == Passed::Class(6)
+        && gate.pass(Nanos(10), Octets(600)) == Passed::OverOctets
+        && gate.pass(Nanos(20), Octets(500)) == Passed::Class(6)
+        && gate.pass(Nanos(125_000), Octets(1500)) == Passed::Class(7)
+}
+
+/// Whether a list keeps the two entries, and its gate passes frames so.
+fn keeps_and_passes(entries: &[StreamEntry]) -> bool {
+    match StreamList::new(entries) {
+        Ok(list) => list.entries() == entries && passes_smaller(&mut StreamGate::new(list)),
+        Err(_) => false,
     }
 }
 
 #[test]
-fn a_smaller_frame_passes_behind_one_that_is_over(rt: HostRuntime) -> Result<(), Fail> {
-    let entries = [limited(6), limited(7)];
-    let list = StreamList::new(&entries)?;
-    assert!(rt; list.entries() == entries.as_slice());
-    let mut gate = StreamGate::new(list);
-    assert_eq!(rt; gate.pass(Nanos(0), Octets(1000)), Passed::Class(6));
-    assert_eq!(rt; gate.pass(Nanos(10), Octets(600)), Passed::OverOctets);
-    assert_eq!(rt; gate.pass(Nanos(20), Octets(500)), Passed::Class(6));
-    assert_eq!(rt; gate.pass(Nanos(125_000), Octets(1500)), Passed::Class(7));
-    Ok(())
+fn a_smaller_frame_passes_behind_one_that_is_over(rt: HostRuntime) {
+    assert!(rt; keeps_and_passes(&[SIX, SEVEN]));
 }

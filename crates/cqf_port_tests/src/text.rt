@@ -1,94 +1,91 @@
 //! Decimal numbers, parts and lines.
 use cqf_text::{parts, read_decimal, split_line};
-use cqf_units::Memory;
 use std::alloc::Global;
-use std::test::Fail;
+
+/// Texts, the least and the greatest number, and the number that is read.
+const NUMBERS: &[(&[u8], u64, u64, Option<u64>)] = &[
+    // one to twenty digits
+    (b"0", 0, 9, Some(0)),
+    (b"007", 0, 9, Some(7)),
+    (b"00000000000000000042", 0, 99, Some(42)),
+    (b"18446744073709551615", 0, u64::MAX, Some(u64::MAX)),
+    (b"", 0, u64::MAX, None),
+    (b"000000000000000000042", 0, u64::MAX, None),
+    (b"+5", 0, u64::MAX, None),
+    (b" 5", 0, u64::MAX, None),
+    (b"5\r", 0, u64::MAX, None),
+    (b"\xff", 0, u64::MAX, None),
+    (b"18446744073709551616", 0, u64::MAX, None),
+    // in a range
+    (b"64", 64, 1522, Some(64)),
+    (b"1522", 64, 1522, Some(1522)),
+    (b"63", 64, 1522, None),
+    (b"1523", 64, 1522, None),
+];
 
 #[test]
-fn a_decimal_number_has_one_to_twenty_digits(rt: HostRuntime) {
-    assert_eq!(rt; read_decimal(b"0", 0, 9), Some(0));
-    assert_eq!(rt; read_decimal(b"007", 0, 9), Some(7));
-    assert_eq!(rt; read_decimal(b"00000000000000000042", 0, 99), Some(42));
-    assert_eq!(rt;
-        read_decimal(b"18446744073709551615", 0, u64::MAX),
-        Some(u64::MAX)
-    );
-    for bytes in [
-        b"".as_slice(),
-        b"000000000000000000042".as_slice(),
-        b"+5".as_slice(),
-        b" 5".as_slice(),
-        b"5\r".as_slice(),
-        b"\xff".as_slice(),
-        b"18446744073709551616".as_slice(),
-    ] {
-        assert!(rt; read_decimal(bytes, 0, u64::MAX).is_none());
+fn a_decimal_number_has_one_to_twenty_digits_and_lies_in_its_range(rt: HostRuntime) {
+    for (text, least, most, wanted) in NUMBERS {
+        assert!(rt; read_decimal(text, *least, *most) == *wanted);
+    }
+}
+
+/// Inputs, and their parts.
+const PARTS: &[(&[u8], &[&[u8]])] = &[
+    // dividers are lines of two percent signs
+    (b"a\n%%\nb", &[b"a\n", b"b"]),
+    (b"%%\n%%\n", &[b"", b"", b""]),
+    (b"a\n%%", &[b"a\n", b""]),
+    (b"", &[b""]),
+    // other lines are none
+    (b"a\n%%%\nb", &[b"a\n%%%\nb"]),
+    (b"%%\r\nb", &[b"%%\r\nb"]),
+    (b" %%\n", &[b" %%\n"]),
+    (b"%% \n", &[b"%% \n"]),
+    (b"a%%", &[b"a%%"]),
+];
+
+/// Whether some texts are the wanted ones.
+fn are_texts(texts: &[&[u8]], wanted: &[&[u8]]) -> bool {
+    texts.len() == wanted.len() && texts.iter().zip(wanted).all(|(one, other)| *one == *other)
+}
+
+/// Whether the input is divided into these parts.
+fn is_divided(alloc: Global, input: &[u8], wanted: &[&[u8]]) -> bool {
+    match parts(alloc, input) {
+        Ok(found) => are_texts(found.as_slice(), wanted),
+        Err(_) => false,
     }
 }
 
 #[test]
-fn a_number_lies_in_its_range(rt: HostRuntime) {
-    assert_eq!(rt; read_decimal(b"64", 64, 1522), Some(64));
-    assert_eq!(rt; read_decimal(b"1522", 64, 1522), Some(1522));
-    assert_eq!(rt; read_decimal(b"63", 64, 1522), None);
-    assert_eq!(rt; read_decimal(b"1523", 64, 1522), None);
-}
-
-fn is_divided(alloc: Global, input: &[u8], expected: &[&[u8]]) -> Result<bool, Memory> {
-    let found = parts(alloc, input)?;
-    let mut same = found.len() == expected.len();
-    for (part, other) in found.iter().zip(expected.iter()) {
-        same = same && *part == *other;
+fn dividers_are_lines_of_two_percent_signs(rt: HostRuntime) {
+    for (input, wanted) in PARTS {
+        assert!(rt; is_divided(rt.alloc(), input, wanted));
     }
-    Ok(same)
 }
 
-#[test]
-fn dividers_are_lines_of_two_percent_signs(rt: HostRuntime) -> Result<(), Fail> {
-    let alloc = rt.alloc();
-    assert!(rt; is_divided(alloc, b"a\n%%\nb", &[b"a\n".as_slice(), b"b".as_slice()])?);
-    assert!(rt;
-        is_divided(
-            alloc,
-            b"%%\n%%\n",
-            &[b"".as_slice(), b"".as_slice(), b"".as_slice()]
-        )?
-    );
-    assert!(rt; is_divided(alloc, b"a\n%%", &[b"a\n".as_slice(), b"".as_slice()])?);
-    assert!(rt; is_divided(alloc, b"", &[b"".as_slice()])?);
-    Ok(())
-}
+/// Texts, and their lines: an empty piece behind the last line feed is none.
+const LINES: &[(&[u8], &[&[u8]])] = &[
+    (b"80 1000\n\n40 1000", &[b"80 1000", b"", b"40 1000"]),
+    (b"seal\n", &[b"seal"]),
+];
 
-#[test]
-fn other_lines_are_no_dividers(rt: HostRuntime) -> Result<(), Fail> {
-    for input in [
-        b"a\n%%%\nb".as_slice(),
-        b"%%\r\nb".as_slice(),
-        b" %%\n".as_slice(),
-        b"%% \n".as_slice(),
-        b"a%%".as_slice(),
-    ] {
-        assert!(rt; is_divided(rt.alloc(), input, &[input])?);
+/// Whether the text has these lines.
+fn has_lines(text: &[u8], wanted: &[&[u8]]) -> bool {
+    let mut rest = text;
+    for line in wanted {
+        match split_line(rest) {
+            Some((found, behind)) if found == *line => rest = behind,
+            _ => return false,
+        }
     }
-    Ok(())
+    split_line(rest).is_none()
 }
 
 #[test]
-fn lines_end_at_line_feeds(rt: HostRuntime) -> Result<(), Fail> {
-    let (line, rest) = split_line(b"80 1000\n\n40 1000").ok_or("no first line")?;
-    assert!(rt; line == b"80 1000".as_slice());
-    let (line, rest) = split_line(rest).ok_or("no second line")?;
-    assert!(rt; line == b"".as_slice());
-    let (line, rest) = split_line(rest).ok_or("no third line")?;
-    assert!(rt; line == b"40 1000".as_slice());
-    assert!(rt; split_line(rest).is_none());
-    Ok(())
-}
-
-#[test]
-fn an_empty_piece_behind_the_last_line_feed_is_no_line(rt: HostRuntime) -> Result<(), Fail> {
-    let (line, rest) = split_line(b"seal\n").ok_or("no line")?;
-    assert!(rt; line == b"seal".as_slice());
-    assert!(rt; split_line(rest).is_none());
-    Ok(())
+fn lines_end_at_line_feeds(rt: HostRuntime) {
+    for (text, wanted) in LINES {
+        assert!(rt; has_lines(text, wanted));
+    }
 }

@@ -1,55 +1,94 @@
 //! Gate lists.
 use cqf_gates::{ListFault, OpenFor, TxList};
 use cqf_units::Nanos;
-use std::test::Fail;
 
-const PORT_LIST: [(u8, u32); 4] = [(0x80, 120_000), (0x00, 5000), (0x40, 120_000), (0x00, 5000)];
-
-#[test]
-fn a_list_keeps_its_entries(rt: HostRuntime) -> Result<(), Fail> {
-    let list = TxList::new(&PORT_LIST)?;
-    assert!(rt; list.entries() == PORT_LIST.as_slice());
-    assert!(rt; list.copied().entries() == PORT_LIST.as_slice());
-    Ok(())
+/// What a gate list is asked of an instant, and its answer.
+enum Ask {
+    /// For how long a class is open.
+    OpenFor(u64, u8, OpenFor),
+    /// The entry in force by its place, and how long it has been.
+    EntryAt(u64, (usize, u32)),
+    MaskAt(u64, u8),
 }
 
-#[test]
-fn each_fault_is_told(rt: HostRuntime) {
-    for (entries, fault) in [
-        ([].as_slice(), ListFault::Empty),
-        ([(0xFF, 1); 17].as_slice(), ListFault::TooMany),
-        ([(0x80, 0)].as_slice(), ListFault::ZeroInterval),
-    ] {
-        assert!(rt; TxList::new(entries).err() == Some(fault));
+/// Gate lists, and what they answer.
+const CASES: &[(&[(u8, u32)], &[Ask])] = &[
+    // a boundary between two open entries is no close
+    (
+        &[(0xC0, 1000), (0x80, 1000)],
+        &[
+            Ask::OpenFor(1999, 7, OpenFor::Always),
+            Ask::OpenFor(425, 6, OpenFor::Until(Nanos(1000))),
+            Ask::OpenFor(1500, 6, OpenFor::Closed),
+        ],
+    ),
+    (
+        &[(0x80, 1000), (0xC0, 1000)],
+        &[Ask::OpenFor(1500, 6, OpenFor::Until(Nanos(2000)))],
+    ),
+    // the list of a port opens class 7 in even cycles and class 6 in odd ones
+    (
+        &[(0x80, 120_000), (0x00, 5000), (0x40, 120_000), (0x00, 5000)],
+        &[
+            Ask::OpenFor(0, 7, OpenFor::Until(Nanos(120_000))),
+            Ask::OpenFor(130_000, 6, OpenFor::Until(Nanos(245_000))),
+            Ask::EntryAt(120_000, (1, 0)),
+            Ask::EntryAt(250_010, (0, 10)),
+            Ask::MaskAt(125_000, 0x40),
+        ],
+    ),
+];
+
+/// Whether the list answers so.
+fn answers(list: &TxList, ask: &Ask) -> bool {
+    match *ask {
+        Ask::OpenFor(at, class, wanted) => {
+            at < 1_000_000 && class < 8 && list.open_for(Nanos(at), class) == wanted
+        }
+        Ask::EntryAt(at, wanted) => list.entry_at(Nanos(at)) == wanted,
+        Ask::MaskAt(at, wanted) => list.mask_at(Nanos(at)) == wanted,
+    }
+}
+
+/// Whether the list and its copy have these entries, and it answers so.
+fn answers_all(list: &TxList, entries: &[(u8, u32)], asks: &[Ask]) -> bool {
+    list.entries() == entries
+        && list.copied().entries() == entries
+        && asks.iter().all(|ask| answers(list, ask))
+}
+
+/// Whether a list of these entries answers so.
+fn list_answers(entries: &[(u8, u32)], asks: &[Ask]) -> bool {
+    match TxList::new(entries) {
+        Ok(list) => answers_all(&list, entries, asks),
+        Err(_) => false,
     }
 }
 
 #[test]
-fn a_boundary_between_two_open_entries_is_no_close(rt: HostRuntime) -> Result<(), Fail> {
-    let list = TxList::new(&[(0xC0, 1000), (0x80, 1000)])?;
-    assert_eq!(rt; list.open_for(Nanos(1999), 7), OpenFor::Always);
-    assert_eq!(rt; list.open_for(Nanos(425), 6), OpenFor::Until(Nanos(1000)));
-    assert_eq!(rt; list.open_for(Nanos(1500), 6), OpenFor::Closed);
-    let turned = TxList::new(&[(0x80, 1000), (0xC0, 1000)])?;
-    assert_eq!(rt;
-        turned.open_for(Nanos(1500), 6),
-        OpenFor::Until(Nanos(2000))
-    );
-    Ok(())
+fn a_list_tells_what_is_open_and_for_how_long(rt: HostRuntime) {
+    for (entries, asks) in CASES {
+        assert!(rt; list_answers(entries, asks));
+    }
+}
+
+const SEVENTEEN: [(u8, u32); 17] = [(0xFF, 1); 17];
+
+/// Entries that make no list, and why.
+const FAULTS: &[(&[(u8, u32)], ListFault)] = &[
+    (&[], ListFault::Empty),
+    (&SEVENTEEN, ListFault::TooMany),
+    (&[(0x80, 0)], ListFault::ZeroInterval),
+];
+
+/// Whether the entries are refused so.
+fn is_refused(entries: &[(u8, u32)], fault: ListFault) -> bool {
+    TxList::new(entries).err() == Some(fault)
 }
 
 #[test]
-fn a_port_list_opens_class_7_in_even_cycles_and_class_6_in_odd_ones(
-    rt: HostRuntime,
-) -> Result<(), Fail> {
-    let list = TxList::new(&PORT_LIST)?;
-    assert_eq!(rt; list.open_for(Nanos(0), 7), OpenFor::Until(Nanos(120_000)));
-    assert_eq!(rt;
-        list.open_for(Nanos(130_000), 6),
-        OpenFor::Until(Nanos(245_000))
-    );
-    assert_eq!(rt; list.entry_at(Nanos(120_000)), (1, 0));
-    assert_eq!(rt; list.entry_at(Nanos(250_010)), (0, 10));
-    assert_eq!(rt; list.mask_at(Nanos(125_000)), 0x40);
-    Ok(())
+fn each_fault_is_told(rt: HostRuntime) {
+    for (entries, fault) in FAULTS {
+        assert!(rt; is_refused(entries, *fault));
+    }
 }

@@ -7,11 +7,11 @@ use cqf_units::Nanos;
 use std::alloc::Global;
 use std::process::Abort;
 
-/// Texts, and the background frames that they have, all of the first link.
-const READ: &[(&str, &[Background])] = &[
+/// Texts, and the background frames that they have, all of the first link, or the first fault of each.
+const CASES: &[(&str, Result<&[Background], TableFault>)] = &[
     (
         "at,from,to,class,octets\n120000,a,s,0,1522\n999999999999,a,s,5,64",
-        &[
+        Ok(&[
             Background {
                 at: Nanos(120_000),
                 link: 0,
@@ -24,84 +24,69 @@ const READ: &[(&str, &[Background])] = &[
                 class: 5,
                 octets: 64,
             },
-        ],
+        ]),
     ),
-    ("at,from,to,class,octets\n", &[]),
-];
-
-/// Texts that are refused, and the first fault of each.
-const REFUSED: &[(&str, TableFault)] = &[
+    ("at,from,to,class,octets\n", Ok(&[])),
     (
         "at,from,to,class,octets\n200,a,s,6,136\n",
-        TableFault::BadRow(1),
+        Err(TableFault::BadRow(1)),
     ),
     (
         "at,from,to,class,octets\n200,s,a,0,136\n",
-        TableFault::BadRow(1),
+        Err(TableFault::BadRow(1)),
     ),
     (
         "at,from,to,class,octets\n200,a,a,0,136\n",
-        TableFault::BadRow(1),
+        Err(TableFault::BadRow(1)),
     ),
     (
         "at,from,to,class,octets\n200,a,q,0,136\n",
-        TableFault::BadRow(1),
+        Err(TableFault::BadRow(1)),
     ),
     (
         "at,from,to,class,octets\n200,a,s,0,63\n",
-        TableFault::BadRow(1),
+        Err(TableFault::BadRow(1)),
     ),
     (
         "at,from,to,class,octets\n200,a,s,0,1523\n",
-        TableFault::BadRow(1),
+        Err(TableFault::BadRow(1)),
     ),
     (
         "at,from,to,class,octets\n1000000000000,a,s,0,64\n",
-        TableFault::BadRow(1),
+        Err(TableFault::BadRow(1)),
     ),
     (
         "at,from,to,class,octets\n200,a,s,0\n",
-        TableFault::BadRow(1),
+        Err(TableFault::BadRow(1)),
     ),
     (
         "at,from,to,class,octets\n2,a,s,0,64\n1,a,s,0,64\n",
-        TableFault::OutOfOrder(2),
+        Err(TableFault::OutOfOrder(2)),
     ),
-    ("at,bridge,stream,octets\n", TableFault::BadHeader),
-    ("", TableFault::BadHeader),
+    ("at,bridge,stream,octets\n", Err(TableFault::BadHeader)),
+    ("", Err(TableFault::BadHeader)),
 ];
 
-/// Whether the text has exactly these frames.
-fn are_read(alloc: Global, domain: &Domain, text: &str, wanted: &[Background]) -> bool {
+/// Whether the text has exactly these frames, or is refused for this fault.
+fn is_answered(
+    alloc: Global,
+    domain: &Domain,
+    text: &str,
+    wanted: Result<&[Background], TableFault>,
+) -> bool {
     match read_background(alloc, domain, text.as_bytes()) {
-        Ok(frames) => frames.as_slice() == wanted,
-        Err(_) => false,
+        Ok(frames) => matches!(wanted, Ok(rows) if frames.as_slice() == rows),
+        Err(fault) => matches!(wanted, Err(cause) if fault == cause),
     }
 }
 
-/// Whether the text is refused for this fault.
-fn is_refused(alloc: Global, domain: &Domain, text: &str, wanted: TableFault) -> bool {
-    match read_background(alloc, domain, text.as_bytes()) {
-        Ok(_) => false,
-        Err(fault) => fault == wanted,
-    }
-}
-
-/// Asserts what each text has, and that each other is refused for its fault.
-fn answers_for_one_link(rt: &impl Abort, alloc: Global, domain: &Domain) {
-    for (text, wanted) in READ {
-        assert!(rt; are_read(alloc, domain, text, wanted), "{text}");
-    }
-    for (text, wanted) in REFUSED {
-        assert!(rt; is_refused(alloc, domain, text, *wanted), "{text}");
-    }
-}
-
-/// Asserts the answers over the domain of a text, which is read.
+/// Asserts what each text is answered with over the domain of another, which is read.
 fn answers_over(rt: &impl Abort, alloc: Global, text: &str) -> bool {
     match Domain::read(alloc, text.as_bytes()) {
         Ok(domain) => {
-            answers_for_one_link(rt, alloc, &domain);
+            for (text, wanted) in CASES {
+                assert!(rt; is_answered(alloc, &domain, text, *wanted), "{text}");
+            }
             true
         }
         Err(_) => false,

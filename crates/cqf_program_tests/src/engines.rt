@@ -1,4 +1,4 @@
-//! Runs of the whole program over readers and writers in memory, and over some that fail.
+//! The program over readers and writers that fail, and over each front of its input: a frame of one stream goes along three bridges.
 
 use cqf_engine::{Heard, Told, engine};
 use std::alloc::Global;
@@ -7,43 +7,52 @@ use std::io::{ErrorKind, Read, Write};
 use std::sync::Wait;
 use std::thread::Threads;
 
-const OFFERS: &str = "at,bridge,stream,octets\n124999,a,x,64\n";
+/// The input, with the words in its first line.
+const RUN: &str =
+    "run --cycles 5\ncycle = 125000\nguard = 5000\nbridges = [\"a\", \"b\", \"c\"]\nstations = [\"s\"]\n\
+    \n[[links]]\nfrom = \"a\"\nto = \"b\"\nrate = 1000\ndelay = 500\n\
+    \n[[links]]\nfrom = \"b\"\nto = \"c\"\nrate = 1000\ndelay = 500\n\
+    \n[[links]]\nfrom = \"c\"\nto = \"s\"\nrate = 1000\ndelay = 500\n\
+    %%\n[[streams]]\nname = \"x\"\noctets = 1500\npath = [\"a\", \"b\", \"c\", \"s\"]\n\
+    %%\n0 admit x\n%%\nat,bridge,stream,octets\n0,a,x,64\n";
 
-const BOOK: &str = "what,cycle,where,frame,octets,detail\nstart,1,a>s,1,64,125000\n";
+/// Its output.
+const TOLD: &str = "0 admit x accepted 0 0\n1 seal\n1 seal\n1 seal\n1 seal\n1 seal\n%%\n\
+    what,cycle,where,frame,octets,detail\n\
+    start,1,a>b,1,64,125000\nstart,2,b>c,1,64,250000\nstart,3,c>s,1,64,375000\n";
 
-const LINE: [&str; 3] = ["line", "--cycles", "3"];
+/// The output where nothing is offered.
+const NOTHING_OFFERED: &str = "0 admit x accepted 0 0\n1 seal\n1 seal\n1 seal\n1 seal\n1 seal\n%%\n\
+    what,cycle,where,frame,octets,detail\n";
 
-/// Whether a run ends with this status and leaves these texts on its output and on its writer of faults.
-fn leaves<R: Read + Drop>(
-    rt: &(impl Threads + Wait + Sync),
-    alloc: Global,
-    words: &[&str],
-    input: R,
-    status: u8,
-    texts: (&str, &str),
-) -> bool {
-    let mut input = Heard::new(alloc, input);
-    let mut output = Told::new(Vec::new(alloc));
-    let mut faults = Told::new(Vec::new(alloc));
-    let ended = engine(rt, alloc, words, &mut input, &mut output, &mut faults);
-    ended == status
-        && output.writer().as_slice() == texts.0.as_bytes()
-        && faults.writer().as_slice() == texts.1.as_bytes()
-}
+/// The words that stand in the first line.
+const WORDS: &[&str] = &["run", "--cycles", "5"];
 
-/// A reader whose read of this number, from 0, fails. Each of the others gives a divider of parts.
+/// How many bytes of the input are the words and the end of their line.
+const WORDS_END: usize = 15;
+
+/// The words of the sums by link.
+const REPORT: &[&str] = &["report", "--cycles", "5"];
+
+/// The sums by link.
+const SUMS: &str = "link,frames,octets,most\na>b,1,64,64\nb>c,1,64,64\nc>s,1,64,64\n";
+
+/// A reader that gives a text in pieces of at most 7 bytes, and fails once it was read so many times.
 #[derive(Drop)]
 struct Breaks {
-    after: u8,
+    text: &'static [u8],
+    reads: usize,
 }
 
 impl Read for Breaks {
     fn read(&mut self, buf: &mut [u8]) -> io::Result<usize> {
-        if self.after == 0 {
+        if self.reads == 0 {
             return Err(io::Error::from(ErrorKind::Other));
         }
-        self.after -= 1;
-        b"%%\n".as_slice().read(buf)
+        self.reads -= 1;
+        let (mut piece, rest) = self.text.split_at(self.text.len().min(7).min(buf.len()));
+        self.text = rest;
+        piece.read(buf)
     }
 }
 
@@ -57,190 +66,285 @@ impl Read for Endless {
     }
 }
 
-/// A writer that takes nothing.
-#[derive(Drop)]
-struct Closed;
-
-impl Write for Closed {
-    fn write(&mut self, _buf: &[u8]) -> io::Result<usize> {
-        Err(io::Error::from(ErrorKind::BrokenPipe))
-    }
-
-    fn flush(&mut self) -> io::Result<()> {
-        Ok(())
-    }
+/// How a writer refuses, once it has no room: it fails, takes nothing without failing, or fails when it is flushed alone.
+#[derive(Clone, Copy)]
+enum Refusal {
+    Fails,
+    TakesNothing,
+    FailsWhenFlushed,
 }
 
-/// A writer that takes everything, and fails when it is flushed.
+/// A writer that takes so many bytes, and then refuses.
 #[derive(Drop)]
-struct Unflushed;
+struct Narrow {
+    room: usize,
+    refusal: Refusal,
+    taken: Vec<u8>,
+}
 
-impl Write for Unflushed {
+impl Write for Narrow {
     fn write(&mut self, buf: &[u8]) -> io::Result<usize> {
-        Ok(buf.len())
+        let count = self.room.min(buf.len());
+        if count == 0 && matches!(self.refusal, Refusal::Fails) {
+            return Err(io::Error::from(ErrorKind::BrokenPipe));
+        }
+        self.room -= count;
+        self.taken.write(&buf[..count])
     }
 
     fn flush(&mut self) -> io::Result<()> {
-        Err(io::Error::from(ErrorKind::Other))
+        match self.refusal {
+            Refusal::FailsWhenFlushed => Err(io::Error::from(ErrorKind::Other)),
+            _ => Ok(()),
+        }
     }
 }
 
-/// The smallest run: a frame of one stream goes by one link, and the words stand before it.
-const RUN: &str =
-    "run --cycles 2\ncycle = 125000\nguard = 5000\nbridges = [\"a\"]\nstations = [\"s\"]\n\
-    links = [{ from = \"a\", to = \"s\", rate = 1000, delay = 500 }]\n\
-    %%\nstreams = [{ name = \"x\", octets = 1500, path = [\"a\", \"s\"] }]\n\
-    %%\n0 admit x\n%%\nat,bridge,stream,octets\n0,a,x,64\n";
+/// More bytes than any text here has.
+const WIDE: usize = 100_000;
 
-/// The same on threads.
-const RUN_ON_THREADS: &str =
-    "run --cycles 2 --threads\ncycle = 125000\nguard = 5000\nbridges = [\"a\"]\nstations = [\"s\"]\n\
-    links = [{ from = \"a\", to = \"s\", rate = 1000, delay = 500 }]\n\
-    %%\nstreams = [{ name = \"x\", octets = 1500, path = [\"a\", \"s\"] }]\n\
-    %%\n0 admit x\n%%\nat,bridge,stream,octets\n0,a,x,64\n";
-
-const HISTORY_AND_BOOK: &str = "0 admit x accepted 0 0\n1 seal\n1 seal\n%%\n\
-    what,cycle,where,frame,octets,detail\nstart,1,a>s,1,64,125000\n";
-
-/// Words, inputs, and the status and texts that a run ends with.
-const CASES: &[(&[&str], &str, u8, (&str, &str))] = &[
-    (&LINE, OFFERS, 0, (BOOK, "")),
-    // the words stand in the first line
-    (
-        &[],
-        "line --cycles 3\nat,bridge,stream,octets\n124999,a,x,64\n",
-        0,
-        (BOOK, ""),
-    ),
-    (&[], RUN, 0, (HISTORY_AND_BOOK, "")),
-    (&[], RUN_ON_THREADS, 0, (HISTORY_AND_BOOK, "")),
-    (
-        &["run", "--cycles", "2", "--threads"],
-        "%%\n%%\n",
-        1,
-        ("", "cqf: parts\n"),
-    ),
-    (
-        &["report", "--cycles", "2"],
-        "%%\n%%\n",
-        1,
-        ("", "cqf: parts\n"),
-    ),
-    (&LINE, "%%\n", 1, ("", "cqf: parts\n")),
-    (&LINE, "", 1, ("", "cqf: offers: BadHeader\n")),
-    (&["compile"], "", 1, ("", "cqf: parts\n")),
-    (
-        &["port", "--until", "5"],
-        "%%\n",
-        1,
-        ("", "cqf: list: Empty\n"),
-    ),
-];
-
-#[test]
-fn each_command_is_run(rt: HostRuntime) {
-    for (words, input, status, texts) in CASES {
-        assert!(rt; leaves(&rt, rt.alloc(), words, input.as_bytes(), *status, *texts));
-    }
+/// What a run is to end with: its status, what stands on its output, whether that has refused anything, and what stands on the writer of
+/// faults. Where no text of faults is given, there is one exactly where the status isn't 0.
+#[derive(Clone, Copy)]
+struct End {
+    status: u8,
+    output: &'static str,
+    is_refused: bool,
+    faults: Option<&'static str>,
 }
 
-#[test]
-fn first_words_that_are_no_text_are_misuse(rt: HostRuntime) {
-    let input = b"port \xff\n";
-    assert!(rt;
-        leaves(
-            &rt,
-            rt.alloc(),
-            &[],
-            input.as_slice(),
-            2,
-            ("", "cqf: words\n")
-        )
-    );
+/// All is told.
+const DONE: End = End {
+    status: 0,
+    output: TOLD,
+    is_refused: false,
+    faults: Some(""),
+};
+
+/// A read fails.
+const INPUT_FAULT: End = End {
+    status: 4,
+    output: "",
+    faults: Some("cqf: input fault\n"),
+    ..DONE
+};
+
+/// A write or a flush fails.
+const OUTPUT_FAULT: End = End {
+    status: 4,
+    is_refused: true,
+    faults: Some("cqf: output fault\n"),
+    ..DONE
+};
+
+/// The input is refused, whatever its line is.
+const REFUSED: End = End {
+    status: 1,
+    output: "",
+    faults: None,
+    ..DONE
+};
+
+/// Whether a run that ended so is one that is wanted.
+fn is_end(status: u8, output: &Told<Narrow>, faults: &Told<Narrow>, wanted: End) -> bool {
+    let line = faults.writer().taken.as_slice();
+    let is_told = match wanted.faults {
+        Some(text) => line == text.as_bytes(),
+        None => line.is_empty() == (status == 0),
+    };
+    is_told
+        && status == wanted.status
+        && output.is_refused() == wanted.is_refused
+        && output.writer().taken.as_slice() == wanted.output.as_bytes()
 }
 
-/// Whether a run of these words ends with status 4 and its line where the read of this number fails.
-fn is_input_fault(
+/// Whether a run ends so, where its output has so much room, and refuses so, and its writer of faults has so much room.
+fn ends<R: Read + Drop>(
     rt: &(impl Threads + Wait + Sync),
     alloc: Global,
     words: &[&str],
-    after: u8,
+    input: R,
+    writers: (usize, Refusal, usize),
+    wanted: End,
 ) -> bool {
-    leaves(
-        rt,
-        alloc,
-        words,
-        Breaks { after },
-        4,
-        ("", "cqf: input fault\n"),
-    )
+    let (room, refusal, room_for_faults) = writers;
+    let mut input = Heard::new(alloc, input);
+    let mut output = Told::new(Narrow {
+        room,
+        refusal,
+        taken: Vec::new(alloc),
+    });
+    let mut faults = Told::new(Narrow {
+        room: room_for_faults,
+        refusal: Refusal::Fails,
+        taken: Vec::new(alloc),
+    });
+    let status = engine(rt, alloc, words, &mut input, &mut output, &mut faults);
+    is_end(status, &output, &faults, wanted)
+}
+
+/// Writers that take all.
+const OPEN: (usize, Refusal, usize) = (WIDE, Refusal::Fails, WIDE);
+
+/// How a run over the input without its last bytes ends, so many. There is a table of offers where its header is whole, and an offer
+/// where its octets are 64.
+fn end_without(missing: usize) -> End {
+    match missing {
+        // the line feed of the last row may be missing
+        0 | 1 => DONE,
+        // so may the row, and the line feed of the header
+        9 | 10 => End {
+            output: NOTHING_OFFERED,
+            ..DONE
+        },
+        _ => REFUSED,
+    }
+}
+
+/// How a run over the first bytes of the input ends, so many: where the words are cut short, they are a mistake.
+fn end_of_front(cut: usize) -> End {
+    if cut < WORDS_END - 1 {
+        return End {
+            status: 2,
+            ..REFUSED
+        };
+    }
+    end_without(RUN.len().saturating_sub(cut))
 }
 
 #[test]
-fn a_reader_that_fails_is_told(rt: HostRuntime) {
-    for after in 0..3 {
-        assert!(rt; is_input_fault(&rt, rt.alloc(), LINE.as_slice(), after));
-        assert!(rt; is_input_fault(&rt, rt.alloc(), &[], after));
+fn each_front_of_the_input_ends_with_its_first_fault(rt: HostRuntime) {
+    let input = RUN.as_bytes();
+    for cut in 0..=input.len() {
+        let end = end_of_front(cut);
+        assert!(rt;
+            ends(&rt, rt.alloc(), &[], &input[..cut], OPEN, end),
+            "at {cut}"
+        );
+    }
+}
+
+#[test]
+fn each_front_of_the_parts_ends_with_its_first_fault(rt: HostRuntime) {
+    let input = &RUN.as_bytes()[WORDS_END..];
+    for cut in 0..=input.len() {
+        let end = end_without(input.len() - cut);
+        assert!(rt;
+            ends(&rt, rt.alloc(), WORDS, &input[..cut], OPEN, end),
+            "at {cut}"
+        );
+    }
+}
+
+/// How many reads give all of the input, 368 bytes, and then its end.
+const READS: usize = 54;
+
+/// Whether a run that reads so often ends so.
+fn read_ends(
+    rt: &(impl Threads + Wait + Sync),
+    alloc: Global,
+    words: &[&str],
+    reads: usize,
+    wanted: End,
+) -> bool {
+    let from = if words.is_empty() { 0 } else { WORDS_END };
+    let text = &RUN.as_bytes()[from..];
+    ends(rt, alloc, words, Breaks { text, reads }, OPEN, wanted)
+}
+
+#[test]
+fn a_reader_that_fails_at_each_place_is_told(rt: HostRuntime) {
+    for reads in 0..READS {
+        assert!(rt;
+            read_ends(&rt, rt.alloc(), &[], reads, INPUT_FAULT),
+            "at {reads}"
+        );
+    }
+    assert!(rt; read_ends(&rt, rt.alloc(), &[], READS, DONE));
+    for reads in 0..3 {
+        assert!(rt;
+            read_ends(&rt, rt.alloc(), WORDS, reads, INPUT_FAULT),
+            "at {reads}"
+        );
     }
 }
 
 #[test]
 fn a_reader_that_never_ends_is_left(rt: HostRuntime) {
-    let words = ["compile"];
-    assert!(rt;
-        leaves(
-            &rt,
-            rt.alloc(),
-            words.as_slice(),
-            Endless,
-            1,
-            ("", "cqf: input too long\n")
-        )
-    );
+    let end = End {
+        faults: Some("cqf: input too long\n"),
+        ..REFUSED
+    };
+    assert!(rt; ends(&rt, rt.alloc(), &["compile"], Endless, OPEN, end));
 }
 
-/// Whether a run of `line` with this output ends with status 4 and its line.
-fn fails_on<O: Write + Drop>(rt: &(impl Threads + Wait + Sync), alloc: Global, output: O) -> bool {
-    let mut input = Heard::new(alloc, OFFERS.as_bytes());
-    let mut output = Told::new(output);
-    let mut faults = Told::new(Vec::new(alloc));
-    let status = engine(rt, alloc, &LINE, &mut input, &mut output, &mut faults);
-    status == 4
-        && output.is_refused()
-        && faults.writer().as_slice() == b"cqf: output fault\n".as_slice()
+/// How a run whose output has so much room ends, where all of it is this text.
+fn end_in_room(room: usize, text: &'static str) -> End {
+    match text.get(..room) {
+        Some(front) if room < text.len() => End {
+            output: front,
+            ..OUTPUT_FAULT
+        },
+        _ => End {
+            output: text,
+            ..DONE
+        },
+    }
+}
+
+/// Whether a run whose output refuses so, at any place, leaves just the front of this text up to there.
+fn leaves_each_front(
+    rt: &(impl Threads + Wait + Sync),
+    alloc: Global,
+    words: &[&str],
+    refusal: Refusal,
+    text: &'static str,
+) -> bool {
+    let input = &RUN.as_bytes()[WORDS_END..];
+    for room in 0..=text.len() {
+        let writers = (room, refusal, WIDE);
+        if !ends(rt, alloc, words, input, writers, end_in_room(room, text)) {
+            return false;
+        }
+    }
+    true
 }
 
 #[test]
-fn a_writer_that_fails_is_told(rt: HostRuntime) {
-    assert!(rt; fails_on(&rt, rt.alloc(), Closed));
-    assert!(rt; fails_on(&rt, rt.alloc(), Unflushed));
+fn a_writer_that_refuses_at_each_place_is_told(rt: HostRuntime) {
+    for refusal in [Refusal::Fails, Refusal::TakesNothing] {
+        assert!(rt; leaves_each_front(&rt, rt.alloc(), WORDS, refusal, TOLD));
+        assert!(rt; leaves_each_front(&rt, rt.alloc(), REPORT, refusal, SUMS));
+    }
 }
 
-/// The status of a run of `line` that is refused, where nothing of that can be told.
-fn status_untold(rt: &(impl Threads + Wait + Sync), alloc: Global) -> u8 {
-    let mut input = Heard::new(alloc, b"%%\n".as_slice());
-    let mut output = Told::new(Vec::new(alloc));
-    let mut faults = Told::new(Closed);
-    engine(rt, alloc, &LINE, &mut input, &mut output, &mut faults)
+#[test]
+fn a_flush_that_fails_is_told(rt: HostRuntime) {
+    let writers = (WIDE, Refusal::FailsWhenFlushed, WIDE);
+    assert!(rt; ends(&rt, rt.alloc(), &[], RUN.as_bytes(), writers, OUTPUT_FAULT));
 }
 
 #[test]
 fn a_writer_of_faults_that_fails_changes_no_status(rt: HostRuntime) {
-    assert_eq!(rt; status_untold(&rt, rt.alloc()), 1);
-}
-
-/// The status of a run of these words, whose reader and output fail, and how much is told of it.
-fn end_of_misuse(rt: &(impl Threads + Wait + Sync), alloc: Global, words: &[&str]) -> (u8, usize) {
-    let mut input = Heard::new(alloc, Breaks { after: 0 });
-    let mut output = Told::new(Closed);
-    let mut faults = Told::new(Vec::new(alloc));
-    let status = engine(rt, alloc, words, &mut input, &mut output, &mut faults);
-    (status, faults.writer().len())
+    let end = End {
+        faults: Some(""),
+        ..REFUSED
+    };
+    let writers = (WIDE, Refusal::Fails, 0);
+    assert!(rt; ends(&rt, rt.alloc(), WORDS, b"%%\n".as_slice(), writers, end));
 }
 
 #[test]
 fn wrong_words_come_before_what_fails(rt: HostRuntime) {
-    let (status, told) = end_of_misuse(&rt, rt.alloc(), &["port", "--until", "0"]);
-    assert_eq!(rt; status, 2);
-    assert!(rt; told > 0);
+    let reader = Breaks {
+        text: b"",
+        reads: 0,
+    };
+    let end = End {
+        status: 2,
+        ..REFUSED
+    };
+    let words = ["port", "--until", "0"];
+    let writers = (0, Refusal::Fails, WIDE);
+    assert!(rt; ends(&rt, rt.alloc(), &words, reader, writers, end));
 }

@@ -1,4 +1,5 @@
-//! Tests of tables, books, words, commands and whole runs, with values from outside. A crate that has tests is proved twice, so these stand in one of their own.
+//! Tests of tables and words, and of the program over readers and writers that fail, with values from outside. A crate that has tests is
+//! proved twice, so these stand in one of their own; what the program writes for its words and input is in the stored runs of `runs/`.
 #![tactic(auto)]
 
 #[cfg(test)]
@@ -6,34 +7,14 @@ mod arrivals;
 #[cfg(test)]
 mod background;
 #[cfg(test)]
-mod books;
-#[cfg(test)]
-mod cases;
-#[cfg(test)]
-mod compile_command;
-#[cfg(test)]
 mod engines;
-#[cfg(test)]
-mod histories;
-#[cfg(test)]
-mod line_command;
-#[cfg(test)]
-mod link_sums;
 #[cfg(test)]
 mod offers;
 #[cfg(test)]
-mod port_command;
+mod presses;
 #[cfg(test)]
-mod report_command;
-#[cfg(test)]
-mod run_command;
-#[cfg(test)]
-mod starts;
+mod signals;
 #[cfg(test)]
 mod stops;
-#[cfg(test)]
-mod threads_command;
-#[cfg(test)]
-mod whole_runs;
 #[cfg(test)]
 mod words;

@@ -3,105 +3,90 @@ use cqf_fixtures::line;
 use cqf_model::Offer;
 use cqf_report::{TableFault, read_offers};
 use cqf_topology::Domain;
-use cqf_units::Nanos;
 use std::alloc::Global;
 use std::process::Abort;
 
-/// Offers of the text [`OFFERS`]: instant, bridge, stream and octets.
-const READ: &[(u64, u8, &str, u32)] = &[
-    (0, 0, "y", 64),
-    (0, 1, "x", 1522),
-    (999_999_999_999, 2, "x", 64),
-];
+/// An offer: its instant, its bridge, its stream and its octets.
+type Offering = (u64, u8, &'static str, u32);
 
-/// The text of [`READ`].
-const OFFERS: &[u8] = b"at,bridge,stream,octets\n0,a,y,64\n0,b,x,1522\n999999999999,c,x,64\n";
-
-/// Texts that are refused, and the first fault of each.
-const REFUSED: &[(&[u8], TableFault)] = &[
-    (b"at,bridge,stream,octets\n0,a,x\n", TableFault::BadRow(1)),
+/// Texts, and the offers that they have, or the first fault of each.
+const CASES: &[(&[u8], Result<&[Offering], TableFault>)] = &[
+    (
+        b"at,bridge,stream,octets\n0,a,y,64\n0,b,x,1522\n999999999999,c,x,64\n",
+        Ok(&[
+            (0, 0, "y", 64),
+            (0, 1, "x", 1522),
+            (999_999_999_999, 2, "x", 64),
+        ]),
+    ),
+    (
+        b"at,bridge,stream,octets\n0,a,x\n",
+        Err(TableFault::BadRow(1)),
+    ),
     (
         b"at,bridge,stream,octets\n0,a,x,63\n",
-        TableFault::BadRow(1),
+        Err(TableFault::BadRow(1)),
     ),
     (
         b"at,bridge,stream,octets\n0,s,x,64\n",
-        TableFault::BadRow(1),
+        Err(TableFault::BadRow(1)),
     ),
     (
         b"at,bridge,stream,octets\n0,a,X!,64\n",
-        TableFault::BadRow(1),
+        Err(TableFault::BadRow(1)),
     ),
     (
         b"at,bridge,stream,octets\n1000000000000,a,x,64\n",
-        TableFault::BadRow(1),
+        Err(TableFault::BadRow(1)),
     ),
     (
         b"at,bridge,stream,octets\n5,a,x,64\n4,a,x,64\n",
-        TableFault::OutOfOrder(2),
+        Err(TableFault::OutOfOrder(2)),
     ),
     (
         b"at,bridge,stream,octets\n0,a,\xff,64\n",
-        TableFault::BadRow(1),
+        Err(TableFault::BadRow(1)),
     ),
     (
         b"at,bridge,stream,octets\n0,\"a,x,64\n",
-        TableFault::BadRow(1),
+        Err(TableFault::BadRow(1)),
     ),
-    (b"at,octets\n", TableFault::BadHeader),
+    (b"at,octets\n", Err(TableFault::BadHeader)),
 ];
 
-/// Whether an offer is the one that is wanted.
-fn is_offer(offer: &Offer, wanted: (u64, u8, &str, u32)) -> bool {
-    let (at, bridge, stream, octets) = wanted;
-    if offer.at != Nanos(at) || offer.bridge != bridge || offer.octets != octets {
-        return false;
-    }
-    offer.stream.as_str() == stream
+/// Whether the offers are these.
+fn are_offers(offers: &[Offer], rows: &[Offering]) -> bool {
+    offers.len() == rows.len()
+        && offers.iter().zip(rows).all(|(offer, row)| {
+            (
+                offer.at.0,
+                offer.bridge,
+                offer.stream.as_str(),
+                offer.octets,
+            ) == *row
+        })
 }
 
-/// Whether the offers are those that are wanted.
-fn are_offers(offers: &[Offer], wanted: &[(u64, u8, &str, u32)]) -> bool {
-    if offers.len() != wanted.len() {
-        return false;
-    }
-    for (place, offer) in offers.iter().enumerate() {
-        if !is_offer(offer, wanted[place]) {
-            return false;
-        }
-    }
-    true
-}
-
-/// Whether the text has exactly these offers.
-fn are_read(alloc: Global, domain: &Domain, text: &[u8], wanted: &[(u64, u8, &str, u32)]) -> bool {
+/// Whether the text has exactly these offers, or is refused for this fault.
+fn is_answered(
+    alloc: Global,
+    domain: &Domain,
+    text: &[u8],
+    wanted: Result<&[Offering], TableFault>,
+) -> bool {
     match read_offers(alloc, domain, text) {
-        Ok(offers) => are_offers(offers.as_slice(), wanted),
-        Err(_) => false,
+        Ok(offers) => matches!(wanted, Ok(rows) if are_offers(offers.as_slice(), rows)),
+        Err(fault) => matches!(wanted, Err(cause) if fault == cause),
     }
 }
 
-/// Whether the text is refused for this fault.
-fn is_refused(alloc: Global, domain: &Domain, text: &[u8], wanted: TableFault) -> bool {
-    match read_offers(alloc, domain, text) {
-        Ok(_) => false,
-        Err(fault) => fault == wanted,
-    }
-}
-
-/// Asserts what each text has, and that each other is refused for its fault.
-fn answers_for_line(rt: &impl Abort, alloc: Global, domain: &Domain) {
-    assert!(rt; are_read(alloc, domain, OFFERS, READ));
-    for (text, wanted) in REFUSED {
-        assert!(rt; is_refused(alloc, domain, text, *wanted));
-    }
-}
-
-/// Asserts the answers over the domain of a text, which is read.
+/// Asserts what each text is answered with over the domain of another, which is read.
 fn answers_over(rt: &impl Abort, alloc: Global, text: &str) -> bool {
     match Domain::read(alloc, text.as_bytes()) {
         Ok(domain) => {
-            answers_for_line(rt, alloc, &domain);
+            for (text, wanted) in CASES {
+                assert!(rt; is_answered(alloc, &domain, text, *wanted));
+            }
             true
         }
         Err(_) => false,

@@ -1,1 +1,2 @@
 pub mod RunOutput
+pub mod RunTold

@@ -2,49 +2,73 @@
 ghost use Rattle.std.specs.Prelude.{◌≡◌, ◌≤◌, IfErr, IfOk, map};
 ghost use Rattle.cqf_admission.specs.Admission.{recorded_of};
 ghost use Rattle.cqf_model.specs.Book.{contents_of};
+ghost use Rattle.cqf_press.specs.Edge.{HasTold, writing};
+ghost use Rattle.cqf_press.specs.Press.{Puts};
 ghost use Rattle.cqf_run_command.specs.RunOutput.{IsRunOutput, run_text};
+ghost use Rattle.cqf_run_command.specs.RunTold.{text_of_run};
 ghost use Rattle.cqf_scenario.specs.Scenario.{scenario_input};
 ghost use Rattle.cqf_stop.specs.Stops.{IsRefused};
 
+use crate::output::RunOutput;
 use cqf_admission::Entry;
 use cqf_model::Book;
-use cqf_report::{append_book, write_history};
+use cqf_press::{Press, Sheet, Told};
 use cqf_scenario::simulate;
 use cqf_stop::Stop;
+use cqf_telling::{put_book, put_history};
 use cqf_topology::Domain;
-use cqf_units::Memory;
 use std::alloc::Global;
+use std::io::Write;
 
-/// The text of a history and of a book of the domain, with a line `%%` between them. The error is want of memory.
-pub fn write_run(
-    alloc: Global,
+/// Puts the text of a history and of a book, with a line `%%` between them.
+fn put_run<W: Write>(press: &mut Press<'_, W>, domain: &Domain, history: &[Entry], book: &Book)
+    ensures { Puts W.contents press.old press.new (run_text domain.now (map recorded_of history.now) (contents_of book.now)) }
+{
+    put_history(press, history);
+    press.put(b"%%\n");
+    put_book(press, domain, book);
+}
+
+/// Tells the text of a history and of a book of the domain, with a line `%%` between them. It asks for no memory.
+pub fn tell_run<W: Write>(
+    told: &mut Told<W>,
+    sheet: Sheet,
     domain: &Domain,
     history: &[Entry],
     book: &Book,
-) -> Result<Vec<u8>, Memory>
-    ensures { IfOk result (λ text. text.items ≡ run_text domain.now (map recorded_of history.now) (contents_of book.now)) }
+)
+    ensures { HasTold (writing W.contents told.old told.new) (run_text domain.now (map recorded_of history.now) (contents_of book.now)) }
 {
-    let mut text = write_history(alloc, history)?;
-    text.extend_from_slice(b"%%\n".as_slice())?;
-    let text = append_book(alloc, text, domain, book)?;
-    Ok(text)
+    let mut press = Press::new(told, sheet);
+    put_run(&mut press, domain, history, book);
+    let _told = press.close();
 }
 
-/// The output of `run` over so many cycles, 0 to 100,000: the history of the input's scenario, a line `%%`, and the
-/// one-thread book of that history (profile).
+impl RunOutput {
+    /// Tells the output: the history of the input's scenario, a line `%%`, and the one-thread book of that history (profile). It asks
+    /// for no memory.
+    pub fn tell<W: Write>(self, told: &mut Told<W>)
+        ensures { HasTold (writing W.contents told.old told.new) (text_of_run self) }
+    {
+        let RunOutput { made, sheet } = self;
+        let (domain, history) = (made.admission.domain(), made.admission.history());
+        tell_run(told, sheet, domain, history, &made.book);
+    }
+}
+
+/// The output of `run` over so many cycles, 0 to 100,000, ready to be told.
 ///
 /// # Errors
 /// With status 1 and the line of the first fault of the input: of its parts, of the domain, the streams, the script, the
 /// offers, or the background frames; and with status 3 for want of memory.
-pub fn run_output(alloc: Global, cycles: u32, input: &[u8]) -> Result<Vec<u8>, Stop>
+pub fn run_output(alloc: Global, cycles: u32, input: &[u8]) -> Result<RunOutput, Stop>
     requires { cycles ≤ 100000 }
-    ensures ok { IfOk result (λ output. IsRunOutput cycles input.now output.items) }
+    ensures ok { IfOk result (λ output. IsRunOutput cycles input.now (text_of_run output)) }
     ensures err { IfErr result (IsRefused (scenario_input cycles input.now)) }
 {
     let made = simulate(alloc, cycles, input)?;
-    let (domain, history) = (made.admission.domain(), made.admission.history());
-    match write_run(alloc, domain, history, &made.book) {
-        Ok(text) => Ok(text),
+    match Sheet::new(alloc) {
+        Ok(sheet) => Ok(RunOutput { made, sheet }),
         Err(_) => Err(Stop::memory(alloc)),
     }
 }

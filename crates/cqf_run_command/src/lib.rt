@@ -1,17 +1,19 @@
 //! The command `run`: a scenario, run on one thread.
 //!
 //! - [`run_output`] is the command's output for its input, the history and the book of the input's scenario, or the end of
-//!   the run with the line of the input's first fault.
-//! - [`write_run`] gives the text of any history and its book.
+//!   the run with the line of the input's first fault. [`RunOutput::tell`] tells it, and asks for no memory.
+//! - [`tell_run`] tells the text of any history and its book.
 //!
 //! `specs/RunOutput.antt` says what it is that a text `IsRunOutput`.
 //!
 //! ```text
 //! run_output(alloc, 2, b"..\n%%\nstreams = [{ name = \"x\", .. }]\n%%\n0 admit x\n%%\nat,bridge,stream,octets\n0,a,x,64\n")
-//!     is Ok(b"0 admit x accepted 0 0\n1 seal\n1 seal\n%%\nwhat,cycle,where,frame,octets,detail\nstart,1,a>s,1,64,125000\n")
+//!     is Ok of an output that tells "0 admit x accepted 0 0\n1 seal\n1 seal\n%%\nwhat,cycle,where,frame,octets,detail\nstart,1,a>s,1,64,125000\n"
 //! ```
 #![tactic(auto)]
 
 mod command;
+mod output;
 
-pub use command::{run_output, write_run};
+pub use command::{run_output, tell_run};
+pub use output::RunOutput;

@@ -1,4 +1,6 @@
+mod NameLemmas
 mod OrderLemmas
+pub mod Places
 mod ReadLines
 mod Words
 mod Few

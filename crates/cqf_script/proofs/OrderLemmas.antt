@@ -3,7 +3,6 @@ use Rattle.std.proofs.Common.{◌≡◌, ℕ, Bool, true, false, cond, List, [],
 use Rattle.std.proofs.lemmas.Bool.Decides.{nat_tests}
 use Rattle.std.specs.Prelude.{nat_le, String, option_map, string_bytes}
 use Rattle.std.specs.declared.alloc.Global.{Global}
-use Rattle.cqf_model.specs.Domain.{is_text}
 use Rattle.cqf_topology.specs.declared.streams.Request.{Request}
 use Rattle.cqf_topology.specs.StreamsText.{request_text}
 use Rattle.cqf_admission.specs.declared.entries.Call.{Call}
@@ -12,11 +11,8 @@ use Rattle.cqf_admission.specs.Asking.{asked_by, asked_of}
 use Rattle.cqf_script.specs.declared.faults.ScriptFault.TheVariants.{UnknownStream, TooMany}
 use Rattle.cqf_script.specs.declared.lines.Wish.TheVariants.{Admit, Withdraw}
 use Rattle.cqf_script.specs.Lines.{Ordered}
+use Rattle.cqf_script.specs.Names.{has_name}
 use Rattle.cqf_script.specs.Script.{call_of_order, called_of, most_calls, request_named}
-
--- the request has the name
-abbrev pub has_name : List ℕ → Request → Bool
-has_name name request = is_text (string_bytes request.name) name
 
 -- what the first request asks for is what is asked for first
 named_first : (requests : List Request) (name : List ℕ) → option_map asked_of (find (has_name name) requests) ≡ request_named (map asked_of requests) name

@@ -1,6 +1,5 @@
 //! The calls of a script.
-ghost use Rattle.std.specs.Prelude.{◌≡◌, ◌+◌, ◌<◌, ◌≤◌, ◌^◌, IfOk, map, find, option_copied, string_bytes};
-ghost use Rattle.cqf_model.specs.Domain.{is_text};
+ghost use Rattle.std.specs.Prelude.{◌≡◌, ◌+◌, ◌<◌, ◌≤◌, ◌^◌, IfOk, map};
 ghost use Rattle.cqf_text.specs.Lines.{lines_of};
 ghost use Rattle.cqf_fields.specs.Fields.{Gives};
 ghost use Rattle.cqf_admission.specs.Asking.{asked_of};
@@ -10,6 +9,7 @@ ghost use Rattle.cqf_script.specs.Script.{AreFew, administrators, call_of_line, 
 
 use crate::ScriptFault;
 use crate::lines::{Order, Wish, is_seal_line, read_order};
+use crate::names::Names;
 use cqf_admission::{Call, MOST_CALLS};
 use cqf_text::split_line;
 use cqf_topology::Request;
@@ -74,33 +74,19 @@ pub fn administrators(text: &[u8]) -> u16
     most
 }
 
-/// Whether the request is of this name.
-fn has_name(request: &Request, name: &str) -> bool
-    ensures { result ≡ is_text (string_bytes request.now.name) name.now }
-{
-    name == request.name.as_str()
-}
-
-/// The first request of this name.
-fn request_named<'r>(requests: &'r [Request], name: &str) -> Option<&'r Request>
-    ensures { option_copied result ≡ find (λ request. is_text (string_bytes request.name) name.now) requests.now }
-{
-    requests.iter().find(|request| has_name(request, name))
-}
-
 /// The call of an order on a line.
 fn call_of_order(
     alloc: Global,
-    requests: &[Request],
+    names: &Names<'_>,
     place: Place,
     order: &Order<'_>,
 ) -> Result<(u16, Call), ScriptFault>
-    ensures { Gives ScriptFault.Memory called_of result (call_of_order (map asked_of requests.now) place.line place.called (ordered order.now)) }
+    ensures { Gives ScriptFault.Memory called_of result (call_of_order (map asked_of names.now) place.line place.called (ordered order.now)) }
 {
     let many = MOST_CALLS as u64 <= place.called;
     let call = match order.wish {
         Wish::Admit => {
-            let Some(request) = request_named(requests, order.name) else {
+            let Some(request) = names.find(order.name) else {
                 return Err(ScriptFault::UnknownStream(place.line));
             };
             if many {
@@ -131,19 +117,19 @@ fn call_of_seal(seat: u16, cycles: u32, place: Place) -> Result<(u16, Call), Scr
 /// The call of a line.
 fn call_of_line(
     alloc: Global,
-    requests: &[Request],
+    names: &Names<'_>,
     seat: u16,
     cycles: u32,
     place: Place,
     line: &[u8],
 ) -> Result<(u16, Call), ScriptFault>
-    ensures { Gives ScriptFault.Memory called_of result (call_of_line (map asked_of requests.now) seat cycles place.line place.sealed place.called line.now) }
+    ensures { Gives ScriptFault.Memory called_of result (call_of_line (map asked_of names.now) seat cycles place.line place.sealed place.called line.now) }
 {
     if is_seal_line(line) {
         return call_of_seal(seat, cycles, place);
     }
     match read_order(line) {
-        Some(order) => call_of_order(alloc, requests, place, &order),
+        Some(order) => call_of_order(alloc, names, place, &order),
         None => Err(ScriptFault::BadLine(place.line)),
     }
 }
@@ -168,6 +154,7 @@ pub fn read_script(
     ensures calls { Gives ScriptFault.Memory (λ calls. map called_of calls.items) result (script_of (map asked_of requests.now) cycles text.now) }
     ensures few { IfOk result (λ calls. AreFew cycles (map called_of calls.items)) }
 {
+    let names = Names::new(alloc, requests)?;
     let seat = administrators(text);
     let mut place = Place {
         line: 1,
@@ -177,7 +164,7 @@ pub fn read_script(
     let mut calls = Vec::new(alloc);
     let mut left = text;
     while let Some((line, behind)) = split_line(left) {
-        let call = call_of_line(alloc, requests, seat, cycles, place, line)?;
+        let call = call_of_line(alloc, &names, seat, cycles, place, line)?;
         calls.push(call).map_err(|_| ScriptFault::Memory)?;
         place = place.behind(line);
         left = behind;

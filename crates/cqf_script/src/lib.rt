@@ -17,6 +17,7 @@
 mod calls;
 mod faults;
 mod lines;
+mod names;
 
 pub use calls::{administrators, read_script};
 pub use faults::ScriptFault;

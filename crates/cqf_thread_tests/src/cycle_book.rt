@@ -5,7 +5,6 @@ use cqf_units::{Cycle, Memory, Nanos};
 use std::alloc::Global;
 use std::mem::swap;
 use std::sync::Wait;
-use std::test::Fail;
 use std::thread::{Threads, join};
 
 /// A transmission of so many octets, at the cycle's first instant.
@@ -175,6 +174,8 @@ enum Wrong {
     Twice,
     /// The shares of these bridges are those of another book that took no page.
     Unused(&'static [usize]),
+    /// That of bridge 0 is of another book, whose page of cycle 0 has its start on link 2.
+    OnAnotherLink,
 }
 
 /// Puts the share at one place of the others in this place.
@@ -184,8 +185,28 @@ fn put_other(shares: &mut [Share], place: usize, others: &mut [Share], other: us
     }
 }
 
-/// Makes the shares wrong.
-fn make_wrong(shares: &mut Vec<Share>, others: &mut [Share], wrong: Wrong) {
+/// Whether the book takes a page of the first share's bridge and cycle 0 with its start on link 2.
+fn is_posted_on_link_2<R: Wait>(
+    rt: &R,
+    alloc: Global,
+    book: &CycleBook,
+    shares: &mut [Share],
+) -> bool {
+    match (shares.first_mut(), page_with(alloc, 0, 0, 2)) {
+        (Some(share), Ok(page)) => book.post(rt, share, page).is_ok(),
+        _ => false,
+    }
+}
+
+/// Makes the shares wrong with those of another book.
+fn make_wrong<R: Wait>(
+    rt: &R,
+    alloc: Global,
+    shares: &mut Vec<Share>,
+    other: &CycleBook,
+    others: &mut [Share],
+    wrong: Wrong,
+) {
     match wrong {
         Wrong::Missing => shares.truncate(2),
         Wrong::Twice => put_other(shares.as_mut_slice(), 2, others, 1),
@@ -194,13 +215,18 @@ fn make_wrong(shares: &mut Vec<Share>, others: &mut [Share], wrong: Wrong) {
                 put_other(shares.as_mut_slice(), *place, others, *place);
             }
         }
+        Wrong::OnAnotherLink => {
+            if is_posted_on_link_2(rt, alloc, other, others) {
+                put_other(shares.as_mut_slice(), 0, others, 0);
+            }
+        }
     }
 }
 
-/// Makes the shares wrong with those of another book.
-fn make_wrong_by_another(alloc: Global, shares: &mut Vec<Share>, wrong: Wrong) {
-    if let Ok((_, mut others)) = three_by_five(alloc) {
-        make_wrong(shares, others.as_mut_slice(), wrong);
+/// Makes the shares wrong with those of another book, which is made for it.
+fn make_wrong_by_another<R: Wait>(rt: &R, alloc: Global, shares: &mut Vec<Share>, wrong: Wrong) {
+    if let Ok((other, mut others)) = three_by_five(alloc) {
+        make_wrong(rt, alloc, shares, &other, others.as_mut_slice(), wrong);
     }
 }
 
@@ -249,7 +275,7 @@ fn is_so<R: Wait>(rt: &R, alloc: Global, case: &Case) -> bool {
         Ok((book, mut shares)) => {
             let takes = takes_posts(rt, alloc, &book, shares.as_mut_slice(), case);
             if let Some(wrong) = case.wrong {
-                make_wrong_by_another(alloc, &mut shares, wrong);
+                make_wrong_by_another(rt, alloc, &mut shares, wrong);
             }
             takes && closes(book, shares, &case.closing)
         }
@@ -308,43 +334,20 @@ const CASES: &[Case] = &[
         wrong: Some(Wrong::Unused(&[2])),
         closing: Closing::Refused(BookClose::SharesDisagree(2)),
     },
+    // a page that says something else is noticed
+    Case {
+        posts: &[(0, 0, 0, None)],
+        sent: (1, 64),
+        wrong: Some(Wrong::OnAnotherLink),
+        closing: Closing::Refused(BookClose::SharesDisagree(0)),
+    },
 ];
 
 #[test]
-fn a_book_closes_with_its_own_shares_alone(rt: HostRuntime) -> Result<(), Fail> {
-    for case in CASES {
-        assert!(rt; is_so(&rt, rt.alloc(), case));
+fn a_book_closes_with_its_own_shares_alone(rt: HostRuntime) {
+    for (place, case) in CASES.iter().enumerate() {
+        assert!(rt; is_so(&rt, rt.alloc(), case), "case {place}");
     }
-    Ok(())
-}
-
-/// Whether the book takes a page of bridge 0 and cycle 0 with a start on that link.
-fn is_posted_on<R: Wait>(
-    rt: &R,
-    alloc: Global,
-    book: &CycleBook,
-    shares: &mut [Share],
-    link: u8,
-) -> bool {
-    match (shares.first_mut(), page_with(alloc, 0, 0, link)) {
-        (Some(share), Ok(page)) => book.post(rt, share, page).is_ok(),
-        _ => false,
-    }
-}
-
-/// Whether a book knows its shares from those of another, of which one has a page with its start on another link.
-fn another_page_is_noticed<R: Wait>(rt: &R, alloc: Global) -> Result<bool, Memory> {
-    let (book, mut own) = three_by_five(alloc)?;
-    let (other, mut others) = three_by_five(alloc)?;
-    let posted = is_posted_on(rt, alloc, &book, own.as_mut_slice(), 1)
-        && is_posted_on(rt, alloc, &other, others.as_mut_slice(), 2);
-    Ok(posted && is_refused(book, others, BookClose::SharesDisagree(0)))
-}
-
-#[test]
-fn a_page_that_says_something_else_is_noticed(rt: HostRuntime) -> Result<(), Fail> {
-    assert!(rt; another_page_is_noticed(&rt, rt.alloc())?);
-    Ok(())
 }
 
 /// Whether the book takes the page with a start on a link of 2 less the bridge's number.
@@ -488,9 +491,8 @@ fn fills_behind_one_page<R: Threads + Wait + Sync>(rt: &R, alloc: Global) -> boo
 }
 
 #[test]
-fn three_threads_write_one_book(rt: HostRuntime) -> Result<(), Fail> {
+fn three_threads_write_one_book(rt: HostRuntime) {
     assert!(rt; fills_behind_one_page(&rt, rt.alloc()));
-    Ok(())
 }
 
 /// Faults, and how they print.
@@ -500,11 +502,17 @@ const TEXTS: &[(BookClose, &str)] = &[
     (BookClose::Memory, "Memory"),
 ];
 
-#[test]
-fn a_fault_prints_as_its_name(rt: HostRuntime) -> Result<(), Fail> {
-    for (fault, name) in TEXTS {
-        let text = format!(in rt.alloc(); "{fault}")?;
-        assert_eq!(rt; text.as_str(), *name);
+/// Whether the fault prints so.
+fn prints(alloc: Global, fault: BookClose, wanted: &str) -> bool {
+    match format!(in alloc; "{fault}") {
+        Ok(text) => text.as_str() == wanted,
+        Err(_) => false,
     }
-    Ok(())
+}
+
+#[test]
+fn a_fault_prints_as_its_name(rt: HostRuntime) {
+    for (fault, name) in TEXTS {
+        assert!(rt; prints(rt.alloc(), *fault, name));
+    }
 }

@@ -6,7 +6,6 @@ use std::alloc::Global;
 use std::collections::VecDeque;
 use std::sync::Wait;
 use std::sync::atomic::{AtomicU64, Ordering};
-use std::test::Fail;
 use std::thread::{Threads, join};
 
 /// Whether the items 1, 2 and 3 go in.
@@ -63,11 +62,10 @@ fn comes_out<R: Wait>(rt: &R, alloc: Global) -> bool {
 }
 
 #[test]
-fn pipe_3(rt: HostRuntime) -> Result<(), Fail> {
+fn pipe_3(rt: HostRuntime) {
     assert!(rt; one_of_three_is_left(&rt, rt.alloc()));
     assert!(rt; comes_back(&rt, rt.alloc()));
     assert!(rt; comes_out(&rt, rt.alloc()));
-    Ok(())
 }
 
 /// Whether 2 and 3 go in behind 1, at once, and then 4.
@@ -131,11 +129,10 @@ fn come_back_together<R: Wait>(rt: &R, alloc: Global) -> bool {
 }
 
 #[test]
-fn items_go_together(rt: HostRuntime) -> Result<(), Fail> {
+fn items_go_together(rt: HostRuntime) {
     assert!(rt; come_one_by_one(&rt, rt.alloc()));
     assert!(rt; come_to_the_last(&rt, rt.alloc()));
     assert!(rt; come_back_together(&rt, rt.alloc()));
-    Ok(())
 }
 
 /// Whether so many numbers go in, from 0 on.
@@ -192,9 +189,8 @@ fn crosses<R: Threads + Wait + Sync>(rt: &R, alloc: Global) -> bool {
 }
 
 #[test]
-fn a_hundred_numbers_cross_in_order(rt: HostRuntime) -> Result<(), Fail> {
+fn a_hundred_numbers_cross_in_order(rt: HostRuntime) {
     assert!(rt; crosses(&rt, rt.alloc()));
-    Ok(())
 }
 
 /// Whether four items go in while none comes out.
@@ -246,8 +242,7 @@ fn fifth_waits<R: Threads + Wait + Sync>(rt: &R, alloc: Global) -> bool {
 }
 
 #[test]
-fn four_items_wait_and_no_fifth(rt: HostRuntime) -> Result<(), Fail> {
+fn four_items_wait_and_no_fifth(rt: HostRuntime) {
     assert!(rt; four_wait(&rt, rt.alloc()));
     assert!(rt; fifth_waits(&rt, rt.alloc()));
-    Ok(())
 }

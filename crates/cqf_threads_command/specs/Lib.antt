@@ -1,1 +1,2 @@
+pub mod AccountTold
 pub mod ThreadsOutput

@@ -1,20 +1,21 @@
 //! The command `run` with `--threads`: the history and the book of an account.
 ghost use Rattle.std.specs.Prelude.{◌≡◌, ◌≢◌, ◌≤◌, [], IfErr, IfOk, codes, string_bytes};
-ghost use Rattle.cqf_model.specs.Book.{contents_of};
-ghost use Rattle.cqf_run_command.specs.RunOutput.{run_text};
+ghost use Rattle.cqf_press.specs.Edge.{HasTold, writing};
 ghost use Rattle.cqf_scenario.specs.Opening.{IsOpenedInput};
 ghost use Rattle.cqf_stop.specs.Stops.{EndsWith, fault_line};
 ghost use Rattle.cqf_threads.specs.Faults.{conduct_fault_text};
+ghost use Rattle.cqf_threads_command.specs.AccountTold.{text_of_account};
 ghost use Rattle.cqf_threads_command.specs.ThreadsOutput.{EndsThreads, IsAccountOfInput, IsThreadsOutput};
-ghost use Rattle.cqf_worker.specs.Account.{entries_in};
 
-use cqf_run_command::write_run;
+use crate::output::ThreadsOutput;
+use cqf_press::{Sheet, Told};
+use cqf_run_command::tell_run;
 use cqf_scenario::{Opened, read_opened};
 use cqf_stop::{FAULT, Stop};
 use cqf_topology::Domain;
-use cqf_units::Memory;
 use cqf_worker::{Account, ConductFault, Free, conduct};
 use std::alloc::{AllocError, Global};
+use std::io::Write;
 use std::sync::Wait;
 use std::thread::Threads;
 
@@ -71,20 +72,23 @@ fn conduct_opened(
     Ok((domain, account))
 }
 
-/// The text of an account.
-fn text_of_account(alloc: Global, domain: &Domain, account: &Account) -> Result<Vec<u8>, Memory>
-    ensures { IfOk result (λ text. text.items ≡ run_text domain.now (entries_in account.now) (contents_of account.now.book)) }
-{
-    write_run(
-        alloc,
-        domain,
-        account.history.entries.as_slice(),
-        &account.book,
-    )
+impl ThreadsOutput {
+    /// Tells the output: a history of the input's scenario, a line `%%`, and the one-thread book of that history (profile). It
+    /// asks for no memory.
+    pub fn tell<W: Write>(self, told: &mut Told<W>)
+        ensures { HasTold (writing W.contents told.old told.new) (text_of_account self) }
+    {
+        let ThreadsOutput {
+            domain,
+            account,
+            sheet,
+        } = self;
+        let history = account.history.entries.as_slice();
+        tell_run(told, sheet, &domain, history, &account.book);
+    }
 }
 
-/// The output of `run --threads` over so many cycles, 0 to 100,000: a history of the input's scenario, a line `%%`, and the
-/// one-thread book of that history (profile). Each bridge of the domain and each administrator of the script runs on a thread of
+/// The output of `run --threads` over so many cycles, 0 to 100,000, ready to be told. Each bridge of the domain and each administrator of the script runs on a thread of
 /// its own, and the calling thread closes the cycles. The calls of the script before its first Seal are made before; the later
 /// ones are made while the bridges run, each administrator's in order, and later Seals are passed over. It waits until all
 /// threads have ended.
@@ -98,9 +102,9 @@ pub fn threads_output(
     alloc: Global,
     cycles: u32,
     input: &[u8],
-) -> Result<Vec<u8>, Stop>
+) -> Result<ThreadsOutput, Stop>
     requires { cycles ≤ 100000 }
-    ensures ok { IfOk result (λ output. IsThreadsOutput cycles input.now output.items) }
+    ensures ok { IfOk result (λ output. IsThreadsOutput cycles input.now (text_of_account output)) }
     ensures err { IfErr result (EndsThreads cycles input.now) }
 {
     let opened = match read_opened(alloc, cycles, input) {
@@ -111,8 +115,12 @@ pub fn threads_output(
         Ok(ran) => ran,
         Err(fault) => return Err(fault_stop(alloc, fault)),
     };
-    match text_of_account(alloc, &domain, &account) {
-        Ok(text) => Ok(text),
+    match Sheet::new(alloc) {
+        Ok(sheet) => Ok(ThreadsOutput {
+            domain,
+            account,
+            sheet,
+        }),
         Err(_) => Err(Stop::memory(alloc)),
     }
 }

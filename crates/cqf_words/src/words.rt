@@ -60,6 +60,9 @@ const REPORT_INPUT: &str =
 a line for each link: its frames, their octets, and the most octets that it
 starts in one cycle. Background frames don't count. It takes what run takes.";
 
+/// What the program's help says of its version.
+const VERSION_WORDS: &str = "cqf --version, or cqf -V, prints the version";
+
 /// What the program is asked to do.
 #[derive(Clone, Copy, Debug, PartialEq, Eq)]
 pub enum Job {
@@ -195,6 +198,7 @@ fn named_command<'a>(alloc: Global) -> Result<Command<'a>, AllocError>
     Ok(
         named
             .about("cyclic queuing and forwarding")
+            .after_help(VERSION_WORDS)
             .no_binary_name(true)
             .subcommand_required(true),
     )

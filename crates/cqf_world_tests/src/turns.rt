@@ -3,55 +3,44 @@ use crate::acts::{Act, SIDE_BY_SIDE, all_happen, none_happens};
 use crate::making::{begin, plan_of};
 use crate::written::{Written, are_written};
 use cqf_compile::Plan;
-use cqf_fixtures::{line, offers_of, one_link};
+use cqf_fixtures::{Offering, line, offers_of, one_link};
 use cqf_model::{Offer, Receipt, Refused, Reply};
 use cqf_units::Cycle;
 use cqf_world::World;
 use std::alloc::Global;
 
-/// Whether a world of one bridge and one cycle, with no stream, goes through it: before it and behind it nothing is enabled.
-fn one_bridge_goes(alloc: Global, world: &mut World) -> bool {
-    none_happens(alloc, world, &[Act::Step(0), Act::Give(0), Act::Post(0)])
-        && all_happen(
-            alloc,
-            world,
-            &[Act::Seal, Act::Give(0), Act::Step(0), Act::Post(0)],
-        )
-        && none_happens(
-            alloc,
-            world,
-            &[
-                Act::Seal,
-                Act::Take(0),
-                Act::Give(0),
-                Act::Step(0),
-                Act::Post(0),
-            ],
-        )
-        && are_written(world.pages(), 1, 1, &[])
-        && world.admission().history().len() == 1
+/// What is tried with a world or seen of it.
+enum Turn {
+    /// Each of these events is done.
+    Done(&'static [Act]),
+    /// None of these is enabled.
+    NotEnabled(&'static [Act]),
+    /// So many bridges have posted their pages of so many cycles, of which these aren't empty.
+    Posted(u8, u32, &'static [Written]),
+    /// The history has these answers, of seat 1 to Seals, and of seat 0 to the others.
+    Replied(&'static [Reply]),
 }
 
-/// Whether it does over one link.
-fn one_link_goes(alloc: Global, plan: &Plan) -> bool {
-    match begin(alloc, plan, &[], &[], 1) {
-        Some(mut world) => one_bridge_goes(alloc, &mut world),
-        None => false,
-    }
-}
+/// How many cycles a world has, and what is tried with it.
+type Trial = (u32, &'static [Turn]);
 
-/// Whether it does over the link of the fixtures.
-fn a_link_goes(alloc: Global) -> bool {
-    match plan_of(alloc, one_link()) {
-        Some(plan) => one_link_goes(alloc, &plan),
-        None => false,
-    }
-}
-
-#[test]
-fn a_bridge_goes_through_one_cycle(rt: HostRuntime) {
-    assert!(rt; a_link_goes(rt.alloc()));
-}
+/// One bridge goes through one cycle, with no stream: before it and behind it nothing is enabled.
+const ON_ONE_LINK: &[Trial] = &[(
+    1,
+    &[
+        Turn::NotEnabled(&[Act::Step(0), Act::Give(0), Act::Post(0)]),
+        Turn::Done(&[Act::Seal, Act::Give(0), Act::Step(0), Act::Post(0)]),
+        Turn::NotEnabled(&[
+            Act::Seal,
+            Act::Take(0),
+            Act::Give(0),
+            Act::Step(0),
+            Act::Post(0),
+        ]),
+        Turn::Posted(1, 1, &[]),
+        Turn::Replied(&[Reply::Sealed]),
+    ],
+)];
 
 /// The stream is admitted, and two cycles are closed to changes.
 const CLOSED: &[Act] = &[Act::Admit, Act::Seal, Act::Seal];
@@ -72,27 +61,6 @@ const ONE_START: &[Written] = &[Written {
     background: &[],
     drops: &[],
 }];
-
-/// Whether the line's bridges go through two cycles one after the other.
-fn one_after_the_other(alloc: Global, world: &mut World) -> bool {
-    all_happen(alloc, world, CLOSED)
-        && all_happen(alloc, world, FIRST_BRIDGE)
-        && all_happen(alloc, world, FIRST_BRIDGE)
-        && none_happens(alloc, world, &[Act::Take(0)])
-        && all_happen(alloc, world, SECOND_BRIDGE)
-        && all_happen(alloc, world, SECOND_BRIDGE)
-        && all_happen(alloc, world, THIRD_BRIDGE)
-        && all_happen(alloc, world, THIRD_BRIDGE)
-        && are_written(world.pages(), 3, 2, ONE_START)
-}
-
-/// Whether they do cycle by cycle.
-fn side_by_side(alloc: Global, world: &mut World) -> bool {
-    all_happen(alloc, world, CLOSED)
-        && all_happen(alloc, world, SIDE_BY_SIDE)
-        && all_happen(alloc, world, SIDE_BY_SIDE)
-        && are_written(world.pages(), 3, 2, ONE_START)
-}
 
 /// What isn't enabled before a cycle is closed.
 const BEFORE_A_SEAL: &[Act] = &[
@@ -121,37 +89,6 @@ const HAS_TAKEN: &[Act] = &[Act::Take(0), Act::Step(1), Act::Give(1)];
 
 const HAS_POSTED: &[Act] = &[Act::Post(1), Act::Take(0), Act::Step(1), Act::Take(2)];
 
-/// Whether what is out of turn on the line isn't enabled, and leaves what is in turn as it was.
-fn waits_its_turn(alloc: Global, world: &mut World) -> bool {
-    none_happens(alloc, world, BEFORE_A_SEAL)
-        && all_happen(alloc, world, CLOSED)
-        && none_happens(
-            alloc,
-            world,
-            &[Act::Seal, Act::Step(0), Act::Post(0), Act::Give(3)],
-        )
-        && all_happen(alloc, world, &[Act::Give(1)])
-        && none_happens(alloc, world, WITH_ITS_TABLE)
-        && all_happen(alloc, world, &[Act::Step(1)])
-        && none_happens(alloc, world, HAS_SENT)
-        && all_happen(alloc, world, FIRST_BRIDGE)
-        && all_happen(alloc, world, FIRST_BRIDGE)
-        && none_happens(alloc, world, FIRST_BRIDGE)
-        && all_happen(alloc, world, &[Act::Take(0)])
-        && none_happens(alloc, world, HAS_TAKEN)
-        && all_happen(alloc, world, &[Act::Post(1)])
-        && none_happens(alloc, world, HAS_POSTED)
-        && goes_on(alloc, world)
-}
-
-/// Whether the others go on behind it to the end of the run.
-fn goes_on(alloc: Global, world: &mut World) -> bool {
-    all_happen(alloc, world, SECOND_BRIDGE)
-        && all_happen(alloc, world, THIRD_BRIDGE)
-        && all_happen(alloc, world, THIRD_BRIDGE)
-        && are_written(world.pages(), 3, 2, ONE_START)
-}
-
 /// The answers to the calls of a run in which the stream is asked for once more, withdrawn behind the Seals, and withdrawn again.
 const REPLIES: &[Reply] = &[
     Reply::Accepted(Receipt {
@@ -168,6 +105,72 @@ const REPLIES: &[Reply] = &[
     Reply::Refused(Refused::AlreadyWithdrawn),
 ];
 
+/// The line's bridges go through two cycles, where 64 octets are offered at the first instant.
+const ON_LINE: &[Trial] = &[
+    // one after the other
+    (
+        2,
+        &[
+            Turn::Done(CLOSED),
+            Turn::Done(FIRST_BRIDGE),
+            Turn::Done(FIRST_BRIDGE),
+            Turn::NotEnabled(&[Act::Take(0)]),
+            Turn::Done(SECOND_BRIDGE),
+            Turn::Done(SECOND_BRIDGE),
+            Turn::Done(THIRD_BRIDGE),
+            Turn::Done(THIRD_BRIDGE),
+            Turn::Posted(3, 2, ONE_START),
+        ],
+    ),
+    // side by side
+    (
+        2,
+        &[
+            Turn::Done(CLOSED),
+            Turn::Done(SIDE_BY_SIDE),
+            Turn::Done(SIDE_BY_SIDE),
+            Turn::Posted(3, 2, ONE_START),
+        ],
+    ),
+    // what is out of turn changes nothing
+    (
+        2,
+        &[
+            Turn::NotEnabled(BEFORE_A_SEAL),
+            Turn::Done(CLOSED),
+            Turn::NotEnabled(&[Act::Seal, Act::Step(0), Act::Post(0), Act::Give(3)]),
+            Turn::Done(&[Act::Give(1)]),
+            Turn::NotEnabled(WITH_ITS_TABLE),
+            Turn::Done(&[Act::Step(1)]),
+            Turn::NotEnabled(HAS_SENT),
+            Turn::Done(FIRST_BRIDGE),
+            Turn::Done(FIRST_BRIDGE),
+            Turn::NotEnabled(FIRST_BRIDGE),
+            Turn::Done(&[Act::Take(0)]),
+            Turn::NotEnabled(HAS_TAKEN),
+            Turn::Done(&[Act::Post(1)]),
+            Turn::NotEnabled(HAS_POSTED),
+            Turn::Done(SECOND_BRIDGE),
+            Turn::Done(THIRD_BRIDGE),
+            Turn::Done(THIRD_BRIDGE),
+            Turn::Posted(3, 2, ONE_START),
+        ],
+    ),
+    // calls behind the run's Seals enter the history with their answers, and change no page
+    (
+        2,
+        &[
+            Turn::Done(CLOSED),
+            Turn::Done(&[Act::Admit, Act::Withdraw, Act::Withdraw]),
+            Turn::NotEnabled(&[Act::Seal]),
+            Turn::Replied(REPLIES),
+            Turn::Done(SIDE_BY_SIDE),
+            Turn::Done(SIDE_BY_SIDE),
+            Turn::Posted(3, 2, ONE_START),
+        ],
+    ),
+];
+
 /// Whether a world's history has these answers, of seat 1 to Seals, and of seat 0 to the others.
 fn has_replies(world: &World, replies: &[Reply]) -> bool {
     let entries = world.admission().history();
@@ -178,67 +181,57 @@ fn has_replies(world: &World, replies: &[Reply]) -> bool {
         })
 }
 
-/// Whether calls are made behind the run's Seals, which enter the history with their answers, and change no page.
-fn calls_behind(alloc: Global, world: &mut World) -> bool {
-    all_happen(alloc, world, CLOSED)
-        && all_happen(alloc, world, &[Act::Admit, Act::Withdraw, Act::Withdraw])
-        && none_happens(alloc, world, &[Act::Seal])
-        && has_replies(world, REPLIES)
-        && all_happen(alloc, world, SIDE_BY_SIDE)
-        && all_happen(alloc, world, SIDE_BY_SIDE)
-        && are_written(world.pages(), 3, 2, ONE_START)
-}
-
-/// What is tried on the line.
-#[derive(Clone, Copy)]
-enum Trial {
-    OneAfterTheOther,
-    SideBySide,
-    OutOfTurn,
-    CallsBehind,
-}
-
-/// Whether it goes so.
-fn passes(alloc: Global, world: &mut World, trial: Trial) -> bool {
-    match trial {
-        Trial::OneAfterTheOther => one_after_the_other(alloc, world),
-        Trial::SideBySide => side_by_side(alloc, world),
-        Trial::OutOfTurn => waits_its_turn(alloc, world),
-        Trial::CallsBehind => calls_behind(alloc, world),
+/// Whether it goes so in turn.
+fn goes_so(alloc: Global, world: &mut World, turn: &Turn) -> bool {
+    match *turn {
+        Turn::Done(acts) => all_happen(alloc, world, acts),
+        Turn::NotEnabled(acts) => none_happens(alloc, world, acts),
+        Turn::Posted(bridges, cycles, pages) => are_written(world.pages(), bridges, cycles, pages),
+        Turn::Replied(replies) => has_replies(world, replies),
     }
 }
 
-/// Whether it goes so with a world of these offers, which runs for two cycles.
-fn passes_over(alloc: Global, plan: &Plan, offers: &[Offer], trial: Trial) -> bool {
-    match begin(alloc, plan, offers, &[], 2) {
-        Some(mut world) => passes(alloc, &mut world, trial),
+/// Whether it goes so in all turns.
+fn all_go_so(alloc: Global, world: &mut World, turns: &[Turn]) -> bool {
+    for turn in turns {
+        if !goes_so(alloc, world, turn) {
+            return false;
+        }
+    }
+    true
+}
+
+/// Whether a world of a plan goes through a trial.
+fn passes(alloc: Global, plan: &Plan, offers: &[Offer], trial: &Trial) -> bool {
+    match begin(alloc, plan, offers, &[], trial.0) {
+        Some(mut world) => all_go_so(alloc, &mut world, trial.1),
         None => false,
     }
 }
 
-/// Whether it goes so on the line, where 64 octets are offered at the first instant.
-fn line_passes(alloc: Global, trial: Trial) -> bool {
-    let Ok(offers) = offers_of(alloc, &[(0, 0, "x", 64)]) else {
+/// Whether worlds of a plan go through trials.
+fn pass_on(alloc: Global, plan: &Plan, offers: &[Offer], trials: &[Trial]) -> bool {
+    for trial in trials {
+        if !passes(alloc, plan, offers, trial) {
+            return false;
+        }
+    }
+    true
+}
+
+/// Whether they do over the domain of a text, where this is offered.
+fn pass(alloc: Global, text: &str, offering: &[Offering], trials: &[Trial]) -> bool {
+    let Ok(offers) = offers_of(alloc, offering) else {
         return false;
     };
-    match plan_of(alloc, line()) {
-        Some(plan) => passes_over(alloc, &plan, offers.as_slice(), trial),
+    match plan_of(alloc, text) {
+        Some(plan) => pass_on(alloc, &plan, offers.as_slice(), trials),
         None => false,
     }
 }
 
 #[test]
-fn bridges_go_one_after_the_other_or_side_by_side(rt: HostRuntime) {
-    assert!(rt; line_passes(rt.alloc(), Trial::OneAfterTheOther));
-    assert!(rt; line_passes(rt.alloc(), Trial::SideBySide));
-}
-
-#[test]
-fn what_is_out_of_turn_changes_nothing(rt: HostRuntime) {
-    assert!(rt; line_passes(rt.alloc(), Trial::OutOfTurn));
-}
-
-#[test]
-fn calls_behind_the_seals_change_no_page(rt: HostRuntime) {
-    assert!(rt; line_passes(rt.alloc(), Trial::CallsBehind));
+fn what_is_in_turn_is_done_and_what_is_out_of_turn_changes_nothing(rt: HostRuntime) {
+    assert!(rt; pass(rt.alloc(), one_link(), &[], ON_ONE_LINK));
+    assert!(rt; pass(rt.alloc(), line(), &[(0, 0, "x", 64)], ON_LINE));
 }

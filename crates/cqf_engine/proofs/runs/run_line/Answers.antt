@@ -17,4 +17,4 @@ returns-in-Err-clause-err g c =
     (subst (λ (words : List (List ℕ)). EndsWords words c.in-Err.stop) same c.in-Err.ensures.err)
 
 pub output_of-requires-after_bounds : goal.output_of-requires-after_bounds
-output_of-requires-after_bounds g c = λ _ _. IsWithin-means (map (λ word. word.now) c.as_slice.result.now) c.in-Ok-read_words.job c.in-Ok-read_words.ensures.ok
+output_of-requires-after_bounds g c = λ _ _. IsWithin-means (map (λ word. word.now) c.as_slice.result.now) c.in-Ok-read_line.job c.in-Ok-read_line.ensures.ok

@@ -1,8 +1,6 @@
 use Rattle.std.proofs.Common.{inl, inr, arith}
 use Rattle.std.proofs.lemmas.Bool.{cases_lt}
 use Rattle.cqf_port.specs.PortState.{rules_of}
-use Rattle.cqf_model.proofs.Links.{rate_positive}
-use Rattle.cqf_port.proofs.Waiting.{none_stays_ready}
 use Rattle.cqf_port.proofs.Coming.{never_ready}
 use Rattle.cqf_port.proofs.next.next_ready.Goals as goal
 
@@ -18,19 +16,18 @@ returns-in-Some c = record {
 -- none is up to the next instant at which one can be
 pub events-preserved : goal.events-preserved
 events-preserved c =
-    let goes_by = rules_of c.args.schedule.now c.args.rate in
     record {
-      from = omega (arith, c.events.invariant.from, c.quiet_until.ensures.later);
+      from = omega (arith, c.events.invariant.from, c.idle_until.ensures.later);
       in_time = omega arith;
       none = λ s after soon. elim (cases_lt s c.events.t) [
         | inl before ↦ c.events.invariant.none s after before
-        | inr here ↦ none_stays_ready goes_by c.args.arrivals.now c.args.heads.now c.events.t c.quiet_until.result.0 (rate_positive c.args.rate) c.quiet_until.ensures.quiet c.in-None.ensures s here (omega arith)
+        | inr here ↦ c.idle_until.ensures.idle s here (omega arith)
       ];
     }
 
 -- nearer to the horizon
 pub events-smaller : goal.events-smaller
-events-smaller c = omega (arith, c.quiet_until.ensures.later)
+events-smaller c = omega (arith, c.idle_until.ensures.later)
 
 -- none is in a whole round
 pub returns : goal.returns

@@ -15,7 +15,7 @@ returns-then-lt-clause-ok c =
 
 -- no frame is ready
 pub returns-in-None-clause-ok : goal.returns-in-None-clause-ok
-returns-in-None-clause-ok c = steps_none (rules_of c.args.schedule.now c.args.rate) c.args.arrivals.now c.args.t.0 c.quiet_until.result.0 c.args.starts.now.items c.args.before (rate_positive c.args.rate) c.requires.taken c.requires.abreast c.quiet_until.ensures.later c.quiet_until.ensures.quiet c.in-None.ensures
+returns-in-None-clause-ok c = steps_none (rules_of c.args.schedule.now c.args.rate) c.args.arrivals.now c.args.t.0 c.idle_until.result.0 c.args.starts.now.items c.args.before c.requires.taken c.requires.abreast c.idle_until.ensures.later c.idle_until.ensures.idle
 
 -- the chosen frame starts
 pub returns-in_ok-push-in-Some-clause-ok : goal.returns-in_ok-push-in-Some-clause-ok

@@ -1,7 +1,8 @@
 -- Each line adds its call to those that have been read.
-use Rattle.std.proofs.Common.{◌≡◌, ◌++◌, [], ◌∷◌, Ok, map, arith}
+use Rattle.std.proofs.Common.{◌≡◌, ◌∙◌, ◌++◌, [], ◌∷◌, List, Ok, ap, map, arith, sym}
 use Rattle.std.proofs.lemmas.Grind.{common_steps}
 use Rattle.cqf_text.specs.Lines.{lines_of}
+use Rattle.cqf_topology.specs.declared.streams.Request.{Request}
 use Rattle.cqf_admission.specs.Asking.{asked_of}
 use Rattle.cqf_script.specs.Script.{call_of_line, called_of, script_of}
 use Rattle.cqf_script.proofs.Few.{AreFew-script}
@@ -19,7 +20,8 @@ loop-line-preserved c =
     let seat = c.administrators-seat.result in
     let after = map called_of c.push.new.self.items in
     let good : call_of_line requests seat c.args.cycles place.line place.sealed place.called c.in-Some.line.now ≡ Ok (called_of c.in_ok-call.call) =
-    c.in_ok-call.ensures in
+    ap (λ (rs : List Request). call_of_line (map asked_of rs) seat c.args.cycles place.line place.sealed place.called c.in-Some.line.now)
+    (sym c.in_ok-names.ensures) ∙ c.in_ok-call.ensures in
     let more : after ≡ calls ++ called_of c.in_ok-call.call ∷ [] = grind (arith, common_steps) in
     read-one_more requests seat c.args.cycles c.args.text.now calls after place.line next.line place.sealed place.called next.sealed next.called
     c.loop-line.left.now c.in-Some.line.now c.in-Some.behind.now (called_of c.in_ok-call.call)

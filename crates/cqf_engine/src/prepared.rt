@@ -1,0 +1,37 @@
+//! An output, before it is told.
+ghost use Rattle.std.specs.Prelude.{◌≡◌};
+ghost use Rattle.cqf_engine.specs.Prepared.{text_of};
+ghost use Rattle.cqf_press.specs.Edge.{HasTold, writing};
+
+use cqf_line_command::LineOutput;
+use cqf_press::{Told, write_out};
+use cqf_run_command::RunOutput;
+use cqf_threads_command::ThreadsOutput;
+use std::io::Write;
+
+/// What an output is told from, with all the memory that its telling needs.
+#[derive(Drop)]
+pub enum Prepared {
+    /// The output itself.
+    Text(Vec<u8>),
+    /// That of `line`: a book.
+    Line(LineOutput),
+    /// That of `run`: a history and a book.
+    Run(RunOutput),
+    /// That of `run --threads`: the history and the book of an account.
+    Account(ThreadsOutput),
+}
+
+impl Prepared {
+    /// Tells the output: all of it, unless the writer refuses a part, and then a front of it. It asks for no memory.
+    pub fn tell<W: Write>(self, told: &mut Told<W>)
+        ensures { HasTold (writing W.contents told.old told.new) (text_of self) }
+    {
+        match self {
+            Prepared::Text(text) => write_out(told, text.as_slice()),
+            Prepared::Line(output) => output.tell(told),
+            Prepared::Run(output) => output.tell(told),
+            Prepared::Account(output) => output.tell(told),
+        }
+    }
+}

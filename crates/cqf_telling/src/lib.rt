@@ -1,0 +1,19 @@
+//! Books and histories, told line by line: their lines are put on a press, with no memory asked for.
+//!
+//! - [`put_book`] puts the text of a book, [`put_history`] that of a history.
+//!
+//! The texts are those of `cqf_report`, which makes each as one list of bytes: `Books` and `HistoryText` of its `specs/`. A field of
+//! theirs needs no quotes, so that a line is its fields with commas between them.
+//!
+//! ```text
+//! put_history(&mut press, admission.history());
+//!     puts "0 admit x accepted 0 0\n1 seal\n"
+//! ```
+#![tactic(auto)]
+
+mod books;
+mod history;
+mod names;
+
+pub use books::put_book;
+pub use history::put_history;
