@@ -9,6 +9,10 @@
 //!   With `--threads` each bridge and each administrator has a thread of its own.
 //! - `cqf report --cycles N` reads the same, and writes what each link carries.
 //!
+//! Behind the words may stand files, `-` for standard input among them. The input is then what their texts come to, one behind the
+//! other with a line `%%` between them; a first file without such a line stands twice, as the domain and as its streams, unless the
+//! second one's name ends with `.toml` or the command takes no domain.
+//!
 //! Without a word after the program's name the words stand in the first line of the input:
 //!
 //! ```text
@@ -30,12 +34,21 @@
 //! ```
 #![tactic(auto)]
 
+mod files;
+mod terminal;
+
 use cqf_engine::{Heard, Told, engine, tell};
 use cqf_stop::Stop;
+use cqf_words::{Operands, split_operands};
+use files::input_of_files;
 use std::alloc::{AllocError, Global};
 use std::env::{Env, FillError};
 use std::io;
+use std::io::{Read, Write};
 use std::process::ExitCode;
+use std::sync::Wait;
+use std::thread::Threads;
+use terminal::hint_of_words;
 
 /// The environment with the words behind the program's name alone. The name may be anything, bytes that are no text too, since
 /// nobody looks at it.
@@ -67,32 +80,55 @@ fn arguments<R: Env>(rt: &R, alloc: Global) -> io::Result<Vec<String>> {
     Ok(words)
 }
 
-/// The words as texts.
-fn texts(alloc: Global, words: &[String]) -> Result<Vec<&str>, AllocError> {
-    words.iter().map(|word| word.as_str()).collect(alloc)
+/// The words, with those that name files told from the others. The error is want of memory.
+fn operands_of(alloc: Global, words: &[String]) -> Result<Operands<'_>, AllocError> {
+    let texts: Vec<&str> = words.iter().map(|word| word.as_str()).collect(alloc)?;
+    split_operands(alloc, texts.as_slice())
+}
+
+/// The run of words that name no files, over what the reader has.
+fn run<R: Read + Drop, O: Write + Drop, F: Write>(
+    rt: &(impl Threads + Wait + Sync),
+    words: &[&str],
+    alloc: Global,
+    reader: R,
+    writer: O,
+    faults: &mut Told<F>,
+) -> u8 {
+    let (mut input, mut output) = (Heard::new(alloc, reader), Told::new(writer));
+    engine(rt, alloc, words, &mut input, &mut output, faults)
+}
+
+/// The end of a run before it has begun.
+fn end(rt: &HostRuntime, stop: &Stop) -> ExitCode {
+    let (mut output, mut faults) = (Told::new(rt.stdout()), Told::new(rt.stderr()));
+    ExitCode::from(tell(stop, &mut output, &mut faults))
 }
 
 fn main(rt: HostRuntime) -> ExitCode {
     let alloc = rt.alloc();
-    let mut input = Heard::new(alloc, rt.stdin());
-    let (mut output, mut faults) = (Told::new(rt.stdout()), Told::new(rt.stderr()));
+    let mut faults = Told::new(rt.stderr());
     let words = match arguments(&rt, alloc) {
         Ok(words) => words,
-        Err(error) => {
-            let stop = Stop::without_words(alloc, &error);
-            return ExitCode::from(tell(&stop, &mut output, &mut faults));
-        }
+        Err(error) => return end(&rt, &Stop::without_words(alloc, &error)),
     };
-    let status = match texts(alloc, words.as_slice()) {
-        Ok(words) => engine(
+    let Ok(operands) = operands_of(alloc, words.as_slice()) else {
+        return end(&rt, &Stop::memory(alloc));
+    };
+    let words = operands.words();
+    if operands.files().is_empty() {
+        hint_of_words(alloc, words, &rt.stdin(), &mut faults);
+        return ExitCode::from(run(&rt, words, alloc, rt.stdin(), rt.stdout(), &mut faults));
+    }
+    match input_of_files(&rt, alloc, &operands, &mut faults) {
+        Ok(text) => ExitCode::from(run(
             &rt,
+            words,
             alloc,
-            words.as_slice(),
-            &mut input,
-            &mut output,
+            text.as_slice(),
+            rt.stdout(),
             &mut faults,
-        ),
-        Err(_) => tell(&Stop::memory(alloc), &mut output, &mut faults),
-    };
-    ExitCode::from(status)
+        )),
+        Err(stop) => end(&rt, &stop),
+    }
 }

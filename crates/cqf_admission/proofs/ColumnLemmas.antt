@@ -1,15 +1,19 @@
 -- The columns of costs and masks beside the rows of held streams.
 use Rattle.std.proofs.Common.{◌≡◌, ℕ, ◌+◌, ◌*◌, ◌<◌, ◌≤◌, ◌^◌, Bool, true, false, cond, List, [], ◌∷◌, ◌++◌, ◌==◌, ◌||◌, not, length, map, max, fold, bit_and}
-use Rattle.std.proofs.Common.{refl, ap, ◌∙◌, sym, arith, inl, inr, nat_lt, length-append}
-use Rattle.std.specs.Prelude.{if◌then◌else◌, bit_or}
+use Rattle.std.proofs.Common.{◌≢◌, Contains, subst, refl, ap, ◌∙◌, sym, arith, inl, inr, nat_lt, length-append}
+use Rattle.std.specs.Prelude.{AllPairs, if◌then◌else◌, bit_or}
 use Rattle.std.specs.Int.{bit_at}
 use Rattle.std.specs.List.{list_any, zip}
-use Rattle.std.proofs.lemmas.Bool.{cases_Bool, eq-eqb, eqb-false, eqb-true, ltb-false, ne_eqb}
+use Rattle.std.proofs.lemmas.Bool.{both_ways, cases_Bool, eq-eqb, eqb-false, eqb-true, ltb-false, ne_eqb}
 use Rattle.std.proofs.lemmas.List.{length-map, map-append}
 use Rattle.std.proofs.lemmas.List.Sums.{sum_by-cons}
 use Rattle.std.proofs.lemmas.Nat.{pow_pos}
 use Rattle.std.proofs.lemmas.Nat.Bits.{and_pow, bit_at-pow_other, bit_at-pow_same, bit_at-zero, bit_at_or}
 use Rattle.cqf_lanes.specs.Kernels.{has_bit, masked_total}
+use Rattle.cqf_lists.proofs.Members.{contains_from_map, member_any}
+use Rattle.cqf_lists.proofs.Pairs.{pairs_push}
+use Rattle.cqf_model.proofs.Texts.{is_text_itself}
+use Rattle.cqf_model.specs.Domain.{is_text}
 use Rattle.cqf_units.specs.Timing.{cost_of}
 use Rattle.cqf_model.specs.declared.topology.Row.{Row}
 use Rattle.cqf_model.specs.Table.{cost_on, crosses, link_cost, links_of}
@@ -106,12 +110,21 @@ column_pushed {X} f rows rows_after row xs after r is more =
 
 -- a row more, with its name, its cost and its mask
 pub columns_pushed : (names : List (List ℕ)) (rows : List Row) (costs masks : List ℕ) (row : Row) (names_after : List (List ℕ)) (rows_after : List Row)
-    (costs_after masks_after : List ℕ) → HaveColumns names rows costs masks → length rows < 1024 → names_after ≡ names ++ row.name ∷ [] →
+    (costs_after masks_after : List ℕ) → HaveColumns names rows costs masks → length rows < 1024 →
+    list_any (λ (other : Row). is_text other.name row.name) rows ≡ false → names_after ≡ names ++ row.name ∷ [] →
     rows_after ≡ rows ++ row ∷ [] → costs_after ≡ costs ++ cost_of row.octets ∷ [] → masks_after ≡ masks ++ mask_of row ∷ [] →
     HaveColumns names_after rows_after costs_after masks_after
-columns_pushed names rows costs masks row names_after rows_after costs_after masks_after h few n r c m = record {
+columns_pushed names rows costs masks row names_after rows_after costs_after masks_after h few free n r c m = record {
   are_names = column_pushed (λ (x : Row). x.name) rows rows_after row names names_after r h.are_names n;
   are_costs = column_pushed (λ (x : Row). cost_of x.octets) rows rows_after row costs costs_after r h.are_costs c;
   are_masks = column_pushed mask_of rows rows_after row masks masks_after r h.are_masks m;
   few = omega (arith, few, ap (λ (xs : List Row). length xs) r, length-append rows (row ∷ []));
+  apart = subst (AllPairs (λ (a b : List ℕ). a ≢ b)) (sym n) (pairs_push (λ (a b : List ℕ). a ≢ b) names row.name h.apart other);
 }
+  where
+    -- no row has its name
+    other : (name : List ℕ) → Contains names name → name ≢ row.name
+    other name held same =
+        let one = contains_from_map (λ (r : Row). r.name) rows name (subst (λ (ns : List (List ℕ)). Contains ns name) h.are_names held) in
+        let named : is_text one.0.name row.name ≡ true = ap (λ (text : List ℕ). is_text text row.name) (one.2 ∙ same) ∙ is_text_itself row.name in
+        both_ways (list_any (λ (r : Row). is_text r.name row.name) rows) free (member_any (λ (r : Row). is_text r.name row.name) rows one.0 one.1 named)

@@ -1,4 +1,5 @@
 mod HeldLemmas
+mod EndingLemmas
 mod SharedRows
 mod NumberedRows
 mod MappedRows

@@ -1,9 +1,9 @@
 -- Rows that are found by the numbers of their names.
-use Rattle.std.proofs.Common.{◌≡◌, ◌∙◌, ℕ, ◌-◌, ◌<◌, ◌≤◌, ◌++◌, List, [], ◌∷◌, Some, None, true, cond, All, length, get_or, take, position, nat_eq, refl, ap, sym, subst, arith, inl, inr}
-use Rattle.std.specs.Prelude.{remove, slice_get, suc, zero}
+use Rattle.std.proofs.Common.{◌≡◌, ◌∙◌, ℕ, Bool, ◌-◌, ◌<◌, ◌≤◌, ◌++◌, List, [], ◌∷◌, Some, None, true, cond, All, length, get_or, take, position, nat_eq, refl, ap, sym, subst, arith, inl, inr}
+use Rattle.std.specs.Prelude.{if◌then◌else◌, nat_lt, remove, slice_get, suc, zero}
 use Rattle.std.specs.List.{IsDistinct, position_or_len}
 use Rattle.std.specs.Cmp.Lexicographic.{pointwise}
-use Rattle.std.proofs.lemmas.Bool.{both_ways, cases_lt, le-leb}
+use Rattle.std.proofs.lemmas.Bool.{both_ways, cases_Bool, cases_lt, le-leb, ltb-false, ltb-true}
 use Rattle.std.proofs.lemmas.List.{get_or-map, length-append, length-map, take-append-le, take_all}
 use Rattle.std.proofs.lemmas.List.Edits.{length-remove}
 use Rattle.std.proofs.lemmas.List.Elements.{All-cons, All-head, All-nil, All-tail}
@@ -123,3 +123,13 @@ numbered_still list numbered rows after place are behind inside is = record {
   within = omega (arith, behind, inside, ap (λ (rs : List Row). length rs) is, length-remove rows place inside);
   each = subst (All (IsNumbered list)) (sym (ap (take numbered) is ∙ take_before numbered rows place behind)) are.each;
 }
+
+-- so where any stream is let go of
+pub numbered_removed : (list : NumberList) (numbered left : ℕ) (rows after : List Row) (place : ℕ) → AreNumbered list numbered rows → place < length rows →
+    after ≡ remove rows place → left ≡ (if nat_lt place numbered then numbered - 1 else numbered) → AreNumbered list left after
+numbered_removed list numbered left rows after place are inside is so_many = elim (cases_Bool (nat_lt place numbered)) [
+  | inl t ↦ subst (λ (n : ℕ). AreNumbered list n after) (sym (so_many ∙ ap (λ (b : Bool). if b then numbered - 1 else numbered) t))
+      (numbered_less list numbered rows after place are (ltb-true place numbered t) is)
+  | inr f ↦ subst (λ (n : ℕ). AreNumbered list n after) (sym (so_many ∙ ap (λ (b : Bool). if b then numbered - 1 else numbered) f))
+      (numbered_still list numbered rows after place are (ltb-false place numbered f) inside is)
+]

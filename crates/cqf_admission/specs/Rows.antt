@@ -1,9 +1,10 @@
 -- The rows of streams that are held, and the columns that are kept beside them.
-use Rattle.std.specs.Prelude.{ℕ, ◌≡◌, ◌≤◌, All, None, ◌^◌, List, [], ◌∷◌, if◌then◌else◌, nat_lt, ◌+◌, ◌-◌, ◌<◌, bit_or, fold, length, map, slice_index_or, Some, zero, suc}
+use Rattle.std.specs.Prelude.{ℕ, ◌≡◌, ◌≢◌, ◌≤◌, ◌⊎◌, AllPairs, Contains, None, ◌^◌, List, [], ◌∷◌, if◌then◌else◌, nat_lt, ◌+◌, ◌-◌, ◌<◌, bit_or, fold, length, map, slice_index_or, Some, zero, suc}
+use Rattle.std.specs.Option.{option_map_or}
 use Rattle.cqf_units.specs.Timing.{cost_of}
 use Rattle.cqf_units.specs.declared.reservations.Cycle.{Cycle}
 use Rattle.cqf_model.specs.declared.topology.Row.{Row}
-use Rattle.cqf_model.specs.Table.{link_cost, links_of}
+use Rattle.cqf_model.specs.Table.{link_cost, links_of, residence}
 use Rattle.cqf_lanes.specs.Kernels.{has_bit, masked_total}
 
 -- the rows of held streams by number, and how many rows more have room
@@ -28,12 +29,13 @@ with_link mask link = if nat_lt link 64 then bit_or mask (2 ^ link) else mask
 abbrev pub mask_of : Row → ℕ
 mask_of row = fold with_link 0 (links_of row)
 
--- beside the rows stand their names, their costs and their masks
+-- beside the rows stand their names, no two of them the same, their costs and their masks
 pub record HaveColumns (names : List (List ℕ)) (rows : List Row) (costs masks : List ℕ) : Type 0 where
   pub are_names : names ≡ map (λ (row : Row). row.name) rows
   pub are_costs : costs ≡ map (λ (row : Row). cost_of row.octets) rows
   pub are_masks : masks ≡ map mask_of rows
   pub few : length rows ≤ 1024
+  pub apart : AllPairs (λ (a b : List ℕ). a ≢ b) names
 
 -- by link, what the rows cost of it
 pub record AreSums (rows : List Row) (sums : List ℕ) : Type 0 where
@@ -63,9 +65,11 @@ pub record AreLessBy (sums : List ℕ) (mask octets : ℕ) (after : List ℕ) : 
   pub sixty_four : length after ≡ 64
   pub each : (l : ℕ) → l < 64 → slice_index_or after l 0 ≡ slice_index_or sums l 0 - part_on mask octets l
 
--- a row that is held from a cycle on for good: its stream is live by then and isn't withdrawn; and rows that all are
-abbrev pub IsLasting : ℕ → Row → Type 0
-IsLasting cycle row = (row.admitted.0 ≤ cycle) × (row.withdrawn ≡ None)
+-- the first cycle in which a withdrawn row isn't held any more: 0 for one that isn't withdrawn
+abbrev pub end_of : Row → ℕ
+end_of row = option_map_or (λ (w : Cycle). w.0 + residence row) row.withdrawn 0
 
-abbrev pub AreLasting : ℕ → List Row → Type 0
-AreLasting cycle rows = All (IsLasting cycle) rows
+-- those of the rows that are withdrawn stand in a list, of which the last ends first
+pub record AreEnding (rows ending : List Row) : Type 0 where
+  pub listed : (row : Row) → Contains rows row → (row.withdrawn ≡ None) ⊎ Contains ending row
+  pub ordered : AllPairs (λ (a b : Row). end_of b ≤ end_of a) ending

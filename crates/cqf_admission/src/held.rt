@@ -1,11 +1,11 @@
 //! The streams that are held, by number and by name, with their costs and their links in columns.
-ghost use Rattle.std.specs.Prelude.{◌≡◌, ◌≢◌, ◌+◌, ◌-◌, ◌<◌, ◌≤◌, ◌^◌, [], ◌∷◌, ◌++◌, length, filter, if◌then◌else◌, map, position, slice_get, false, true, None, Some, OnErr, OnOk, IfOk, IfSome, vec_len, vec_capacity};
+ghost use Rattle.std.specs.Prelude.{◌≡◌, ◌≢◌, ◌+◌, ◌-◌, ◌<◌, ◌≤◌, ◌^◌, [], ◌∷◌, ◌++◌, All, AllPairs, Contains, drop, length, filter, if◌then◌else◌, map, nat_lt, position, slice_get, take, false, None, Some, OnErr, OnOk, IfOk, vec_len, vec_capacity};
 ghost use Rattle.indexmap.specs.IndexSet.{spare};
 ghost use Rattle.std.specs.Arc.{arc_value};
 ghost use Rattle.std.specs.List.{list_any};
 ghost use Rattle.cqf_model.specs.Domain.{is_text};
 ghost use Rattle.cqf_model.specs.Table.{is_held, link_cost};
-ghost use Rattle.cqf_admission.specs.Rows.{AreLasting, AreLessBy, AreMoreBy, AreTotals, AreWithin, IsLasting, ended_at, part_on};
+ghost use Rattle.cqf_admission.specs.Rows.{AreLessBy, AreMoreBy, AreTotals, AreWithin, end_of, ended_at, part_on};
 ghost use Rattle.cqf_lanes.specs.Kernels.{has_bit, masked_total};
 
 use crate::listed::Listed;
@@ -39,16 +39,16 @@ pub(crate) struct Held {
     /// By these numbers tables find so many of the rows, from the first on.
     numbers: Arc<Numbers>,
     numbered: usize,
-    /// A cycle from which on all rows are held for good: none, where a stream is withdrawn.
-    lasting: Option<Cycle>,
+    /// The withdrawn rows again, that which ends first last: a Seal looks from the last on at those that end in it.
+    ending: Vec<Arc<Row>>,
 }
 
 impl Model for Held {
     ghost use Rattle.std.specs.Arc.{arc_value};
-    ghost use Rattle.std.specs.Prelude.{◌≡◌, ◌-◌, IfSome, map, min, true, vec_len, vec_capacity};
+    ghost use Rattle.std.specs.Prelude.{◌≡◌, ◌-◌, map, min, true, vec_len, vec_capacity};
     ghost use Rattle.indexmap.specs.IndexSet.{spare};
     ghost use Rattle.cqf_admission.specs.Numbers.{AreNumbered};
-    ghost use Rattle.cqf_admission.specs.Rows.{AreLasting, AreSums, HaveColumns, HeldRows};
+    ghost use Rattle.cqf_admission.specs.Rows.{AreEnding, AreSums, HaveColumns, HeldRows};
 
     ghost Value = { HeldRows };
 
@@ -62,7 +62,7 @@ impl Model for Held {
         × AreSums (map (λ row. arc_value row) h.rows.items) h.sums
         × (h.is_shared ≡ true → arc_value h.shared ≡ map (λ row. arc_value row) h.rows.items)
         × AreNumbered (arc_value h.numbers) h.numbered (map (λ row. arc_value row) h.rows.items)
-        × IfSome h.lasting (λ cycle. AreLasting cycle.0 (map (λ row. arc_value row) h.rows.items)) };
+        × AreEnding (map (λ row. arc_value row) h.rows.items) (map (λ row. arc_value row) h.ending.items) };
 }
 
 /// Makes room for one more in each column, unless memory runs out.
@@ -156,29 +156,53 @@ fn sums_of(costs: &[u32], masks: &[u64]) -> [u64; 64]
     sums
 }
 
-/// Whether the row is held from the cycle on for good.
-fn is_lasting(row: &Row, cycle: Cycle) -> bool
-    ensures { result ≡ true → IsLasting cycle.0 row.now }
+/// How many of the rows that are found by their numbers are left without the one at a place.
+fn numbered_without(numbered: usize, place: usize) -> usize
+    ensures { result ≡ (if nat_lt place numbered then numbered - 1 else numbered) }
 {
-    row.withdrawn.is_none() && row.admitted.0 <= cycle.0
-}
-
-/// Whether all rows are.
-fn are_lasting(rows: &[Arc<Row>], cycle: Cycle) -> bool
-    ensures { result ≡ true → AreLasting cycle.0 (map (λ row. arc_value row) rows.now) }
-{
-    rows.iter().all(|row| is_lasting(row, cycle))
-}
-
-/// From which cycle on rows are held for good with one more, by what is known of them.
-fn lasting_with(rows: Option<Cycle>, row: &Row) -> Option<Cycle>
-    ensures { IfSome result (λ after. IsLasting after.0 row.now × IfSome rows (λ before. before.0 ≤ after.0) × (rows ≢ None)) }
-{
-    let Some(from) = rows else { return None };
-    if row.withdrawn.is_some() {
-        return None;
+    if place < numbered {
+        numbered - 1
+    } else {
+        numbered
     }
-    Some(Cycle(from.0.max(row.admitted.0)))
+}
+
+/// The cycle that is so many cycles behind another.
+fn cycle_behind(cycle: u32, cycles: u8) -> u64
+    ensures { result ≡ cycle + cycles }
+{
+    u64::from(cycle) + u64::from(cycles)
+}
+
+/// The first cycle in which the stream of a withdrawn row isn't held any more: 0 for one that isn't withdrawn.
+fn end_of(row: &Row) -> u64
+    ensures { result ≡ end_of row.now }
+{
+    match row.withdrawn {
+        Some(cycle) => cycle_behind(cycle.0, row.residence()),
+        None => 0,
+    }
+}
+
+/// The place among rows, of which the last ends first, for one that ends in a cycle: behind those that end no sooner. So of
+/// streams that end in one cycle that which was withdrawn last goes first: mostly the one that stands last in the columns.
+fn place_among(ending: &[Arc<Row>], end: u64) -> usize
+    requires { AllPairs (λ (a b : Row). end_of b ≤ end_of a) (map (λ row. arc_value row) ending.now) }
+    ensures within { result ≤ length ending.now }
+    ensures before { All (λ (row : Row). end ≤ end_of row) (take result (map (λ row. arc_value row) ending.now)) }
+    ensures behind { All (λ (row : Row). end_of row ≤ end) (drop result (map (λ row. arc_value row) ending.now)) }
+{
+    let mut low = 0;
+    let mut high = ending.len();
+    while low < high {
+        let middle = low + (high - low) / 2;
+        if end_of(&ending[middle]) >= end {
+            low = middle + 1;
+        } else {
+            high = middle;
+        }
+    }
+    low
 }
 
 impl Held {
@@ -203,7 +227,7 @@ impl Held {
             is_shared: true,
             numbers,
             numbered: 0,
-            lasting: Some(Cycle(0)),
+            ending: Vec::new(alloc),
         })
     }
 
@@ -253,6 +277,7 @@ impl Held {
         requires room { 0 < self.old.room }
         requires few { length self.old.rows < 1024 }
         requires octets { row.octets ≤ 60000 }
+        requires live { row.withdrawn ≡ None }
         requires free { list_any (λ other. is_text other.name row.name) self.old.rows ≡ false }
         ensures rows { OnOk result (self.new.rows ≡ self.old.rows ++ row ∷ []) }
         ensures same { OnErr result (self.new ≡ self.old) }
@@ -260,9 +285,7 @@ impl Held {
         let name = row.name.copied();
         let octets = cost(Octets(row.octets)).0;
         let mask = mask_of_row(&row);
-        let lasting = lasting_with(self.lasting, &row);
         let shared = Arc::new(alloc, row)?;
-        self.lasting = lasting;
         self.names.insert(name).unwrap();
         self.rows.push(shared).unwrap();
         self.costs.push(octets).unwrap();
@@ -286,50 +309,40 @@ impl Held {
     {
         let mut row = self.rows[place].copied();
         row.withdrawn = Some(cycle);
-        self.rows[place] = Arc::new(alloc, row)?;
+        let ended = Arc::new(alloc, row)?;
+        let again = Arc::try_clone(&ended)?;
+        let among = place_among(self.ending.as_slice(), end_of(&ended));
+        self.ending.insert(among, again)?;
+        self.rows[place] = ended;
         self.is_shared = false;
-        self.lasting = None;
         Ok(())
     }
 
-    /// Lets go of the streams that aren't held in a cycle.
+    /// Lets go of the streams that aren't held in a cycle, by which all of them have begun. It looks at no others than those
+    /// that end by then, and at the next one that does.
     pub(crate) fn let_go(&mut self, cycle: Cycle)
+        requires { (row : Row) → Contains self.old.rows row → row.admitted.0 ≤ cycle.0 }
         ensures { self.new.rows ≡ filter (λ row. is_held row cycle.0) self.old.rows }
     {
-        if let Some(from) = self.lasting {
-            if from.0 <= cycle.0 {
+        let mut left = self.ending.len();
+        while left > 0 {
+            left -= 1;
+            let ended = &self.ending[left];
+            if end_of(ended) > u64::from(cycle.0) {
                 return;
             }
-        }
-        self.sweep(cycle);
-        if are_lasting(self.rows.as_slice(), cycle) {
-            self.lasting = Some(cycle);
-        }
-    }
-
-    /// Looks through all rows for those that aren't held in the cycle.
-    fn sweep(&mut self, cycle: Cycle)
-        ensures { self.new.rows ≡ filter (λ row. is_held row cycle.0) self.old.rows }
-    {
-        self.lasting = None;
-        let mut place = self.rows.len();
-        let mut gone = false;
-        while place > 0 {
-            place -= 1;
-            if !self.rows[place].is_held(cycle) {
-                let _ = self.rows.remove(place);
-                let _ = self.names.shift_remove_index(place);
-                let octets = self.costs.remove(place);
-                let mask = self.masks.remove(place);
-                self.sums = sums_without(&self.sums, mask, octets);
-                if place < self.numbered {
-                    self.numbered -= 1;
+            if let Some(place) = self.names.get_index_of(&ended.name) {
+                if !self.rows[place].is_held(cycle) {
+                    let _ = self.rows.remove(place);
+                    let _ = self.names.shift_remove_index(place);
+                    let octets = self.costs.remove(place);
+                    let mask = self.masks.remove(place);
+                    self.sums = sums_without(&self.sums, mask, octets);
+                    self.numbered = numbered_without(self.numbered, place);
+                    self.is_shared = false;
                 }
-                gone = true;
             }
-        }
-        if gone {
-            self.is_shared = false;
+            let _ = self.ending.pop();
         }
     }
 
@@ -377,7 +390,7 @@ impl Held {
             is_shared: self.is_shared,
             numbers: Arc::try_clone(&self.numbers)?,
             numbered: self.numbered,
-            lasting: None,
+            ending: shared_rows(alloc, self.ending.as_slice())?,
         })
     }
 }

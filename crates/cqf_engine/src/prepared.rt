@@ -4,6 +4,7 @@ ghost use Rattle.cqf_engine.specs.Prepared.{text_of};
 ghost use Rattle.cqf_press.specs.Edge.{HasTold, writing};
 
 use cqf_line_command::LineOutput;
+use cqf_port_command::PortOutput;
 use cqf_press::{Told, write_out};
 use cqf_run_command::RunOutput;
 use cqf_threads_command::ThreadsOutput;
@@ -14,6 +15,8 @@ use std::io::Write;
 pub enum Prepared {
     /// The output itself.
     Text(Vec<u8>),
+    /// That of `port`: the starts of a port.
+    Port(PortOutput),
     /// That of `line`: a book.
     Line(LineOutput),
     /// That of `run`: a history and a book.
@@ -29,6 +32,7 @@ impl Prepared {
     {
         match self {
             Prepared::Text(text) => write_out(told, text.as_slice()),
+            Prepared::Port(output) => output.tell(told),
             Prepared::Line(output) => output.tell(told),
             Prepared::Run(output) => output.tell(told),
             Prepared::Account(output) => output.tell(told),

@@ -43,7 +43,7 @@ fn prepare(
     ensures err { IfErr result (IsRefusal job.now input.now) }
 {
     match *job {
-        Job::Port { until, rate } => Ok(Prepared::Text(port_output(alloc, until, rate, input)?)),
+        Job::Port { until, rate } => Ok(Prepared::Port(port_output(alloc, until, rate, input)?)),
         Job::Line { cycles } => Ok(Prepared::Line(line_output(alloc, cycles, input)?)),
         Job::Compile => Ok(Prepared::Text(compile_output(alloc, input)?)),
         Job::Run {

@@ -1,7 +1,7 @@
 //! What a line of standard error shows of a text that may hold anything.
 ghost use Rattle.std.specs.Prelude.{◌≡◌, ◌⊎◌, []};
 
-use cqf_stop::{Stop, USAGE};
+use cqf_stop::{FAULT, Stop, USAGE};
 use std::alloc::{AllocError, Global};
 
 /// The most characters of a text that a line shows.
@@ -33,17 +33,40 @@ fn show(line: &mut String, character: char) -> Result<(), AllocError> {
     Ok(())
 }
 
-/// The line of a text that is no command: its first 200 characters, unprintable ones escaped, and `..` behind them where there are more.
-fn line_of_text(alloc: Global, text: &str) -> Result<String, AllocError> {
-    let mut line = String::from_str(alloc, "cqf: the first line of the input is no command: ")?;
+/// Puts what a line shows of a text: its first 200 characters, unprintable ones escaped, and `..` behind them where there are more.
+fn show_front(line: &mut String, text: &str) -> Result<(), AllocError> {
     for character in text.chars().take(SHOWN) {
-        show(&mut line, character)?;
+        show(line, character)?;
     }
     if text.chars().count() > SHOWN {
         line.push_str("..")?;
     }
+    Ok(())
+}
+
+/// The line of a text that is no command.
+fn line_of_text(alloc: Global, text: &str) -> Result<String, AllocError> {
+    let mut line = String::from_str(alloc, "cqf: the first line of the input is no command: ")?;
+    show_front(&mut line, text)?;
     line.push('\n')?;
     Ok(line)
+}
+
+/// The line of a file that can't be read.
+fn line_of_file(alloc: Global, name: &str) -> Result<String, AllocError> {
+    let mut line = String::from_str(alloc, "cqf: ")?;
+    show_front(&mut line, name)?;
+    line.push_str(": input fault\n")?;
+    Ok(line)
+}
+
+/// The end where the file of this name can't be read: status 4, and the line `cqf: NAME: input fault` with what a line shows of the name;
+/// or for want of memory for it.
+pub fn stop_of_file(alloc: Global, name: &str) -> Stop
+    ensures status { (result.status ≡ 4) ⊎ (result.status ≡ 3) }
+    ensures memory { result.status ≡ 3 → result.text.items ≡ [] }
+{
+    Stop::with_text(alloc, FAULT, line_of_file(alloc, name))
 }
 
 /// The end of a run whose first line has words that are a mistake, with `stop` for these words alone: that stop, which echoes some of them,

@@ -39,7 +39,7 @@ seals_are_counted entries seat act reply =
 -- the parts of a history with one entry more
 module _ (entries : List Recorded) (e : Recorded) where
   -- before the new entry stand the old ones
-  front_is : take (length entries) (entries ++ e ∷ []) ≡ entries
+  pub front_is : take (length entries) (entries ++ e ∷ []) ≡ entries
   front_is = take_at entries (e ∷ []) (length entries) refl
 
   -- it stands behind them
@@ -51,7 +51,7 @@ module _ (entries : List Recorded) (e : Recorded) where
   whole_is = take_all (suc (length entries)) (entries ++ e ∷ []) (omega (arith, length-append entries (e ∷ [])))
 
 -- answers that are due, with one more that is
-due_more : (d : Domain) (entries : List Recorded) (seat : ℕ) (act : Act) → AreDue d entries → AreDue d (with_entry entries seat act (reply_to d entries act))
+pub due_more : (d : Domain) (entries : List Recorded) (seat : ℕ) (act : Act) → AreDue d entries → AreDue d (with_entry entries seat act (reply_to d entries act))
 due_more d entries seat act due place x at =
     let e : Recorded = record { seat = seat; act = act; reply = reply_to d entries act } in
     elim (cases_lt place (length entries)) [
@@ -78,13 +78,13 @@ history_goes_on d entries seat act legal few_seals few_calls =
 -- the streams before an entry and behind it
 module _ (d : Domain) (entries : List Recorded) (e : Recorded) where
   -- the streams without the new entry
-  streams_before : streams_of d entries ≡ map (with_end (withdrawn_before (entries ++ e ∷ []) (length entries)))
+  pub streams_before : streams_of d entries ≡ map (with_end (withdrawn_before (entries ++ e ∷ []) (length entries)))
       (admitted_before d (entries ++ e ∷ []) (length entries))
   streams_before = ap (streams_of d) (sym (front_is entries e))
       ∙ streams_front (entries ++ e ∷ []) (length entries) (omega (arith, length-append entries (e ∷ []))) d
 
   -- and with it
-  streams_behind : streams_of d (entries ++ e ∷ []) ≡ map (with_end (withdrawn_before (entries ++ e ∷ []) (suc (length entries))))
+  pub streams_behind : streams_of d (entries ++ e ∷ []) ≡ map (with_end (withdrawn_before (entries ++ e ∷ []) (suc (length entries))))
       (admitted_before d (entries ++ e ∷ []) (length entries) ++ admitted_at d (entries ++ e ∷ []) (length entries))
   streams_behind = ap (streams_of d) (sym (whole_is entries e))
       ∙ streams_front (entries ++ e ∷ []) (suc (length entries)) (omega (arith, length-append entries (e ∷ []))) d
@@ -94,28 +94,28 @@ module _ (d : Domain) (entries : List Recorded) (e : Recorded) where
   sealed_here = ap seals (front_is entries e)
 
   -- what the new entry admits
-  admitted_here : admitted_at d (entries ++ e ∷ []) (length entries) ≡ stream_by d [] (seals entries) e.act e.reply
+  pub admitted_here : admitted_at d (entries ++ e ∷ []) (length entries) ≡ stream_by d [] (seals entries) e.act e.reply
   admitted_here =
       ap (λ (o : Option Recorded). option_map_or (λ (x : Recorded). stream_by d [] (sealed_before (entries ++ e ∷ []) (length entries)) x.act x.reply) o [])
       (last_is entries e)
       ∙ ap (λ (c : ℕ). stream_by d [] c e.act e.reply) sealed_here
 
   -- and what it withdraws
-  withdrawn_here : (number : ℕ) → withdrawn_at (entries ++ e ∷ []) number (length entries) ≡ withdrawal_by (seals entries) number e.act e.reply
+  pub withdrawn_here : (number : ℕ) → withdrawn_at (entries ++ e ∷ []) number (length entries) ≡ withdrawal_by (seals entries) number e.act e.reply
   withdrawn_here number =
       ap (λ (o : Option Recorded). option_map_or
       (λ (x : Recorded). withdrawal_by (sealed_before (entries ++ e ∷ []) (length entries)) number x.act x.reply) o []) (last_is entries e)
       ∙ ap (λ (c : ℕ). withdrawal_by c number e.act e.reply) sealed_here
 
   -- where it withdraws nothing, ends stay
-  ends_same : ((number : ℕ) → withdrawal_by (seals entries) number e.act e.reply ≡ []) →
+  pub ends_same : ((number : ℕ) → withdrawal_by (seals entries) number e.act e.reply ≡ []) →
       withdrawn_before (entries ++ e ∷ []) (suc (length entries)) ≡ withdrawn_before (entries ++ e ∷ []) (length entries)
   ends_same none = fun_ext (λ number.
       let front = each_below (withdrawn_at (entries ++ e ∷ []) number) (length entries) in
       ap (λ (xs : List Cycle). slice_get (front ++ xs) 0) (withdrawn_here number ∙ none number) ∙ ap (λ (xs : List Cycle). slice_get xs 0) (append-nil front))
 
   -- an entry that admits and withdraws nothing leaves the streams as they are
-  streams_same : stream_by d [] (seals entries) e.act e.reply ≡ [] → ((number : ℕ) → withdrawal_by (seals entries) number e.act e.reply ≡ []) →
+  pub streams_same : stream_by d [] (seals entries) e.act e.reply ≡ [] → ((number : ℕ) → withdrawal_by (seals entries) number e.act e.reply ≡ []) →
       streams_of d (entries ++ e ∷ []) ≡ streams_of d entries
   streams_same none ends =
       let old = admitted_before d (entries ++ e ∷ []) (length entries) in
@@ -170,13 +170,13 @@ refused_changes_nothing d entries rows next seat act refused state answer =
     (seals_same entries seat act reply (no_seal_refused d entries act refused answer)) state.held state.number
 
 -- a row whose number wasn't withdrawn is itself
-with_no_end : (w : ℕ → Option Cycle) (row : Row) → row.withdrawn ≡ None → w row.no ≡ None → with_end w row ≡ row
+pub with_no_end : (w : ℕ → Option Cycle) (row : Row) → row.withdrawn ≡ None → w row.no ≡ None → with_end w row ≡ row
 with_no_end w row none same =
     ap (λ (o : Option Cycle). let made : Row =
     record { no = row.no; name = row.name; octets = row.octets; tree = row.tree; admitted = row.admitted; withdrawn = o } in made) (same ∙ sym none)
 
 -- what is nothing that it can be is none
-none_unless : (o : Option Cycle) → ((x : Cycle) → o ≡ Some x → ⊥) → o ≡ None
+pub none_unless : (o : Option Cycle) → ((x : Cycle) → o ≡ Some x → ⊥) → o ≡ None
 none_unless None h = refl
 none_unless (Some x) h = absurd (h x refl)
 
@@ -247,7 +247,7 @@ all_is : (entries : List Recorded) → take (length entries) entries ≡ entries
 all_is entries = take_all (length entries) entries (omega arith)
 
 -- a stream of a legal history was admitted
-stream_of : (d : Domain) (entries : List Recorded) (row : Row) → Contains (streams_of d entries) row → (stream : Row) ×
+pub stream_of : (d : Domain) (entries : List Recorded) (row : Row) → Contains (streams_of d entries) row → (stream : Row) ×
     Contains (admitted_before d entries (length entries)) stream × (with_end (withdrawn_before entries (length entries)) stream ≡ row)
 stream_of d entries row h =
     contains_from_map (with_end (withdrawn_before entries (length entries))) (admitted_before d entries (length entries)) row
@@ -307,7 +307,7 @@ seal_closes_table d entries rows next seat state =
 -- ---- a withdrawal
 
 -- the first of a list that was empty and got one more
-first_of_none : (front : List Cycle) (x : Cycle) → slice_get front 0 ≡ None → slice_get (front ++ x ∷ []) 0 ≡ Some x
+pub first_of_none : (front : List Cycle) (x : Cycle) → slice_get front 0 ≡ None → slice_get (front ++ x ∷ []) 0 ≡ Some x
 first_of_none front x e = ap (λ (xs : List Cycle). slice_get (xs ++ x ∷ []) 0) (nil_from_none front e)
 
 -- a row by its end
@@ -330,14 +330,14 @@ held_with_end row cycle number long open_end = by_number (row.no == number) refl
         ∙ ap (λ (o : Option Cycle). nat_le row.admitted.0 cycle && option_map_or (λ (w : Cycle). nat_lt cycle (w.0 + residence row)) o true) (sym none)
 
 -- a stream is withdrawn as its number is
-end_of : (d : Domain) (entries : List Recorded) (row : Row) → Contains (streams_of d entries) row →
+pub end_of : (d : Domain) (entries : List Recorded) (row : Row) → Contains (streams_of d entries) row →
     row.withdrawn ≡ withdrawn_before entries (length entries) row.no
 end_of d entries row h =
     let s = stream_of d entries row h in
     ap (λ (r : Row). r.withdrawn) (sym s.2) ∙ ap (withdrawn_before entries (length entries)) (ap (λ (r : Row). r.no) s.2)
 
 -- with one withdrawal more, a row ends where it has that number
-ended_by : (v w : ℕ → Option Cycle) (number cycle : ℕ) → ((other : ℕ) → (number == other) ≡ true → v other ≡ Some (record { 0 = cycle })) →
+pub ended_by : (v w : ℕ → Option Cycle) (number cycle : ℕ) → ((other : ℕ) → (number == other) ≡ true → v other ≡ Some (record { 0 = cycle })) →
     ((other : ℕ) → (number == other) ≡ false → v other ≡ w other) → (row : Row) → with_end v row ≡ ended_row number cycle (with_end w row)
 ended_by v w number cycle here elsewhere row = by_number (row.no == number) refl
   where

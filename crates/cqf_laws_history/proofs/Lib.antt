@@ -6,3 +6,4 @@ pub mod FewLinks
 pub mod Sound
 pub mod Growth
 pub mod Orderly
+pub mod Streams

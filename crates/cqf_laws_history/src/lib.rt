@@ -8,6 +8,7 @@
 //! - [`granted_is_a_tree`]: what a request has that isn't refused.
 //! - [`state_follows_history`]: how the streams that are held change with each entry, so that an administration needn't
 //!   look through its history.
+//! - [`streams_follow_history`]: how the list of all streams that were ever granted changes with each entry.
 //!
 //! ```
 //! // here on, a proof knows that the tables of a legal history are orderly: no link of them is over its budget
@@ -16,6 +17,7 @@
 #![tactic(auto)]
 
 ghost use Rattle.cqf_laws_history.specs.HistoryLaws.{TablesAreOrderly, TablesAscend, ThereAreSoManyTables, GrantedIsATree, TreeIsItsBranches, TreesHaveFewLinks};
+ghost use Rattle.cqf_laws_history.specs.StreamLaws.{GrantedIsLast, SealChangesNoStream, WithdrawnEnds};
 ghost use Rattle.cqf_laws_history.specs.StateLaws.{
   HistoryGoesOn,
   SealsAreCounted,
@@ -57,4 +59,12 @@ pub fn state_follows_history()
     ensures lets_go { SealLetsGo }
     ensures closes { SealClosesTable }
     ensures held { HeldAreSound }
+{}
+
+/// The streams of a history by number, held or not, change with each entry in one small step: a granted one stands behind
+/// the others, a withdrawn one ends in its place, and a Seal changes none (profile).
+pub fn streams_follow_history()
+    ensures granted { GrantedIsLast }
+    ensures withdrawn { WithdrawnEnds }
+    ensures sealed { SealChangesNoStream }
 {}

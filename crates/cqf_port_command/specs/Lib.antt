@@ -1,1 +1,2 @@
 pub mod PortOutput
+pub mod PortTold

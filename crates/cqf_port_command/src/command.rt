@@ -1,19 +1,24 @@
 //! The command `port`: the starts of one output port before an instant.
-ghost use Rattle.std.specs.Prelude.{◌≡◌, ◌≢◌, ◌<◌, ◌^◌, ◌++◌, [], ◌∷◌, All, Ok, Err, IfOk, IfErr, OnOk, map, string_bytes};
-ghost use Rattle.cqf_model.specs.declared.ports.Arrival.{Arrival};
+ghost use Rattle.std.specs.Prelude.{◌≡◌, ◌≢◌, ◌<◌, ◌^◌, [], Ok, IfOk, IfErr};
 ghost use Rattle.cqf_gates.specs.TxText.{list_of_text};
+ghost use Rattle.cqf_press.specs.Edge.{HasTold, writing};
 ghost use Rattle.cqf_report.specs.Arrivals.{arrivals_of};
-ghost use Rattle.cqf_port.specs.PortState.{rules_of, start_of};
+ghost use Rattle.cqf_port.specs.PortState.{rules_of};
 ghost use Rattle.cqf_stop.specs.Stops.{EndsWith, IsRefused, or_line};
 ghost use Rattle.cqf_port_command.specs.PortOutput.{arrivals_line, list_line, port_input, AreOfferable, AreStartsOf, IsStartsText, IsPortOutput};
+ghost use Rattle.cqf_port_command.specs.PortTold.{text_of_port};
 
+use crate::output::PortOutput;
 use cqf_gates::{TextFault, TxList, read_tx};
 use cqf_inputs::two_parts;
 use cqf_port::{Arrival, Port, PortFault, Start};
-use cqf_report::{TableFault, read_arrivals, write_starts};
+use cqf_press::{Press, Sheet, Told};
+use cqf_report::{TableFault, read_arrivals};
 use cqf_stop::Stop;
+use cqf_telling::put_starts_of_port;
 use cqf_units::{Memory, Nanos, Rate};
 use std::alloc::{AllocError, Global};
+use std::io::Write;
 
 /// The end where a gate list is refused.
 fn list_stop(alloc: Global, fault: TextFault) -> Stop
@@ -89,6 +94,14 @@ fn offered_port(
     Ok(port)
 }
 
+/// A port that was offered the arrivals of a list, of which nothing is kept beside it.
+fn port_of(alloc: Global, list: TxList, rate: Rate, arrivals: Vec<Arrival>) -> Result<Port, Memory>
+    requires { AreOfferable arrivals.items }
+    ensures { IfOk result (λ port. port ≡ record { rules = rules_of list rate; reached = 0; arrivals = arrivals.items; starts = [] }) }
+{
+    offered_port(alloc, list, rate, arrivals.as_slice())
+}
+
 /// The starts before the instant.
 fn starts_before(alloc: Global, port: &mut Port, until: u64) -> Result<Vec<Start>, Memory>
     requires early { until < 2 ^ 62 }
@@ -101,34 +114,57 @@ fn starts_before(alloc: Global, port: &mut Port, until: u64) -> Result<Vec<Start
     Ok(found)
 }
 
-/// The text of the starts before the instant.
-fn starts_text(
+/// The starts before the instant, ready to be told.
+fn starts_ready(
     alloc: Global,
     list: TxList,
     rate: Rate,
-    arrivals: &[Arrival],
+    arrivals: Vec<Arrival>,
     until: u64,
-) -> Result<Vec<u8>, Memory>
+) -> Result<PortOutput, Memory>
     requires early { until < 2 ^ 62 }
-    requires offerable { AreOfferable arrivals.now }
-    ensures { IfOk result (λ text. IsStartsText (rules_of list rate) arrivals.now until rate text.items) }
+    requires offerable { AreOfferable arrivals.items }
+    ensures { IfOk result (λ output. IsStartsText (rules_of list rate) arrivals.items until rate (text_of_port output)) }
 {
-    let mut port = offered_port(alloc, list, rate, arrivals)?;
+    let mut port = port_of(alloc, list, rate, arrivals)?;
     let starts = starts_before(alloc, &mut port, until)?;
-    let text = write_starts(alloc, starts.as_slice(), rate)?;
-    Ok(text)
+    let sheet = Sheet::new(alloc)?;
+    Ok(PortOutput {
+        starts,
+        rate,
+        sheet,
+    })
 }
 
-/// The output of `port`: the starts before `until`. `Err` with status 1 and the line of the first fault of the input:
-/// of its parts, of the gate list, of the arrivals; and with status 3 for want of memory.
-pub fn port_output(alloc: Global, until: u64, rate: Rate, input: &[u8]) -> Result<Vec<u8>, Stop>
+impl PortOutput {
+    /// Tells the output: the starts before the instant (profile). It asks for no memory.
+    pub fn tell<W: Write>(self, told: &mut Told<W>)
+        ensures { HasTold (writing W.contents told.old told.new) (text_of_port self) }
+    {
+        let PortOutput {
+            starts,
+            rate,
+            sheet,
+        } = self;
+        let mut press = Press::new(told, sheet);
+        put_starts_of_port(&mut press, starts.as_slice(), rate);
+        let _told = press.close();
+    }
+}
+
+/// The output of `port`, ready to be told: the starts before `until`.
+///
+/// # Errors
+/// With status 1 and the line of the first fault of the input: of its parts, of the gate list, of the arrivals; and with
+/// status 3 for want of memory.
+pub fn port_output(alloc: Global, until: u64, rate: Rate, input: &[u8]) -> Result<PortOutput, Stop>
     requires { until < 2 ^ 62 }
-    ensures ok { IfOk result (λ output. IsPortOutput until rate input.now output.items) }
+    ensures ok { IfOk result (λ output. IsPortOutput until rate input.now (text_of_port output)) }
     ensures err { IfErr result (IsRefused (port_input input.now)) }
 {
     let (list, arrivals) = read_port(alloc, input)?;
-    match starts_text(alloc, list, rate, arrivals.as_slice(), until) {
-        Ok(text) => Ok(text),
+    match starts_ready(alloc, list, rate, arrivals, until) {
+        Ok(output) => Ok(output),
         Err(_) => Err(Stop::memory(alloc)),
     }
 }

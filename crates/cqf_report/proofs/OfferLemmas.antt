@@ -1,10 +1,6 @@
 -- What every offer that is read has.
-use Rattle.std.proofs.Common.{◌≡◌, ◌≢◌, ◌≤◌, ◌<◌, ◌∙◌, nat_lt, get_or, ap, sym, ℕ, Bool, true, false, List, [], ◌∷◌, Option, Some, None, Ok, if◌then◌else◌, length, refl, subst, arith}
-use Rattle.std.specs.List.{position_or_len}
-use Rattle.std.proofs.lemmas.Bool.{lt-ltb, le-ltb}
+use Rattle.std.proofs.Common.{◌≡◌, ◌≤◌, ◌<◌, ℕ, Bool, true, false, List, [], ◌∷◌, Option, Some, None, Ok, if◌then◌else◌, length, refl, subst, arith}
 use Rattle.std.proofs.lemmas.List.Quantifiers.{position-Some}
-use Rattle.std.proofs.lemmas.List.Sums.{position_or_len_is}
-use Rattle.cqf_model.proofs.Texts.{is_text_itself, is_text_same}
 use Rattle.std.specs.Prelude.{position}
 use Rattle.cqf_model.specs.declared.frames.Offer.{Offer}
 use Rattle.cqf_model.specs.Domain.{Domain, is_text, node_named, node_or}
@@ -74,41 +70,3 @@ offers-good d text offers e =
 -- and there are at most 1,000,000
 pub offers-few : (d : Domain) (text : List ℕ) (offers : List Offer) → offers_of d text ≡ Ok offers → length offers ≤ 1000000
 offers-few d text offers e = rows_under-few offer_header (in_four (offer_of d)) offer_instant (records_of text) offers e
-
--- a text that is another isn't the same
-is_text_other : (xs ys : List ℕ) → xs ≢ ys → is_text xs ys ≡ false
-is_text_other xs ys differ = by (is_text xs ys) refl
-  where
-    -- so the test fails
-    by : (test : Bool) → is_text xs ys ≡ test → is_text xs ys ≡ false
-    by true e = absurd (differ (is_text_same xs ys e))
-    by false e = e
-
--- the first bridge that has a name is the bridge of that name
-pub bridge_here : (d : Domain) (name field : List ℕ) (k : ℕ) → name ≡ field → is_name field ≡ true → k < length d.bridges
-    → get_or d.bridges k [] ≡ name → ((j : ℕ) → j < k → get_or d.bridges j [] ≢ name) → Some k ≡ bridge_named d field
-bridge_here d name field k same named inside here before =
-    let test = λ (other : List ℕ). is_text other field in
-    let there : get_or d.bridges k [] ≡ field = here ∙ same in
-    let first : position_or_len test d.bridges ≡ k = position_or_len_is test d.bridges k [] (omega arith)
-    (λ j less. is_text_other (get_or d.bridges j []) field (λ e. before j less (e ∙ sym same)))
-    (λ within. ap test there ∙ is_text_itself field) in
-    rw (named, first, lt-ltb k (length d.bridges) inside) refl
-
--- where no bridge has it, it is the name of none
-no_bridge : (o s : Option ℕ) → o ≡ None → None ≡ as_bridge (node_or o s)
-no_bridge None None e = refl
-no_bridge None (Some s) e = refl
-no_bridge (Some b) s e = absurd cc
-
--- a name that none of the bridges has is of no bridge
-pub bridge_nowhere : (d : Domain) (name field : List ℕ) (end : ℕ) → name ≡ field → is_name field ≡ true → length d.bridges ≤ end → ((j : ℕ) → j < end
-    → get_or d.bridges j [] ≢ name) → None ≡ bridge_named d field
-bridge_nowhere d name field end same named past before =
-    let test = λ (other : List ℕ). is_text other field in
-    let first : position_or_len test d.bridges ≡ length d.bridges = position_or_len_is test d.bridges (length d.bridges) [] (omega arith)
-    (λ j less. is_text_other (get_or d.bridges j []) field (λ e. before j (omega arith) (e ∙ sym same)))
-    (λ within. absurd (omega arith)) in
-    let beyond : nat_lt (length d.bridges) (length d.bridges) ≡ false = le-ltb (length d.bridges) (length d.bridges) (omega arith) in
-    let none : position test d.bridges ≡ None = rw (first, beyond) refl in
-    no_bridge (position test d.bridges) (position (λ other. is_text other field) d.stations) none ∙ rw named refl

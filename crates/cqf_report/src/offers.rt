@@ -1,6 +1,6 @@
 //! The offers of a run, read from a text.
 
-ghost use Rattle.std.specs.Prelude.{◌≡◌, ◌≤◌, ◌<◌, [], ◌↔◌, IfOk, IfErr, IsTrue, Ok, length, slice_index_or};
+ghost use Rattle.std.specs.Prelude.{◌≡◌, ◌≤◌, IfOk, IfErr, Ok, length};
 ghost use Rattle.cqf_model.specs.Run.{AreOffers};
 ghost use Rattle.cqf_report.specs.OtherColumns.{in_four-other};
 ghost use Rattle.csv.specs.Records.{fields_of};
@@ -9,32 +9,23 @@ ghost use Rattle.cqf_report.specs.Offers.{bridge_named, name_in, offer_header, o
 
 use crate::rows::{RowFormat, read_table};
 use crate::tables::{OfferFault, four_fields, is_header_of, read_number};
-use cqf_model::Offer;
+use cqf_model::{Node, Offer};
 use cqf_text::read_decimal;
 use cqf_topology::Domain;
 use cqf_units::{Name, Nanos};
 use csv::ByteRecord;
 use std::alloc::Global;
 
-/// Whether the bridge of this number has the name.
-fn has_name(domain: &Domain, bridge: u8, name: &Name) -> bool
-    requires { bridge < length domain.now.bridges }
-    ensures { IsTrue result ↔ (slice_index_or domain.now.bridges bridge [] ≡ name.now) }
-{
-    domain.bridge_name(bridge) == name
-}
-
-/// The bridge that a field names. A domain has few bridges, so they are looked through.
+/// The bridge that a field names.
 fn read_bridge(domain: &Domain, field: &[u8]) -> Option<u8>
     ensures { result ≡ bridge_named domain.now field.now }
 {
     let name = Name::new(field)?;
-    for bridge in 0..domain.bridges() {
-        if has_name(domain, bridge, &name) {
-            return Some(bridge);
-        }
+    match domain.find(name.as_str()) {
+        Some(Node::Bridge(bridge)) => Some(bridge),
+        Some(Node::Station(_)) => None,
+        None => None,
     }
-    None
 }
 
 /// The name that a field is.

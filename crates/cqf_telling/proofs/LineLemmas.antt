@@ -28,3 +28,14 @@ Puts-six a b c d e f one after_a two after_b three after_c four after_d five aft
     (Puts-field d e (f ∷ []) four after_d
     (Puts-field e f [] five after_e
     (Puts-then f (10 ∷ []) six end)))))
+
+-- the line of four
+pub Puts-four : {W : Type 0} {contents : W → Option (List ℕ)} {p0 p1 p2 p3 p4 p5 p6 p7 p8 : Press W} (a b c d : List ℕ)
+    → Puts contents p0 p1 a → Puts contents p1 p2 (44 ∷ []) → Puts contents p2 p3 b → Puts contents p3 p4 (44 ∷ [])
+    → Puts contents p4 p5 c → Puts contents p5 p6 (44 ∷ []) → Puts contents p6 p7 d → Puts contents p7 p8 (10 ∷ [])
+    → Puts contents p0 p8 (line_of (a ∷ b ∷ c ∷ d ∷ []))
+Puts-four a b c d one after_a two after_b three after_c four end =
+    Puts-field a b (c ∷ d ∷ []) one after_a
+    (Puts-field b c (d ∷ []) two after_b
+    (Puts-field c d [] three after_c
+    (Puts-then d (10 ∷ []) four end)))

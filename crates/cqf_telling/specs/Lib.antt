@@ -1,1 +1,2 @@
 pub mod CallTexts
+pub mod PortLines

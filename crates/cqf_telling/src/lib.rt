@@ -1,8 +1,9 @@
-//! Books and histories, told line by line: their lines are put on a press, with no memory asked for.
+//! Books, histories and a port's starts, told line by line: their lines are put on a press, with no memory asked for.
 //!
-//! - [`put_book`] puts the text of a book, [`put_history`] that of a history.
+//! - [`put_book`] puts the text of a book, [`put_history`] that of a history, and [`put_starts_of_port`] that of a port's
+//!   starts.
 //!
-//! The texts are those of `cqf_report`, which makes each as one list of bytes: `Books` and `HistoryText` of its `specs/`. A field of
+//! The texts are those of `cqf_report`, which makes each as one list of bytes: `Books`, `HistoryText` and `Starts` of its `specs/`. A field of
 //! theirs needs no quotes, so that a line is its fields with commas between them.
 //!
 //! ```text
@@ -14,6 +15,8 @@
 mod books;
 mod history;
 mod names;
+mod ports;
 
 pub use books::put_book;
 pub use history::put_history;
+pub use ports::put_starts_of_port;

@@ -1,9 +1,9 @@
 -- The first line of a text.
-use Rattle.std.proofs.Common.{◌≡◌, ℕ, ◌<◌, ◌≤◌, ◌∙◌, List, [], ◌∷◌, length, arith, Bool, None, position, refl, ap, inl, inr}
+use Rattle.std.proofs.Common.{◌≡◌, ℕ, ◌<◌, ◌≤◌, ◌∙◌, List, [], ◌∷◌, length, arith, Bool, true, refl, sym, ap, inl, inr, slice_index}
 use Rattle.std.specs.List.{slice_split, position_or_len, before_first, after_first}
 use Rattle.std.proofs.lemmas.List.Splits.{slice_split_first, length-slice_split}
-use Rattle.std.proofs.lemmas.List.Sums.{prefix_len-le-length}
-use Rattle.std.proofs.lemmas.Bool.{cases_lt}
+use Rattle.std.proofs.lemmas.List.Sums.{position_or_len_is}
+use Rattle.std.proofs.lemmas.Bool.{cases_Bool, cases_lt}
 use Rattle.std.proofs.lemmas.Grind.{common_steps}
 use Rattle.cqf_text.specs.Lines.{is_line_feed, without_empty_last, lines_of}
 
@@ -49,6 +49,8 @@ lines_of-first text some = elim (cases_lt (position_or_len is_line_feed text) (l
   | inr h ↦ lines_of-at_end text some h
 ]
 
--- the first place of an element that passes, as `position` says it
-pub position_or_len-none : (p : ℕ → Bool) (xs : List ℕ) → None ≡ position p xs → length xs ≡ position_or_len p xs
-position_or_len-none p xs h = grind (arith, common_steps, prefix_len-le-length)
+-- the first line ends at the place before which there is no line feed, where one stands there, or the text ends
+pub first_feed : (text : List ℕ) (end : ℕ) → end ≤ length text → ((k : ℕ) → k < end → is_line_feed (slice_index text k) ≡ true → ⊥) →
+    (end < length text → is_line_feed (slice_index text end) ≡ true) → end ≡ position_or_len is_line_feed text
+first_feed text end inside none here = sym (position_or_len_is is_line_feed text end 0 inside
+    (λ k below. elim (cases_Bool (is_line_feed (slice_index text k))) [ inl t ↦ absurd (none k below t) | inr f ↦ f ]) here)

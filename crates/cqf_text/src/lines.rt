@@ -1,21 +1,16 @@
 //! The lines of a text (profile).
-ghost use Rattle.std.specs.Prelude.{◌≡◌, ◌<◌, ◌≤◌, ◌↔◌, [], ◌∷◌, length, position, IsSome, IfSome, MatchOption};
+ghost use Rattle.std.specs.Prelude.{◌≡◌, ◌<◌, ◌≤◌, ◌↔◌, [], ◌∷◌, length, IsSome, IfSome, MatchOption};
 ghost use Rattle.std.specs.List.{position_or_len, before_first, after_first};
 ghost use Rattle.cqf_text.specs.Lines.{is_line_feed, lines_of};
 
-/// Where the first line feed stands.
-fn line_feed(text: &[u8]) -> Option<usize>
-    ensures { result ≡ position is_line_feed text.now }
-{
-    text.iter().position(|byte| *byte == b'\n')
-}
+use memchr::memchr;
 
 /// Where the first line ends: before its line feed, or at the end of the text.
 pub(crate) fn line_end(text: &[u8]) -> usize
     ensures end { result ≡ position_or_len is_line_feed text.now }
     ensures inside { result ≤ length text.now }
 {
-    match line_feed(text) {
+    match memchr(b'\n', text) {
         Some(end) => end,
         None => text.len(),
     }

@@ -96,6 +96,12 @@ IsJobOf (Run cycles threads) name rows = (name ≡ codes "run")
 IsJobOf (Report cycles) name rows = (name ≡ codes "report")
     × IsNumberIn 1 100000 cycles (first_of (codes "cycles") rows)
 
+-- whether the input of a job begins with a domain, behind which its streams stand
+abbrev pub takes_domain : Job → Bool
+takes_domain (Port until rate) = false
+takes_domain (Line cycles) = false
+takes_domain job = true
+
 -- the job of the command that the words name, if they name one
 abbrev pub IsJob : Job → Option (Text × List Row) → Type 0
 IsJob job None = ⊥

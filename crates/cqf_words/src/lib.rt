@@ -3,6 +3,8 @@
 //! - [`read_words`] gives the [`Job`] that some words mean, and else the end of the run: clap's text, with status 2 for a
 //!   mistake and 0 for a request for help.
 //!
+//! - [`split_operands`] tells the files that some words name from the other words.
+//!
 //! `specs/Words.antt` has the commands and their options as a value, and what it is that words `Mean` a job, are a mistake
 //! or ask for help.
 //!
@@ -12,6 +14,8 @@
 //! ```
 #![tactic(auto)]
 
+mod operands;
 mod words;
 
+pub use operands::{Operands, split_operands};
 pub use words::{Job, read_words};

@@ -5,7 +5,7 @@ ghost use Rattle.cqf_units.specs.declared.timing.Rate.{Rate};
 ghost use Rattle.clap.specs.declared.builder.command.Command.TheViews.{out-Command};
 ghost use Rattle.clap.specs.Words.{app_of, first_of, found_of, kind_of, rows_of, rule_of, subcommand_rows_of};
 ghost use Rattle.cqf_words.specs.declared.words.Job.{Job};
-ghost use Rattle.cqf_words.specs.Words.{cqf_app, compile_app, first_app, line_app, named_app, port_app, report_app, run_app, flag_rule, number_rule, rate_rule, rate_text, wanted_rule, IsGiven, IsJob, IsJobOf, IsNumberIn, Mean, EndsBy, EndsWords};
+ghost use Rattle.cqf_words.specs.Words.{cqf_app, compile_app, first_app, line_app, named_app, port_app, report_app, run_app, flag_rule, number_rule, rate_rule, rate_text, wanted_rule, IsGiven, IsJob, IsJobOf, IsNumberIn, Mean, EndsBy, EndsWords, takes_domain};
 
 use clap::error::ErrorKind;
 use clap::{Arg, ArgAction, ArgMatches, Command, value_parser};
@@ -17,17 +17,23 @@ use std::alloc::{AllocError, Global};
 const PORT_INPUT: &str = r"Standard input has two parts, which a line of %% divides:
   a gate list    80 120000
   arrivals       at,class,octets,frame
-                 10,6,64,1";
+                 10,6,64,1
+or they are two files:
+  cqf port --until 1000000 list.txt arrivals.csv";
 
 /// What the help of `line` says of standard input.
-const LINE_INPUT: &str = r"Standard input has one part:
+const LINE_INPUT: &str = r"Standard input has one part, or it is a file:
   offers         at,bridge,stream,octets
-                 0,a,x,1000";
+                 0,a,x,1000
+  cqf line --cycles 2 offers.csv";
 
 /// What the help of `compile` says of standard input.
 const COMPILE_INPUT: &str = r#"Standard input has two parts, which a line of %% divides:
   a domain       links = [{ from = "a", to = "s", rate = 1000, delay = 500 }]
-  its streams    streams = [{ name = "x", octets = 1500, path = ["a", "s"] }]"#;
+  its streams    streams = [{ name = "x", octets = 1500, path = ["a", "s"] }]
+or they are one file with both, or two whose names end with .toml:
+  cqf compile plant.toml
+  cqf compile domain.toml streams.toml"#;
 
 /// What the help of `run` says of standard input and of its work.
 const RUN_INPUT: &str = r#"Standard input has four parts, which lines of %% divide, or five:
@@ -40,6 +46,8 @@ const RUN_INPUT: &str = r#"Standard input has four parts, which lines of %% divi
                  0,a,x,64
   background     at,from,to,class,octets
                  120000,a,s,0,1522
+or they are files, the domain and its streams in one:
+  cqf run --cycles 5 plant.toml calls.txt offers.csv background.csv
 
 The output is the history of the calls, a line of %%, and the book of every
 transmission and drop. A run keeps its input, the table of each cycle, all
@@ -56,12 +64,19 @@ the history may differ from run to run. The book is always that of the history."
 
 /// What the help of `report` says of standard input and of its work.
 const REPORT_INPUT: &str =
-    r"Standard input has the four or five parts of the command run. The output has
-a line for each link: its frames, their octets, and the most octets that it
-starts in one cycle. Background frames don't count. It takes what run takes.";
+    r"Standard input has the four or five parts of the command run, or they are files:
+  cqf report --cycles 5 plant.toml calls.txt offers.csv
 
-/// What the program's help says of its version.
-const VERSION_WORDS: &str = "cqf --version, or cqf -V, prints the version";
+The output has a line for each link: its frames, their octets, and the most
+octets that it starts in one cycle. Background frames don't count. It takes
+what run takes.";
+
+/// What the program's help says of files and of its version.
+const MORE_WORDS: &str =
+    r"Behind a command stand files, - for standard input; without one all is read
+from standard input. The help of each command has an example.
+
+cqf --version, or cqf -V, prints the version";
 
 /// What the program is asked to do.
 #[derive(Clone, Copy, Debug, PartialEq, Eq)]
@@ -76,6 +91,18 @@ pub enum Job {
     Run { cycles: u32, threads: bool },
     /// The sums by link of a scenario's book.
     Report { cycles: u32 },
+}
+
+impl Job {
+    /// Whether the input begins with a domain, behind which its streams stand.
+    pub fn takes_domain(&self) -> bool
+        ensures { result ≡ takes_domain self.now }
+    {
+        match *self {
+            Job::Port { .. } | Job::Line { .. } => false,
+            Job::Compile | Job::Run { .. } | Job::Report { .. } => true,
+        }
+    }
 }
 
 /// An option `--NAME N` that has to be given, whatever N is.
@@ -198,7 +225,7 @@ fn named_command<'a>(alloc: Global) -> Result<Command<'a>, AllocError>
     Ok(
         named
             .about("cyclic queuing and forwarding")
-            .after_help(VERSION_WORDS)
+            .after_help(MORE_WORDS)
             .no_binary_name(true)
             .subcommand_required(true),
     )

@@ -1,4 +1,5 @@
 use Rattle.std.proofs.Common.{ap, arith, sym, subst, map}
+use Rattle.cqf_model.specs.declared.topology.Row.{Row}
 use Rattle.cqf_admission.specs.Admission.{recorded_of}
 use Rattle.cqf_admission.specs.Asking.{asked_by, asked_of}
 use Rattle.cqf_admission.specs.Grants.{CanBeAsked}
@@ -12,6 +13,9 @@ grant-requires-clause-sound c =
     let entries = map recorded_of c.self.inside.history.items in
     subst (CanBeAsked d) (sym c.reserve-2.ensures.same)
     (can_be_asked c.state_follows_history.ensures.held d entries c.self.inside.held.rows c.self.inside.next c.self.inside.sealed c.self.invariant)
+
+pub push-requires-clause-live : goal.push-requires-clause-live
+push-requires-clause-live c = ap (λ (r : Row). r.withdrawn) c.in-Ok-grant.ensures.is
 
 pub invariant_of-self-in-Ok-grant : goal.invariant_of-self-in-Ok-grant
 invariant_of-self-in-Ok-grant c =

@@ -1,4 +1,4 @@
-use Rattle.std.proofs.Common.{◌∙◌, ◌+◌, ap, arith, filter, map, refl, sym, subst}
+use Rattle.std.proofs.Common.{◌∙◌, ◌+◌, ◌≤◌, Contains, ap, arith, filter, map, refl, sym, subst}
 use Rattle.cqf_model.specs.declared.topology.Row.{Row}
 use Rattle.cqf_model.specs.Table.{is_held}
 use Rattle.cqf_admission.specs.Admission.{recorded_of}
@@ -13,6 +13,13 @@ invariant_of-self-2 c =
     (sealed_leaves laws.goes_on laws.counted laws.lets_go laws.closes laws.held c.args.seat
     (record { cycle = c.self.inside.sealed; rows = c.self.inside.held.rows }) c.self.invariant c.self.view_is
     (omega (arith, c.if-self-ge-MOST_SEALS.false)) c.reserve.ensures.items c.enter.ensures (c.let_go.ensures ∙ ap (λ (h : HeldRows). filter (λ (row : Row). is_held row (c.self.inside.sealed + 1)) h.rows) c.share.ensures.same) refl refl).running
+
+pub let_go-requires : goal.let_go-requires
+let_go-requires c =
+    let held = c.state_follows_history.ensures.held c.self.inside.domain
+    (map recorded_of c.self.inside.history.items) c.self.inside.held.rows c.self.inside.next c.self.invariant.legal c.self.invariant.state in
+    subst (λ (h : HeldRows). (row : Row) → Contains h.rows row → row.admitted.0 ≤ c.self.inside.sealed + 1) (sym c.share.ensures.same)
+    (λ row among. omega (arith, held.begun row among, c.self.invariant.counted))
 
 pub new-requires : goal.new-requires
 new-requires c =

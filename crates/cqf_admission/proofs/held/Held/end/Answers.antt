@@ -1,20 +1,30 @@
-use Rattle.std.proofs.Common.{◌<◌, ◌∙◌, List, ap, arith, length, map}
+use Rattle.std.proofs.Common.{◌≡◌, ◌<◌, ◌∙◌, List, ap, arith, length, map, sym}
 use Rattle.std.specs.Arc.{arc_value}
 use Rattle.cqf_model.specs.declared.topology.Row.{Row}
-use Rattle.cqf_admission.specs.Rows.{HeldRows, ended, ended_at}
+use Rattle.cqf_admission.specs.Rows.{HeldRows, end_of, ended, ended_at}
+use Rattle.cqf_admission.proofs.EndingLemmas.{ending_more, mapped_among}
 use Rattle.cqf_admission.proofs.HeldLemmas.{columns_ended}
-use Rattle.cqf_admission.proofs.MappedRows.{mapped_ended}
+use Rattle.cqf_admission.proofs.MappedRows.{mapped_at, mapped_ended}
 use Rattle.cqf_admission.proofs.NumberedRows.{numbered_ended}
 use Rattle.cqf_admission.proofs.SumLemmas.{sums_stay}
 use Rattle.cqf_admission.proofs.held.Held.end.Goals as goal
 
-pub invariant_of-self : goal.invariant_of-self
-invariant_of-self c =
+pub invariant_of-self-2 : goal.invariant_of-self-2
+invariant_of-self-2 c =
     let rows : List Row = map (λ row. arc_value row) c.self.inside.rows.items in
     let inside : c.args.place < length rows = omega (arith, c.requires, ap (λ (h : HeldRows). length h.rows) c.self.view_is) in
-    let ends = c.in_ok-self-inside.ensures.ok ∙ ap (λ (r : Row). ended r c.args.cycle) (c.copied-row.ensures ∙ c.deref.ensures) in
-    let is = mapped_ended (λ row. arc_value row) c.self.inside.rows.items c.args.place c.index.result.now c.in_ok-self-inside.field-0 c.args.cycle inside
+    let ends = c.in_ok-ended.ensures.ok ∙ ap (λ (r : Row). ended r c.args.cycle) (c.copied-row.ensures ∙ c.deref.ensures) in
+    let is = mapped_ended (λ row. arc_value row) c.self.inside.rows.items c.args.place c.index.result.now c.in_ok-ended.ended c.args.cycle inside
     c.index.ensures ends in
+    let ending : List Row = map (λ row. arc_value row) c.self.inside.ending.items in
+    let there = mapped_at (λ row. arc_value row) c.self.inside.rows.items c.args.place c.index.result.now c.index.ensures in
+    let own = c.in_ok-again.ensures ∙ ends ∙ ap (λ (r : Row). ended r c.args.cycle) there in
+    let grown = mapped_among (λ row. arc_value row) c.self.inside.ending.items c.insert.new.self.items c.place_among-among.result c.in_ok-again.again
+    c.in_ok-insert.ensures.items in
+    let end : c.end_of.result ≡ end_of (arc_value c.in_ok-again.again) =
+    c.end_of.ensures ∙ ap (λ (r : Row). end_of r) (c.deref-2.ensures ∙ sym c.in_ok-again.ensures) in
+    let before = rw (c.as_slice.ensures.value, end) at c.place_among-among.ensures.before in
+    let behind = rw (c.as_slice.ensures.value, end) at c.place_among-among.ensures.behind in
     let names = c.self.inside.names.keys in
     let costs = c.self.inside.costs.items in
     let masks = c.self.inside.masks.items in
@@ -23,14 +33,18 @@ invariant_of-self c =
       sums_stay names names rows _ costs masks c.self.inside.sums c.self.invariant.0 after c.self.invariant.1,
       λ same. absurd cc,
       numbered_ended (arc_value c.self.inside.numbers) c.self.inside.numbered rows _ c.args.place c.args.cycle c.self.invariant.3 is,
-      tt,
+      ending_more rows _ ending _ c.args.place c.place_among-among.result c.args.cycle (arc_value c.index.result.now) (arc_value c.in_ok-again.again)
+          c.self.invariant.4 is own grown before behind,
     )
 
 pub returns-clause-rows : goal.returns-clause-rows
 returns-clause-rows c =
     let rows : List Row = map (λ row. arc_value row) c.self.inside.rows.items in
     let inside : c.args.place < length rows = omega (arith, c.requires, ap (λ (h : HeldRows). length h.rows) c.self.view_is) in
-    let ends = c.in_ok-self-inside.ensures.ok ∙ ap (λ (r : Row). ended r c.args.cycle) (c.copied-row.ensures ∙ c.deref.ensures) in
-    mapped_ended (λ row. arc_value row) c.self.inside.rows.items c.args.place c.index.result.now c.in_ok-self-inside.field-0 c.args.cycle inside
+    let ends = c.in_ok-ended.ensures.ok ∙ ap (λ (r : Row). ended r c.args.cycle) (c.copied-row.ensures ∙ c.deref.ensures) in
+    mapped_ended (λ row. arc_value row) c.self.inside.rows.items c.args.place c.index.result.now c.in_ok-ended.ended c.args.cycle inside
     c.index.ensures ends
     ∙ ap (λ (h : HeldRows). ended_at h.rows c.args.place c.args.cycle) c.self.view_is
+
+pub place_among-among-requires : goal.place_among-among-requires
+place_among-among-requires c = rw c.as_slice.ensures.value c.self.invariant.4.ordered

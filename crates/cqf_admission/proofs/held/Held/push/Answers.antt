@@ -7,7 +7,8 @@ use Rattle.cqf_model.specs.Domain.{is_text}
 use Rattle.cqf_admission.specs.Rows.{HeldRows}
 use Rattle.cqf_admission.proofs.ColumnLemmas.{columns_pushed}
 use Rattle.cqf_admission.proofs.SumLemmas.{more_by, sums_from_totals}
-use Rattle.cqf_admission.proofs.HeldLemmas.{lasting_pushed, name_among}
+use Rattle.cqf_admission.proofs.EndingLemmas.{ending_pushed}
+use Rattle.cqf_admission.proofs.HeldLemmas.{name_among}
 use Rattle.cqf_admission.proofs.MappedRows.{mapped_more}
 use Rattle.cqf_admission.proofs.NumberedRows.{numbered_pushed}
 use Rattle.cqf_admission.proofs.held.Held.push.Goals as goal
@@ -29,7 +30,7 @@ invariant_of-self c =
     let few : length rows < 1024 = omega (arith, c.requires.few, ap (λ (h : HeldRows). length h.rows) c.self.view_is) in
     let costs = rw c.unwrap-3.ensures at c.push-2.ensures.items in
     let masks = rw c.unwrap-4.ensures at c.push-3.ensures.items in
-    let columns = columns_pushed names rows c.self.inside.costs.items c.self.inside.masks.items c.args.row _ _ _ _ c.self.invariant.0 few named items
+    let columns = columns_pushed names rows c.self.inside.costs.items c.self.inside.masks.items c.args.row _ _ _ _ c.self.invariant.0 few free named items
     (costs ∙ ap (λ (n : ℕ). c.self.inside.costs.items ++ n ∷ []) c.cost-octets.ensures)
     (masks ∙ ap (λ (n : ℕ). c.self.inside.masks.items ++ n ∷ []) c.mask_of_row-mask.ensures) in (
       columns,
@@ -37,7 +38,7 @@ invariant_of-self c =
           (rw (c.as_slice.ensures.value, c.as_slice-2.ensures.value) at c.sums_with-self-inside.ensures),
       λ same. absurd cc,
       numbered_pushed (arc_value c.self.inside.numbers) c.self.inside.numbered rows _ c.args.row c.self.invariant.3 items,
-      lasting_pushed rows c.args.row c.self.inside.lasting c.lasting_with-lasting.result _ c.self.invariant.4 c.lasting_with-lasting.ensures items,
+      ending_pushed rows _ (map (λ row. arc_value row) c.self.inside.ending.items) c.args.row c.self.invariant.4 items c.requires.live,
     )
 
 pub sums_with-self-inside-requires-clause-more : goal.sums_with-self-inside-requires-clause-more
@@ -59,7 +60,7 @@ sums_with-self-inside-requires-clause-more c =
     let masks = rw c.unwrap-4.ensures at c.push-3.ensures.items in
     let costs_are = costs ∙ ap (λ (n : ℕ). c.self.inside.costs.items ++ n ∷ []) c.cost-octets.ensures in
     let masks_are = masks ∙ ap (λ (n : ℕ). c.self.inside.masks.items ++ n ∷ []) c.mask_of_row-mask.ensures in
-    let columns = columns_pushed names rows c.self.inside.costs.items c.self.inside.masks.items c.args.row _ _ _ _ c.self.invariant.0 few named items
+    let columns = columns_pushed names rows c.self.inside.costs.items c.self.inside.masks.items c.args.row _ _ _ _ c.self.invariant.0 few free named items
     costs_are masks_are in
     rw (c.as_slice.ensures.value, c.as_slice-2.ensures.value)
     (more_by _ rows _ _ _ c.self.inside.sums c.args.row c.mask_of_row-mask.result c.cost-octets.result.0 c.self.invariant.1 columns items

@@ -1,0 +1,25 @@
+//! What is said at a terminal.
+
+use cqf_press::{Told, write_out};
+use cqf_words::read_words;
+use std::alloc::Global;
+use std::io::{IsTerminal, Write};
+
+/// Where standard input is a terminal, says that it is read now.
+pub(crate) fn hint<I: IsTerminal, F: Write>(input: &I, faults: &mut Told<F>) {
+    if input.is_terminal() {
+        write_out(faults, b"cqf: reading standard input to its end\n");
+    }
+}
+
+/// The same before words without files are run, if they are none, or mean a job: else nothing is read.
+pub(crate) fn hint_of_words<I: IsTerminal, F: Write>(
+    alloc: Global,
+    words: &[&str],
+    input: &I,
+    faults: &mut Told<F>,
+) {
+    if words.is_empty() || read_words(alloc, words).is_ok() {
+        hint(input, faults);
+    }
+}

@@ -1,0 +1,4 @@
+pub mod LastRows
+pub mod InForce
+pub mod Covers
+pub mod Step

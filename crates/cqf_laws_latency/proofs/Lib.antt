@@ -1,0 +1,5 @@
+pub mod Within
+pub mod Timely
+pub mod Listed
+pub mod Kept
+pub mod Listeners

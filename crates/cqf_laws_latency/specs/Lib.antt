@@ -1,0 +1,4 @@
+pub mod Latency
+pub mod Streams
+pub mod Verdicts
+pub mod Listeners
