@@ -4,6 +4,9 @@
 //!   writes the frames that the port starts before instant N.
 //! - `cqf line --cycles N` reads offers, and writes the book of the smallest network over N cycles.
 //! - `cqf compile` reads a domain and its streams, and writes the gate list of each port and the gates of each stream.
+//! - `cqf load` reads the same, and writes what each link holds of the streams and has left.
+//! - `cqf latency` reads the same, and writes the least and the most that a frame of each stream takes to each listener, and
+//!   whether its deadline is kept. With `--strict` a deadline that isn't kept for sure ends it with status 1.
 //! - `cqf run --cycles N` reads a domain, its streams, a script of admissions and withdrawals, offers, and background frames
 //!   where there are any, and writes the history of the calls and the book of every transmission and drop over N cycles.
 //!   With `--threads` each bridge and each administrator has a thread of its own.

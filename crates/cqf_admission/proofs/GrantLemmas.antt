@@ -22,49 +22,53 @@ use Rattle.cqf_model.specs.History.{Asked, broken_place, first_place, is_loop_at
 use Rattle.cqf_model.proofs.Texts.{is_text_same}
 use Rattle.cqf_model.specs.Table.{row_named}
 use Rattle.cqf_laws_history.specs.StateLaws.{granted_row}
-use Rattle.cqf_admission.specs.Grants.{HaveNames, short_refusal}
+use Rattle.cqf_admission.specs.Grants.{HaveNames}
+use Rattle.cqf_admission.specs.Judging.{form_refusal, short_refusal, state_refusal}
 use Rattle.cqf_trees.specs.Branches.{tree_refusal}
 
--- the first of five refusals, in two groups
-or_else_assoc : (a b c e rest : Option Refused) → or_else a (or_else b (or_else c (or_else e rest))) ≡ or_else (or_else a (or_else b (or_else c e))) rest
-or_else_assoc (Some x) b c e rest = refl
-or_else_assoc None (Some x) c e rest = refl
-or_else_assoc None None (Some x) e rest = refl
-or_else_assoc None None None e rest = refl
+-- the first of seven refusals, in two groups
+or_else_assoc : (a b c e f g rest : Option Refused) → or_else a (or_else b (or_else c (or_else e (or_else f (or_else g rest)))))
+    ≡ or_else (or_else a (or_else b (or_else c (or_else e (or_else f g))))) rest
+or_else_assoc (Some x) b c e f g rest = refl
+or_else_assoc None (Some x) c e f g rest = refl
+or_else_assoc None None (Some x) e f g rest = refl
+or_else_assoc None None None (Some x) f g rest = refl
+or_else_assoc None None None None (Some x) g rest = refl
+or_else_assoc None None None None None g rest = refl
 
--- what can still speak against a request of good form whose branches are a tree
-abbrev pub later_refusal : Domain → List Row → Asked → Option Refused
-later_refusal d rows asked =
-    or_else (refused_if (list_any (λ (row : Row). is_text row.name asked.name) rows) NameHeld)
-    (or_else (refused_if (nat_le 1024 (length rows)) TooManyStreams)
-    (short_refusal d rows (cost_of asked.octets) (tree_of d asked.paths)))
+-- a request is refused for its form, or else for what is held
+pub refusal_in_two : (d : Domain) (rows : List Row) (asked : Asked) → refusal_of d rows asked ≡ or_else (form_refusal d asked) (state_refusal d rows asked)
+refusal_in_two d rows asked = or_else_assoc
+    (refused_if (not (is_name asked.name)) BadName)
+    (refused_if (not (nat_le 64 asked.octets && nat_le asked.octets 60000)) BadOctets)
+    (refused_at (λ place. UnknownNode place) (position (λ n. is_none (node_named d n)) (flat_map (λ branch. branch) asked.paths)))
+    (refused_at (λ place. BrokenPath place) (broken_place d asked.paths))
+    (refused_at (λ place. LoopingPath place) (first_place (is_loop_at d) asked.paths))
+    (refused_at (λ branch. NotATree branch) (least (is_stray asked.paths) (length asked.paths)))
+    (state_refusal d rows asked)
 
--- with a good form the branches decide first
-pub refusal_by_tree : (d : Domain) (rows : List Row) (asked : Asked) → is_name asked.name ≡ true → 64 ≤ asked.octets → asked.octets ≤ 60000 →
-    refusal_of d rows asked ≡ or_else (tree_refusal d asked.paths) (later_refusal d rows asked)
-refusal_by_tree d rows asked name least_octets most_octets =
+-- with a good name and octets within the limits the branches decide on the form
+pub form_by_tree : (d : Domain) (asked : Asked) → is_name asked.name ≡ true → 64 ≤ asked.octets → asked.octets ≤ 60000 →
+    form_refusal d asked ≡ tree_refusal d asked.paths
+form_by_tree d asked name least_octets most_octets =
     let in_range : (nat_le 64 asked.octets && nat_le asked.octets 60000) ≡ true =
     and_from (nat_le 64 asked.octets) (nat_le asked.octets 60000) (le-leb 64 asked.octets least_octets) (le-leb asked.octets 60000 most_octets) in
-    let unknown = refused_at (λ place. UnknownNode place) (position (λ n. is_none (node_named d n)) (flat_map (λ branch. branch) asked.paths)) in
-    let broken = refused_at (λ place. BrokenPath place) (broken_place d asked.paths) in
-    let looping = refused_at (λ place. LoopingPath place) (first_place (is_loop_at d) asked.paths) in
-    let stray = refused_at (λ branch. NotATree branch) (least (is_stray asked.paths) (length asked.paths)) in
-    let later = later_refusal d rows asked in
     ap (λ (b : Bool). or_else (refused_if (not b) BadName)
-    (or_else (refused_if (not (nat_le 64 asked.octets && nat_le asked.octets 60000)) BadOctets)
-    (or_else unknown (or_else broken (or_else looping (or_else stray later)))))) name
-    ∙ ap (λ (b : Bool). or_else (refused_if (not b) BadOctets) (or_else unknown (or_else broken (or_else looping (or_else stray later))))) in_range
-    ∙ or_else_assoc unknown broken looping stray later
+    (or_else (refused_if (not (nat_le 64 asked.octets && nat_le asked.octets 60000)) BadOctets) (tree_refusal d asked.paths))) name
+    ∙ ap (λ (b : Bool). or_else (refused_if (not b) BadOctets) (tree_refusal d asked.paths)) in_range
+
+-- where the form is bad, that decides
+pub refusal_form : (d : Domain) (rows : List Row) (asked : Asked) (refused : Refused) → form_refusal d asked ≡ Some refused →
+    refusal_of d rows asked ≡ Some refused
+refusal_form d rows asked refused form = refusal_in_two d rows asked ∙ ap (λ (o : Option Refused). or_else o (state_refusal d rows asked)) form
 
 -- where the form is right, the refusals behind it decide
-pub refusal_later : (d : Domain) (rows : List Row) (asked : Asked) → is_name asked.name ≡ true → 64 ≤ asked.octets → asked.octets ≤ 60000 →
-    tree_refusal d asked.paths ≡ None → refusal_of d rows asked ≡ later_refusal d rows asked
-refusal_later d rows asked name least_octets most_octets path =
-    refusal_by_tree d rows asked name least_octets most_octets ∙ ap (λ (o : Option Refused). or_else o (later_refusal d rows asked)) path
+pub refusal_later : (d : Domain) (rows : List Row) (asked : Asked) → form_refusal d asked ≡ None → refusal_of d rows asked ≡ state_refusal d rows asked
+refusal_later d rows asked form = refusal_in_two d rows asked ∙ ap (λ (o : Option Refused). or_else o (state_refusal d rows asked)) form
 
 -- the last reason, where the name is free and there are not too many streams
 pub refusal_last : (d : Domain) (rows : List Row) (asked : Asked) → list_any (λ (row : Row). is_text row.name asked.name) rows ≡ false → length rows < 1024 →
-    later_refusal d rows asked ≡ short_refusal d rows (cost_of asked.octets) (tree_of d asked.paths)
+    state_refusal d rows asked ≡ short_refusal d rows (cost_of asked.octets) (tree_of d asked.paths)
 refusal_last d rows asked free few =
     let last = short_refusal d rows (cost_of asked.octets) (tree_of d asked.paths) in
     ap (λ (b : Bool). or_else (refused_if b NameHeld) (or_else (refused_if (nat_le 1024 (length rows)) TooManyStreams) last)) free
@@ -72,7 +76,7 @@ refusal_last d rows asked free few =
 
 -- too many streams are refused where the name is free
 pub refusal_many : (d : Domain) (rows : List Row) (asked : Asked) → list_any (λ (row : Row). is_text row.name asked.name) rows ≡ false → 1024 ≤ length rows →
-    later_refusal d rows asked ≡ Some TooManyStreams
+    state_refusal d rows asked ≡ Some TooManyStreams
 refusal_many d rows asked free many =
     let last = short_refusal d rows (cost_of asked.octets) (tree_of d asked.paths) in
     ap (λ (b : Bool). or_else (refused_if b NameHeld) (or_else (refused_if (nat_le 1024 (length rows)) TooManyStreams) last)) free
@@ -80,7 +84,7 @@ refusal_many d rows asked free many =
 
 -- a name that is held is refused
 pub refusal_held : (d : Domain) (rows : List Row) (asked : Asked) → list_any (λ (row : Row). is_text row.name asked.name) rows ≡ true →
-    later_refusal d rows asked ≡ Some NameHeld
+    state_refusal d rows asked ≡ Some NameHeld
 refusal_held d rows asked held =
     let last = short_refusal d rows (cost_of asked.octets) (tree_of d asked.paths) in
     ap (λ (b : Bool). or_else (refused_if b NameHeld) (or_else (refused_if (nat_le 1024 (length rows)) TooManyStreams) last)) held

@@ -1,4 +1,4 @@
-mod HeldLemmas
+pub mod HeldLemmas
 mod EndingLemmas
 mod SharedRows
 mod NumberedRows
@@ -6,6 +6,6 @@ mod MappedRows
 mod ColumnLemmas
 mod SumLemmas
 mod TableLemmas
-mod GrantLemmas
+pub mod GrantLemmas
 mod RunLemmas
 mod CallLemmas

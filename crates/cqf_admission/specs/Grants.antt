@@ -1,15 +1,13 @@
 -- What looking a request over gives.
-use Rattle.std.specs.Prelude.{ℕ, ◌≡◌, ◌≤◌, ◌<◌, true, false, length, slice_get, List, Option, Some, None, Result, Ok, Err, Contains}
+use Rattle.std.specs.Prelude.{ℕ, ◌≡◌, ◌≤◌, ◌<◌, true, false, length, slice_get, List, Some, None, Result, Ok, Err, Contains}
 use Rattle.cqf_units.specs.Name.{is_name}
 use Rattle.cqf_units.specs.declared.reservations.Cycle.{Cycle}
 use Rattle.cqf_model.specs.declared.history.Refused.{Refused}
-use Rattle.cqf_model.specs.declared.history.Refused.TheVariants.{BudgetShort}
 use Rattle.cqf_model.specs.declared.history.Reply.TheVariants.{Refused as RefusedFor}
-use Rattle.cqf_model.specs.declared.topology.Hop.{Hop}
 use Rattle.cqf_model.specs.declared.topology.Row.{Row}
 use Rattle.std.specs.List.{list_any}
 use Rattle.cqf_model.specs.Domain.{Domain, budget, is_text}
-use Rattle.cqf_model.specs.History.{Asked, left_on, refusal_of, refused_at, short_link, withdraw_reply}
+use Rattle.cqf_model.specs.History.{Asked, refusal_of, withdraw_reply}
 use Rattle.cqf_model.specs.Table.{link_cost, row_named}
 use Rattle.cqf_laws_history.specs.StateLaws.{granted_row}
 
@@ -17,10 +15,6 @@ use Rattle.cqf_laws_history.specs.StateLaws.{granted_row}
 pub record CanBeAsked (d : Domain) (rows : List Row) : Type 0 where
   pub octets : (row : Row) → Contains rows row → row.octets ≤ 60000
   pub loads : (l : ℕ) → link_cost rows l ≤ budget d l
-
--- the first link that has too little left for a cost
-abbrev pub short_refusal : Domain → List Row → ℕ → List Hop → Option Refused
-short_refusal d rows cost tree = refused_at (λ l. BudgetShort l (left_on d rows l)) (short_link d rows cost tree)
 
 -- a request that nothing speaks against, and its row: its name is free, and there is room for a stream more
 pub record IsGranted (d : Domain) (rows : List Row) (asked : Asked) (number : ℕ) (effect : Cycle) (row : Row) : Type 0 where

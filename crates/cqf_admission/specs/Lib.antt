@@ -1,5 +1,6 @@
 pub mod Admission
 pub mod Rows
+pub mod Judging
 pub mod Grants
 pub mod Tables
 pub mod Asking

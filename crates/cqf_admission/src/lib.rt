@@ -4,6 +4,7 @@
 //!   No link is ever over its budget. A withdrawn stream keeps its costs and its name until its last frame has left the
 //!   last bridge of its deepest branch.
 //! - [`Table`] has the streams that are held in a cycle that was closed; [`Row::live`] tells which of them are live.
+//! - [`judge`] looks a request over by itself, whatever is held: [`Judged`] is one of good form.
 //! - [`Entry`] is what a history has of a call: whose it was, what was called for, and the [`Reply`].
 //!
 //! With a budget of 15,000 octets a cycle on each link:
@@ -19,6 +20,7 @@
 mod admission;
 mod entries;
 mod held;
+mod judged;
 mod listed;
 mod numbers;
 mod refusals;
@@ -28,4 +30,6 @@ mod table;
 pub use admission::{Admission, MOST_CALLS, MOST_SEALS};
 pub use cqf_model::{Receipt, Refused, Reply, Row};
 pub use entries::{Call, Command, Entry, SealFault};
+pub use judged::{Judged, LEAST_OCTETS, MOST_OCTETS, judge};
+pub use refusals::MOST_STREAMS;
 pub use table::Table;

@@ -4,21 +4,17 @@ ghost use Rattle.cqf_model.specs.History.{left_on};
 ghost use Rattle.cqf_model.specs.Table.{link_cost};
 ghost use Rattle.cqf_admission.specs.Asking.{asked_of};
 ghost use Rattle.cqf_trees.specs.Branches.{branches_of, places_of};
-ghost use Rattle.cqf_admission.specs.Grants.{CanBeAsked, FindsOpen, Grants, HaveNames, short_refusal};
+ghost use Rattle.cqf_admission.specs.Grants.{CanBeAsked, FindsOpen, Grants, HaveNames};
+ghost use Rattle.cqf_admission.specs.Judging.{short_refusal};
 
 use crate::held::Held;
+use crate::judged::{Judged, judge};
 use cqf_model::{Hop, Refused, Row};
 use cqf_topology::{Domain, Request};
-use cqf_trees::find_tree;
-use cqf_units::{Cycle, Name, Octets, budget, cost};
-
-/// The octets that a stream may reserve in a cycle (profile).
-const LEAST_OCTETS: u32 = 64;
-
-const MOST_OCTETS: u32 = 60_000;
+use cqf_units::{Cycle, Name, budget};
 
 /// How many streams may be held at once (profile).
-const MOST_STREAMS: usize = 1024;
+pub const MOST_STREAMS: usize = 1024;
 
 /// What a link has left of its budget beside the held streams, in octets a cycle.
 pub(crate) fn left_of(domain: &Domain, held: &Held, link: u8) -> u32
@@ -73,23 +69,17 @@ pub(crate) fn grant(
     requires places { places_of (branches_of request.now.paths.items) < 2 ^ 64 }
     ensures { Grants domain.now held.now.rows (asked_of request.now) no effect result }
 {
-    let Some(name) = Name::new(request.name.as_bytes()) else {
-        return Err(Refused::BadName);
-    };
-    if request.octets < LEAST_OCTETS || request.octets > MOST_OCTETS {
-        return Err(Refused::BadOctets);
-    }
-    let tree = find_tree(domain, request.paths.as_slice())?;
-    if held.place_of(&name).is_some() {
+    let judged = judge(domain, request)?;
+    if held.place_of(&judged.name).is_some() {
         return Err(Refused::NameHeld);
     }
     if held.len() >= MOST_STREAMS {
         return Err(Refused::TooManyStreams);
     }
-    let octets = cost(Octets(request.octets)).0;
-    if let Some(refused) = short_of(domain, held, octets, tree.as_slice()) {
+    if let Some(refused) = short_of(domain, held, judged.cost.0, judged.tree.as_slice()) {
         return Err(refused);
     }
+    let Judged { name, tree, .. } = judged;
     Ok(Row {
         no,
         name,

@@ -43,8 +43,9 @@ fn link_text(alloc: Global, plan: &Plan, link: u8) -> Result<Vec<u8>, Memory>
     Ok(text)
 }
 
-/// The bridges at which the stream has a gate: each once, in the order in which its tree leaves them.
-fn bridges_of(plan: &Plan, row: &Row) -> ArrayVec<u8, 64>
+/// The bridges at which the stream has a gate: each once, in the order in which its tree leaves them. Its tree goes along links of
+/// the plan's domain.
+pub fn bridges_of(plan: &Plan, row: &Row) -> ArrayVec<u8, 64>
     requires { All (λ l. l < length plan.now.links) (links_of row.now) }
     ensures value { result.items ≡ bridges_of plan.now row.now }
     ensures inside { All (λ bridge. bridge < length plan.now.bridges) result.items }

@@ -2,7 +2,7 @@
 //!
 //! - [`compile`] makes a [`Plan`] of a domain: the gate list of the port of each link.
 //! - [`gate_of`] gives the gate of a stream, which is the same at each bridge of its tree.
-//! - [`write_config`] writes both as one text.
+//! - [`write_config`] writes both as one text; [`bridges_of`] has the bridges at which a stream has a gate, in its order.
 //!
 //! In even cycles a stream's gate gives its frames class 6 while the ports send class 7, and in odd cycles the other way
 //! round: so each frame waits for the cycle after the one that it came in (IEEE 802.1Q, Annex T).
@@ -25,6 +25,6 @@ mod config;
 mod gates;
 mod plan;
 
-pub use config::write_config;
+pub use config::{bridges_of, write_config};
 pub use gates::gate_of;
 pub use plan::{Plan, compile};

@@ -36,12 +36,21 @@ refused_for : (number effect : ℕ) (refused : Refused) (refusal : Option Refuse
 refused_for number effect refused None h = cc
 refused_for number effect refused (Some other) h = cc
 
+-- what gives a value is that value, and where it might have been refused, it isn't
+pub same_ok : {A E : Type 0} (x y : A) → ◌≡◌ {A = Result A E} (Ok x) (Ok y) → x ≡ y
+same_ok x y h = cc
+
+pub refuse_ok : {A E : Type 0} (refusal : Option Refused) (fault : Refused → E) (rest : Result A E) (x : A) → refuse refusal fault rest ≡ Ok x →
+    (refusal ≡ None) × (rest ≡ Ok x)
+refuse_ok None fault rest x h = (refl, h)
+refuse_ok (Some refused) fault rest x h = cc
+
 -- no call yet
 pub AreAllHeld-none : (d : Domain) → IsLegalHistory d [] → AreAllHeld d []
 AreAllHeld-none d legal = record { legal = legal; no_seal = refl; one_each = refl; few = omega arith }
 
 -- one stream more
-AreAllHeld-more : (d : Domain) (entries : List Recorded) (asked : Asked) → HistoryGoesOn → SealsAreCounted → GrantedIsHeld → GrantedFindsRoom →
+pub AreAllHeld-more : (d : Domain) (entries : List Recorded) (asked : Asked) → HistoryGoesOn → SealsAreCounted → GrantedIsHeld → GrantedFindsRoom →
     AreAllHeld d entries → refusal_of d (held_in d entries (seals entries)) asked ≡ None → AreAllHeld d (with_asked d entries asked)
 AreAllHeld-more d entries asked goes_on counted grants finds all granted_is =
     let rows : List Row = held_in d entries (seals entries) in
@@ -97,7 +106,7 @@ entered_unless HistoryFull full memory = absurd (full refl)
 entered_unless Memory full memory = absurd (memory refl)
 
 -- a refusal is want of memory, or it isn't
-is_memory : (refused : Refused) → (refused ≡ Memory) ⊎ (refused ≢ Memory)
+pub is_memory : (refused : Refused) → (refused ≡ Memory) ⊎ (refused ≢ Memory)
 is_memory Memory = inl refl
 is_memory BadName = inr (λ h. cc)
 is_memory BadOctets = inr (λ h. cc)

@@ -1,1 +1,2 @@
-mod CompileLemmas
+pub mod CompileLemmas
+pub mod ConfigPieces

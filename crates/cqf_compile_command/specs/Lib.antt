@@ -1,1 +1,2 @@
 pub mod CompileOutput
+pub mod ConfigTold

@@ -1,16 +1,20 @@
 //! The command `compile`: the configuration of a domain and its streams.
-ghost use Rattle.std.specs.Prelude.{◌≡◌, ◌≢◌, ◌+◌, [], ◌∷◌, List, Ok, IfOk, IfErr, map, string_bytes};
+ghost use Rattle.std.specs.Prelude.{ℕ, ◌≡◌, ◌≢◌, ◌+◌, [], ◌∷◌, List, Ok, IfOk, IfErr, map, string_bytes};
 ghost use Rattle.cqf_admission.specs.Asking.{asked_of};
-ghost use Rattle.cqf_compile.specs.ConfigText.{config_text};
 ghost use Rattle.cqf_admission.specs.Tables.{AreAlongLinks};
+ghost use Rattle.cqf_laws_history.specs.StateLaws.{AreHeld};
 ghost use Rattle.cqf_model.specs.History.{Asked, held_in};
 ghost use Rattle.cqf_compile_command.specs.CompileOutput.{stream_line, admitted_from, compile_input, compiled_input, configuration_of, AreAllHeld, HoldsAll};
+ghost use Rattle.cqf_compile_command.specs.ConfigTold.{text_of_config};
 ghost use Rattle.cqf_stop.specs.Stops.{EndsWith, IsRefused};
 
+use crate::output::ConfigOutput;
 use cqf_admission::{Admission, Refused, SealFault, Table};
-use cqf_compile::{compile, write_config};
+use cqf_compile::compile;
+use cqf_gates::{compiled_list, write_tx};
 use cqf_inputs::{domain_part, streams_part, two_parts};
 use cqf_laws_history::state_follows_history;
+use cqf_press::Sheet;
 use cqf_stop::{REFUSED, Stop};
 use cqf_topology::{Domain, Request};
 use cqf_units::Memory;
@@ -20,7 +24,11 @@ use std::alloc::{AllocError, Global};
 const SEAT: u16 = 0;
 
 /// The domain and the streams of the input.
-fn read_compile(alloc: Global, input: &[u8]) -> Result<(Domain, Vec<Request>), Stop>
+///
+/// # Errors
+/// With status 1 and the line of the first fault of the input: of its parts, of the domain, or of the streams; and with status 3
+/// for want of memory.
+pub fn read_plan(alloc: Global, input: &[u8]) -> Result<(Domain, Vec<Request>), Stop>
     ensures ok { IfOk result (λ found. compile_input input.now ≡ Ok (found.0, map asked_of found.1.items)) }
     ensures err { IfErr result (IsRefused (compile_input input.now)) }
 {
@@ -38,8 +46,9 @@ fn line_of_stream(alloc: Global, place: usize, refused: Refused) -> Result<Strin
     Ok(line)
 }
 
-/// The end where the stream at a place, from 1, isn't admitted.
-fn stream_stop(alloc: Global, place: usize, refused: Refused) -> Stop
+/// The end where the stream at a place, from 1, isn't admitted: with status 1 and a line that names the place and the reason, or
+/// with status 3 for want of memory.
+pub fn stream_stop(alloc: Global, place: usize, refused: Refused) -> Stop
     ensures refused { refused ≢ Refused.Memory → EndsWith 1 (stream_line place refused) result }
     ensures memory { refused ≡ Refused.Memory → EndsWith 3 [] result }
 {
@@ -93,8 +102,10 @@ fn close_cycle_0(alloc: Global, admission: &mut Admission) -> Result<Table, Stop
     requires { AreAllHeld admission.old.domain admission.old.entries }
     ensures rows { IfOk result (λ table. table.rows ≡ held_in admission.old.domain admission.old.entries 0) }
     ensures along { IfOk result (λ table. AreAlongLinks admission.old.domain table.rows) }
+    ensures sound { IfOk result (λ table. (next : ℕ) × AreHeld admission.old.domain table.rows next 0) }
     ensures memory { IfErr result (EndsWith 3 []) }
 {
+    state_follows_history();
     match admission.seal(SEAT) {
         Ok(table) => Ok(table),
         Err(SealFault::CyclesSpent) => unreachable!(),
@@ -107,16 +118,22 @@ fn table_with(alloc: Global, admission: &mut Admission, requests: &[Request]) ->
     requires { admission.old.entries ≡ [] }
     ensures held { IfOk result (HoldsAll admission.old.domain (map asked_of requests.now)) }
     ensures along { IfOk result (λ table. AreAlongLinks admission.old.domain table.rows) }
+    ensures sound { IfOk result (λ table. (next : ℕ) × AreHeld admission.old.domain table.rows next 0) }
     ensures err { IfErr result (IsRefused (admitted_from admission.old.domain [] 1 (map asked_of requests.now))) }
 {
     admit_all(alloc, admission, requests)?;
     close_cycle_0(alloc, admission)
 }
 
-/// The table of cycle 0, with all streams.
-fn table_of_cycle_0(alloc: Global, domain: &Domain, requests: &[Request]) -> Result<Table, Stop>
+/// The table of cycle 0, with all streams: each is admitted before it, in their order. The rows are what held streams are: their
+/// trees are trees of the domain, and what they cost of a link is within its budget.
+///
+/// # Errors
+/// With status 1 and the line of the first stream that isn't admitted; and with status 3 for want of memory.
+pub fn table_of_cycle_0(alloc: Global, domain: &Domain, requests: &[Request]) -> Result<Table, Stop>
     ensures held { IfOk result (HoldsAll domain.now (map asked_of requests.now)) }
     ensures along { IfOk result (λ table. AreAlongLinks domain.now table.rows) }
+    ensures sound { IfOk result (λ table. (next : ℕ) × AreHeld domain.now table.rows next 0) }
     ensures err { IfErr result (IsRefused (admitted_from domain.now [] 1 (map asked_of requests.now))) }
 {
     let Ok(mut admission) = Admission::new(alloc, domain) else {
@@ -125,33 +142,44 @@ fn table_of_cycle_0(alloc: Global, domain: &Domain, requests: &[Request]) -> Res
     table_with(alloc, &mut admission, requests)
 }
 
-/// The text of the domain's configuration with the streams of a table.
-fn text_of_table(alloc: Global, domain: &Domain, table: &Table) -> Result<Vec<u8>, Memory>
-    requires { AreAlongLinks domain.now table.now.rows }
-    ensures { IfOk result (λ text. text.items ≡ config_text domain.now table.now.rows) }
+/// The domain's configuration with the streams of a table, ready to be told.
+fn config_ready(alloc: Global, domain: &Domain, table: Table) -> Result<ConfigOutput, Memory>
+    requires { AreAlongLinks domain.now table.rows }
+    ensures { IfOk result (λ output. output ≡ record { domain = domain.now; rows = table.rows }) }
 {
+    let port_list = compiled_list(domain.cycle_time(), domain.guard());
+    let port_text = write_tx(alloc, &port_list)?;
     let plan = compile(alloc, domain)?;
-    write_config(alloc, &plan, table)
+    let sheet = Sheet::new(alloc)?;
+    Ok(ConfigOutput {
+        plan,
+        table,
+        port_text,
+        sheet,
+    })
 }
 
-/// The configuration of a domain with these streams.
-fn config_of(alloc: Global, domain: &Domain, requests: &[Request]) -> Result<Vec<u8>, Stop>
-    ensures ok { IfOk result (λ text. configuration_of domain.now (map asked_of requests.now) ≡ Ok text.items) }
+/// The configuration of a domain with these streams, ready to be told.
+fn config_of(alloc: Global, domain: &Domain, requests: &[Request]) -> Result<ConfigOutput, Stop>
+    ensures ok { IfOk result (λ output. configuration_of domain.now (map asked_of requests.now) ≡ Ok (text_of_config output)) }
     ensures err { IfErr result (IsRefused (configuration_of domain.now (map asked_of requests.now))) }
 {
     let table = table_of_cycle_0(alloc, domain, requests)?;
-    match text_of_table(alloc, domain, &table) {
-        Ok(text) => Ok(text),
+    match config_ready(alloc, domain, table) {
+        Ok(output) => Ok(output),
         Err(_) => Err(Stop::memory(alloc)),
     }
 }
 
-/// The output of `compile`: the configuration. `Err` with status 1 and the line of the first fault of the input: of its
-/// parts, of the domain, of the streams, or of the first stream that isn't admitted; and with status 3 for want of memory.
-pub fn compile_output(alloc: Global, input: &[u8]) -> Result<Vec<u8>, Stop>
-    ensures ok { IfOk result (λ output. compiled_input input.now ≡ Ok output.items) }
+/// The output of `compile`, ready to be told: the configuration of the domain and its streams.
+///
+/// # Errors
+/// With status 1 and the line of the first fault of the input: of its parts, of the domain, of the streams, or of the first
+/// stream that isn't admitted; and with status 3 for want of memory.
+pub fn compile_output(alloc: Global, input: &[u8]) -> Result<ConfigOutput, Stop>
+    ensures ok { IfOk result (λ output. compiled_input input.now ≡ Ok (text_of_config output)) }
     ensures err { IfErr result (IsRefused (compiled_input input.now)) }
 {
-    let (domain, requests) = read_compile(alloc, input)?;
+    let (domain, requests) = read_plan(alloc, input)?;
     config_of(alloc, &domain, requests.as_slice())
 }

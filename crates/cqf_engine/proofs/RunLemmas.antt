@@ -14,7 +14,7 @@ use Rattle.cqf_stop.specs.declared.stops.Stop.{Stop}
 use Rattle.cqf_engine.specs.declared.heard.Broken.{Broken}
 use Rattle.cqf_engine.specs.declared.heard.Broken.TheVariants.{Memory, Fault}
 use Rattle.cqf_words.specs.declared.words.Job.{Job}
-use Rattle.cqf_words.specs.declared.words.Job.TheVariants.{Compile, Line, Port, Report, Run}
+use Rattle.cqf_words.specs.declared.words.Job.TheVariants.{Compile, Latency, Line, Load, Port, Report, Run}
 
 -- words that mean no job, as they are given
 HasCause-given : (words : List (List ℕ)) (bytes : List ℕ) (stop : Stop) → words ≢ [] → EndsWords words stop → HasCause words bytes stop
@@ -186,6 +186,8 @@ refusal_statuses : (job : Job) (input : List ℕ) (stop : Stop) → IsRefusal jo
 refusal_statuses (Port until rate) input stop h = h.statuses
 refusal_statuses (Line cycles) input stop h = h.statuses
 refusal_statuses Compile input stop h = h.statuses
+refusal_statuses Load input stop h = h.statuses
+refusal_statuses (Latency strict) input stop h = h.statuses
 refusal_statuses (Run cycles threads) input stop h = h.statuses
 refusal_statuses (Report cycles) input stop h = h.statuses
 
@@ -194,6 +196,8 @@ refusal_memory : (job : Job) (input : List ℕ) (stop : Stop) → IsRefusal job 
 refusal_memory (Port until rate) input stop h = h.memory
 refusal_memory (Line cycles) input stop h = h.memory
 refusal_memory Compile input stop h = h.memory
+refusal_memory Load input stop h = h.memory
+refusal_memory (Latency strict) input stop h = h.memory
 refusal_memory (Run cycles threads) input stop h = h.memory
 refusal_memory (Report cycles) input stop h = h.memory
 
@@ -202,6 +206,8 @@ failure_status : (job : Job) (input : List ℕ) (stop : Stop) → IsFailure job 
 failure_status (Port until rate) input stop h = absurd h
 failure_status (Line cycles) input stop h = absurd h
 failure_status Compile input stop h = absurd h
+failure_status Load input stop h = absurd h
+failure_status (Latency strict) input stop h = absurd h
 failure_status (Run cycles true) input stop h = h.0
 failure_status (Run cycles false) input stop h = absurd h
 failure_status (Report cycles) input stop h = absurd h
@@ -405,6 +411,8 @@ job_within : (job : Job) (name : Text) (rows : List Row) → IsJobOf job name ro
 job_within (Port until rate) name rows is = number_within 1 100000000 until (first_of (codes "until") rows) is.1
 job_within (Line cycles) name rows is = number_within 1 100000 cycles (first_of (codes "cycles") rows) is.1
 job_within Compile name rows is = tt
+job_within Load name rows is = tt
+job_within (Latency strict) name rows is = tt
 job_within (Run cycles threads) name rows is = number_within 1 100000 cycles (first_of (codes "cycles") rows) is.1
 job_within (Report cycles) name rows is = number_within 1 100000 cycles (first_of (codes "cycles") rows) is.1
 

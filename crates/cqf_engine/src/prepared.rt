@@ -3,7 +3,10 @@ ghost use Rattle.std.specs.Prelude.{◌≡◌};
 ghost use Rattle.cqf_engine.specs.Prepared.{text_of};
 ghost use Rattle.cqf_press.specs.Edge.{HasTold, writing};
 
+use cqf_compile_command::ConfigOutput;
+use cqf_latency_command::LatencyOutput;
 use cqf_line_command::LineOutput;
+use cqf_load_command::LoadOutput;
 use cqf_port_command::PortOutput;
 use cqf_press::{Told, write_out};
 use cqf_run_command::RunOutput;
@@ -19,6 +22,12 @@ pub enum Prepared {
     Port(PortOutput),
     /// That of `line`: a book.
     Line(LineOutput),
+    /// That of `compile`: a domain, its streams and the gate list of each port.
+    Config(ConfigOutput),
+    /// That of `load`: a domain and its streams.
+    Load(LoadOutput),
+    /// That of `latency`: a domain, its streams and their deadlines.
+    Latency(LatencyOutput),
     /// That of `run`: a history and a book.
     Run(RunOutput),
     /// That of `run --threads`: the history and the book of an account.
@@ -34,6 +43,9 @@ impl Prepared {
             Prepared::Text(text) => write_out(told, text.as_slice()),
             Prepared::Port(output) => output.tell(told),
             Prepared::Line(output) => output.tell(told),
+            Prepared::Config(output) => output.tell(told),
+            Prepared::Load(output) => output.tell(told),
+            Prepared::Latency(output) => output.tell(told),
             Prepared::Run(output) => output.tell(told),
             Prepared::Account(output) => output.tell(told),
         }

@@ -14,7 +14,9 @@ use crate::inputs::read_input;
 use crate::prepared::Prepared;
 use crate::shown::stop_of_line;
 use cqf_compile_command::compile_output;
+use cqf_latency_command::latency_output;
 use cqf_line_command::line_output;
+use cqf_load_command::load_output;
 use cqf_port_command::port_output;
 use cqf_press::{Told, write_out};
 use cqf_report_command::report_output;
@@ -45,7 +47,9 @@ fn prepare(
     match *job {
         Job::Port { until, rate } => Ok(Prepared::Port(port_output(alloc, until, rate, input)?)),
         Job::Line { cycles } => Ok(Prepared::Line(line_output(alloc, cycles, input)?)),
-        Job::Compile => Ok(Prepared::Text(compile_output(alloc, input)?)),
+        Job::Compile => Ok(Prepared::Config(compile_output(alloc, input)?)),
+        Job::Load => Ok(Prepared::Load(load_output(alloc, input)?)),
+        Job::Latency { strict } => Ok(Prepared::Latency(latency_output(alloc, strict, input)?)),
         Job::Run {
             cycles,
             threads: false,

@@ -8,7 +8,7 @@ use Rattle.toml.specs.Data.{Data, as_str, as_integer, as_array, as_table, Items,
 use Rattle.toml.specs.Parse.{parse_document}
 use Rattle.cqf_units.specs.Name.{is_name}
 use Rattle.cqf_fields.specs.declared.keys.Key.{Key}
-use Rattle.cqf_fields.specs.declared.keys.Key.TheVariants.{Cycle, Guard, Bridges, Stations, Links, From, To, Rate, Delay, Streams, Name, Octets, Path, Paths}
+use Rattle.cqf_fields.specs.declared.keys.Key.TheVariants.{Cycle, Guard, Bridges, Stations, Links, From, To, Rate, Delay, Streams, Name, Octets, Path, Paths, Deadline}
 use Rattle.cqf_fields.specs.declared.faults.TomlFault.{TomlFault}
 use Rattle.cqf_fields.specs.declared.faults.TomlFault.TheVariants.{NotToml, Missing, BadValue}
 
@@ -33,6 +33,7 @@ key_text Name = codes "name"
 key_text Octets = codes "octets"
 key_text Path = codes "path"
 key_text Paths = codes "paths"
+key_text Deadline = codes "deadline"
 
 -- what stands at a key of a table
 abbrev pub value_at : Key → Members → Option Data

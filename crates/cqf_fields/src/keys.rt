@@ -21,6 +21,7 @@ pub enum Key {
     Octets,
     Path,
     Paths,
+    Deadline,
 }
 
 impl Key {
@@ -43,6 +44,7 @@ impl Key {
             Key::Octets => "octets",
             Key::Path => "path",
             Key::Paths => "paths",
+            Key::Deadline => "deadline",
         }
     }
 

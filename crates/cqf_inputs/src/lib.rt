@@ -1,7 +1,7 @@
 //! What the commands read of standard input, each with the end of the run where it is refused.
 //!
 //! - [`one_part`], [`two_parts`] and [`run_parts`] divide an input.
-//! - [`domain_part`], [`streams_part`], [`script_part`], [`offers_part`] and [`background_part`] read a part. Where a part
+//! - [`domain_part`], [`streams_part`], [`planned_part`], [`script_part`], [`offers_part`] and [`background_part`] read a part. Where a part
 //!   is refused, the run ends with status 1 and the line of its first fault.
 //!
 //! `specs/` says which parts an input has (`Parts`) and which line tells of a part's fault (`Lines`).
@@ -16,4 +16,6 @@ mod parts;
 mod readers;
 
 pub use parts::{RunParts, one_part, run_parts, two_parts};
-pub use readers::{background_part, domain_part, offers_part, script_part, streams_part};
+pub use readers::{
+    background_part, domain_part, offers_part, planned_part, script_part, streams_part,
+};

@@ -9,6 +9,7 @@ ghost use Rattle.cqf_report.specs.Offers.{offers_of};
 ghost use Rattle.cqf_script.specs.Script.{AreFew, called_of, script_of};
 ghost use Rattle.cqf_stop.specs.Stops.{EndsWith, IsRefused, fault_line, or_line};
 ghost use Rattle.cqf_topology.specs.DomainText.{domain_of_text};
+ghost use Rattle.cqf_topology.specs.PlannedText.{planned_of_text, planned_text};
 ghost use Rattle.cqf_topology.specs.StreamsText.{request_text, streams_of_text};
 
 use cqf_admission::Call;
@@ -16,7 +17,9 @@ use cqf_model::{Background, Offer};
 use cqf_report::{TableFault, read_background, read_offers};
 use cqf_script::{ScriptFault, read_script};
 use cqf_stop::Stop;
-use cqf_topology::{Domain, DomainFault, Request, StreamsFault, read_streams};
+use cqf_topology::{
+    Domain, DomainFault, Planned, Request, StreamsFault, read_planned_streams, read_streams,
+};
 use std::alloc::Global;
 
 /// The end where a domain is refused.
@@ -81,6 +84,17 @@ pub fn streams_part(alloc: Global, text: &[u8]) -> Result<Vec<Request>, Stop>
 {
     match read_streams(alloc, text) {
         Ok(requests) => Ok(requests),
+        Err(fault) => Err(streams_stop(alloc, fault)),
+    }
+}
+
+/// The streams of a part, with their deadlines. `Err` as [`domain_part`].
+pub fn planned_part(alloc: Global, text: &[u8]) -> Result<Vec<Planned>, Stop>
+    ensures ok { IfOk result (λ streams. planned_of_text text.now ≡ Ok (map planned_text streams.items)) }
+    ensures err { IfErr result (IsRefused (or_line streams_line (planned_of_text text.now))) }
+{
+    match read_planned_streams(alloc, text) {
+        Ok(streams) => Ok(streams),
         Err(fault) => Err(streams_stop(alloc, fault)),
     }
 }

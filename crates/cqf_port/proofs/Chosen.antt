@@ -1,18 +1,18 @@
 -- The choice among the heads, from what their classes ask for.
-use Rattle.std.proofs.Common.{ℕ, ◌≡◌, ◌≢◌, ◌+◌, ◌-◌, ◌*◌, ◌%◌, ◌^◌, ◌≤◌, ◌<◌, ◌↔◌, List, length, get_or, set, IsBitSet, Option, Some, None, min, bit_or, w8, inl, inr, refl, sym, ap, subst, ◌∙◌, arith}
+use Rattle.std.proofs.Common.{ℕ, ◌≡◌, ◌≢◌, ◌+◌, ◌*◌, ◌%◌, ◌^◌, ◌≤◌, ◌<◌, ◌↔◌, List, length, get_or, set, IsBitSet, Option, None, min, bit_or, w8, inl, inr, sym, ap, subst, ◌∙◌, arith}
 use Rattle.std.specs.Prelude.{MatchOption}
 use Rattle.std.specs.Int.{bit_at}
-use Rattle.std.proofs.lemmas.Bool.{cases_lt, cases_eq}
+use Rattle.std.proofs.lemmas.Bool.{cases_lt}
 use Rattle.std.proofs.lemmas.List.{get_or-set_same, get_or-set_other, length-set}
 use Rattle.std.proofs.lemmas.Nat.Bits.{bit_at_set_same, bit_at_set_other, bit_at-zero}
 use Rattle.cqf_lanes.specs.Kernels.{AreEligible, IsHighest}
 use Rattle.cqf_lanes.proofs.Bits.{one_from_set, set_from_one, unset_from_zero}
 use Rattle.cqf_model.specs.declared.ports.Arrival.{Arrival}
-use Rattle.cqf_model.specs.GateList.{Entry, IsOpenThrough}
-use Rattle.cqf_model.specs.Port.{PortRules, IsEligible, instant_of, class_of, octets_of}
+use Rattle.cqf_model.specs.GateList.{IsOpenThrough}
+use Rattle.cqf_model.specs.Port.{PortRules, octets_of}
 use Rattle.cqf_port.specs.Progress.{AreInside, IsReady, NoneReady, IsChosen}
 use Rattle.cqf_port.specs.Asked.{HeadFits, NoHeadFits, IsShort, AreAsked}
-use Rattle.cqf_port.specs.Spans.{IsSpan, AreSpansAt}
+use Rattle.cqf_port.specs.Spans.{AreSpansAt}
 
 -- no class is asked for at first
 pub none_asked : (octet_time : ℕ) (arrivals : List Arrival) (heads : List (Option ℕ)) (t : ℕ) (spans need left : List ℕ) → length need ≡ 8 → length left ≡ 8 → AreAsked octet_time arrivals heads t spans 0 0 need left

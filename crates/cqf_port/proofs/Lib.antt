@@ -11,3 +11,4 @@ pub mod Waiting
 pub mod Coming
 pub mod Fitting
 pub mod Kept
+mod Begun

@@ -1,5 +1,5 @@
 -- How a port remembers where it stands, so that it needn't look through its starts again.
-use Rattle.std.specs.Prelude.{ℕ, ◌≡◌, ◌≢◌, ◌+◌, ◌^◌, ◌≤◌, ◌<◌, ◌++◌, List, length, Option, Some, None, slice_index_or, Contains}
+use Rattle.std.specs.Prelude.{ℕ, ◌≡◌, ◌≢◌, ◌+◌, ◌^◌, ◌≤◌, ◌<◌, ◌++◌, List, [], length, Option, Some, None, slice_index_or, Contains}
 use Rattle.cqf_model.specs.declared.ports.Arrival.{Arrival}
 use Rattle.cqf_model.specs.GateList.{Entry, IsOpen}
 use Rattle.cqf_model.specs.Port.{Transmission, PortRules, AreLegal, IsEligible, IsIdle, instant_of, class_of, octets_of}
@@ -116,6 +116,10 @@ pub record IsKept (rules : PortRules) (arrivals : List Arrival) (reached : ℕ) 
   pub by_class : AreNewest arrivals newest
   pub early : reached < 2 ^ 62
   pub octets_take_time : 0 < rules.octet_time
+
+-- what a port at instant 0 is by its fields, whatever its rules
+abbrev pub IsKeptByAll : List Arrival → Progress → List Nanos → Type 0
+IsKeptByAll arrivals progress newest = (rules : PortRules) → 0 < rules.octet_time → IsKept rules arrivals 0 [] progress newest
 
 -- the class was closed at each instant from the first one up to and without the last
 pub record WasClosed (entries : List Entry) (class first last : ℕ) : Type 0 where

@@ -2,7 +2,8 @@
 ghost use Rattle.std.specs.Prelude.{◌≡◌, ◌+◌, ◌++◌, ◌^◌, ◌<◌, ◌≤◌, ◌↔◌, [], ◌∷◌, ◌==◌, count_by, MatchOption, IsOk, IsErrOf, OnErr, OnOk};
 ghost use Rattle.cqf_model.specs.declared.ports.Arrival.{Arrival};
 ghost use Rattle.cqf_port.specs.NextStart.{StartsNext, StartsNoMore};
-ghost use Rattle.cqf_port.specs.PortState.{Advances, AreOnly, IsLate, IsOutOfOrder, IsPort, RunsUpTo, rules_of, waiting_of};
+ghost use Rattle.cqf_port.specs.Progress.{IsKeptByAll};
+ghost use Rattle.cqf_port.specs.PortState.{Advances, AreOnly, AreTaken, IsLate, IsOutOfOrder, IsPort, RunsUpTo, rules_of, waiting_of};
 
 use crate::late::was_open;
 use crate::next::next_ready;
@@ -28,6 +29,23 @@ pub enum PortFault {
     /// A growth was refused.
     #[error("out of memory")]
     Memory,
+}
+
+/// What a port at instant 0 knows that has taken these arrivals: where it stands, and by class the instant of the last one.
+fn taken_in_turn(arrivals: &[Arrival]) -> (Progress, [Nanos; 8])
+    requires { AreTaken arrivals.now }
+    ensures { IsKeptByAll arrivals.now result.0 result.1 }
+{
+    let mut progress = Progress {
+        idle_from: Nanos(0),
+        heads: [None; 8],
+    };
+    let mut newest = [Nanos(0); 8];
+    for (place, arrival) in arrivals.iter().enumerate() {
+        progress = after_arrival(place, arrival.class, progress);
+        newest[usize::from(arrival.class)] = arrival.at;
+    }
+    (progress, newest)
 }
 
 /// An output port: a gate control list, eight queues, and the transmissions that strict priority selects from them
@@ -73,6 +91,25 @@ impl Port {
             },
             newest: [Nanos(0); 8],
             arrivals: Vec::new(alloc),
+            starts: Vec::new(alloc),
+        }
+    }
+
+    /// A port at instant 0 that has taken these arrivals, in their order, which become its own: each of a class from 0 to 7,
+    /// and none before one of its class that stands before it. It goes by the gate control list, at the end of a link of the
+    /// rate, and is the port that [`Port::offer`] of each in turn makes. It takes no memory.
+    pub fn with_arrivals(alloc: Global, list: TxList, rate: Rate, arrivals: Vec<Arrival>) -> Port
+        requires { AreTaken arrivals.items }
+        ensures { result ≡ record { rules = rules_of list rate; reached = 0; arrivals = arrivals.items; starts = [] } }
+    {
+        let (progress, newest) = taken_in_turn(arrivals.as_slice());
+        Port {
+            schedule: Schedule::new(list),
+            rate,
+            reached: Nanos(0),
+            progress,
+            newest,
+            arrivals,
             starts: Vec::new(alloc),
         }
     }

@@ -5,7 +5,6 @@ use Rattle.cqf_units.specs.declared.timing.Rate.{Rate}
 use Rattle.cqf_model.specs.GateList.{Entry}
 use Rattle.cqf_model.specs.Port.{PortRules, Transmission, AreLegal}
 use Rattle.cqf_model.specs.declared.ports.Arrival.{Arrival}
-use Rattle.cqf_model.specs.declared.ports.Start.{Start}
 use Rattle.cqf_text.specs.Parts.{parts_of}
 use Rattle.cqf_gates.specs.TxText.{list_of_text}
 use Rattle.cqf_port.specs.PortState.{rules_of, start_of}
@@ -40,13 +39,6 @@ pub record AreOfferable (arrivals : List Arrival) : Type 0 where
   pub classes : All (λ (arrival : Arrival). arrival.class < 8) arrivals
   pub early : All (λ (arrival : Arrival). arrival.at.0 < 2 ^ 62) arrivals
   pub in_order : AllPairs (λ (a b : Arrival). a.at.0 ≤ b.at.0) arrivals
-
--- the values are the legal starts before the instant, and no others are legal: there is just one list of them
-pub record AreStartsOf (rules : PortRules) (arrivals : List Arrival) (until : ℕ) (found : List Start) : Type 0 where
-  pub starts : List Transmission
-  pub legal : AreLegal rules arrivals until starts
-  pub only : (others : List Transmission) → AreLegal rules arrivals until others → others ≡ starts
-  pub values : found ≡ map (start_of arrivals) starts
 
 -- the text is that of the legal starts before the instant, and of no others
 pub record IsStartsText (rules : PortRules) (arrivals : List Arrival) (until : ℕ) (rate : Rate) (text : List ℕ) : Type 0 where

@@ -5,19 +5,19 @@ ghost use Rattle.cqf_press.specs.Edge.{HasTold, writing};
 ghost use Rattle.cqf_report.specs.Arrivals.{arrivals_of};
 ghost use Rattle.cqf_port.specs.PortState.{rules_of};
 ghost use Rattle.cqf_stop.specs.Stops.{EndsWith, IsRefused, or_line};
-ghost use Rattle.cqf_port_command.specs.PortOutput.{arrivals_line, list_line, port_input, AreOfferable, AreStartsOf, IsStartsText, IsPortOutput};
+ghost use Rattle.cqf_port_command.specs.PortOutput.{arrivals_line, list_line, port_input, AreOfferable, IsStartsText, IsPortOutput};
 ghost use Rattle.cqf_port_command.specs.PortTold.{text_of_port};
 
 use crate::output::PortOutput;
 use cqf_gates::{TextFault, TxList, read_tx};
 use cqf_inputs::two_parts;
-use cqf_port::{Arrival, Port, PortFault, Start};
+use cqf_port::{Arrival, Port};
 use cqf_press::{Press, Sheet, Told};
 use cqf_report::{TableFault, read_arrivals};
 use cqf_stop::Stop;
 use cqf_telling::put_starts_of_port;
 use cqf_units::{Memory, Nanos, Rate};
-use std::alloc::{AllocError, Global};
+use std::alloc::Global;
 use std::io::Write;
 
 /// The end where a gate list is refused.
@@ -73,47 +73,6 @@ fn read_port(alloc: Global, input: &[u8]) -> Result<(TxList, Vec<Arrival>), Stop
     Ok((list, arrivals))
 }
 
-/// A port that was offered the arrivals, none of which is late or out of order.
-fn offered_port(
-    alloc: Global,
-    list: TxList,
-    rate: Rate,
-    arrivals: &[Arrival],
-) -> Result<Port, Memory>
-    requires { AreOfferable arrivals.now }
-    ensures { IfOk result (λ port. port ≡ record { rules = rules_of list rate; reached = 0; arrivals = arrivals.now; starts = [] }) }
-{
-    let mut port = Port::new(alloc, list, rate);
-    for arrival in arrivals {
-        match port.offer(*arrival) {
-            Ok(()) => {}
-            Err(PortFault::Memory) => return Err(AllocError),
-            Err(PortFault::Late | PortFault::OutOfOrder) => unreachable!(),
-        }
-    }
-    Ok(port)
-}
-
-/// A port that was offered the arrivals of a list, of which nothing is kept beside it.
-fn port_of(alloc: Global, list: TxList, rate: Rate, arrivals: Vec<Arrival>) -> Result<Port, Memory>
-    requires { AreOfferable arrivals.items }
-    ensures { IfOk result (λ port. port ≡ record { rules = rules_of list rate; reached = 0; arrivals = arrivals.items; starts = [] }) }
-{
-    offered_port(alloc, list, rate, arrivals.as_slice())
-}
-
-/// The starts before the instant.
-fn starts_before(alloc: Global, port: &mut Port, until: u64) -> Result<Vec<Start>, Memory>
-    requires early { until < 2 ^ 62 }
-    requires fresh { port.old.starts ≡ [] }
-    requires begins { port.old.reached ≡ 0 }
-    ensures { IfOk result (λ found. AreStartsOf port.old.rules port.old.arrivals until found.items) }
-{
-    let mut found = Vec::new(alloc);
-    port.advance(Nanos(until), &mut found)?;
-    Ok(found)
-}
-
 /// The starts before the instant, ready to be told.
 fn starts_ready(
     alloc: Global,
@@ -126,14 +85,10 @@ fn starts_ready(
     requires offerable { AreOfferable arrivals.items }
     ensures { IfOk result (λ output. IsStartsText (rules_of list rate) arrivals.items until rate (text_of_port output)) }
 {
-    let mut port = port_of(alloc, list, rate, arrivals)?;
-    let starts = starts_before(alloc, &mut port, until)?;
+    let mut port = Port::with_arrivals(alloc, list, rate, arrivals);
+    port.run_to(Nanos(until))?;
     let sheet = Sheet::new(alloc)?;
-    Ok(PortOutput {
-        starts,
-        rate,
-        sheet,
-    })
+    Ok(PortOutput { port, rate, sheet })
 }
 
 impl PortOutput {
@@ -141,13 +96,9 @@ impl PortOutput {
     pub fn tell<W: Write>(self, told: &mut Told<W>)
         ensures { HasTold (writing W.contents told.old told.new) (text_of_port self) }
     {
-        let PortOutput {
-            starts,
-            rate,
-            sheet,
-        } = self;
+        let PortOutput { port, rate, sheet } = self;
         let mut press = Press::new(told, sheet);
-        put_starts_of_port(&mut press, starts.as_slice(), rate);
+        put_starts_of_port(&mut press, port.arrivals(), port.starts(), rate);
         let _told = press.close();
     }
 }

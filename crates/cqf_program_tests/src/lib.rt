@@ -9,6 +9,8 @@ mod background;
 #[cfg(test)]
 mod engines;
 #[cfg(test)]
+mod latencies;
+#[cfg(test)]
 mod offers;
 #[cfg(test)]
 mod presses;

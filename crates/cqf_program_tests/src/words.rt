@@ -38,6 +38,18 @@ const CASES: &[(&[&str], Option<Job>, u8)] = &[
         DONE,
     ),
     (&["compile"], Some(Job::Compile), DONE),
+    (&["load"], Some(Job::Load), DONE),
+    (&["latency"], Some(Job::Latency { strict: false }), DONE),
+    (
+        &["latency", "--strict"],
+        Some(Job::Latency { strict: true }),
+        DONE,
+    ),
+    (&["load", "--strict"], None, USAGE),
+    (&["compile", "--strict"], None, USAGE),
+    (&["latency", "--strict=true"], None, USAGE),
+    (&["latency", "--strict", "--strict"], None, USAGE),
+    (&["load", "--cycles", "5"], None, USAGE),
     (
         &["run", "--cycles", "1"],
         Some(Job::Run {
@@ -134,6 +146,9 @@ const HELP: &[(&[&str], &str)] = &[
         "100000 cycles and 6 million transmissions it takes about 10 seconds and 0.5 GB,",
     ),
     (&["report", "--help"], "Usage: cqf report --cycles <N>\n"),
+    (&["load", "--help"], "cqf load plant.toml\n"),
+    (&["latency", "--help"], "Usage: cqf latency [OPTIONS]\n"),
+    (&["latency", "--help"], "cqf latency --strict plant.toml\n"),
 ];
 
 #[test]

@@ -11,4 +11,5 @@ pub mod OtherColumns
 pub mod TableLaws
 pub mod HistoryText
 pub mod LinkSums
+pub mod Columns
 pub mod ByLink

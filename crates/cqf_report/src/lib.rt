@@ -22,6 +22,7 @@
 mod arrivals;
 mod background;
 mod books;
+mod columns;
 mod history;
 mod laws;
 mod lines;
@@ -36,6 +37,7 @@ mod tables;
 pub use arrivals::read_arrivals;
 pub use background::read_background;
 pub use books::{append_book, write_book};
+pub use columns::{Column, write_columns};
 pub use history::write_history;
 pub use laws::{books_are_in_order, first_fault_is_told, most_is_the_greatest};
 pub use links::write_links;

@@ -29,9 +29,9 @@ const LINKS: usize = 256;
 
 /// How many frames there are, and how many octets they have together.
 #[derive(Clone, Copy)]
-struct Sums {
-    frames: u128,
-    octets: u128,
+pub(crate) struct Sums {
+    pub(crate) frames: u128,
+    pub(crate) octets: u128,
 }
 
 /// An empty list of octets for each of the links 0 to 255.
@@ -81,19 +81,15 @@ fn sum_of_piece(rt: &(impl Threads + Sync), piece: &[u32]) -> u64
         .sum(rt)
 }
 
-/// The sums of the octets of a link's starts, in pieces.
-fn sums_of(rt: &(impl Threads + Sync), listed: &[u32]) -> Sums
-    ensures frames { result.frames ≡ length listed.now }
-    ensures octets { result.octets ≡ sum listed.now }
+/// The sum of a link's octets, in pieces.
+pub(crate) fn sum_of(rt: &(impl Threads + Sync), listed: &[u32]) -> u128
+    ensures { result ≡ sum listed.now }
 {
     let mut octets: u128 = 0;
     for piece in listed.chunks(PIECE) {
         octets += u128::from(sum_of_piece(rt, piece));
     }
-    Sums {
-        frames: listed.len() as u128,
-        octets,
-    }
+    octets
 }
 
 /// The sums of a link's starts, by the octets that are listed for each link.
@@ -102,7 +98,11 @@ fn sums_of_link(rt: &(impl Threads + Sync), by_link: &[Vec<u32>], link: u8) -> S
     ensures frames { (starts : List AStarted) → AreByLink starts 256 (lists_of by_link.now) → result.frames ≡ frames_on link starts }
     ensures octets { (starts : List AStarted) → AreByLink starts 256 (lists_of by_link.now) → result.octets ≡ octets_on link starts }
 {
-    sums_of(rt, by_link[usize::from(link)].as_slice())
+    let listed = by_link[usize::from(link)].as_slice();
+    Sums {
+        frames: listed.len() as u128,
+        octets: sum_of(rt, listed),
+    }
 }
 
 /// The octets of starts, all together.
@@ -152,7 +152,7 @@ fn most_by_link(alloc: Global, starts: &[Started]) -> Result<Vec<u128>, Memory>
 }
 
 /// Writes the line of a link.
-fn write_sums<W: Write + Drop>(
+pub(crate) fn write_sums<W: Write + Drop>(
     writer: &mut Writer<W>,
     link: &str,
     sums: Sums,
@@ -177,7 +177,7 @@ fn write_sums<W: Write + Drop>(
 }
 
 /// Writes the header.
-fn write_header<W: Write + Drop>(writer: &mut Writer<W>) -> Result<(), Memory>
+pub(crate) fn write_header<W: Write + Drop>(writer: &mut Writer<W>) -> Result<(), Memory>
     ensures { IfOk result (λ _. (text : List ℕ) → HasWritten W.contents writer.old text → HasWritten W.contents writer.new (text ++ line_of link_header)) }
 {
     let names = [

@@ -1,1 +1,2 @@
 pub mod ReportOutput
+pub mod Telling

@@ -1,41 +1,53 @@
 //! The command `report`: the sums by link of a scenario's book.
-ghost use Rattle.std.specs.Prelude.{◌≡◌, ◌≤◌, IfErr, IfOk};
-ghost use Rattle.cqf_model.specs.Book.{contents_of};
-ghost use Rattle.cqf_report.specs.LinkSums.{AreInOrder, links_text};
-ghost use Rattle.cqf_scenario.specs.Books.{IsSimulated};
+ghost use Rattle.std.specs.Prelude.{◌≡◌, ◌≤◌, IfErr, IfOk, List, length};
+ghost use Rattle.cqf_model.specs.declared.frames.Background.{Background};
+ghost use Rattle.cqf_model.specs.History.{seals};
+ghost use Rattle.cqf_model.specs.Run.{AreBackground, AreOffers};
+ghost use Rattle.cqf_laws_report.specs.Judged.{StandInOrder};
 ghost use Rattle.cqf_report_command.specs.ReportOutput.{IsReportOutput};
+ghost use Rattle.cqf_report_command.specs.Telling.{TellsTheBook};
 ghost use Rattle.cqf_scenario.specs.Scenario.{scenario_input};
 ghost use Rattle.cqf_stop.specs.Stops.{IsRefused};
 
-use cqf_report::{books_are_in_order, write_links};
-use cqf_scenario::{Simulated, simulate};
+use crate::carried::carried_columns;
+use cqf_admission::Admission;
+use cqf_laws_report::{book_of_history_is_there, offers_stand_in_order, report_is_told};
+use cqf_model::Offer;
+use cqf_report::write_columns;
+use cqf_scenario::administer;
 use cqf_stop::Stop;
 use cqf_units::Memory;
 use std::alloc::Global;
 use std::thread::Threads;
 
-/// The starts of the book stand by cycle and link, as those of every book: a fact for its sums.
-fn stand_in_order(cycles: u32, input: &[u8], made: &Simulated)
-    requires { IsSimulated cycles input.now made.now.admission (contents_of made.now.book) }
-    ensures { AreInOrder made.now.book.starts.items }
-{
-    books_are_in_order();
-}
-
-/// The text of the sums by link.
+/// The text of the sums by link of the book of a history that has closed so many cycles, when these are the offers: background
+/// frames change nothing in it.
 fn text_of_report(
     rt: &(impl Threads + Sync),
     alloc: Global,
-    made: &Simulated,
+    cycles: u32,
+    admission: &Admission,
+    offers: &[Offer],
 ) -> Result<Vec<u8>, Memory>
-    requires { AreInOrder made.now.book.starts.items }
-    ensures { IfOk result (λ text. text.items ≡ links_text made.now.admission.domain (contents_of made.now.book)) }
+    requires offers { AreOffers admission.now.domain offers.now }
+    requires order { StandInOrder offers.now }
+    requires few { length offers.now ≤ 1000000 }
+    requires closed { seals admission.now.entries ≡ cycles }
+    ensures { IfOk result (λ text. (background : List Background) → AreBackground admission.now.domain background
+        → TellsTheBook admission.now.domain admission.now.entries offers.now background cycles text.items) }
 {
-    write_links(rt, alloc, made.admission.domain(), &made.book)
+    report_is_told();
+    book_of_history_is_there();
+    // the domain is accepted and the history legal: facts for the book
+    let _accepted = admission.domain().cycle_time();
+    let _legal = admission.history();
+    let columns = carried_columns(alloc, cycles, admission, offers)?;
+    write_columns(rt, alloc, admission.domain(), columns.as_slice())
 }
 
 /// The output of `report` over so many cycles, 0 to 100,000: the sums by link of the book of the input's scenario, which is
-/// the book that `run` writes (profile).
+/// the book that `run` writes (profile). The network isn't run: what its links carry is told by the offers and the history of
+/// admissions. The time grows with the input and the cycles, and with the links by which the offers leave.
 ///
 /// # Errors
 /// With status 1 and the line of the first fault of the input: of its parts, of the domain, the streams, the script, the
@@ -50,9 +62,9 @@ pub fn report_output(
     ensures ok { IfOk result (λ output. IsReportOutput cycles input.now output.items) }
     ensures err { IfErr result (IsRefused (scenario_input cycles input.now)) }
 {
-    let made = simulate(alloc, cycles, input)?;
-    stand_in_order(cycles, input, &made);
-    match text_of_report(rt, alloc, &made) {
+    offers_stand_in_order();
+    let made = administer(alloc, cycles, input)?;
+    match text_of_report(rt, alloc, cycles, &made.admission, made.offers.as_slice()) {
         Ok(text) => Ok(text),
         Err(_) => Err(Stop::memory(alloc)),
     }

@@ -11,6 +11,7 @@
 //! ```
 #![tactic(auto)]
 
+mod carried;
 mod command;
 
 pub use command::report_output;

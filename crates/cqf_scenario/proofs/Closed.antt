@@ -1,5 +1,5 @@
 -- The tables that were closed stay, and a Seal adds its own.
-use Rattle.std.proofs.Common.{◌≡◌, ◌∙◌, ◌+◌, ◌<◌, ◌++◌, ◌∷◌, [], ℕ, Bool, false, List, Some, map, slice_get, arith, ap, sym, subst, add-one}
+use Rattle.std.proofs.Common.{◌≡◌, ◌∙◌, ◌+◌, ◌-◌, suc, ◌<◌, ◌++◌, ◌∷◌, [], ℕ, Bool, false, List, Some, map, slice_get, arith, ap, sym, subst, add-one}
 use Rattle.std.proofs.Common.{length-append, inl, inr, if◌then◌else◌}
 use Rattle.std.proofs.lemmas.List.{map-append}
 use Rattle.std.proofs.lemmas.Option.{slice_get_within}
@@ -9,12 +9,13 @@ use Rattle.cqf_model.specs.declared.history.Reply.{Reply}
 use Rattle.cqf_model.specs.declared.history.Reply.TheVariants.{Sealed}
 use Rattle.cqf_model.specs.declared.topology.Row.{Row}
 use Rattle.cqf_model.specs.Domain.{Domain}
-use Rattle.cqf_model.specs.History.{Act, Recorded, Seals, is_seal, seals, table_at, tables_of}
+use Rattle.cqf_model.specs.History.{Act, Recorded, Seals, is_seal, reply_to, seals, table_at, tables_of}
 use Rattle.cqf_laws_history.specs.StateLaws.{SealsAreCounted, with_entry}
 use Rattle.cqf_laws_definitions.specs.TableLaws.{ClosedTablesStay}
 use Rattle.cqf_admission.specs.Admission.{Administration}
 use Rattle.cqf_admission.specs.Tables.{CycleTable}
 use Rattle.cqf_plain.specs.Run.{AreNumbered}
+use Rattle.cqf_scenario.specs.Calls.{seals_by, with_call, with_calls}
 use Rattle.cqf_scenario.specs.Closing.{HasClosed}
 
 -- the tables of the cycles that are closed are those of the history with one entry more
@@ -75,3 +76,16 @@ HasClosed-seal counted closed old new tables seat table h domain entries number 
           ∙ ap (λ (last : List Row). tables_of new.domain new.entries (seals old.entries) ++ last ∷ []) (rows ∙ ap (λ (d : Domain). table_at d new.entries (seals old.entries)) (sym domain))
           ∙ ap (λ (n : ℕ). tables_of new.domain new.entries n) (sym (add-one (seals old.entries)) ∙ sym more);
     }
+
+-- the next of some Seals is entered
+pub seals_next : (d e : Domain) (entries new : List Recorded) (seat cycles k : ℕ) → k < cycles → e ≡ d → new ≡ with_call e entries (seat, Seals) →
+    with_calls d new (seals_by seat (cycles - (k + 1))) ≡ with_calls d entries (seals_by seat (cycles - k))
+seals_next d e entries new seat cycles k below same is =
+    let more : cycles - k ≡ suc (cycles - (k + 1)) = omega (arith, below) in
+    ap (λ (es : List Recorded). with_calls d es (seals_by seat (cycles - (k + 1)))) (is ∙ ap (λ (x : Domain). with_call x entries (seat, Seals)) same)
+    ∙ ap (λ (n : ℕ). with_calls d entries (seals_by seat n)) (sym more)
+
+pub seals_counted : SealsAreCounted → (d : Domain) (entries new : List Recorded) (seat k : ℕ) → seals entries ≡ k → new ≡ with_call d entries (seat, Seals) →
+    seals new ≡ k + 1
+seals_counted counted d entries new seat k so_far is =
+    ap seals is ∙ counted entries seat Seals (reply_to d entries Seals) ∙ ap (λ (n : ℕ). n + 1) so_far

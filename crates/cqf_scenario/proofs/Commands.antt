@@ -1,5 +1,5 @@
 -- What administrators call for, call by call.
-use Rattle.std.proofs.Common.{◌≡◌, ◌≢◌, ◌∙◌, ◌++◌, ◌∷◌, [], ◌<◌, ◌+◌, ◌⊎◌, ℕ, Bool, true, false, List, filter, map, ap, sym, subst, length, refl, arith, get_or, inl, inr, set, drop, take, position, Option, Some, None, nat_lt, cond, ◌-◌, ◌≤◌, suc, zero}
+use Rattle.std.proofs.Common.{◌≡◌, ◌≢◌, ◌∙◌, ◌++◌, ◌∷◌, [], ◌<◌, ◌+◌, ◌⊎◌, ℕ, Bool, true, false, List, filter, map, ap, sym, length, refl, arith, get_or, inl, inr, set, drop, take, position, Some, None, nat_lt, cond, ◌-◌, ◌≤◌, suc, zero}
 use Rattle.std.specs.Prelude.{◌==◌, ◌&&◌, not, if◌then◌else◌}
 use Rattle.std.proofs.lemmas.Bool.{cases_lt, true≢false}
 use Rattle.std.proofs.lemmas.Bool.Decides.{nat_tests}

@@ -1,5 +1,5 @@
 -- The tables that an administration has closed, and what a scenario has that was read.
-use Rattle.std.specs.Prelude.{ℕ, ◌≡◌, ◌≤◌, List, [], length, map}
+use Rattle.std.specs.Prelude.{ℕ, ◌≡◌, ◌≤◌, ◌++◌, ◌∷◌, List, [], Option, Some, None, length, map}
 use Rattle.cqf_model.specs.History.{seals, tables_of}
 use Rattle.cqf_model.specs.Run.{AreBackground, AreOffers}
 use Rattle.cqf_admission.specs.Admission.{Administration}
@@ -14,6 +14,15 @@ use Rattle.cqf_scenario.specs.Scenario.{Scenario}
 pub record HasClosed (a : Administration) (tables : List CycleTable) : Type 0 where
   pub numbered : AreNumbered (seals a.entries) tables
   pub rows : map (λ (table : CycleTable). table.rows) tables ≡ tables_of a.domain a.entries (seals a.entries)
+
+-- the tables with the one behind them of a cycle that was closed, where one was
+abbrev pub with_closed : List CycleTable → Option CycleTable → List CycleTable
+with_closed tables None = tables
+with_closed tables (Some table) = tables ++ table ∷ []
+
+-- it is the one that they lack
+abbrev pub AddsTable : Administration → Administration → Option CycleTable → Type 0
+AddsTable old new closed = (tables : List CycleTable) → HasClosed old tables → HasClosed new (with_closed tables closed)
 
 -- a scenario that was read
 abbrev pub scenario_given : Given → Scenario

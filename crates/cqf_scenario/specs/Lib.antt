@@ -5,3 +5,4 @@ pub mod Closing
 pub mod Parting
 pub mod Parted
 pub mod Opening
+pub mod Administered

@@ -1,6 +1,5 @@
 -- A scenario whose cycles are closed while it runs: what its bridges and administrators begin with (profile).
 use Rattle.std.specs.Prelude.{ℕ, ◌≡◌, List, [], Ok}
-use Rattle.cqf_model.specs.Domain.{Domain}
 use Rattle.cqf_model.specs.History.{Recorded, seals}
 use Rattle.cqf_scenario.specs.declared.opening.Opened.{Opened}
 use Rattle.cqf_scenario.specs.Calls.{with_calls}

@@ -5,10 +5,12 @@
 //!
 //! - [`simulate`] reads the scenario of an input and runs it: the administration with its history, and the book.
 //! - [`run_given`] runs a scenario that was made otherwise.
+//! - [`administer`] reads the scenario of an input and makes its history alone, with no run of the network.
 //! - [`read_opened`] reads a scenario whose cycles are closed while it runs: what its bridges and administrators begin with.
 //!
 //! `specs/` says what an input holds (`Scenario`), which history its calls make (`Calls`), which book is its book
-//! (`Books`), and what is begun with where cycles are closed while it runs (`Opening`).
+//! (`Books`), what there is without a run (`Administered`), and what is begun with where cycles are closed while it runs
+//! (`Opening`).
 //!
 //! ```text
 //! a script of the one line "0 admit x" over two cycles has the history
@@ -16,12 +18,14 @@
 //! ```
 #![tactic(auto)]
 
+mod administered;
 mod calls;
 mod given;
 mod opening;
 mod parting;
 mod runs;
 
+pub use administered::{Administered, administer};
 pub use given::Given;
 pub use opening::{Opened, read_opened};
 pub use runs::{Simulated, run_given, simulate};

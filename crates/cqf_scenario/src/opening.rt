@@ -38,8 +38,7 @@ fn open(alloc: Global, domain: &Domain, calls: &[(u16, Call)]) -> Result<Admissi
     ensures none_closed { IfOk result (λ admission. seals admission.entries ≡ 0) }
 {
     let mut admission = Admission::new(alloc, domain)?;
-    let mut tables = Vec::new(alloc);
-    apply_all(&mut admission, &mut tables, calls, 0)?;
+    apply_all(&mut admission, calls, 0)?;
     Ok(admission)
 }
 

@@ -1,5 +1,5 @@
 -- Lines that are put field by field.
-use Rattle.std.proofs.Common.{◌≡◌, ◌++◌, ℕ, List, [], ◌∷◌, Option, append_assoc, sym}
+use Rattle.std.proofs.Common.{◌++◌, ℕ, List, [], ◌∷◌, Option, append_assoc, sym}
 use Rattle.std.specs.List.{join_with_byte}
 use Rattle.cqf_press.specs.Press.{Puts}
 use Rattle.cqf_press.specs.declared.press.Press.{Press}

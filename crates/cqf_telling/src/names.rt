@@ -9,11 +9,11 @@ use cqf_topology::Domain;
 use std::io::Write;
 
 /// Puts the name of a bridge. A bridge that the domain lacks has none.
-pub(crate) fn put_bridge<W: Write>(press: &mut Press<'_, W>, domain: &Domain, bridge: u8)
+pub fn put_bridge<W: Write>(press: &mut Press<'_, W>, domain: &Domain, bridge: u8)
     ensures { Puts W.contents press.old press.new (name_of_bridge domain.now bridge) }
 {
     if bridge < domain.bridges() {
-        press.put(domain.bridge_name(bridge).as_str().as_bytes());
+        press.put(domain.bridge_name(bridge).as_bytes());
     }
 }
 
@@ -22,7 +22,7 @@ fn put_station<W: Write>(press: &mut Press<'_, W>, domain: &Domain, station: u8)
     ensures { Puts W.contents press.old press.new (name_of_node domain.now (Node.Station station)) }
 {
     if station < domain.stations() {
-        press.put(domain.station_name(station).as_str().as_bytes());
+        press.put(domain.station_name(station).as_bytes());
     }
 }
 
@@ -46,7 +46,7 @@ fn put_ends<W: Write>(press: &mut Press<'_, W>, domain: &Domain, link: Link)
 }
 
 /// Puts a link by the names of its ends. A link that the domain lacks has none.
-pub(crate) fn put_link<W: Write>(press: &mut Press<'_, W>, domain: &Domain, link: u8)
+pub fn put_link<W: Write>(press: &mut Press<'_, W>, domain: &Domain, link: u8)
     ensures { Puts W.contents press.old press.new (name_of_link domain.now link) }
 {
     if link < domain.links() {

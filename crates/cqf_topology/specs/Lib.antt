@@ -4,3 +4,4 @@ pub mod JoinedLink
 pub mod StreamsText
 pub mod Faults
 pub mod FirstFaults
+pub mod PlannedText

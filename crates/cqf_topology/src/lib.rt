@@ -3,7 +3,8 @@
 //! - [`Domain`] is an accepted domain: its cycle time and guard time, its bridges and stations by name and number, and
 //!   its directed links. [`Domain::read`] gives the domain that a text means, or a [`DomainFault`], the first that is
 //!   wrong with it.
-//! - [`Request`] is a request for a stream, and [`read_streams`] gives those of a text, or a [`StreamsFault`].
+//! - [`Request`] is a request for a stream, and [`read_streams`] gives those of a text, or a [`StreamsFault`]. [`Planned`] is one with
+//!   its deadline, as [`read_planned_streams`] gives them.
 //!
 //! ```text
 //! cycle = 125000
@@ -28,6 +29,7 @@ mod faults;
 mod joined;
 mod laws;
 mod names;
+mod planned;
 mod streams;
 
 pub use cqf_fields::{Key, TomlFault as StreamsFault};
@@ -35,4 +37,5 @@ pub use cqf_model::{Link, Node};
 pub use domain::Domain;
 pub use faults::DomainFault;
 pub use laws::{taken_is_first_repeated, twice_is_first_twin};
+pub use planned::{Planned, read_planned_streams};
 pub use streams::{Request, read_streams};

@@ -27,10 +27,10 @@ pub struct Request {
 }
 
 /// The keys of a streams text.
-const KEYS: [Key; 1] = [Key::Streams];
+pub(crate) const KEYS: [Key; 1] = [Key::Streams];
 
 /// The keys of a stream's table, in reading order.
-const STREAM_KEYS: [Key; 3] = [Key::Name, Key::Octets, Key::Path];
+pub(crate) const STREAM_KEYS: [Key; 3] = [Key::Name, Key::Octets, Key::Path];
 
 impl Request {
     /// The same request again, unless memory runs out.
@@ -86,7 +86,7 @@ fn one_branch(alloc: Global, path: Vec<String>) -> Result<Vec<Vec<String>>, Stre
 }
 
 /// A stream's table.
-fn read_request(alloc: Global, table: &Table) -> Result<Request, StreamsFault>
+pub(crate) fn read_request(alloc: Global, table: &Table) -> Result<Request, StreamsFault>
     ensures { Gives StreamsFault.Memory request_text result (request_from (table_view table.now)) }
 {
     let name = text_at(alloc, table, Key::Name)?;

@@ -10,7 +10,7 @@ use Rattle.clap.specs.declared.error.kind.ErrorKind.{ErrorKind}
 use Rattle.clap.specs.declared.error.kind.ErrorKind.TheVariants.{DisplayHelp, DisplayVersion, InvalidValue, OutOfMemory}
 use Rattle.cqf_units.specs.declared.timing.Rate.{Rate}
 use Rattle.cqf_words.specs.declared.words.Job.{Job}
-use Rattle.cqf_words.specs.declared.words.Job.TheVariants.{Compile, Line, Port, Report, Run}
+use Rattle.cqf_words.specs.declared.words.Job.TheVariants.{Compile, Latency, Line, Load, Port, Report, Run}
 use Rattle.cqf_stop.specs.declared.stops.Stop.{Stop}
 use Rattle.cqf_words.specs.Words.{cqf_app, rate_text, IsJob, IsJobOf, IsNumberIn, Mean, AskForHelp, EndsBy, EndsWords}
 
@@ -36,6 +36,8 @@ no_port-until rows text same none (Port until rate) job =
     none until (subst P (sym same) job.1)
 no_port-until rows text same none (Line cycles) job = omega (arith, marked (codes "port") (codes "line") job.0)
 no_port-until rows text same none Compile job = omega (arith, marked (codes "port") (codes "compile") job)
+no_port-until rows text same none Load job = omega (arith, marked (codes "port") (codes "load") job)
+no_port-until rows text same none (Latency strict) job = omega (arith, marked (codes "port") (codes "latency") job.0)
 no_port-until rows text same none (Run cycles threads) job = omega (arith, marked (codes "port") (codes "run") job.0)
 no_port-until rows text same none (Report cycles) job = omega (arith, marked (codes "port") (codes "report") job.0)
 
@@ -45,17 +47,21 @@ pub no_port-rate : (rows : List Row) (text : Option Text) → text ≡ first_of 
 no_port-rate rows text same none (Port until rate) job = none rate (same ∙ job.2)
 no_port-rate rows text same none (Line cycles) job = omega (arith, marked (codes "port") (codes "line") job.0)
 no_port-rate rows text same none Compile job = omega (arith, marked (codes "port") (codes "compile") job)
+no_port-rate rows text same none Load job = omega (arith, marked (codes "port") (codes "load") job)
+no_port-rate rows text same none (Latency strict) job = omega (arith, marked (codes "port") (codes "latency") job.0)
 no_port-rate rows text same none (Run cycles threads) job = omega (arith, marked (codes "port") (codes "run") job.0)
 no_port-rate rows text same none (Report cycles) job = omega (arith, marked (codes "port") (codes "report") job.0)
 
 -- with no number of cycles there is no job of a command that takes them alone
-pub no_cycles : (name : Text) (rows : List Row) → name ≢ codes "port" → name ≢ codes "compile" →
+pub no_cycles : (name : Text) (rows : List Row) → name ≢ codes "port" → name ≢ codes "compile" → name ≢ codes "load" → name ≢ codes "latency" →
     ((n : ℕ) → ¬ IsNumberIn 1 100000 n (first_of (codes "cycles") rows)) → (job : Job) → ¬ IsJobOf job name rows
-no_cycles name rows not_port not_compile none (Port until rate) job = not_port job.0
-no_cycles name rows not_port not_compile none (Line cycles) job = none cycles job.1
-no_cycles name rows not_port not_compile none Compile job = not_compile job
-no_cycles name rows not_port not_compile none (Run cycles threads) job = none cycles job.1
-no_cycles name rows not_port not_compile none (Report cycles) job = none cycles job.1
+no_cycles name rows not_port not_compile not_load not_latency none (Port until rate) job = not_port job.0
+no_cycles name rows not_port not_compile not_load not_latency none (Line cycles) job = none cycles job.1
+no_cycles name rows not_port not_compile not_load not_latency none Compile job = not_compile job
+no_cycles name rows not_port not_compile not_load not_latency none Load job = not_load job
+no_cycles name rows not_port not_compile not_load not_latency none (Latency strict) job = not_latency job.0
+no_cycles name rows not_port not_compile not_load not_latency none (Run cycles threads) job = none cycles job.1
+no_cycles name rows not_port not_compile not_load not_latency none (Report cycles) job = none cycles job.1
 
 -- a number of a value is one of its text
 pub number_of-text : (least most number : ℕ) (text value : Option Text) → text ≡ value → IsNumberIn least most number text → IsNumberIn least most number value

@@ -8,7 +8,8 @@ use Rattle.cqf_words.specs.declared.operands.Operands.{Operands}
 -- a command that takes files
 abbrev pub is_command : Text → Bool
 is_command word = bytes_eq word (codes "port") || (bytes_eq word (codes "line") || (bytes_eq word (codes "compile")
-    || (bytes_eq word (codes "run") || bytes_eq word (codes "report"))))
+    || (bytes_eq word (codes "load") || (bytes_eq word (codes "latency")
+    || (bytes_eq word (codes "run") || bytes_eq word (codes "report"))))))
 
 -- an option behind which its value stands as a word of its own
 abbrev pub wants_value : Text → Bool

@@ -10,7 +10,7 @@ use Rattle.clap.specs.declared.error.kind.ErrorKind.TheVariants.{DisplayHelp, Di
 use Rattle.cqf_units.specs.declared.timing.Rate.{Rate}
 use Rattle.cqf_units.specs.declared.timing.Rate.TheVariants.{Mb10, Mb100, Mb1000}
 use Rattle.cqf_words.specs.declared.words.Job.{Job}
-use Rattle.cqf_words.specs.declared.words.Job.TheVariants.{Compile, Line, Port, Report, Run}
+use Rattle.cqf_words.specs.declared.words.Job.TheVariants.{Compile, Latency, Line, Load, Port, Report, Run}
 use Rattle.cqf_stop.specs.declared.stops.Stop.{Stop}
 
 -- an option `--NAME N` that has to be given
@@ -46,6 +46,14 @@ line_app = with_rule (new_app (codes "line")) (number_rule (codes "cycles") 1 10
 abbrev pub compile_app : App
 compile_app = new_app (codes "compile")
 
+-- `load`
+abbrev pub load_app : App
+load_app = new_app (codes "load")
+
+-- `latency [--strict]`
+abbrev pub latency_app : App
+latency_app = with_rule (new_app (codes "latency")) (flag_rule (codes "strict"))
+
 -- `run --cycles N [--threads]`
 abbrev pub run_app : App
 run_app = with_rule (with_rule (new_app (codes "run")) (number_rule (codes "cycles") 1 100000)) (flag_rule (codes "threads"))
@@ -58,9 +66,12 @@ report_app = with_rule (new_app (codes "report")) (number_rule (codes "cycles") 
 abbrev pub named_app : App
 named_app = on_top (λ s. record s { no_binary_name = true; subcommand_required = true }) (new_app (codes "cqf"))
 
--- the commands that run no scenario, and all of the program's
+-- the commands that take no domain, those that run no scenario, and all of the program's
+abbrev pub app_without_domain : App
+app_without_domain = with_subcommand (with_subcommand named_app port_app.top) line_app.top
+
 abbrev pub first_app : App
-first_app = with_subcommand (with_subcommand (with_subcommand named_app port_app.top) line_app.top) compile_app.top
+first_app = with_subcommand (with_subcommand (with_subcommand app_without_domain compile_app.top) load_app.top) latency_app.top
 
 abbrev pub cqf_app : App
 cqf_app = with_subcommand (with_subcommand first_app run_app.top) report_app.top
@@ -90,6 +101,9 @@ IsJobOf (Port until rate) name rows = (name ≡ codes "port")
 IsJobOf (Line cycles) name rows = (name ≡ codes "line")
     × IsNumberIn 1 100000 cycles (first_of (codes "cycles") rows)
 IsJobOf Compile name rows = name ≡ codes "compile"
+IsJobOf Load name rows = name ≡ codes "load"
+IsJobOf (Latency strict) name rows = (name ≡ codes "latency")
+    × IsGiven strict (first_of (codes "strict") rows)
 IsJobOf (Run cycles threads) name rows = (name ≡ codes "run")
     × IsNumberIn 1 100000 cycles (first_of (codes "cycles") rows)
     × IsGiven threads (first_of (codes "threads") rows)

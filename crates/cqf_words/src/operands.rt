@@ -31,7 +31,13 @@ pub struct Operands<'a> {
 fn is_command(word: &str) -> bool
     ensures { result ≡ is_command word.now }
 {
-    word == "port" || word == "line" || word == "compile" || word == "run" || word == "report"
+    word == "port"
+        || word == "line"
+        || word == "compile"
+        || word == "load"
+        || word == "latency"
+        || word == "run"
+        || word == "report"
 }
 
 /// Whether the word is an option behind which its value stands as a word of its own.

@@ -5,7 +5,7 @@ ghost use Rattle.cqf_units.specs.declared.timing.Rate.{Rate};
 ghost use Rattle.clap.specs.declared.builder.command.Command.TheViews.{out-Command};
 ghost use Rattle.clap.specs.Words.{app_of, first_of, found_of, kind_of, rows_of, rule_of, subcommand_rows_of};
 ghost use Rattle.cqf_words.specs.declared.words.Job.{Job};
-ghost use Rattle.cqf_words.specs.Words.{cqf_app, compile_app, first_app, line_app, named_app, port_app, report_app, run_app, flag_rule, number_rule, rate_rule, rate_text, wanted_rule, IsGiven, IsJob, IsJobOf, IsNumberIn, Mean, EndsBy, EndsWords, takes_domain};
+ghost use Rattle.cqf_words.specs.Words.{app_without_domain, cqf_app, compile_app, first_app, latency_app, line_app, load_app, named_app, port_app, report_app, run_app, flag_rule, number_rule, rate_rule, rate_text, wanted_rule, IsGiven, IsJob, IsJobOf, IsNumberIn, Mean, EndsBy, EndsWords, takes_domain};
 
 use clap::error::ErrorKind;
 use clap::{Arg, ArgAction, ArgMatches, Command, value_parser};
@@ -27,13 +27,63 @@ const LINE_INPUT: &str = r"Standard input has one part, or it is a file:
                  0,a,x,1000
   cqf line --cycles 2 offers.csv";
 
-/// What the help of `compile` says of standard input.
-const COMPILE_INPUT: &str = r#"Standard input has two parts, which a line of %% divides:
+/// What the help of a command that reads a domain and its streams alone says of standard input, and what it says more.
+macro_rules! plant_input {
+    ($command:literal, $more:literal) => {
+        concat!(
+            r#"Standard input has two parts, which a line of %% divides:
   a domain       links = [{ from = "a", to = "s", rate = 1000, delay = 500 }]
   its streams    streams = [{ name = "x", octets = 1500, path = ["a", "s"] }]
 or they are one file with both, or two whose names end with .toml:
-  cqf compile plant.toml
-  cqf compile domain.toml streams.toml"#;
+  cqf "#,
+            $command,
+            " plant.toml\n  cqf ",
+            $command,
+            " domain.toml streams.toml",
+            $more
+        )
+    };
+}
+
+/// What the help of `compile` says of standard input.
+const COMPILE_INPUT: &str = plant_input!("compile", "");
+
+/// What the help of `load` says of standard input and of its output.
+const LOAD_INPUT: &str = plant_input!(
+    "load",
+    r"
+
+The output has a line for each link: its rate in Mb/s, its budget, what the
+streams hold of it and what is left, the greatest reservation that still fits,
+how many streams go by it, and the share of the budget that is held, in percent.
+Budget, held and left are octets a cycle on the wire, and of what is reserved,
+not of what is sent: a cost is that of a reservation that is sent in frames of
+64 octets, the dearest way. A plan that is over is told too: left is then
+below 0."
+);
+
+/// What the help of `latency` says of standard input and of its output.
+const LATENCY_INPUT: &str = plant_input!(
+    "latency",
+    r#"
+  cqf latency --strict plant.toml
+An element of streams may have a deadline, in ns:
+  { name = "x", octets = 1500, path = ["a", "s"], deadline = 500000 }
+
+The output has a line for each stream and listener: the bridges on the way, the
+least and the most that a frame takes from its offer to being whole at the
+listener, how far apart the frames of one cycle can be whole there, the stream's
+deadline and the verdict, all in ns. A deadline counts from the edge bridge,
+where the frame is whole at its offer: a planner's deadline runs from the
+talker, so take the talker's link, (octets + 8) octet times, and its delay off
+first; at 100 Mb/s a longest frame takes 122400 ns. Bounds are of covered
+frames: a frame that its reservation doesn't cover is dropped at its edge and
+has no latency, so in-time promises nothing for offers beyond the reservation in
+one cycle of the network's clock.
+
+With --strict the status is 1 where a deadline isn't kept for sure, and the
+first line whose verdict is late or may-be-late stands on standard error."#
+);
 
 /// What the help of `run` says of standard input and of its work.
 const RUN_INPUT: &str = r#"Standard input has four parts, which lines of %% divide, or five:
@@ -87,6 +137,10 @@ pub enum Job {
     Line { cycles: u32 },
     /// The configuration of a domain and its streams.
     Compile,
+    /// What each link holds and has left.
+    Load,
+    /// How long the frames of each stream take to each listener; strict where a deadline that isn't kept for sure ends the run.
+    Latency { strict: bool },
     /// The history and the book of a scenario, on one thread or on threads of its bridges and administrators.
     Run { cycles: u32, threads: bool },
     /// The sums by link of a scenario's book.
@@ -100,7 +154,8 @@ impl Job {
     {
         match *self {
             Job::Port { .. } | Job::Line { .. } => false,
-            Job::Compile | Job::Run { .. } | Job::Report { .. } => true,
+            Job::Compile | Job::Load | Job::Latency { .. } | Job::Run { .. } | Job::Report { .. } =>
+                true,
         }
     }
 }
@@ -160,6 +215,17 @@ fn threads_flag<'a>(alloc: Global) -> Arg<'a>
         .help("a thread for each bridge and each administrator of the script")
 }
 
+/// The flag `--strict`.
+fn strict_flag<'a>(alloc: Global) -> Arg<'a>
+    ensures rule { rule_of result ≡ flag_rule (codes "strict") }
+    ensures own { result.global ≡ false }
+{
+    Arg::new(alloc, "strict")
+        .long("strict")
+        .action(ArgAction::SetTrue)
+        .help("status 1 where a deadline isn't kept for sure")
+}
+
 /// `port --until N [--rate RATE]`.
 fn port_command<'a>(alloc: Global) -> Result<Command<'a>, AllocError>
     ensures app { IfOk result (λ command. app_of command ≡ port_app) }
@@ -191,6 +257,27 @@ fn compile_command<'a>(alloc: Global) -> Command<'a>
     Command::new(alloc, "compile")
         .about("the gate lists and stream gates of a domain and its streams")
         .after_help(COMPILE_INPUT)
+}
+
+/// `load`.
+fn load_command<'a>(alloc: Global) -> Command<'a>
+    ensures app { app_of result ≡ load_app }
+    ensures local { (out-Command result).has_globals ≡ false }
+{
+    Command::new(alloc, "load")
+        .about("what each link holds and has left")
+        .after_help(LOAD_INPUT)
+}
+
+/// `latency [--strict]`.
+fn latency_command<'a>(alloc: Global) -> Result<Command<'a>, AllocError>
+    ensures app { IfOk result (λ command. app_of command ≡ latency_app) }
+    ensures local { IfOk result (λ command. (out-Command command).has_globals ≡ false) }
+{
+    Command::new(alloc, "latency")
+        .about("how long the frames of each stream take to each listener")
+        .after_help(LATENCY_INPUT)
+        .arg(strict_flag(alloc))
 }
 
 /// `run --cycles N [--threads]`.
@@ -231,17 +318,26 @@ fn named_command<'a>(alloc: Global) -> Result<Command<'a>, AllocError>
     )
 }
 
+/// The commands that take no domain.
+fn commands_without_domain<'a>(alloc: Global) -> Result<Command<'a>, AllocError>
+    ensures app { IfOk result (λ command. app_of command ≡ app_without_domain) }
+    ensures local { IfOk result (λ command. (out-Command command).has_globals ≡ false) }
+{
+    let port = port_command(alloc)?;
+    let line = line_command(alloc)?;
+    named_command(alloc)?.subcommand(port)?.subcommand(line)
+}
+
 /// The commands that run no scenario.
 fn first_commands<'a>(alloc: Global) -> Result<Command<'a>, AllocError>
     ensures app { IfOk result (λ command. app_of command ≡ first_app) }
     ensures local { IfOk result (λ command. (out-Command command).has_globals ≡ false) }
 {
-    let port = port_command(alloc)?;
-    let line = line_command(alloc)?;
-    named_command(alloc)?
-        .subcommand(port)?
-        .subcommand(line)?
-        .subcommand(compile_command(alloc))
+    let latency = latency_command(alloc)?;
+    commands_without_domain(alloc)?
+        .subcommand(compile_command(alloc))?
+        .subcommand(load_command(alloc))?
+        .subcommand(latency)
 }
 
 /// The program's commands.
@@ -342,6 +438,8 @@ fn is_given(values: &ArgMatches<'_>, id: &str) -> bool
 fn cycles_job(name: &str, values: &ArgMatches<'_>) -> Option<Job>
     requires not_port { name.now ≢ codes "port" }
     requires not_compile { name.now ≢ codes "compile" }
+    requires not_load { name.now ≢ codes "load" }
+    requires not_latency { name.now ≢ codes "latency" }
     ensures { MatchOption result ((job : Job) → ¬ IsJobOf job name.now (rows_of (found_of values.now)))
         (λ job. IsJobOf job name.now (rows_of (found_of values.now))) }
 {
@@ -368,6 +466,10 @@ fn job_of(matches: &ArgMatches<'_>) -> Option<Job>
     match name {
         "port" => port_job(values),
         "compile" => Some(Job::Compile),
+        "load" => Some(Job::Load),
+        "latency" => Some(Job::Latency {
+            strict: is_given(values, "strict"),
+        }),
         _ => cycles_job(name, values),
     }
 }

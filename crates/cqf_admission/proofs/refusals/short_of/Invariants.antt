@@ -1,6 +1,6 @@
 -- The links so far have enough left.
 use Rattle.std.proofs.Common.{◌≡◌, drop}
-use Rattle.cqf_admission.specs.Grants.{short_refusal}
+use Rattle.cqf_admission.specs.Judging.{short_refusal}
 use Rattle.cqf_admission.proofs.refusals.short_of.Given as goal
 
 abbrev pub invariant-loop-hop : goal.invariant-loop-hop

@@ -1,4 +1,4 @@
-use Rattle.std.proofs.Common.{ℕ, ◌≡◌, arith}
+use Rattle.std.proofs.Common.{arith}
 use Rattle.cqf_port.proofs.next.all_come.Goals as goal
 
 -- none at first

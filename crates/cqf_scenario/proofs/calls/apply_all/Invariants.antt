@@ -2,7 +2,6 @@
 use Rattle.std.proofs.Common.{◌≡◌, drop, map}
 use Rattle.cqf_script.specs.Script.{called_of}
 use Rattle.cqf_scenario.specs.Calls.{HasRoom, with_calls}
-use Rattle.cqf_scenario.specs.Closing.{HasClosed}
 use Rattle.cqf_scenario.proofs.calls.apply_all.Given as goal
 
 abbrev pub invariant-loop-call : goal.invariant-loop-call
@@ -11,4 +10,3 @@ invariant-loop-call l =
     × (with_calls l.fn.admission.domain l.admission.entries (map called_of (drop l.call-index l.calls))
     ≡ with_calls l.fn.admission.domain l.fn.admission.entries (map called_of l.fn.calls))
     × HasRoom l.cycles l.admission.entries (map called_of (drop l.call-index l.calls))
-    × HasClosed l.admission l.tables.items

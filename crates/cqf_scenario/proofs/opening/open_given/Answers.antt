@@ -1,4 +1,4 @@
-use Rattle.std.proofs.Common.{◌≡◌, ◌∙◌, [], List, map, ap, subst, sym}
+use Rattle.std.proofs.Common.{◌∙◌, [], List, map, ap, subst, sym}
 use Rattle.cqf_script.specs.Script.{Called, called_of}
 use Rattle.cqf_scenario.specs.Calls.{HasRoom}
 use Rattle.cqf_scenario.proofs.Commands.{HasRoom-opening}

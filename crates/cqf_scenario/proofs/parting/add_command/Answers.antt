@@ -1,4 +1,4 @@
-use Rattle.std.proofs.Common.{◌≡◌, arith}
+use Rattle.std.proofs.Common.{arith}
 use Rattle.cqf_scenario.proofs.Commands.{AddsCommand-set}
 use Rattle.cqf_scenario.proofs.parting.add_command.Goals as goal
 

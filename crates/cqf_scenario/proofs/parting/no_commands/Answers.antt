@@ -1,4 +1,3 @@
-use Rattle.std.proofs.Common.{◌≡◌}
 use Rattle.cqf_scenario.proofs.Commands.{AreCommandsBy-none, AreCommandsBy-next}
 use Rattle.cqf_scenario.proofs.parting.no_commands.Goals as goal
 

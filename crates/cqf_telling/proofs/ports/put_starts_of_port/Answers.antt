@@ -1,3 +1,5 @@
+use Rattle.std.proofs.Common.{map}
+use Rattle.cqf_port.specs.PortState.{start_of}
 use Rattle.cqf_press.proofs.PressLemmas.{Puts-then}
 use Rattle.cqf_report.specs.Starts.{start_header}
 use Rattle.cqf_report.specs.Written.{line_of}
@@ -7,4 +9,4 @@ use Rattle.cqf_telling.proofs.ports.put_starts_of_port.Goals as goal
 
 pub returns : goal.returns
 returns g c =
-    Puts-then (line_of start_header) (lines_of_port (nanos_of_octet c.args.rate) c.args.starts.now) c.put_header.ensures c.put_each.ensures
+    Puts-then (line_of start_header) (lines_of_port (nanos_of_octet c.args.rate) (map (start_of c.args.arrivals.now) c.args.starts.now)) c.put_header.ensures c.put_each.ensures

@@ -1,4 +1,4 @@
-use Rattle.std.proofs.Common.{List, subst, sym, ◌∙◌}
+use Rattle.std.proofs.Common.{List, subst}
 use Rattle.std.specs.Prelude.{MatchOption}
 use Rattle.cqf_model.specs.declared.ports.Arrival.{Arrival}
 use Rattle.cqf_port.specs.PortState.{PortState, rules_of}

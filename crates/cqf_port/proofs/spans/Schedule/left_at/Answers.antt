@@ -1,4 +1,4 @@
-use Rattle.std.proofs.Common.{◌^◌, List, ℕ, subst}
+use Rattle.std.proofs.Common.{◌^◌, List, subst}
 use Rattle.cqf_model.specs.GateList.{Entry}
 use Rattle.cqf_port.specs.Spans.{AreSpansAt}
 use Rattle.cqf_port.proofs.Staying.{spans_within}

@@ -1,0 +1,44 @@
+-- What a request is by itself, whatever is held.
+use Rattle.std.specs.Prelude.{ℕ, ◌≡◌, ◌≤◌, List, ◌&&◌, not, nat_le, length, Option, Some, None, Result, Ok, Err}
+use Rattle.std.specs.List.{list_any}
+use Rattle.cqf_lists.specs.Lists.{or_else}
+use Rattle.cqf_units.specs.Name.{is_name}
+use Rattle.cqf_units.specs.Timing.{cost_of}
+use Rattle.cqf_model.specs.declared.history.Refused.{Refused}
+use Rattle.cqf_model.specs.declared.history.Refused.TheVariants.{BadName, BadOctets, NameHeld, TooManyStreams, BudgetShort}
+use Rattle.cqf_model.specs.declared.topology.Hop.{Hop}
+use Rattle.cqf_model.specs.declared.topology.Row.{Row}
+use Rattle.cqf_model.specs.Domain.{Domain, is_text}
+use Rattle.cqf_model.specs.History.{Asked, left_on, refused_at, refused_if, short_link, tree_of}
+use Rattle.cqf_trees.specs.Branches.{tree_refusal}
+use Rattle.cqf_admission.specs.declared.judged.Judged.{Judged}
+
+-- why a request is refused whatever is held: for its form
+abbrev pub form_refusal : Domain → Asked → Option Refused
+form_refusal d asked =
+    or_else (refused_if (not (is_name asked.name)) BadName)
+    (or_else (refused_if (not (nat_le 64 asked.octets && nat_le asked.octets 60000)) BadOctets) (tree_refusal d asked.paths))
+
+-- the first link that has too little left for a cost
+abbrev pub short_refusal : Domain → List Row → ℕ → List Hop → Option Refused
+short_refusal d rows cost tree = refused_at (λ l. BudgetShort l (left_on d rows l)) (short_link d rows cost tree)
+
+-- why a request of good form is refused: for what is held
+abbrev pub state_refusal : Domain → List Row → Asked → Option Refused
+state_refusal d rows asked =
+    or_else (refused_if (list_any (λ (row : Row). is_text row.name asked.name) rows) NameHeld)
+    (or_else (refused_if (nat_le 1024 (length rows)) TooManyStreams)
+    (short_refusal d rows (cost_of asked.octets) (tree_of d asked.paths)))
+
+-- a request of good form
+pub record IsOfGoodForm (d : Domain) (asked : Asked) (judged : Judged) : Type 0 where
+  pub none : form_refusal d asked ≡ None
+  pub named : judged.name ≡ asked.name
+  pub costs : judged.cost.0 ≡ cost_of asked.octets
+  pub linked : judged.tree.items ≡ tree_of d asked.paths
+  pub most_octets : asked.octets ≤ 60000
+
+-- a look at a request by itself gives what it is, or the first reason against its form
+abbrev pub Judges : Domain → Asked → Result Judged Refused → Type 0
+Judges d asked (Ok judged) = IsOfGoodForm d asked judged
+Judges d asked (Err refused) = form_refusal d asked ≡ Some refused

@@ -1,0 +1,48 @@
+//! What a request is by itself, whatever is held.
+ghost use Rattle.std.specs.Prelude.{◌≡◌, ◌<◌, ◌^◌};
+ghost use Rattle.cqf_trees.specs.Branches.{branches_of, places_of};
+ghost use Rattle.cqf_admission.specs.Asking.{asked_of};
+ghost use Rattle.cqf_admission.specs.Judging.{Judges};
+
+use arrayvec::ArrayVec;
+use cqf_model::{Hop, Refused};
+use cqf_topology::{Domain, Request};
+use cqf_trees::find_tree;
+use cqf_units::{Name, Octets, cost};
+
+/// The octets that a stream may reserve in a cycle (profile).
+pub const LEAST_OCTETS: u32 = 64;
+
+/// See [`LEAST_OCTETS`].
+pub const MOST_OCTETS: u32 = 60_000;
+
+/// A request of good form: its name, what it costs of each link of its tree in octets a cycle, and that tree.
+#[derive(Debug, Drop)]
+pub struct Judged {
+    pub name: Name,
+    pub cost: Octets,
+    pub tree: ArrayVec<Hop, 64>,
+}
+
+/// What a request is by itself. The caller sees to it that its branches have fewer than 2^64 places together (profile).
+///
+/// # Errors
+/// The first reason against its form: `BadName`, `BadOctets`, `UnknownNode`, `BrokenPath`, `LoopingPath`, `NotATree`, each
+/// over all branches before the next.
+pub fn judge(domain: &Domain, request: &Request) -> Result<Judged, Refused>
+    requires { places_of (branches_of request.now.paths.items) < 2 ^ 64 }
+    ensures { Judges domain.now (asked_of request.now) result }
+{
+    let Some(name) = Name::new(request.name.as_bytes()) else {
+        return Err(Refused::BadName);
+    };
+    if request.octets < LEAST_OCTETS || request.octets > MOST_OCTETS {
+        return Err(Refused::BadOctets);
+    }
+    let tree = find_tree(domain, request.paths.as_slice())?;
+    Ok(Judged {
+        name,
+        cost: cost(Octets(request.octets)),
+        tree,
+    })
+}

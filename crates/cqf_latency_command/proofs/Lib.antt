@@ -1,0 +1,3 @@
+mod Granted
+mod Listed
+mod Lines

@@ -1,0 +1,8 @@
+-- The sum of the rows so far.
+use Rattle.std.proofs.Common.{◌≡◌, map, take}
+use Rattle.std.specs.Arc.{arc_value}
+use Rattle.cqf_model.specs.Table.{link_cost}
+use Rattle.cqf_latency_command.proofs.costs.link_cost.Given as goal
+
+abbrev pub invariant-loop-row : goal.invariant-loop-row
+invariant-loop-row l = l.total ≡ link_cost (take l.row-index (map (λ row. arc_value row) l.rows)) l.link

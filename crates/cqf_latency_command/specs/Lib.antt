@@ -1,0 +1,4 @@
+pub mod LatencyText
+pub mod LatencyOutput
+pub mod LatencyInput
+pub mod ToldLaws

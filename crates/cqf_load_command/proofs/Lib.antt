@@ -1,0 +1,4 @@
+mod Listed
+mod Fits
+mod PlanFits
+mod Loading

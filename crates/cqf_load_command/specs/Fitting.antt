@@ -1,0 +1,34 @@
+-- What links have, and the greatest reservation that still fits one (profile).
+use Rattle.std.specs.Prelude.{ℕ, ◌+◌, ◌-◌, ◌*◌, ◌/◌, List, count_by, min, slice_get, suc, zero}
+use Rattle.std.specs.Option.{option_map_or}
+use Rattle.cqf_units.specs.declared.timing.Rate.{Rate}
+use Rattle.cqf_units.specs.declared.timing.Rate.TheVariants.{Mb10, Mb100, Mb1000}
+use Rattle.cqf_model.specs.declared.topology.Link.{Link}
+use Rattle.cqf_model.specs.declared.topology.Row.{Row}
+use Rattle.cqf_model.specs.Domain.{Domain, budget}
+use Rattle.cqf_model.specs.Table.{crosses, link_cost}
+
+-- a rate in Mb/s
+abbrev pub megabits_of : Rate → ℕ
+megabits_of Mb10 = 10
+megabits_of Mb100 = 100
+megabits_of Mb1000 = 1000
+
+-- a link's rate
+abbrev pub rate_on : Domain → ℕ → ℕ
+rate_on d l = option_map_or (λ (link : Link). megabits_of link.rate) (slice_get d.links l) 0
+
+-- how many of some streams go by a link
+abbrev pub streams_on : List Row → ℕ → ℕ
+streams_on rows l = count_by (λ (row : Row). crosses row l) rows
+
+-- the greatest reservation that costs no more than what is left, 0 where there is none: by the frames of 64 octets that this holds
+abbrev pub fits_by : ℕ → ℕ → ℕ
+fits_by zero left = 0
+fits_by (suc frames) left = min (min (left - 20 * suc frames) (64 * suc frames + 63)) 60000
+
+abbrev pub fits_in : ℕ → ℕ
+fits_in left = fits_by (left / 84) left
+
+abbrev pub fits_on : Domain → List Row → ℕ → ℕ
+fits_on d rows l = fits_in (budget d l - link_cost rows l)

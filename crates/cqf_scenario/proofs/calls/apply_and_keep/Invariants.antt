@@ -1,0 +1,14 @@
+-- The calls so far are made, and there is room for the rest.
+use Rattle.std.proofs.Common.{◌≡◌, drop, map}
+use Rattle.cqf_script.specs.Script.{called_of}
+use Rattle.cqf_scenario.specs.Calls.{HasRoom, with_calls}
+use Rattle.cqf_scenario.specs.Closing.{HasClosed}
+use Rattle.cqf_scenario.proofs.calls.apply_and_keep.Given as goal
+
+abbrev pub invariant-loop-call : goal.invariant-loop-call
+invariant-loop-call l =
+    (l.admission.domain ≡ l.fn.admission.domain)
+    × (with_calls l.fn.admission.domain l.admission.entries (map called_of (drop l.call-index l.calls))
+    ≡ with_calls l.fn.admission.domain l.fn.admission.entries (map called_of l.fn.calls))
+    × HasRoom l.cycles l.admission.entries (map called_of (drop l.call-index l.calls))
+    × HasClosed l.admission l.tables.items

@@ -1,0 +1,32 @@
+-- The streams that a text asks for with their deadlines, or the first fault of the text (profile).
+use Rattle.std.specs.Prelude.{ℕ, List, Option, Some, None, Result, Ok}
+use Rattle.toml.specs.Data.{Data, Members}
+use Rattle.cqf_lists.specs.Results.{and_then}
+use Rattle.cqf_fields.specs.declared.keys.Key.TheVariants.{Streams, Deadline}
+use Rattle.cqf_fields.specs.declared.faults.TomlFault.{TomlFault}
+use Rattle.cqf_fields.specs.Fields.{value_at, whole_document, read_at, tables_at, number_from}
+use Rattle.cqf_topology.specs.declared.planned.Planned.{Planned}
+use Rattle.cqf_topology.specs.StreamsText.{RequestText, request_from, request_text, streams_keys, stream_keys}
+
+-- a request as texts and numbers, and its deadline in nanoseconds
+abbrev pub PlannedText : Type 0
+PlannedText = RequestText × Option ℕ
+
+abbrev pub planned_text : Planned → PlannedText
+planned_text planned = (request_text planned.request, planned.deadline)
+
+-- the deadline of a stream's table, by what stands there: none where nothing does
+abbrev pub deadline_by : Option Data → Members → Result (Option ℕ) TomlFault
+deadline_by None table = Ok None
+deadline_by (Some d) table = and_then (read_at Deadline (number_from 1 4294967295) table) (λ deadline. Ok (Some deadline))
+
+abbrev pub deadline_from : Members → Result (Option ℕ) TomlFault
+deadline_from table = deadline_by (value_at Deadline table) table
+
+-- a stream's table: the deadline is read behind its other keys
+abbrev pub planned_from : Members → Result PlannedText TomlFault
+planned_from table = and_then (request_from table) (λ request. and_then (deadline_from table) (λ deadline. Ok (request, deadline)))
+
+-- the streams of a text, or its first fault
+abbrev pub planned_of_text : List ℕ → Result (List PlannedText) TomlFault
+planned_of_text text = and_then (whole_document streams_keys Streams stream_keys text) (tables_at Streams planned_from)
