@@ -9,8 +9,6 @@ mod background;
 #[cfg(test)]
 mod engines;
 #[cfg(test)]
-mod latencies;
-#[cfg(test)]
 mod offers;
 #[cfg(test)]
 mod presses;
