@@ -118,8 +118,8 @@ const REPORT_INPUT: &str =
   cqf report --cycles 5 plant.toml calls.txt offers.csv
 
 The output has a line for each link: its frames, their octets, and the most
-octets that it starts in one cycle. Background frames don't count. It takes
-what run takes.";
+octets that it starts in one cycle. Background frames don't count. It runs no
+network: what makes 15 million transmissions takes about 1 second and 0.14 GB.";
 
 /// What the program's help says of files and of its version.
 const MORE_WORDS: &str =
