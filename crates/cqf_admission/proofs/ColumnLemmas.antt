@@ -22,7 +22,7 @@ use Rattle.cqf_admission.specs.Rows.{HaveColumns, mask_of, with_link}
 -- ---- the bits of a mask
 
 -- a bit is there where it was or the link is its own
-bit_with : (mask x l : ℕ) → l < 64 → bit_at (with_link mask x) l ≡ max (bit_at mask l) (cond (x == l) 1 0)
+pub bit_with : (mask x l : ℕ) → l < 64 → bit_at (with_link mask x) l ≡ max (bit_at mask l) (cond (x == l) 1 0)
 bit_with mask x l low = elim (cases_Bool (nat_lt x 64)) [
   | inl t ↦ ap (λ (b : Bool). bit_at (if b then bit_or mask (2 ^ x) else mask) l) t ∙ bit_at_or mask (2 ^ x) l ∙ ap (max (bit_at mask l)) (own x)
   | inr f ↦ (let other : (x == l) ≡ false = ne_eqb x l (λ same. absurd (omega (arith, past x f, same, low))) in
@@ -42,7 +42,7 @@ bit_with mask x l low = elim (cases_Bool (nat_lt x 64)) [
     past k f = ltb-false k 64 f
 
 -- the bits of some links on top of a mask
-bits_of : (links : List ℕ) (mask l : ℕ) → l < 64 → bit_at (fold with_link mask links) l ≡ max (bit_at mask l) (cond (list_any (λ k. k == l) links) 1 0)
+pub bits_of : (links : List ℕ) (mask l : ℕ) → l < 64 → bit_at (fold with_link mask links) l ≡ max (bit_at mask l) (cond (list_any (λ k. k == l) links) 1 0)
 bits_of [] mask l low = omega arith
 bits_of (x ∷ links) mask l low =
     bits_of links (with_link mask x) l low
@@ -57,7 +57,7 @@ bits_of (x ∷ links) mask l low =
     joined n false false = omega arith
 
 -- the test of a bit
-test_of_bit : (mask l : ℕ) (b : Bool) → bit_at mask l ≡ cond b 1 0 → has_bit mask l ≡ b
+pub test_of_bit : (mask l : ℕ) (b : Bool) → bit_at mask l ≡ cond b 1 0 → has_bit mask l ≡ b
 test_of_bit mask l true e =
     let whole : bit_and mask (2 ^ l) ≡ 1 * 2 ^ l = and_pow mask l ∙ ap (λ (n : ℕ). n * 2 ^ l) e in
     ap not (ne_eqb (bit_and mask (2 ^ l)) 0 (λ none. absurd (omega (arith, pow_pos l, whole, none))))

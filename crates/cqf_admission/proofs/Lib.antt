@@ -3,9 +3,9 @@ mod EndingLemmas
 mod SharedRows
 mod NumberedRows
 mod MappedRows
-mod ColumnLemmas
-mod SumLemmas
-mod TableLemmas
+pub mod ColumnLemmas
+pub mod SumLemmas
+pub mod TableLemmas
 pub mod GrantLemmas
-mod RunLemmas
-mod CallLemmas
+pub mod RunLemmas
+pub mod CallLemmas

@@ -32,17 +32,17 @@ abbrev IsCallRefusal : Option Refused → Type 0
 IsCallRefusal o = (refused : Refused) → o ≡ Some refused → is_entered (Err refused) ≡ true
 
 -- the first of two refusals that are entered is entered
-either_entered : (a b : Option Refused) → IsCallRefusal a → IsCallRefusal b → IsCallRefusal (or_else a b)
+pub either_entered : (a b : Option Refused) → IsCallRefusal a → IsCallRefusal b → IsCallRefusal (or_else a b)
 either_entered None b h k = k
 either_entered (Some x) b h k = h
 
 -- a refusal under a test is entered
-if_entered : (b : Bool) (refused : Refused) → is_entered (Err refused) ≡ true → IsCallRefusal (refused_if b refused)
+pub if_entered : (b : Bool) (refused : Refused) → is_entered (Err refused) ≡ true → IsCallRefusal (refused_if b refused)
 if_entered true refused h other e = subst (λ (r : Refused). is_entered (Err r) ≡ true) (same_Some refused other e) h
 if_entered false refused h other e = absurd cc
 
 -- and so is a refusal at a place
-at_entered : (refused : ℕ → Refused) (o : Option ℕ) → ((k : ℕ) → is_entered (Err (refused k)) ≡ true) → IsCallRefusal (refused_at refused o)
+pub at_entered : (refused : ℕ → Refused) (o : Option ℕ) → ((k : ℕ) → is_entered (Err (refused k)) ≡ true) → IsCallRefusal (refused_at refused o)
 at_entered refused None h other e = absurd cc
 at_entered refused (Some k) h other e = subst (λ (r : Refused). is_entered (Err r) ≡ true) (same_Some (refused k) other e) (h k)
 
@@ -84,7 +84,7 @@ can_be_asked law d entries rows next sealed r =
     record { octets = held.most_octets; loads = held.loads }
 
 -- the entries behind one that is pushed
-pushed_entries : (old new : List Entry) (e : Entry) → new ≡ old ++ e ∷ [] → map recorded_of new ≡ map recorded_of old ++ recorded_of e ∷ []
+pub pushed_entries : (old new : List Entry) (e : Entry) → new ≡ old ++ e ∷ [] → map recorded_of new ≡ map recorded_of old ++ recorded_of e ∷ []
 pushed_entries old new e is = ap (map recorded_of) is ∙ map-append recorded_of old (e ∷ [])
 
 -- so a call that acts so is the history's next entry
@@ -133,7 +133,7 @@ answers_entered old new seat act result is few same due entered =
     }
 
 -- a refused withdrawal is entered
-withdraw_entered : (effect : ℕ) (found : Option Row) (refused : Refused) → withdraw_reply effect found ≡ RefusedFor refused → is_entered (Err refused) ≡ true
+pub withdraw_entered : (effect : ℕ) (found : Option Row) (refused : Refused) → withdraw_reply effect found ≡ RefusedFor refused → is_entered (Err refused) ≡ true
 withdraw_entered effect None refused e = let same : NotHeld ≡ refused = cc in subst (λ (r : Refused). is_entered (Err r) ≡ true) same refl
 withdraw_entered effect (Some row) refused e = by_end row.withdrawn e
   where
@@ -154,16 +154,16 @@ withdrawal_reply d entries rows next sealed name r =
     ∙ ap (λ (n : ℕ). withdraw_reply n (row_named rows name)) (sym r.counted)
 
 -- a row that has another number stays as it is
-other_kept : (number cycle : ℕ) (row : Row) → row.no ≢ number → ended_row number cycle row ≡ row
+pub other_kept : (number cycle : ℕ) (row : Row) → row.no ≢ number → ended_row number cycle row ≡ row
 other_kept number cycle row other =
     ap (λ (b : Bool). if b then ended row (record { 0 = cycle }) else row) (ne_eqb row.no number other)
 
 -- a row stays one behind one more
-there : (x : Row) (rows : List Row) (row : Row) → Contains rows row → Contains (x ∷ rows) row
+pub there : (x : Row) (rows : List Row) (row : Row) → Contains rows row → Contains (x ∷ rows) row
 there x rows row (k, h, e) = (suc k, omega (arith, h), e)
 
 -- to end a stream changes no row of another number
-others_kept : (number cycle : ℕ) (rows : List Row) → ((row : Row) → Contains rows row → row.no ≢ number) → map (ended_row number cycle) rows ≡ rows
+pub others_kept : (number cycle : ℕ) (rows : List Row) → ((row : Row) → Contains rows row → row.no ≢ number) → map (ended_row number cycle) rows ≡ rows
 others_kept number cycle [] h = refl
 others_kept number cycle (x ∷ rows) h =
     (λ i. other_kept number cycle x (h x (0, omega arith, refl)) i ∷ others_kept number cycle rows (λ row k. h row (there x rows row k)) i)

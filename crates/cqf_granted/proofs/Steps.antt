@@ -42,11 +42,11 @@ accepts (Accepted receipt) = true
 accepts (RefusedFor refused) = false
 accepts Sealed = false
 
-true_not_false : true ≡ false → ⊥
+pub true_not_false : true ≡ false → ⊥
 true_not_false e = absurd cc
 
 -- a request that is accepted isn't refused, and its receipt is the one that is due
-admitted : (n s : ℕ) (r : Option Refused) (receipt : Receipt) → admit_reply n s r ≡ Accepted receipt →
+pub admitted : (n s : ℕ) (r : Option Refused) (receipt : Receipt) → admit_reply n s r ≡ Accepted receipt →
     (r ≡ None) × (receipt ≡ record { no = n; effect = record { 0 = s } })
 admitted n s None receipt e = (refl, sym (ap (receipt_in receipt) e))
 admitted n s (Some refused) receipt e = absurd (true_not_false (sym (ap accepts e)))
@@ -58,26 +58,26 @@ record Withdrawn (rows : Option Row) (s : ℕ) (receipt : Receipt) : Type 0 wher
   open_end : row.withdrawn ≡ None
   due : receipt ≡ record { no = row.no; effect = record { 0 = s } }
 
-withdrawn_row : (row : Row) (end : Option Cycle) (s : ℕ) (receipt : Receipt) → withdraw_row s row.no end ≡ Accepted receipt →
+pub withdrawn_row : (row : Row) (end : Option Cycle) (s : ℕ) (receipt : Receipt) → withdraw_row s row.no end ≡ Accepted receipt →
     (end ≡ None) × (receipt ≡ record { no = row.no; effect = record { 0 = s } })
 withdrawn_row row None s receipt e = (refl, sym (ap (receipt_in receipt) e))
 withdrawn_row row (Some before) s receipt e = absurd (true_not_false (sym (ap accepts e)))
 
-withdrawn_one : (found : Option Row) (s : ℕ) (receipt : Receipt) → withdraw_reply s found ≡ Accepted receipt → Withdrawn found s receipt
+pub withdrawn_one : (found : Option Row) (s : ℕ) (receipt : Receipt) → withdraw_reply s found ≡ Accepted receipt → Withdrawn found s receipt
 withdrawn_one None s receipt e = absurd (true_not_false (sym (ap accepts e)))
 withdrawn_one (Some row) s receipt e =
     let parts = withdrawn_row row row.withdrawn s receipt e in
     record { row = row; is = refl; open_end = parts.0; due = parts.1 }
 
 -- an answer that doesn't accept makes no stream, and ends none; nor does a Seal
-no_stream : (d : Domain) (s : ℕ) (act : Act) (reply : Reply) → accepts reply ≡ false → stream_by d [] s act reply ≡ []
+pub no_stream : (d : Domain) (s : ℕ) (act : Act) (reply : Reply) → accepts reply ≡ false → stream_by d [] s act reply ≡ []
 no_stream d s (Admits asked) (Accepted receipt) refused = absurd (true_not_false refused)
 no_stream d s (Admits asked) (RefusedFor refused) refused_so = refl
 no_stream d s (Admits asked) Sealed refused_so = refl
 no_stream d s (Withdraws name) reply refused_so = refl
 no_stream d s Seals reply refused_so = refl
 
-no_end : (s number : ℕ) (act : Act) (reply : Reply) → accepts reply ≡ false → withdrawal_by s number act reply ≡ []
+pub no_end : (s number : ℕ) (act : Act) (reply : Reply) → accepts reply ≡ false → withdrawal_by s number act reply ≡ []
 no_end s number (Admits asked) reply refused_so = refl
 no_end s number (Withdraws name) (Accepted receipt) refused = absurd (true_not_false refused)
 no_end s number (Withdraws name) (RefusedFor refused) refused_so = refl
@@ -85,14 +85,14 @@ no_end s number (Withdraws name) Sealed refused_so = refl
 no_end s number Seals reply refused_so = refl
 
 -- where rows bear the numbers of their places, from a number on, those of other numbers stay
-others_stay : (xs : List Row) (m n c : ℕ) → ((k : ℕ) (row : Row) → slice_get xs k ≡ Some row → row.no ≡ m + k) → n < m → map (ended_row n c) xs ≡ xs
+pub others_stay : (xs : List Row) (m n c : ℕ) → ((k : ℕ) (row : Row) → slice_get xs k ≡ Some row → row.no ≡ m + k) → n < m → map (ended_row n c) xs ≡ xs
 others_stay [] m n c numbers below = refl
 others_stay (x ∷ xs) m n c numbers below =
     (λ i. (if ne_eqb x.no n (λ e. omega (arith, e, below, numbers 0 x refl)) i then record x { withdrawn = Some (record { 0 = c }) } else x) ∷ map (ended_row n c) xs)
     ∙ ap (λ ys. x ∷ ys) (others_stay xs (m + 1) n c (λ k row is. omega (arith, numbers (suc k) row is)) (omega (arith, below)))
 
 -- and that of the number ends
-one_ends : (xs : List Row) (m n c k : ℕ) (row : Row) → ((k : ℕ) (row : Row) → slice_get xs k ≡ Some row → row.no ≡ m + k) → n ≡ m + k →
+pub one_ends : (xs : List Row) (m n c k : ℕ) (row : Row) → ((k : ℕ) (row : Row) → slice_get xs k ≡ Some row → row.no ≡ m + k) → n ≡ m + k →
     slice_get xs k ≡ Some row → map (ended_row n c) xs ≡ slice_set xs k (record row { withdrawn = Some (record { 0 = c }) })
 one_ends [] m n c k row numbers at is = absurd (omega (arith, slice_get_within [] k row is))
 one_ends (x ∷ xs) m n c zero row numbers at is =
@@ -105,7 +105,7 @@ one_ends (x ∷ xs) m n c (suc k) row numbers at is =
     ∙ ap (λ ys. x ∷ ys) (one_ends xs (m + 1) n c k row (λ k row is. omega (arith, numbers (suc k) row is)) (omega (arith, at)) is)
 
 -- a request that nothing speaks against has the form of one
-admissible : {d : Domain} (rows : List Row) (asked : Asked) → refusal_of d rows asked ≡ None → IsAdmissible d asked
+pub admissible : {d : Domain} (rows : List Row) (asked : Asked) → refusal_of d rows asked ≡ None → IsAdmissible d asked
 admissible {d} rows asked none =
     let g = granted_so d rows asked none in
     record {
@@ -115,17 +115,17 @@ admissible {d} rows asked none =
     }
 
 module _ (d : Domain) (all : List Recorded) (legal : IsLegalHistory d all) (k : ℕ) (e : Recorded) (at : slice_get all k ≡ Some e) where
-  inside : k < length all
+  pub inside : k < length all
   inside = slice_get_within all k e at
 
-  due : e.reply ≡ reply_to d (take k all) e.act
+  pub due : e.reply ≡ reply_to d (take k all) e.act
   due = legal.replies k e at
 
-  grown : take (k + 1) all ≡ take k all ++ e ∷ []
+  pub grown : take (k + 1) all ≡ take k all ++ e ∷ []
   grown = (take_at_read all k e inside).1 ∙ ap (λ (x : Recorded). take k all ++ x ∷ []) (get_or_from_slice_get all k e e at)
 
   -- Seals before the entry, and others
-  parted : (seals all ≡ seals (take k all) + seals (drop k all)) × (seals (drop k all) ≤ length (drop k all))
+  pub parted : (seals all ≡ seals (take k all) + seals (drop k all)) × (seals (drop k all) ≤ length (drop k all))
       × (length all ≡ length (take k all) + length (drop k all))
   parted = (
     ap seals (sym (take-append-drop k all)) ∙ sum_by-append (λ (x : Recorded). cond (is_seal x.act) 1 0) (take k all) (drop k all),
@@ -134,7 +134,7 @@ module _ (d : Domain) (all : List Recorded) (legal : IsLegalHistory d all) (k : 
   )
 
   -- what stands before an entry of a legal history is one
-  front_legal : IsLegalHistory d (take k all)
+  pub front_legal : IsLegalHistory d (take k all)
   front_legal = record {
     replies = λ place x is.
         let early : place < k = omega (arith, slice_get_within (take k all) place x is, length-take-le k all (omega (arith, inside))) in
@@ -173,7 +173,7 @@ module _ (d : Domain) (all : List Recorded) (legal : IsLegalHistory d all) (k : 
       )
 
   -- the rows before the entry bear the numbers of their places
-  numbered : (i : ℕ) (row : Row) → slice_get (streams_of d (take k all)) i ≡ Some row → row.no ≡ i
+  pub numbered : (i : ℕ) (row : Row) → slice_get (streams_of d (take k all)) i ≡ Some row → row.no ≡ i
   numbered i row is =
       let old = admitted_before d all k in
       let w = withdrawn_before all k in

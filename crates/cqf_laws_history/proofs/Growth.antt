@@ -43,11 +43,11 @@ module _ (entries : List Recorded) (e : Recorded) where
   front_is = take_at entries (e ∷ []) (length entries) refl
 
   -- it stands behind them
-  last_is : slice_get (entries ++ e ∷ []) (length entries) ≡ Some e
+  pub last_is : slice_get (entries ++ e ∷ []) (length entries) ≡ Some e
   last_is = slice_get_behind entries e [] (length entries) refl
 
   -- and with it they are all
-  whole_is : take (suc (length entries)) (entries ++ e ∷ []) ≡ entries ++ e ∷ []
+  pub whole_is : take (suc (length entries)) (entries ++ e ∷ []) ≡ entries ++ e ∷ []
   whole_is = take_all (suc (length entries)) (entries ++ e ∷ []) (omega (arith, length-append entries (e ∷ [])))
 
 -- answers that are due, with one more that is
@@ -90,7 +90,7 @@ module _ (d : Domain) (entries : List Recorded) (e : Recorded) where
       ∙ streams_front (entries ++ e ∷ []) (suc (length entries)) (omega (arith, length-append entries (e ∷ []))) d
 
   -- the Seals before the new entry are those of the old ones
-  sealed_here : sealed_before (entries ++ e ∷ []) (length entries) ≡ seals entries
+  pub sealed_here : sealed_before (entries ++ e ∷ []) (length entries) ≡ seals entries
   sealed_here = ap seals (front_is entries e)
 
   -- what the new entry admits
@@ -126,7 +126,7 @@ module _ (d : Domain) (entries : List Recorded) (e : Recorded) where
       ∙ sym streams_before
 
 -- a state by its streams
-state_by : (d : Domain) (entries : List Recorded) (streams rows : List Row) (cycle next : ℕ) → streams_of d entries ≡ streams → seals entries ≡ cycle →
+pub state_by : (d : Domain) (entries : List Recorded) (streams rows : List Row) (cycle next : ℕ) → streams_of d entries ≡ streams → seals entries ≡ cycle →
     filter (λ (row : Row). is_held row cycle) streams ≡ rows → length streams ≡ next → IsState d entries rows next
 state_by d entries streams rows cycle next is now_at held count =
     record {
@@ -135,25 +135,25 @@ state_by d entries streams rows cycle next is now_at held count =
     }
 
 -- a refused call admits nothing
-refused_none : (d : Domain) (effect : ℕ) (act : Act) (refused : Refused) → stream_by d [] effect act (RefusedFor refused) ≡ []
+pub refused_none : (d : Domain) (effect : ℕ) (act : Act) (refused : Refused) → stream_by d [] effect act (RefusedFor refused) ≡ []
 refused_none d effect (Admits asked) refused = refl
 refused_none d effect (Withdraws name) refused = refl
 refused_none d effect Seals refused = refl
 
 -- and withdraws nothing
-refused_ends_none : (effect number : ℕ) (act : Act) (refused : Refused) → withdrawal_by effect number act (RefusedFor refused) ≡ []
+pub refused_ends_none : (effect number : ℕ) (act : Act) (refused : Refused) → withdrawal_by effect number act (RefusedFor refused) ≡ []
 refused_ends_none effect number (Admits asked) refused = refl
 refused_ends_none effect number (Withdraws name) refused = refl
 refused_ends_none effect number Seals refused = refl
 
 -- no Seal is refused
-no_seal_refused : (d : Domain) (entries : List Recorded) (act : Act) (refused : Refused) → reply_to d entries act ≡ RefusedFor refused → is_seal act ≡ false
+pub no_seal_refused : (d : Domain) (entries : List Recorded) (act : Act) (refused : Refused) → reply_to d entries act ≡ RefusedFor refused → is_seal act ≡ false
 no_seal_refused d entries (Admits asked) refused e = refl
 no_seal_refused d entries (Withdraws name) refused e = refl
 no_seal_refused d entries Seals refused e = absurd cc
 
 -- no Seal leaves the next cycle as it was
-seals_same : (entries : List Recorded) (seat : ℕ) (act : Act) (reply : Reply) → is_seal act ≡ false → seals (with_entry entries seat act reply) ≡ seals entries
+pub seals_same : (entries : List Recorded) (seat : ℕ) (act : Act) (reply : Reply) → is_seal act ≡ false → seals (with_entry entries seat act reply) ≡ seals entries
 seals_same entries seat act reply none =
     let count = seals_are_counted entries seat act reply in
     let no_more : ◌≡◌ {A = ℕ} (if is_seal act then 1 else 0) 0 = ap (λ (b : Bool). cond {A = ℕ} b 1 0) none in
@@ -181,7 +181,7 @@ none_unless None h = refl
 none_unless (Some x) h = absurd (h x refl)
 
 -- a stream that is admitted now is held now
-new_is_held : (d : Domain) (number effect : ℕ) (asked : Asked) →
+pub new_is_held : (d : Domain) (number effect : ℕ) (asked : Asked) →
     filter (λ (row : Row). is_held row effect) (granted_row d number effect asked ∷ []) ≡ granted_row d number effect asked ∷ []
 new_is_held d number effect asked =
     let new = granted_row d number effect asked in
@@ -220,7 +220,7 @@ granted_is_held d entries rows next seat asked legal state free =
     (seals_same entries seat (Admits asked) reply refl) held (length-append (streams_of d entries) (new ∷ []) ∙ ap (λ (k : ℕ). k + 1) state.number)
 
 -- what is kept of a mapped list, where the map changes nothing of the test
-filter_mapped : (p : Row → Bool) (g : Row → Row) (xs : List Row) → ((x : Row) → Contains xs x → p (g x) ≡ p x) → filter p (map g xs) ≡ map g (filter p xs)
+pub filter_mapped : (p : Row → Bool) (g : Row → Row) (xs : List Row) → ((x : Row) → Contains xs x → p (g x) ≡ p x) → filter p (map g xs) ≡ map g (filter p xs)
 filter_mapped p g [] h = refl
 filter_mapped p g (x ∷ xs) h =
     ap (λ (b : Bool). cond b (g x ∷ filter p (map g xs)) (filter p (map g xs))) (h x (contains_here x xs))
@@ -233,17 +233,17 @@ filter_mapped p g (x ∷ xs) h =
     map_kept false = refl
 
 -- a map after a map, against one that agrees on the members
-map_twice : (f g h : Row → Row) (xs : List Row) → ((x : Row) → Contains xs x → f x ≡ g (h x)) → map f xs ≡ map g (map h xs)
+pub map_twice : (f g h : Row → Row) (xs : List Row) → ((x : Row) → Contains xs x → f x ≡ g (h x)) → map f xs ≡ map g (map h xs)
 map_twice f g h [] e = refl
 map_twice f g h (x ∷ xs) e =
     ap (λ (y : Row). y ∷ map f xs) (e x (contains_here x xs)) ∙ ap (λ (ys : List Row). g (h x) ∷ ys) (map_twice f g h xs (λ z k. e z (contains_later x xs z k)))
 
 -- the sound streams of a legal history
-sound_now : (d : Domain) (entries : List Recorded) → IsLegalHistory d entries → Sound d entries (length entries)
+pub sound_now : (d : Domain) (entries : List Recorded) → IsLegalHistory d entries → Sound d entries (length entries)
 sound_now d entries legal = sound d entries legal.replies (length entries) (omega arith)
 
 -- all entries are before the end
-all_is : (entries : List Recorded) → take (length entries) entries ≡ entries
+pub all_is : (entries : List Recorded) → take (length entries) entries ≡ entries
 all_is entries = take_all (length entries) entries (omega arith)
 
 -- a stream of a legal history was admitted
@@ -254,13 +254,13 @@ stream_of d entries row h =
     (subst (λ (xs : List Row). Contains xs row) (ap (streams_of d) (sym (all_is entries)) ∙ streams_front entries (length entries) (omega arith) d) h)
 
 -- each stream has begun by now
-begun_now : (d : Domain) (entries : List Recorded) (row : Row) → IsLegalHistory d entries → Contains (streams_of d entries) row → row.admitted.0 ≤ seals entries
+pub begun_now : (d : Domain) (entries : List Recorded) (row : Row) → IsLegalHistory d entries → Contains (streams_of d entries) row → row.admitted.0 ≤ seals entries
 begun_now d entries row legal h =
     let s = stream_of d entries row h in
     omega (arith, (sound_now d entries legal).begun s.0 s.1, ap (λ (r : Row). r.admitted.0) s.2, ap seals (all_is entries))
 
 -- and its tree is one of the domain
-tree_now : (d : Domain) (entries : List Recorded) (row : Row) → IsLegalHistory d entries → Contains (streams_of d entries) row → IsTree d row.tree.items
+pub tree_now : (d : Domain) (entries : List Recorded) (row : Row) → IsLegalHistory d entries → Contains (streams_of d entries) row → IsTree d row.tree.items
 tree_now d entries row legal h =
     let s = stream_of d entries row h in
     subst (λ (r : Row). IsTree d r.tree.items) s.2 ((sound_now d entries legal).trees s.0 s.1)
@@ -315,7 +315,7 @@ abbrev row_ending : Row → Option Cycle → Row
 row_ending row end = record { no = row.no; name = row.name; octets = row.octets; tree = row.tree; admitted = row.admitted; withdrawn = end }
 
 -- a row that is held without an end is held with an end from this cycle on
-held_with_end : (row : Row) (cycle number : ℕ) → 0 < residence row → (row.no ≡ number → row.withdrawn ≡ None) →
+pub held_with_end : (row : Row) (cycle number : ℕ) → 0 < residence row → (row.no ≡ number → row.withdrawn ≡ None) →
     is_held (ended_row number cycle row) cycle ≡ is_held row cycle
 held_with_end row cycle number long open_end = by_number (row.no == number) refl
   where
@@ -399,7 +399,7 @@ withdrawn_is_held_on d entries rows next seat name row legal state found open_en
 -- ---- what held streams have
 
 -- held streams are sound
-held_sound : (d : Domain) (entries : List Recorded) → IsLegalHistory d entries →
+pub held_sound : (d : Domain) (entries : List Recorded) → IsLegalHistory d entries →
     AreHeld d (held_in d entries (seals entries)) (next_number d entries) (seals entries)
 held_sound d entries legal =
     let n = length entries in
