@@ -11,7 +11,7 @@ use Rattle.cqf_admission.specs.Asking.{asked_by, asked_of}
 use Rattle.cqf_script.specs.declared.faults.ScriptFault.TheVariants.{UnknownStream, TooMany}
 use Rattle.cqf_script.specs.declared.lines.Wish.TheVariants.{Admit, Withdraw}
 use Rattle.cqf_script.specs.Lines.{Ordered}
-use Rattle.cqf_script.specs.Names.{has_name}
+use Rattle.cqf_requests.specs.Names.{has_name}
 use Rattle.cqf_script.specs.Script.{call_of_order, called_of, most_calls, request_named}
 
 -- what the first request asks for is what is asked for first

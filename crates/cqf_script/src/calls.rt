@@ -9,7 +9,7 @@ ghost use Rattle.cqf_script.specs.Script.{AreFew, administrators, call_of_line, 
 
 use crate::ScriptFault;
 use crate::lines::{Order, Wish, is_seal_line, read_order};
-use crate::names::Names;
+use cqf_requests::Names;
 use cqf_admission::{Call, MOST_CALLS};
 use cqf_text::split_line;
 use cqf_topology::Request;

@@ -17,7 +17,6 @@
 mod calls;
 mod faults;
 mod lines;
-mod names;
 
 pub use calls::{administrators, read_script};
 pub use faults::ScriptFault;

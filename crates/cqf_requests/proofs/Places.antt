@@ -46,10 +46,3 @@ found_nowhere p xs is = by (nat_lt (position_or_len p xs) (length xs)) refl is
     by : (b : Bool) → nat_lt (position_or_len p xs) (length xs) ≡ b → cond b (Some (position_or_len p xs)) None ≡ None → None ≡ find p xs
     by true e h = absurd cc
     by false e h = sym (find_at p xs ∙ slice_get_past xs (position_or_len p xs) (ltb-false (position_or_len p xs) (length xs) e))
-
--- what is read at a place of a list, behind a reference or not, is the element there
-pub read_there : {B X : Type 0} (now : B → X) (o : Option B) (xs : List X) (place : ℕ) → is_some o ≡ nat_lt place (length xs) →
-    IfSome o (λ x. now x ≡ get_or xs place (now x)) → option_map now o ≡ slice_get xs place
-read_there now None xs place there is = sym (slice_get_past xs place (ltb-false place (length xs) (sym there)))
-read_there now (Some x) xs place there is =
-    ap Some is ∙ sym (slice_get-get_or xs place (now x) (ltb-true place (length xs) (sym there)))

@@ -1,8 +1,8 @@
 use Rattle.std.proofs.Common.{◌∙◌, List, ap}
 use Rattle.cqf_topology.specs.declared.streams.Request.{Request}
-use Rattle.cqf_script.specs.Names.{place_named}
-use Rattle.cqf_script.proofs.NameLemmas.{lookup-texts}
-use Rattle.cqf_script.proofs.names.Names.place_of.Goals as goal
+use Rattle.cqf_requests.specs.Names.{place_named}
+use Rattle.cqf_requests.proofs.NameLemmas.{lookup-texts}
+use Rattle.cqf_requests.proofs.names.Names.place_of.Goals as goal
 
 pub returns : goal.returns
 returns c =

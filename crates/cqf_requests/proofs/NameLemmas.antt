@@ -7,8 +7,8 @@ use Rattle.cqf_lists.specs.Lists.{or_else}
 use Rattle.cqf_model.specs.Domain.{is_text}
 use Rattle.cqf_model.proofs.Texts.{is_text_same, pointwise-is_text}
 use Rattle.cqf_topology.specs.declared.streams.Request.{Request}
-use Rattle.cqf_script.specs.Names.{LeadToFirst, has_name, place_named}
-use Rattle.cqf_script.proofs.Places.{position-push}
+use Rattle.cqf_requests.specs.Names.{LeadToFirst, has_name, place_named}
+use Rattle.cqf_requests.proofs.Places.{position-push}
 
 -- what is found among entries and one behind them: what was found before, or else the last
 lookup-push : {K X : Type 0} (test : K → Bool) (es : List (K × X)) (key : K) (value : X) →

@@ -1,6 +1,6 @@
 //! Requests, found by their names.
-ghost use Rattle.std.specs.Prelude.{◌≡◌, IfOk, find, option_copied};
-ghost use Rattle.cqf_script.specs.Names.{has_name, place_named};
+ghost use Rattle.std.specs.Prelude.{◌≡◌, IfOk};
+ghost use Rattle.cqf_requests.specs.Names.{place_named};
 
 use cqf_topology::Request;
 use cqf_units::Memory;
@@ -19,7 +19,7 @@ pub struct Names<'r> {
 impl<'r> Model for Names<'r> {
     ghost use Rattle.std.specs.Prelude.{List};
     ghost use Rattle.cqf_topology.specs.declared.streams.Request.{Request};
-    ghost use Rattle.cqf_script.specs.Names.{LeadToFirst};
+    ghost use Rattle.cqf_requests.specs.Names.{LeadToFirst};
 
     ghost Value = { List Request };
 
@@ -52,15 +52,5 @@ impl<'r> Names<'r> {
         ensures { result ≡ place_named self.now name.now }
     {
         self.places.get(name).copied()
-    }
-
-    /// The first request of the name.
-    pub fn find(&self, name: &str) -> Option<&'r Request>
-        ensures { option_copied result ≡ find (has_name name.now) self.now }
-    {
-        match self.place_of(name) {
-            Some(place) => self.requests.get(place),
-            None => None,
-        }
     }
 }

@@ -5,8 +5,8 @@ use Rattle.std.proofs.lemmas.List.{take_more}
 use Rattle.indexmap.proofs.CallerLemmas.{insert_entry-new}
 use Rattle.cqf_model.specs.Domain.{is_text}
 use Rattle.cqf_topology.specs.declared.streams.Request.{Request}
-use Rattle.cqf_script.proofs.NameLemmas.{known_name, lookup-texts, new_name, none_of}
-use Rattle.cqf_script.proofs.names.Names.new.Goals as goal
+use Rattle.cqf_requests.proofs.NameLemmas.{known_name, lookup-texts, new_name, none_of}
+use Rattle.cqf_requests.proofs.names.Names.new.Goals as goal
 
 pub loop-place-preserved-then-contains_key : goal.loop-place-preserved-then-contains_key
 loop-place-preserved-then-contains_key c =
