@@ -1,4 +1,5 @@
 mod OrderLemmas
+mod NamePlaces
 mod ReadLines
 mod Words
 mod Few

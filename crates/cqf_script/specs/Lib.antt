@@ -1,4 +1,5 @@
 pub mod Faults
 pub mod Lines
-pub mod Orders
+pub mod Placed
 pub mod Script
+pub mod Written
