@@ -11,6 +11,12 @@
 //! ```
 #![tactic(auto)]
 
+mod entering;
+mod history;
 mod laying;
+mod layout;
 
+pub use entering::enter_offers;
+pub use history::starts_of_history;
 pub use laying::lay_streams;
+pub use layout::{Layout, lay_run};
