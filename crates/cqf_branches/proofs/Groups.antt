@@ -104,6 +104,7 @@ none_behind tree before groups count = record {
   short = omega arith;
   front = take_all (length before) before (omega arith);
   each = λ k hop below is. absurd (omega (arith, below));
+  beyond = λ k hop below is. absurd (omega (arith, below));
   own = λ h from inside. absurd (omega (arith, from, inside));
 }
 
@@ -127,6 +128,12 @@ behind_more tree before now after k hop many groups few low at b lays =
             (stand_same tree (Some other.link) now after (group_at groups other.link) (omega (arith, g))
             (λ h inside. ap (λ (b : Branch). b.link) (stays tree (Some hop.link) now after many lays h inside))
             (b.each j other (before_k j other below is n) is))
+      ];
+      beyond = λ j other below is. elim (cases_eq other.link hop.link) [
+        | inl e ↦ subst (λ l. length before ≤ (group_at (slice_set groups hop.link new) l).first) (sym e)
+            (subst (λ (g : Group). length before ≤ g.first) (sym (get_or-set_same groups hop.link new no_group (omega (arith, low, b.count)))) b.longer)
+        | inr n ↦ subst (λ (g : Group). length before ≤ g.first) (sym (get_or-set_other groups hop.link other.link new no_group n))
+            (b.beyond j other (before_k j other below is n) is)
       ];
       own = λ h from inside. elim (cases_lt h (length now)) [
         | inl old ↦ subst (λ (b : Branch). is_of_tree tree h b) (sym (stays tree (Some hop.link) now after many lays h old)) (b.own h from old)
@@ -186,11 +193,21 @@ module _ (tree : List Hop) (before one two : List Branch) (many : ℕ) (groups :
         subst (λ l. StandBehind tree (Some l) three (behind_at three h)) (sym (tied.links h))
         (subst (StandBehind tree (Some link) three) (λ i. record { first = sym t.0 i; many = sym t.1 i }) in_three)
 
+    beyond_three : (h : ℕ) → length before ≤ h → h < length three → length before ≤ (behind_at three h).first
+    beyond_three h from inside =
+        let in_two : h < length two = omega (arith, inside, tied.count) in
+        let found = hop_of tree h (branch_at two h) (own_two h from in_two) in
+        let place = place_of_member tree found.0 found.1 in
+        let later = b.beyond place.0 found.0 (slice_get_within tree place.0 found.0 place.1) place.1 in
+        let first = ap (λ l. (group_at groups l).first) found.2 in
+        omega (arith, later, first, (tied.tied h from in_two).0, grown tree None before one many lays)
+
     pub laid : IsLaid tree before three (record { first = length before; many = many })
     laid =
         let g = grown tree None before one many lays in
         record {
           longer = omega (arith, g, b.longer, tied.count);
+          short = omega (arith, g, short tree None before one many lays, b.short, few, tied.count);
           front = λ h inside. tied.front h inside ∙ front_two h (omega (arith, inside, g)) ∙ stays tree None before one many lays h inside;
           begins =
               stand_same tree None two three (record { first = length before; many = many }) (omega (arith, tied.count)) (λ h below. tied.links h)
@@ -199,4 +216,5 @@ module _ (tree : List Hop) (before one two : List Branch) (many : ℕ) (groups :
           from = omega arith;
           own = own_three;
           behind = behind_three;
+          beyond = beyond_three;
         }

@@ -29,6 +29,7 @@ pub record AreBehind (tree : List Hop) (before after : List Branch) (many : ℕ)
   pub short : length after ≤ length before + 64 * many
   pub front : take (length before) after ≡ before
   pub each : (k : ℕ) (hop : Hop) → k < many → slice_get tree k ≡ Some hop → StandBehind tree (Some hop.link) after (group_at groups hop.link)
+  pub beyond : (k : ℕ) (hop : Hop) → k < many → slice_get tree k ≡ Some hop → length before ≤ (group_at groups hop.link).first
   pub own : (h : ℕ) → length before ≤ h → h < length after → is_of_tree tree h (branch_at after h)
 
 -- from a place on links have numbers below 64
@@ -48,11 +49,13 @@ abbrev pub behind_at : List Branch → ℕ → Group
 behind_at branches h = let branch = branch_at branches h in record { first = branch.next; many = branch.many }
 
 -- a tree was laid behind branches that stood there: from the edge it begins with a group, and each branch of it leads to those that
--- follow its link
+-- follow its link, which are of it too
 pub record IsLaid (tree : List Hop) (before after : List Branch) (edge : Group) : Type 0 where
   pub longer : length before ≤ length after
+  pub short : length after ≤ length before + 4160
   pub front : (h : ℕ) → h < length before → branch_at after h ≡ branch_at before h
   pub begins : StandBehind tree None after edge
   pub from : length before ≤ edge.first
   pub own : (h : ℕ) → length before ≤ h → h < length after → is_of_tree tree h (branch_at after h)
   pub behind : (h : ℕ) → length before ≤ h → h < length after → StandBehind tree (Some (branch_at after h).link) after (behind_at after h)
+  pub beyond : (h : ℕ) → length before ≤ h → h < length after → length before ≤ (behind_at after h).first

@@ -52,7 +52,7 @@ admitted n s None receipt e = (refl, sym (ap (receipt_in receipt) e))
 admitted n s (Some refused) receipt e = absurd (true_not_false (sym (ap accepts e)))
 
 -- and a withdrawal that is accepted is of a stream that wasn't withdrawn
-record Withdrawn (rows : Option Row) (s : ℕ) (receipt : Receipt) : Type 0 where
+pub record Withdrawn (rows : Option Row) (s : ℕ) (receipt : Receipt) : Type 0 where
   row : Row
   is : rows ≡ Some row
   open_end : row.withdrawn ≡ None
