@@ -1,0 +1,4 @@
+pub mod Single
+pub mod ByPlace
+pub mod Drops
+pub mod OfParts
