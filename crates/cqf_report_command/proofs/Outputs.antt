@@ -1,5 +1,5 @@
 -- What is told of an administration is the output of the scenario that it was made of.
-use Rattle.std.proofs.Common.{◌≡◌, ◌∙◌, ℕ, List, Result, Ok, Err, ap, arith, sym, subst}
+use Rattle.std.proofs.Common.{◌≡◌, ◌∙◌, ℕ, List, Result, Ok, Err, ap, arith, refl, sym, subst}
 use Rattle.cqf_lists.specs.Results.{and_then}
 use Rattle.cqf_model.specs.declared.frames.Background.{Background}
 use Rattle.cqf_model.specs.declared.frames.Offer.{Offer}
@@ -21,6 +21,7 @@ use Rattle.cqf_laws_report.specs.Judged.{ReadInOrder, StandInOrder, judged_of}
 use Rattle.cqf_laws_report.specs.Told.{BookOfHistoryIsThere, ReportIsTold}
 use Rattle.cqf_columns.specs.Columns.{AreSumsBy}
 use Rattle.cqf_scenario.specs.Calls.{history_of}
+use Rattle.cqf_scenario.proofs.BookOf.{IsBookOfScenario-there}
 use Rattle.cqf_scenario.specs.Scenario.{Scenario, background_in, calls_in, frames_in, scenario_input, scenario_of}
 use Rattle.cqf_report_command.specs.ReportOutput.{IsReportOutput}
 use Rattle.cqf_report_command.specs.Telling.{TellsTheBook}
@@ -83,11 +84,7 @@ IsReportOutput-told cycles input text s d entries offers holds domain history sa
       scenario = s;
       holds = holds;
       book = told.book;
-      is_book = record {
-        is_book = told.there.is_book;
-        only = told.there.only;
-        promise = record { says = told.there.says; net = told.there.net; legal = told.there.legal; tells = told.there.tells; means = told.there.means };
-      };
+      is_book = IsBookOfScenario-there cycles s s.domain (history_of cycles s) s.offers s.background told.book refl refl refl refl told.there;
       written = told.written;
     }
 

@@ -10,6 +10,7 @@ use Rattle.cqf_model.specs.HistoryBook.{run_of_history}
 use Rattle.cqf_model.specs.Run.{Run}
 use Rattle.cqf_admission.specs.Admission.{Administration}
 use Rattle.cqf_admission.specs.Tables.{CycleTable}
+use Rattle.cqf_laws_report.specs.Told.{IsThere}
 use Rattle.cqf_plain.specs.declared.faults.RunFault.{RunFault}
 use Rattle.cqf_plain.specs.declared.faults.RunFault.TheVariants.{WrongTables, Inside, Memory}
 use Rattle.cqf_plain.specs.Promise.{AreOfHistory, KeepsItOfHistory, KeepsThePromise, WantsMemoryAlone}
@@ -70,3 +71,19 @@ no_other_fault cycles d a tables fault same all legal closed alone other =
       | inl wrong ↦ cc
       | inr inside ↦ let is : fault ≡ Inside inside.0 = inside.1 in cc
     ]
+
+-- a book that is there is the scenario's
+pub IsBookOfScenario-there : (cycles : ℕ) (s : Scenario) (d : Domain) (entries : List Recorded) (offers : List Offer) (background : List Background)
+    (book : Contents) → d ≡ s.domain → entries ≡ history_of cycles s → offers ≡ s.offers → background ≡ s.background →
+    IsThere d entries offers background cycles book → IsBookOfScenario cycles s book
+IsBookOfScenario-there cycles s d entries offers background book domain history offered behind there =
+    let at : IsThere s.domain (history_of cycles s) s.offers s.background cycles book =
+    subst (λ (bs : List Background). IsThere s.domain (history_of cycles s) s.offers bs cycles book) behind
+    (subst (λ (os : List Offer). IsThere s.domain (history_of cycles s) os background cycles book) offered
+    (subst (λ (es : List Recorded). IsThere s.domain es offers background cycles book) history
+    (subst (λ (x : Domain). IsThere x entries offers background cycles book) domain there))) in
+    record {
+      is_book = at.is_book;
+      only = at.only;
+      promise = record { says = at.says; net = at.net; legal = at.legal; tells = at.tells; means = at.means };
+    }

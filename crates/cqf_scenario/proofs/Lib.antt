@@ -1,5 +1,6 @@
 mod Closed
 mod Room
 mod ReadInput
-mod BookOf
+pub mod BookOf
 mod Commands
+mod InOrder

@@ -20,6 +20,7 @@
 
 mod administered;
 mod calls;
+mod exact;
 mod given;
 mod opening;
 mod parting;
