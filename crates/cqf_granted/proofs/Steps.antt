@@ -1,15 +1,15 @@
 -- What an entry more makes of the streams that were granted.
-use Rattle.std.proofs.Common.{◌≡◌, ◌≢◌, ℕ, suc, zero, ◌+◌, ◌-◌, ◌<◌, ◌≤◌, ◌∷◌, [], ◌++◌, ◌==◌, List, Bool, true, false, not, Option, Some, None, inl, inr, refl, sym, ap, ◌∙◌, subst, arith, length, take, map, Contains, get_or, if◌then◌else◌, eq-eqb, ne_eqb, option_map, cond, drop, length-take-le, length-drop}
+use Rattle.std.proofs.Common.{◌≡◌, ℕ, ◌+◌, ◌<◌, ◌≤◌, ◌∷◌, [], ◌++◌, List, true, false, Option, Some, None, inl, inr, refl, sym, ap, ◌∙◌, arith, length, take, map, Contains, option_map, cond, drop, length-take-le}
 use Rattle.std.specs.Prelude.{slice_get, slice_index_or, slice_set}
-use Rattle.std.proofs.lemmas.Bool.{cases_Bool, cases_eq}
+use Rattle.std.proofs.lemmas.Bool.{cases_lt}
 use Rattle.std.proofs.lemmas.Grind.{take_at_read}
-use Rattle.std.proofs.lemmas.List.{length-append, length-map, take-take, take-append-drop}
+use Rattle.std.proofs.lemmas.List.{get_or_past, length-append, take-take, take-append-drop}
 use Rattle.std.proofs.lemmas.List.Sums.{count_by-le-length, sum_by-append}
-use Rattle.std.proofs.lemmas.Option.{get_or_from_slice_get, none-some, same_Some, slice_get-map, slice_get_read, slice_get_within}
+use Rattle.std.proofs.lemmas.Option.{get_or_from_slice_get, same_Some, slice_get-map, slice_get_read, slice_get_within}
 use Rattle.cqf_units.specs.Name.{is_name}
 use Rattle.cqf_units.specs.declared.reservations.Cycle.{Cycle}
 use Rattle.cqf_lists.specs.Lists.{or_else}
-use Rattle.cqf_lists.proofs.Members.{contains_at, contains_from_filter, place_of_member}
+use Rattle.cqf_lists.proofs.Members.{contains_from_filter, place_of_member}
 use Rattle.cqf_lists.proofs.Places.{slice_get-take}
 use Rattle.cqf_model.specs.declared.history.Receipt.{Receipt}
 use Rattle.cqf_model.specs.declared.history.Refused.{Refused}
@@ -20,27 +20,20 @@ use Rattle.cqf_model.specs.declared.topology.Row.{Row}
 use Rattle.cqf_model.specs.Domain.{Domain}
 use Rattle.cqf_model.specs.History.{Act, Admits, Asked, IsLegalHistory, Recorded, Seals, is_seal, Withdraws, admit_reply, held_in, next_number, refusal_of, refused_at, reply_to, seals, stream_by, streams_of, withdraw_reply, withdraw_row, withdrawal_by}
 use Rattle.cqf_model.specs.Table.{is_held, row_named}
-use Rattle.cqf_laws_history.specs.StateLaws.{ended_row, granted_row, with_entry}
+use Rattle.cqf_laws_history.specs.StateLaws.{ended_row, granted_row}
 use Rattle.cqf_laws_history.specs.StreamLaws.{GrantedIsLast, WithdrawnEnds}
 use Rattle.cqf_laws_history.proofs.Granted.{granted as granted_so}
 use Rattle.cqf_laws_history.proofs.Growth.{streams_same}
-use Rattle.cqf_laws_history.proofs.Places.{admitted_before, streams_front, with_end, withdrawn_before}
-use Rattle.cqf_laws_history.proofs.Sound.{named_is_held, sound}
-use Rattle.cqf_admission.specs.declared.entries.Entry.{Entry}
-use Rattle.cqf_admission.specs.Admission.{recorded_of}
-use Rattle.cqf_trees.specs.Branches.{tree_refusal}
-use Rattle.cqf_granted.specs.Granted.{EndsAt, IsAdmissible}
+use Rattle.cqf_laws_history.proofs.Sound.{named_is_held}
+use Rattle.cqf_laws_ledger.proofs.Numbers.{numbered, one_ends}
+use Rattle.cqf_requests.specs.Orders.{request_at}
+use Rattle.cqf_granted.specs.Granted.{EndsAt, IsAdmissible, accepts}
 
 -- the receipt of an answer that accepts
 abbrev receipt_in : Receipt → Reply → Receipt
 receipt_in other (Accepted receipt) = receipt
 receipt_in other (RefusedFor refused) = other
 receipt_in other Sealed = other
-
-abbrev pub accepts : Reply → Bool
-accepts (Accepted receipt) = true
-accepts (RefusedFor refused) = false
-accepts Sealed = false
 
 pub true_not_false : true ≡ false → ⊥
 true_not_false e = absurd cc
@@ -53,10 +46,10 @@ admitted n s (Some refused) receipt e = absurd (true_not_false (sym (ap accepts 
 
 -- and a withdrawal that is accepted is of a stream that wasn't withdrawn
 pub record Withdrawn (rows : Option Row) (s : ℕ) (receipt : Receipt) : Type 0 where
-  row : Row
-  is : rows ≡ Some row
-  open_end : row.withdrawn ≡ None
-  due : receipt ≡ record { no = row.no; effect = record { 0 = s } }
+  pub row : Row
+  pub is : rows ≡ Some row
+  pub open_end : row.withdrawn ≡ None
+  pub due : receipt ≡ record { no = row.no; effect = record { 0 = s } }
 
 pub withdrawn_row : (row : Row) (end : Option Cycle) (s : ℕ) (receipt : Receipt) → withdraw_row s row.no end ≡ Accepted receipt →
     (end ≡ None) × (receipt ≡ record { no = row.no; effect = record { 0 = s } })
@@ -83,26 +76,6 @@ no_end s number (Withdraws name) (Accepted receipt) refused = absurd (true_not_f
 no_end s number (Withdraws name) (RefusedFor refused) refused_so = refl
 no_end s number (Withdraws name) Sealed refused_so = refl
 no_end s number Seals reply refused_so = refl
-
--- where rows bear the numbers of their places, from a number on, those of other numbers stay
-pub others_stay : (xs : List Row) (m n c : ℕ) → ((k : ℕ) (row : Row) → slice_get xs k ≡ Some row → row.no ≡ m + k) → n < m → map (ended_row n c) xs ≡ xs
-others_stay [] m n c numbers below = refl
-others_stay (x ∷ xs) m n c numbers below =
-    (λ i. (if ne_eqb x.no n (λ e. omega (arith, e, below, numbers 0 x refl)) i then record x { withdrawn = Some (record { 0 = c }) } else x) ∷ map (ended_row n c) xs)
-    ∙ ap (λ ys. x ∷ ys) (others_stay xs (m + 1) n c (λ k row is. omega (arith, numbers (suc k) row is)) (omega (arith, below)))
-
--- and that of the number ends
-pub one_ends : (xs : List Row) (m n c k : ℕ) (row : Row) → ((k : ℕ) (row : Row) → slice_get xs k ≡ Some row → row.no ≡ m + k) → n ≡ m + k →
-    slice_get xs k ≡ Some row → map (ended_row n c) xs ≡ slice_set xs k (record row { withdrawn = Some (record { 0 = c }) })
-one_ends [] m n c k row numbers at is = absurd (omega (arith, slice_get_within [] k row is))
-one_ends (x ∷ xs) m n c zero row numbers at is =
-    (λ i. (if eq-eqb x.no n (omega (arith, numbers 0 x refl, at)) i then record x { withdrawn = Some (record { 0 = c }) } else x) ∷ map (ended_row n c) xs)
-    ∙ ap (λ ys. record x { withdrawn = Some (record { 0 = c }) } ∷ ys)
-    (others_stay xs (m + 1) n c (λ k row is. omega (arith, numbers (suc k) row is)) (omega (arith, at)))
-    ∙ ap (λ (r : Row). record r { withdrawn = Some (record { 0 = c }) } ∷ xs) (same_Some x row is)
-one_ends (x ∷ xs) m n c (suc k) row numbers at is =
-    (λ i. (if ne_eqb x.no n (λ e. omega (arith, e, at, numbers 0 x refl)) i then record x { withdrawn = Some (record { 0 = c }) } else x) ∷ map (ended_row n c) xs)
-    ∙ ap (λ ys. x ∷ ys) (one_ends xs (m + 1) n c k row (λ k row is. omega (arith, numbers (suc k) row is)) (omega (arith, at)) is)
 
 -- a request that nothing speaks against has the form of one
 pub admissible : {d : Domain} (rows : List Row) (asked : Asked) → refusal_of d rows asked ≡ None → IsAdmissible d asked
@@ -172,20 +145,6 @@ module _ (d : Domain) (all : List Recorded) (legal : IsLegalHistory d all) (k : 
             ∙ ap (λ (r : Receipt). streams_of d before ++ granted_row d r.no r.effect.0 asked ∷ []) (sym parts.1),
       )
 
-  -- the rows before the entry bear the numbers of their places
-  pub numbered : (i : ℕ) (row : Row) → slice_get (streams_of d (take k all)) i ≡ Some row → row.no ≡ i
-  numbered i row is =
-      let old = admitted_before d all k in
-      let w = withdrawn_before all k in
-      let there = ap (λ (xs : List Row). slice_get xs i) (sym (streams_front all k (omega (arith, inside)) d)) ∙ is in
-      by (slice_get old i) refl (sym (slice_get-map (with_end w) old i) ∙ there)
-    where
-      by : (o : Option Row) → slice_get (admitted_before d all k) i ≡ o → option_map (with_end (withdrawn_before all k)) o ≡ Some row → row.no ≡ i
-      by None at_i e = absurd (none-some row e)
-      by (Some x) at_i e =
-          sym (ap (λ (r : Row). r.no) (same_Some (with_end (withdrawn_before all k) x) row e))
-          ∙ (sound d all legal.replies k (omega (arith, inside))).numbers i x at_i
-
   -- a withdrawal that is accepted ends the row of its number
   pub withdrawn : WithdrawnEnds → (name : List ℕ) (receipt : Receipt) → e.act ≡ Withdraws name → e.reply ≡ Accepted receipt →
       (receipt.no < length (streams_of d (take k all)))
@@ -199,7 +158,7 @@ module _ (d : Domain) (all : List Recorded) (legal : IsLegalHistory d all) (k : 
       let in_held : Contains (held_in d before (seals before)) row = named_is_held (held_in d before (seals before)) name row one.is in
       let in_rows : Contains rows row = (contains_from_filter (λ (r : Row). is_held r (seals before)) rows row in_held).0 in
       let place = place_of_member rows row in_rows in
-      let number : row.no ≡ place.0 = numbered place.0 row place.1 in
+      let number : row.no ≡ place.0 = numbered d before front_legal place.0 row place.1 in
       let is_number : receipt.no ≡ row.no = ap (λ (r : Receipt). r.no) one.due in
       let is_effect : receipt.effect ≡ record { 0 = seals before } = ap (λ (r : Receipt). r.effect) one.due in
       let there : slice_get rows receipt.no ≡ Some row = ap (slice_get rows) (is_number ∙ number) ∙ place.1 in
@@ -210,7 +169,7 @@ module _ (d : Domain) (all : List Recorded) (legal : IsLegalHistory d all) (k : 
             ap (streams_of d) (grown ∙ ap (λ (x : Recorded). before ++ x ∷ []) same)
             ∙ law d before e.seat name row front_legal one.is one.open_end
             ∙ ap (λ n. map (ended_row n (seals before)) rows) (sym is_number)
-            ∙ one_ends rows 0 receipt.no (seals before) receipt.no row (λ i r is. numbered i r is ∙ omega arith) (omega arith) there
+            ∙ one_ends rows 0 receipt.no (seals before) receipt.no row (λ i r is. numbered d before front_legal i r is ∙ omega arith) (omega arith) there
             ∙ ap (λ (r : Row). slice_set rows receipt.no (record r { withdrawn = Some (record { 0 = seals before }) })) (same_Some row ends.row (sym there ∙ ends.is))
             ∙ ap (λ (c : Cycle). slice_set rows receipt.no (record ends.row { withdrawn = Some c })) (sym is_effect)
             ∙ sym ends.ended,
@@ -223,7 +182,14 @@ not_accepted (RefusedFor refused) other = refl
 not_accepted Sealed other = refl
 
 -- an entry that is read at a place is recorded there
-pub recorded_at : (entries : List Entry) (k : ℕ) (item : Entry) → k < length entries → item ≡ slice_index_or entries k item →
-    slice_get (map recorded_of entries) k ≡ Some (recorded_of item)
-recorded_at entries k item inside is =
-    slice_get-map recorded_of entries k ∙ ap (option_map recorded_of) (slice_get_read entries (length entries) k item refl inside is)
+pub recorded_at : {X : Type 0} (recorded : X → Recorded) (entries : List X) (k : ℕ) (item : X) → k < length entries → item ≡ slice_index_or entries k item →
+    slice_get (map recorded entries) k ≡ Some (recorded item)
+recorded_at recorded entries k item inside is =
+    slice_get-map recorded entries k ∙ ap (option_map recorded) (slice_get_read entries (length entries) k item refl inside is)
+
+-- a request that is granted is one of the requests: what stands for none has no name
+pub is_there : {d : Domain} (requests : List Asked) (place : ℕ) → IsAdmissible d (request_at requests place) → place < length requests
+is_there requests place admitted = elim (cases_lt place (length requests)) [
+  | inl low ↦ low
+  | inr past ↦ absurd (true_not_false (sym admitted.named ∙ ap (λ (asked : Asked). is_name asked.name) (get_or_past requests place (record { name = []; octets = 0; paths = [] }) past)))
+]

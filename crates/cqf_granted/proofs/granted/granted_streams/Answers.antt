@@ -1,7 +1,6 @@
-use Rattle.std.proofs.Common.{◌≡◌, ◌∙◌, ◌+◌, ◌++◌, ◌∷◌, [], ◌<◌, List, length, map, take, sym, ap, subst, arith}
-use Rattle.cqf_model.specs.declared.history.Reply.{Reply}
+use Rattle.std.proofs.Common.{◌∙◌, ◌++◌, ◌∷◌, [], List, length, map, sym, ap, subst, arith}
 use Rattle.cqf_model.specs.declared.topology.Row.{Row}
-use Rattle.cqf_model.specs.History.{Recorded, streams_of}
+use Rattle.cqf_model.specs.History.{Recorded}
 use Rattle.cqf_admission.specs.Admission.{act_of, recorded_of}
 use Rattle.cqf_admission.specs.Asking.{asked_of}
 use Rattle.std.specs.Prelude.{string_bytes}
@@ -16,7 +15,7 @@ loop-entry-preserved-in_default c =
     let k = c.loop-entry.entry-index in
     let item = c.entry-item.result in
     c.loop-entry.invariant
-    ∙ sym (nothing c.args.domain.now (map recorded_of entries) c.requires k (recorded_of item) (recorded_at entries k item c.loop-entry-test.true c.entry-item.is)
+    ∙ sym (nothing c.args.domain.now (map recorded_of entries) c.requires k (recorded_of item) (recorded_at recorded_of entries k item c.loop-entry-test.true c.entry-item.is)
     (not_accepted item.reply c.in_default.not-Accepted))
 
 pub row_of-requires-clause-admissible : goal.row_of-requires-clause-admissible
@@ -24,7 +23,7 @@ row_of-requires-clause-admissible c =
     let entries = c.args.entries.now in
     let k = c.loop-entry.entry-index in
     let item = c.entry-item.result in
-    (granted c.args.domain.now (map recorded_of entries) c.requires k (recorded_of item) (recorded_at entries k item c.loop-entry-test.true c.entry-item.is)
+    (granted c.args.domain.now (map recorded_of entries) c.requires k (recorded_of item) (recorded_at recorded_of entries k item c.loop-entry-test.true c.entry-item.is)
     c.streams_follow_history.ensures.granted (asked_of c.in-Admit.request) c.in-Accepted.receipt (ap act_of c.in-Admit.is) c.in-Accepted.is).0
 
 pub end_stream-requires : goal.end_stream-requires
@@ -33,7 +32,7 @@ end_stream-requires c =
     let k = c.loop-entry.entry-index in
     let item = c.entry-item.result in
     let ends = withdrawn c.args.domain.now (map recorded_of entries) c.requires k (recorded_of item)
-    (recorded_at entries k item c.loop-entry-test.true c.entry-item.is)
+    (recorded_at recorded_of entries k item c.loop-entry-test.true c.entry-item.is)
     c.streams_follow_history.ensures.withdrawn (string_bytes c.in-Withdraw.field-0) c.in-Accepted.receipt (ap act_of c.in-Withdraw.is) c.in-Accepted.is in
     omega (arith, ends.0, ap length c.loop-entry.invariant)
 
@@ -44,7 +43,7 @@ loop-entry-preserved c =
     let all : List Recorded = map recorded_of entries in
     let k = c.loop-entry.entry-index in
     let item = c.entry-item.result in
-    let at = recorded_at entries k item c.loop-entry-test.true c.entry-item.is in
+    let at = recorded_at recorded_of entries k item c.loop-entry-test.true c.entry-item.is in
     let receipt = c.in-Accepted.receipt in
     elim c.match-entry-2.branch [
       | in-Admit+else-is_none+in_ok-push-in-Admit w ↦ rw w.rows-is

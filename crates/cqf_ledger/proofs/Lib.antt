@@ -1,0 +1,15 @@
+pub mod Figures
+pub mod LetGo
+pub mod Lists
+pub mod Ring
+pub mod Streams
+pub mod Whole
+pub mod Names
+pub mod Told
+pub mod Running
+pub mod Found
+pub mod Withdrawing
+pub mod Weighed
+pub mod Logging
+pub mod Calls
+pub mod Taken
