@@ -1,6 +1,5 @@
 //! The administration of streams by figures, over requests and a script that stand elsewhere.
 ghost use Rattle.std.specs.Prelude.{◌≡◌, ◌≤◌, ◌<◌, ◌+◌, [], map, length, IfOk};
-ghost use Rattle.std.specs.Str.{IsUtf8};
 ghost use Rattle.cqf_model.specs.Domain.{budget};
 ghost use Rattle.cqf_model.specs.History.{Admits, IsLegalHistory, Withdraws, seals};
 ghost use Rattle.cqf_model.specs.Table.{link_cost};
@@ -19,7 +18,7 @@ use crate::weighing::{find_open, know_domain, taken_of, weigh};
 use cqf_admission::{MOST_CALLS, MOST_SEALS, SealFault};
 use cqf_laws_history::{state_follows_history, streams_follow_history};
 use cqf_model::{Receipt, Refused, Reply};
-use cqf_requests::{Names, What};
+use cqf_requests::{Names, What, word_of};
 use cqf_topology::{Domain, Request};
 use cqf_units::{Cycle, Memory, Octets};
 use std::alloc::Global;
@@ -66,18 +65,6 @@ impl<'s> Model for Ledger<'s> {
         × (l.names ≡ l.requests.now)
         × (l.holdings.names ≡ length l.requests.now)
         × AreThere (map asked_of l.requests.now) l.script.now l.log.items };
-}
-
-/// A word of a script.
-fn word_of(script: &[u8], from: usize, octets: u8) -> &str
-    requires inside { from + octets ≤ length script.now }
-    requires text { IsUtf8 (word_at script.now from octets) }
-    ensures { result.now ≡ word_at script.now from octets }
-{
-    match std::str::from_utf8(&script[from..from + usize::from(octets)]) {
-        Ok(word) => word,
-        Err(_) => unreachable!(),
-    }
 }
 
 impl<'s> Ledger<'s> {

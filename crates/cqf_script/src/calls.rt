@@ -4,9 +4,8 @@ ghost use Rattle.cqf_text.specs.Lines.{lines_of};
 ghost use Rattle.cqf_fields.specs.Fields.{Gives};
 ghost use Rattle.cqf_admission.specs.Asking.{asked_of};
 ghost use Rattle.cqf_requests.specs.declared.orders.Ordered.{Ordered as AnOrdered};
-ghost use Rattle.std.specs.Str.{IsUtf8};
 ghost use Rattle.cqf_model.specs.History.{Asked};
-ghost use Rattle.cqf_requests.specs.Orders.{StandsIn, act_in, ordered_in, word_at};
+ghost use Rattle.cqf_requests.specs.Orders.{StandsIn, ordered_in};
 ghost use Rattle.cqf_script.specs.Lines.{order_of_line};
 ghost use Rattle.cqf_script.specs.Placed.{LineEnds, NameEnds};
 ghost use Rattle.cqf_script.specs.Written.{written};
@@ -15,7 +14,7 @@ ghost use Rattle.cqf_script.specs.Script.{AreFew, administrators, call_of_line, 
 use crate::ScriptFault;
 use crate::lines::{Order, Wish, is_seal_line, read_order};
 use cqf_admission::{Call, MOST_CALLS};
-use cqf_requests::{Names, Ordered, What};
+use cqf_requests::{Names, Ordered, What, word_of};
 use cqf_text::split_line;
 use cqf_topology::Request;
 use cqf_units::Memory;
@@ -192,18 +191,6 @@ pub fn read_orders(
         left = behind;
     }
     Ok(orders)
-}
-
-/// The word of so many octets from a place of a script's text on.
-fn word_of(text: &[u8], from: usize, octets: u8) -> &str
-    requires inside { from + octets ≤ length text.now }
-    requires utf8 { IsUtf8 (word_at text.now from octets) }
-    ensures { result.now ≡ word_at text.now from octets }
-{
-    match std::str::from_utf8(&text[from..from + usize::from(octets)]) {
-        Ok(word) => word,
-        Err(_) => unreachable!(),
-    }
 }
 
 /// The call that is ordered, with a copy of its request or its name.
