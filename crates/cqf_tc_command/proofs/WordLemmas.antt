@@ -1,11 +1,12 @@
 -- The words of lists are read as the lists.
-use Rattle.std.proofs.Common.{ℕ, ◌≡◌, ◌≤◌, ◌<◌, ◌-◌, ◌^◌, ◌++◌, ◌==◌, ◌∙◌, ◌/◌, ◌%◌, ◌&&◌, Bool, true, false, not, cond, zero, suc, List, [], ◌∷◌, Option, Some, Ok, All, ap, arith, codes, decimal, get_or, leb, length, refl, sym}
+use Rattle.std.proofs.Common.{ℕ, ◌≡◌, ◌≤◌, ◌<◌, ◌+◌, ◌-◌, ◌^◌, ◌++◌, ◌==◌, ◌∙◌, ◌/◌, ◌%◌, ◌&&◌, Bool, true, false, not, cond, zero, suc, List, [], ◌∷◌, Option, Some, Ok, All, ap, append_assoc, arith, codes, decimal, get_or, leb, length, refl, sym, take}
 use Rattle.std.specs.Prelude.{drop, option_map}
 use Rattle.std.specs.Char.{is_ascii_digit}
 use Rattle.std.specs.List.{list_all}
 use Rattle.std.specs.Str.Parse.{digits_value}
 use Rattle.std.proofs.lemmas.Bool.Decides.{nat_tests}
 use Rattle.std.proofs.lemmas.Fmt.{decimal_nonempty, length-decimal-le, digits_decimal, digits_value-decimal}
+use Rattle.std.proofs.lemmas.List.{append-nil, take_more}
 use Rattle.std.proofs.lemmas.List.Elements.{All-cons, All-nil}
 use Rattle.std.proofs.lemmas.List.Sums.{AllPass-from_list_all, list_all-from_AllPass}
 use Rattle.cqf_text.proofs.DecimalLemmas.{own}
@@ -14,7 +15,7 @@ use Rattle.cqf_model.specs.Domain.{Domain, IsAccepted}
 use Rattle.cqf_model.specs.GateList.{Entry, port_list}
 use Rattle.cqf_model.specs.StreamGate.{stream_list}
 use Rattle.cqf_gates.proofs.RoundTrip.{list_of_text-text}
-use Rattle.cqf_gates.specs.GateListText.{hex_digit, text_of_entries}
+use Rattle.cqf_gates.specs.GateListText.{hex_digit, line_of_entry, text_of_entries}
 use Rattle.cqf_gates.specs.TxList.{IsTxList}
 use Rattle.cqf_gates.specs.TxText.{list_of_text}
 use Rattle.cqf_tc_command.specs.TcLaws.{ScriptsHoldTheLists}
@@ -67,6 +68,19 @@ decimal_read n small =
     let twenty : leb (length (decimal n)) 20 ≡ true = grind (arith, nat_tests) in
     let form : is_decimal (decimal n) ≡ true = rw (one, twenty, digits) in
     rw (form, value)
+
+-- the words of one more entry
+tx_words-push : (entries : List Entry) (entry : Entry) → tx_words (entries ++ entry ∷ []) ≡ tx_words entries ++ (codes " sched-entry S " ++ line_of_entry entry)
+tx_words-push [] entry = ap (λ (rest : List ℕ). codes " sched-entry S " ++ rest) (append-nil (line_of_entry entry))
+tx_words-push (first ∷ entries) entry =
+    let more : List ℕ = codes " sched-entry S " ++ line_of_entry entry in
+    ap (λ (rest : List ℕ). codes " sched-entry S " ++ (line_of_entry first ++ rest)) (tx_words-push entries entry)
+    ∙ ap (λ (rest : List ℕ). codes " sched-entry S " ++ rest) (sym (append_assoc (line_of_entry first) (tx_words entries) more))
+
+-- those of the first entries of a list and the next one
+pub tx_words-more : (entries : List Entry) (k : ℕ) (d : Entry) → k < length entries →
+    tx_words (take (k + 1) entries) ≡ tx_words (take k entries) ++ (codes " sched-entry S " ++ line_of_entry (get_or entries k d))
+tx_words-more entries k d inside = ap tx_words (take_more entries k d inside) ∙ tx_words-push (take k entries) (get_or entries k d)
 
 -- the words of a port's entries
 abbrev entry_parts : List Entry → List (List ℕ)
@@ -126,24 +140,28 @@ gate_again cycle_time octets small =
     ap (λ (words : List (List ℕ)). gate_of_parts octets (drop 1 words)) (gate_parted cycle_time small)
     ∙ rw (decimal_read cycle_time small) refl
 
--- the list of a port is one, with numbers in range
-abbrev guard_left : ℕ → ℕ → ℕ
-guard_left cycle_time guard = cycle_time - guard
+-- each of four entries passes
+each_of_four : (P : Entry → Type 0) (a b c e : Entry) → P a → P b → P c → P e → All P (a ∷ b ∷ c ∷ e ∷ [])
+each_of_four P a b c e on_a on_b on_c on_e =
+    All-cons P a (b ∷ c ∷ e ∷ []) on_a (All-cons P b (c ∷ e ∷ []) on_b (All-cons P c (e ∷ []) on_c (All-cons P e [] on_e (All-nil P))))
 
+-- the list of a port is one, with numbers in range
 port_is_list : (cycle_time guard : ℕ) → 0 < guard → guard < cycle_time → IsTxList (port_list cycle_time guard)
 port_is_list cycle_time guard some short =
-    let P : Entry → Type 0 = λ entry. 0 < entry.1 in
+    let open_time : 0 < cycle_time - guard = omega (arith, short) in
     record {
       some = omega arith;
       few = omega arith;
-      lasting = All-cons P _ _ (omega (arith, short)) (All-cons P _ _ some (All-cons P _ _ (omega (arith, short)) (All-cons P _ _ some (All-nil P))));
+      lasting = each_of_four (λ (entry : Entry). 0 < entry.1) (0xBF, cycle_time - guard) (0x00, guard) (0x7F, cycle_time - guard) (0x00, guard) open_time some
+          open_time some;
     }
 
 port_in_range : (cycle_time guard : ℕ) → cycle_time < 2 ^ 32 → guard < cycle_time → AreRanged (port_list cycle_time guard)
 port_in_range cycle_time guard small short =
-    let P : Entry → Type 0 = λ entry. (entry.0 < 256) × (entry.1 < 2 ^ 32) in
-    All-cons P _ _ (omega arith, omega (arith, small)) (All-cons P _ _ (omega arith, omega (arith, small, short))
-    (All-cons P _ _ (omega arith, omega (arith, small)) (All-cons P _ _ (omega arith, omega (arith, small, short)) (All-nil P))))
+    let open_time : cycle_time - guard < 2 ^ 32 = omega (arith, small) in
+    let closed_time : guard < 2 ^ 32 = omega (arith, small, short) in
+    each_of_four (λ (entry : Entry). (entry.0 < 256) × (entry.1 < 2 ^ 32)) (0xBF, cycle_time - guard) (0x00, guard) (0x7F, cycle_time - guard) (0x00, guard)
+    (omega arith, open_time) (omega arith, closed_time) (omega arith, open_time) (omega arith, closed_time)
 
 pub lists_held : ScriptsHoldTheLists
 lists_held d accepted =

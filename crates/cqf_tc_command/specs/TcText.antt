@@ -26,8 +26,11 @@ usage_text d =
     ++ codes "# Octets of a gate are those of whole frames, from the destination address to the FCS; see what your bridge counts.\n"))))))
 
 -- the names of the bridges, a space before each
+abbrev pub name_text : Domain → ℕ → List ℕ
+name_text d bridge = codes " " ++ name_of_bridge d bridge
+
 abbrev pub names_text : Domain → List ℕ
-names_text d = each_below (λ bridge. codes " " ++ name_of_bridge d bridge) (length d.bridges)
+names_text d = each_below (name_text d) (length d.bridges)
 
 -- a bridge and the instant have to be given, and the instant has to be a multiple of two cycles
 abbrev pub given_text : Domain → List ℕ

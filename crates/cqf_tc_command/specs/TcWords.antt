@@ -1,6 +1,5 @@
 -- Gate lists as words of `tc`, and what these words are read as (profile, after man tc-taprio and man tc-gate).
 use Rattle.std.specs.Prelude.{ℕ, ◌++◌, ◌==◌, ◌&&◌, List, [], ◌∷◌, Option, Some, None, Result, codes, decimal, drop, if◌then◌else◌, option_map}
-use Rattle.std.specs.List.{flat_map}
 use Rattle.std.specs.Option.{option_and_then}
 use Rattle.cqf_text.specs.Decimal.{decimal_value}
 use Rattle.cqf_model.specs.declared.gates.StreamEntry.{StreamEntry}
@@ -13,7 +12,8 @@ use Rattle.cqf_gates.specs.TxText.{list_of_text}
 -- the list of a port: for each entry its states, where bit k is class k, in hexadecimal, and its interval in nanoseconds, as
 -- `sched-entry S BF 120000`
 abbrev pub tx_words : List Entry → List ℕ
-tx_words entries = flat_map (λ (entry : Entry). codes " sched-entry S " ++ line_of_entry entry) entries
+tx_words [] = []
+tx_words (entry ∷ entries) = codes " sched-entry S " ++ (line_of_entry entry ++ tx_words entries)
 
 -- the list of a stream's gate: for each cycle its length in nanoseconds, the internal priority value, and as octets the fifth
 -- parameter of the function that they stand in

@@ -1,6 +1,7 @@
 //! What a bridge does in the script.
+ghost use Rattle.std.specs.Arc.{arc_value};
 
-ghost use Rattle.std.specs.Prelude.{◌≡◌, ◌==◌, [], Some, None, if◌then◌else◌};
+ghost use Rattle.std.specs.Prelude.{◌≡◌, ◌==◌, [], map, Some, None, if◌then◌else◌};
 ghost use Rattle.std.specs.List.{flat_map, list_any};
 ghost use Rattle.std.specs.Option.{option_map_or};
 ghost use Rattle.cqf_model.specs.declared.topology.Link.{Link as ALink};
@@ -11,12 +12,12 @@ ghost use Rattle.cqf_report.specs.Books.{name_of_node};
 ghost use Rattle.cqf_tc_command.specs.TcBridge.{bridge_text, clearing_by, each_link, each_stream, frame_needs, gate_line, if_left, link_lines, name_of_end, needs_by, nothing_line, out_need, stream_clearing, stream_gates, stream_lines, stream_needs, way_clearing, way_in, way_need, way_out, ways_out};
 
 use crate::ways::{first_hop, leaves, way_of};
-use cqf_admission::Table;
 use cqf_model::{Hop, Node, Row};
 use cqf_press::Press;
 use cqf_telling::{put_bridge, put_link};
 use cqf_topology::Domain;
 use std::io::Write;
+use std::sync::Arc;
 
 /// Puts the name of a node. One that the domain lacks has none.
 fn put_node<W: Write>(press: &mut Press<'_, W>, domain: &Domain, node: Node)
@@ -318,11 +319,11 @@ fn put_needs_of<W: Write>(
 }
 
 /// Puts what the streams need that leave the bridge.
-fn put_needs<W: Write>(press: &mut Press<'_, W>, domain: &Domain, bridge: u8, table: &Table)
-    ensures { Puts W.contents press.old press.new (each_stream (stream_needs domain.now bridge) table.now.rows) }
+fn put_needs<W: Write>(press: &mut Press<'_, W>, domain: &Domain, bridge: u8, rows: &[Arc<Row>])
+    ensures { Puts W.contents press.old press.new (each_stream (stream_needs domain.now bridge) (map (λ row. arc_value row) rows.now)) }
 {
     let mut seen = [false; 256];
-    for row in table.rows() {
+    for row in rows {
         let way = way_of(domain, bridge, &mut seen, row);
         put_needs_of(press, domain, bridge, row, way);
     }
@@ -351,11 +352,11 @@ fn put_clearing_of<W: Write>(
 }
 
 /// Puts the lines that clear the interfaces by which streams come.
-fn put_clearings<W: Write>(press: &mut Press<'_, W>, domain: &Domain, bridge: u8, table: &Table)
-    ensures { Puts W.contents press.old press.new (each_stream (stream_clearing domain.now bridge) table.now.rows) }
+fn put_clearings<W: Write>(press: &mut Press<'_, W>, domain: &Domain, bridge: u8, rows: &[Arc<Row>])
+    ensures { Puts W.contents press.old press.new (each_stream (stream_clearing domain.now bridge) (map (λ row. arc_value row) rows.now)) }
 {
     let mut seen = [false; 256];
-    for row in table.rows() {
+    for row in rows {
         let way = way_of(domain, bridge, &mut seen, row);
         put_clearing_of(press, row, way);
     }
@@ -371,10 +372,10 @@ fn put_stream<W: Write>(press: &mut Press<'_, W>, domain: &Domain, bridge: u8, r
 }
 
 /// Puts the lines of the streams that leave the bridge.
-fn put_streams<W: Write>(press: &mut Press<'_, W>, domain: &Domain, bridge: u8, table: &Table)
-    ensures { Puts W.contents press.old press.new (flat_map (stream_gates domain.now bridge) table.now.rows) }
+fn put_streams<W: Write>(press: &mut Press<'_, W>, domain: &Domain, bridge: u8, rows: &[Arc<Row>])
+    ensures { Puts W.contents press.old press.new (flat_map (stream_gates domain.now bridge) (map (λ row. arc_value row) rows.now)) }
 {
-    for row in table.rows() {
+    for row in rows {
         put_stream(press, domain, bridge, row);
     }
 }
@@ -384,9 +385,9 @@ pub(crate) fn put_bridge_function<W: Write>(
     press: &mut Press<'_, W>,
     domain: &Domain,
     bridge: u8,
-    table: &Table,
+    rows: &[Arc<Row>],
 )
-    ensures { Puts W.contents press.old press.new (bridge_text domain.now table.now.rows bridge) }
+    ensures { Puts W.contents press.old press.new (bridge_text domain.now (map (λ row. arc_value row) rows.now) bridge) }
 {
     press.put(b"bridge_");
     press.put_number(bridge);
@@ -395,9 +396,9 @@ pub(crate) fn put_bridge_function<W: Write>(
     press.put(b"\n");
     put_nothing(press, domain, bridge);
     put_out_needs(press, domain, bridge);
-    put_needs(press, domain, bridge, table);
-    put_clearings(press, domain, bridge, table);
+    put_needs(press, domain, bridge, rows);
+    put_clearings(press, domain, bridge, rows);
     put_links(press, domain, bridge);
-    put_streams(press, domain, bridge, table);
+    put_streams(press, domain, bridge, rows);
     press.put(b"}\n");
 }

@@ -3,7 +3,7 @@ ghost use Rattle.std.specs.Prelude.{◌≡◌, length};
 ghost use Rattle.cqf_lists.specs.Lists.{each_below};
 ghost use Rattle.cqf_model.specs.GateList.{port_list};
 ghost use Rattle.cqf_press.specs.Press.{Puts};
-ghost use Rattle.cqf_tc_command.specs.TcText.{choice_line, choice_text, gate_text, given_text, link_text, multiple, names_text, no_gates_text, usage_text};
+ghost use Rattle.cqf_tc_command.specs.TcText.{choice_line, choice_text, gate_text, given_text, link_text, multiple, name_text, names_text, no_gates_text, usage_text};
 ghost use Rattle.cqf_tc_command.specs.TcWords.{gate_words, tx_words};
 
 use cqf_press::Press;
@@ -32,13 +32,20 @@ pub(crate) fn put_usage<W: Write>(press: &mut Press<'_, W>, domain: &Domain)
     press.put(b"# Octets of a gate are those of whole frames, from the destination address to the FCS; see what your bridge counts.\n");
 }
 
+/// Puts the name of a bridge, and a space before it.
+fn put_name<W: Write>(press: &mut Press<'_, W>, domain: &Domain, bridge: u8)
+    ensures { Puts W.contents press.old press.new (name_text domain.now bridge) }
+{
+    press.put(b" ");
+    put_bridge(press, domain, bridge);
+}
+
 /// Puts the names of the bridges, a space before each.
 fn put_names<W: Write>(press: &mut Press<'_, W>, domain: &Domain)
     ensures { Puts W.contents press.old press.new (names_text domain.now) }
 {
     for bridge in 0..domain.bridges() {
-        press.put(b" ");
-        put_bridge(press, domain, bridge);
+        put_name(press, domain, bridge);
     }
 }
 

@@ -1,5 +1,5 @@
 //! By which interfaces streams come to a bridge.
-ghost use Rattle.std.specs.Prelude.{◌≡◌, ◌++◌, ◌∷◌, [], List};
+ghost use Rattle.std.specs.Prelude.{ℕ, ◌≡◌, ◌<◌, ◌++◌, ◌∷◌, [], List, Some};
 ghost use Rattle.cqf_model.specs.Domain.{leaves};
 ghost use Rattle.cqf_model.specs.declared.topology.Row.{Row as ARow};
 ghost use Rattle.cqf_tc_command.specs.TcBridge.{first_hop, way_at};
@@ -25,7 +25,8 @@ pub(crate) fn first_hop(domain: &Domain, row: &Row, bridge: u8) -> Option<Hop>
 
 /// Whether no stream was seen to come that way.
 fn is_unseen(seen: &[bool; 256], way: Option<u8>) -> bool
-    ensures { result ≡ is_unseen seen.now way }
+    ensures value { result ≡ is_unseen seen.now way }
+    ensures range { (link : ℕ) → way ≡ Some link → link < 256 }
 {
     match way {
         Some(link) => !seen[usize::from(link)],
@@ -33,12 +34,20 @@ fn is_unseen(seen: &[bool; 256], way: Option<u8>) -> bool
     }
 }
 
+/// Notes that a stream comes by a link.
+fn mark(seen: &mut [bool; 256], link: u8)
+    ensures { Notes seen.old (Some link) seen.new }
+{
+    seen[usize::from(link)] = true;
+}
+
 /// Notes that a stream comes that way.
 fn note(seen: &mut [bool; 256], way: Option<u8>)
     ensures { Notes seen.old way seen.new }
 {
-    if let Some(link) = way {
-        seen[usize::from(link)] = true;
+    match way {
+        Some(link) => mark(seen, link),
+        None => (),
     }
 }
 

@@ -1,12 +1,12 @@
 //! Gate lists as words of `tc`.
-ghost use Rattle.std.specs.Prelude.{ℕ, ◌≡◌, ◌<◌, ◌^◌, ◌++◌, IfOk, OnOk, Ok, Some, codes};
+ghost use Rattle.std.specs.Prelude.{ℕ, ◌≡◌, ◌<◌, ◌^◌, ◌++◌, IfOk, OnOk, Ok, Some, codes, string_bytes};
 ghost use Rattle.cqf_gates.specs.GateListText.{hex_digit, line_of_entry};
 ghost use Rattle.cqf_model.specs.StreamGate.{stream_list};
 ghost use Rattle.cqf_tc_command.specs.TcWords.{gate_of_words, gate_words, tx_of_words, tx_words};
 
 use cqf_gates::TxList;
 use cqf_units::Memory;
-use std::alloc::Global;
+use std::alloc::{AllocError, Global};
 
 /// The upper case hexadecimal digit of a number below 16.
 fn hex_digit_of(number: u8) -> u8
@@ -20,16 +20,25 @@ fn hex_digit_of(number: u8) -> u8
     }
 }
 
+/// Puts the states and the interval of an entry behind the words before them.
+fn push_numbers(alloc: Global, words: &mut Vec<u8>, states: u8, interval: u32) -> Result<(), Memory>
+    ensures words { OnOk result (words.new.items ≡ words.old.items ++ line_of_entry (states, interval)) }
+    ensures ranges { (states < 256) × (interval < 2 ^ 32) }
+{
+    let end = format!(in alloc; " {interval}")?;
+    words.push(hex_digit_of(states / 16))?;
+    words.push(hex_digit_of(states % 16))?;
+    words.extend_from_slice(end.as_bytes())?;
+    Ok(())
+}
+
 /// Puts the words of an entry behind those before it.
 fn push_entry(alloc: Global, words: &mut Vec<u8>, states: u8, interval: u32) -> Result<(), Memory>
     ensures words { OnOk result (words.new.items ≡ words.old.items ++ (codes " sched-entry S " ++ line_of_entry (states, interval))) }
     ensures ranges { (states < 256) × (interval < 2 ^ 32) }
 {
-    let end = format!(in alloc; " {interval}")?;
     words.extend_from_slice(b" sched-entry S ")?;
-    words.push(hex_digit_of(states / 16))?;
-    words.push(hex_digit_of(states % 16))?;
-    words.extend_from_slice(end.as_bytes())?;
+    push_numbers(alloc, words, states, interval)?;
     Ok(())
 }
 
@@ -47,6 +56,15 @@ pub fn write_tx_words(alloc: Global, list: &TxList) -> Result<Vec<u8>, Memory>
     Ok(words)
 }
 
+/// The words of the list of a stream's gate, as a text.
+fn gate_words_of(alloc: Global, cycle_time: u32) -> Result<String, AllocError>
+    ensures words { IfOk result (λ words. string_bytes words ≡ gate_words cycle_time) }
+    ensures range { cycle_time < 2 ^ 32 }
+{
+    let words = format!(in alloc; " sched-entry open {cycle_time} 6 \"$5\" sched-entry open {cycle_time} 7 \"$5\"")?;
+    Ok(words)
+}
+
 /// The words of `tc` that set the list of a stream's gate, in the script's function whose fifth parameter is the reservation in
 /// octets: a space before each, and for each of two cycles, of so many nanoseconds, `sched-entry open`, the cycle's length,
 /// the internal priority value and that parameter. With the octets of a reservation they are read as the list that its gate is
@@ -55,6 +73,6 @@ pub fn write_gate_words(alloc: Global, cycle_time: u32) -> Result<Vec<u8>, Memor
     ensures words { IfOk result (λ words. words.items ≡ gate_words cycle_time) }
     ensures again { IfOk result (λ words. (octets : ℕ) → gate_of_words octets words.items ≡ Some (stream_list cycle_time octets)) }
 {
-    let words = format!(in alloc; " sched-entry open {cycle_time} 6 \"$5\" sched-entry open {cycle_time} 7 \"$5\"")?;
+    let words = gate_words_of(alloc, cycle_time)?;
     Ok(Vec::from_slice(alloc, words.as_bytes())?)
 }
