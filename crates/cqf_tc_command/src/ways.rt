@@ -1,5 +1,5 @@
 //! By which interfaces streams come to a bridge.
-ghost use Rattle.std.specs.Prelude.{ℕ, ◌≡◌, ◌<◌, ◌++◌, ◌∷◌, [], List, Some};
+ghost use Rattle.std.specs.Prelude.{ℕ, ◌≡◌, ◌<◌, ◌++◌, ◌∷◌, [], List, Some, option_copied};
 ghost use Rattle.cqf_model.specs.Domain.{leaves};
 ghost use Rattle.cqf_model.specs.declared.topology.Row.{Row as ARow};
 ghost use Rattle.cqf_tc_command.specs.TcBridge.{first_hop, way_at};
@@ -15,12 +15,21 @@ pub(crate) fn leaves(domain: &Domain, link: u8, bridge: u8) -> bool
     link < domain.links() && domain.link(link).from == bridge
 }
 
+/// Where the first hop stands by which the row's stream leaves the bridge.
+fn find_hop<'r>(domain: &Domain, row: &'r Row, bridge: u8) -> Option<&'r Hop>
+    ensures { option_copied result ≡ first_hop domain.now bridge row.now }
+{
+    row.tree.as_slice().iter().find(|hop| leaves(domain, hop.link, bridge))
+}
+
 /// The first hop by which the row's stream leaves the bridge.
 pub(crate) fn first_hop(domain: &Domain, row: &Row, bridge: u8) -> Option<Hop>
     ensures { result ≡ first_hop domain.now bridge row.now }
 {
-    let hops = row.tree.as_slice();
-    hops.iter().find(|hop| leaves(domain, hop.link, bridge)).copied()
+    match find_hop(domain, row, bridge) {
+        Some(hop) => Some(*hop),
+        None => None,
+    }
 }
 
 /// Whether no stream was seen to come that way.
