@@ -1,5 +1,5 @@
 -- The words of lists are read as the lists.
-use Rattle.std.proofs.Common.{ℕ, ◌≡◌, ◌≤◌, ◌<◌, ◌+◌, ◌-◌, ◌^◌, ◌++◌, ◌==◌, ◌∙◌, ◌/◌, ◌%◌, ◌&&◌, Bool, true, false, not, cond, zero, suc, List, [], ◌∷◌, Option, Some, Ok, All, ap, append_assoc, arith, codes, decimal, get_or, leb, length, refl, sym, take}
+use Rattle.std.proofs.Common.{ℕ, ◌≡◌, ◌<◌, ◌+◌, ◌-◌, ◌^◌, ◌++◌, ◌==◌, ◌∙◌, ◌/◌, ◌%◌, ◌&&◌, Bool, true, false, not, cond, suc, List, [], ◌∷◌, Some, Ok, All, ap, append_assoc, arith, codes, decimal, get_or, leb, length, refl, sym, take}
 use Rattle.std.specs.Prelude.{drop, option_map}
 use Rattle.std.specs.Char.{is_ascii_digit}
 use Rattle.std.specs.List.{list_all}
@@ -11,7 +11,6 @@ use Rattle.std.proofs.lemmas.List.Elements.{All-cons, All-nil}
 use Rattle.std.proofs.lemmas.List.Sums.{AllPass-from_list_all, list_all-from_AllPass}
 use Rattle.cqf_text.proofs.DecimalLemmas.{own}
 use Rattle.cqf_text.specs.Decimal.{decimal_value, is_decimal}
-use Rattle.cqf_model.specs.Domain.{Domain, IsAccepted}
 use Rattle.cqf_model.specs.GateList.{Entry, port_list}
 use Rattle.cqf_model.specs.StreamGate.{stream_list}
 use Rattle.cqf_gates.proofs.RoundTrip.{list_of_text-text}

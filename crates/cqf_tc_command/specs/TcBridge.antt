@@ -1,6 +1,6 @@
 -- What a bridge does in the script, line by line (profile). Links and streams go by their numbers in variables, since a name may
 -- hold `-`.
-use Rattle.std.specs.Prelude.{ℕ, ◌+◌, ◌++◌, ◌==◌, List, [], ◌∷◌, Bool, true, false, Option, Some, None, codes, decimal, find, if◌then◌else◌, length, not, option_map, slice_get, take}
+use Rattle.std.specs.Prelude.{ℕ, ◌+◌, ◌++◌, ◌==◌, List, [], Bool, true, false, Option, Some, None, codes, decimal, find, if◌then◌else◌, length, not, option_map, slice_get, take}
 use Rattle.std.specs.List.{flat_map, list_any}
 use Rattle.std.specs.Option.{option_map_or}
 use Rattle.cqf_lists.specs.Lists.{each_below}
@@ -43,13 +43,16 @@ abbrev pub out_need : Domain → ℕ → ℕ → List ℕ
 out_need d bridge link =
     codes "    : \"${OUT_" ++ (decimal link ++ (codes ":?interface of " ++ (name_of_bridge d bridge ++ (codes " to " ++ (name_of_end d link ++ codes "}\"\n")))))
 
+abbrev pub link_need : Domain → ℕ → ℕ → List ℕ
+link_need d bridge link =
+    codes "    : \"${IN_"
+    ++ (decimal link ++ (codes ":?interface of " ++ (name_of_bridge d bridge ++ (codes " to " ++ (name_of_bridge d (bridge_of d link) ++ codes "}\"\n")))))
+
 abbrev pub way_need : Domain → ℕ → Row → Option ℕ → List ℕ
 way_need d bridge row None =
     codes "    : \"${TALKER_"
     ++ (decimal row.no ++ (codes ":?interface of " ++ (name_of_bridge d bridge ++ (codes " to the talker of " ++ (row.name ++ codes "}\"\n")))))
-way_need d bridge row (Some link) =
-    codes "    : \"${IN_"
-    ++ (decimal link ++ (codes ":?interface of " ++ (name_of_bridge d bridge ++ (codes " to " ++ (name_of_bridge d (bridge_of d link) ++ codes "}\"\n")))))
+way_need d bridge row (Some link) = link_need d bridge link
 
 abbrev pub frame_needs : Row → List ℕ
 frame_needs row =

@@ -1,15 +1,13 @@
 //! What a bridge does in the script.
 ghost use Rattle.std.specs.Arc.{arc_value};
-
 ghost use Rattle.std.specs.Prelude.{◌≡◌, ◌==◌, [], map, Some, None, if◌then◌else◌};
 ghost use Rattle.std.specs.List.{flat_map, list_any};
 ghost use Rattle.std.specs.Option.{option_map_or};
 ghost use Rattle.cqf_model.specs.declared.topology.Link.{Link as ALink};
-ghost use Rattle.cqf_model.specs.declared.topology.Row.{Row as ARow};
 ghost use Rattle.cqf_model.specs.Domain.{bridge_of};
 ghost use Rattle.cqf_press.specs.Press.{Puts};
 ghost use Rattle.cqf_report.specs.Books.{name_of_node};
-ghost use Rattle.cqf_tc_command.specs.TcBridge.{bridge_text, clearing_by, each_link, each_stream, frame_needs, gate_line, if_left, link_lines, name_of_end, needs_by, nothing_line, out_need, stream_clearing, stream_gates, stream_lines, stream_needs, way_clearing, way_in, way_need, way_out, ways_out};
+ghost use Rattle.cqf_tc_command.specs.TcBridge.{bridge_text, clearing_by, each_link, each_stream, frame_needs, gate_line, if_left, link_lines, link_need, name_of_end, needs_by, nothing_line, out_need, stream_clearing, stream_gates, stream_lines, stream_needs, way_clearing, way_in, way_need, way_out, ways_out};
 
 use crate::ways::{first_hop, leaves, way_of};
 use cqf_model::{Hop, Node, Row};
@@ -97,7 +95,7 @@ fn put_talker_need<W: Write>(press: &mut Press<'_, W>, domain: &Domain, bridge: 
 
 /// Puts the line that wants the interface by which streams come over a link.
 fn put_link_need<W: Write>(press: &mut Press<'_, W>, domain: &Domain, bridge: u8, link: u8)
-    ensures { (row : ARow) → Puts W.contents press.old press.new (way_need domain.now bridge row (Some link)) }
+    ensures { Puts W.contents press.old press.new (link_need domain.now bridge link) }
 {
     press.put(b"    : \"${IN_");
     press.put_number(link);
@@ -339,11 +337,7 @@ fn put_clearing_by<W: Write>(press: &mut Press<'_, W>, row: &Row, way: (Option<u
 }
 
 /// Puts the line that clears the interface by which a stream comes, where it leaves the bridge and the interface is new.
-fn put_clearing_of<W: Write>(
-    press: &mut Press<'_, W>,
-    row: &Row,
-    way: Option<(Option<u8>, bool)>,
-)
+fn put_clearing_of<W: Write>(press: &mut Press<'_, W>, row: &Row, way: Option<(Option<u8>, bool)>)
     ensures { Puts W.contents press.old press.new (option_map_or (clearing_by row.now) way []) }
 {
     if let Some(way) = way {

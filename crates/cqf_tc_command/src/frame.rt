@@ -22,14 +22,28 @@ fn put_multiple<W: Write>(press: &mut Press<'_, W>, domain: &Domain)
 pub(crate) fn put_usage<W: Write>(press: &mut Press<'_, W>, domain: &Domain)
     ensures { Puts W.contents press.old press.new (usage_text domain.now) }
 {
-    press.put(b"#!/bin/sh\n# Written by cqf compile --format tc. Each bridge runs it as root with its own name as the only argument, its links up and\n# its clock in step with the others'.\n");
-    press.put(b"#   OUT_L     the interface by which link L leaves that bridge, and IN_L the one by which it comes there\n#   TALKER_S  the interface at which stream S comes from its talker, where it begins at that bridge\n");
-    press.put(b"#   MAC_S and VLAN_S   the destination address and the VLAN of the frames of stream S, which the talker has to tag\n");
-    press.put(b"#   BASE      the instant of the PTP clock in ns at which an even cycle begins, a multiple of ");
+    press.put(
+        b"#!/bin/sh\n# Written by cqf compile --format tc. Each bridge runs it as root with its own name as the only argument, its links up and\n# its clock in step with the others'.\n",
+    );
+    press.put(
+        b"#   OUT_L     the interface by which link L leaves that bridge, and IN_L the one by which it comes there\n#   TALKER_S  the interface at which stream S comes from its talker, where it begins at that bridge\n",
+    );
+    press.put(
+        b"#   MAC_S and VLAN_S   the destination address and the VLAN of the frames of stream S, which the talker has to tag\n",
+    );
+    press.put(
+        b"#   BASE      the instant of the PTP clock in ns at which an even cycle begins, a multiple of ",
+    );
     put_multiple(press, domain);
-    press.put(b"\n#   TC and CHAIN   may be set: a command in place of tc (echo shows what would be done), the filter chain of the gates\n");
-    press.put(b"# Forwarding is yours: a stream may leave a bridge by the interfaces that its line here names, and by no others.\n");
-    press.put(b"# Octets of a gate are those of whole frames, from the destination address to the FCS; see what your bridge counts.\n");
+    press.put(
+        b"\n#   TC and CHAIN   may be set: a command in place of tc (echo shows what would be done), the filter chain of the gates\n",
+    );
+    press.put(
+        b"# Forwarding is yours: a stream may leave a bridge by the interfaces that its line here names, and by no others.\n",
+    );
+    press.put(
+        b"# Octets of a gate are those of whole frames, from the destination address to the FCS; see what your bridge counts.\n",
+    );
 }
 
 /// Puts the name of a bridge, and a space before it.
@@ -73,7 +87,9 @@ pub(crate) fn put_link_function<W: Write>(
     requires { port_words.now ≡ tx_words (port_list domain.now.cycle_time domain.now.guard) }
     ensures { Puts W.contents press.old press.new (link_text domain.now) }
 {
-    press.put(b"\n# the transmission gates of the interface $1\nlink() {\n    $tc qdisc replace dev \"$1\" parent root handle 100: taprio num_tc 8 map 0 1 2 3 4 5 6 7 0 0 0 0 0 0 0 0");
+    press.put(
+        b"\n# the transmission gates of the interface $1\nlink() {\n    $tc qdisc replace dev \"$1\" parent root handle 100: taprio num_tc 8 map 0 1 2 3 4 5 6 7 0 0 0 0 0 0 0 0",
+    );
     press.put(b" queues 1@0 1@1 1@2 1@3 1@4 1@5 1@6 1@7 base-time \"$BASE\"");
     press.put(port_words);
     press.put(b" flags 0x2\n}\n");
@@ -83,23 +99,31 @@ pub(crate) fn put_link_function<W: Write>(
 pub(crate) fn put_no_gates_function<W: Write>(press: &mut Press<'_, W>)
     ensures { Puts W.contents press.old press.new no_gates_text }
 {
-    press.put(b"\n# takes the stream gates of an earlier plan off the interface $1\nno_gates() {\n    $tc qdisc add dev \"$1\" clsact 2>/dev/null || :\n");
-    press.put(b"    for pref in $($tc filter show dev \"$1\" ingress chain \"$chain\" | sed -n 's/.* pref \\([0-9]*\\) .*/\\1/p' | sort -nu); do\n");
-    press.put(b"        [ \"$pref\" -gt 1024 ] || $tc filter del dev \"$1\" ingress chain \"$chain\" pref \"$pref\"\n    done\n}\n");
+    press.put(
+        b"\n# takes the stream gates of an earlier plan off the interface $1\nno_gates() {\n    $tc qdisc add dev \"$1\" clsact 2>/dev/null || :\n",
+    );
+    press.put(
+        b"    for pref in $($tc filter show dev \"$1\" ingress chain \"$chain\" | sed -n 's/.* pref \\([0-9]*\\) .*/\\1/p' | sort -nu); do\n",
+    );
+    press.put(
+        b"        [ \"$pref\" -gt 1024 ] || $tc filter del dev \"$1\" ingress chain \"$chain\" pref \"$pref\"\n    done\n}\n",
+    );
 }
 
 /// Puts the function that sets a stream's gate at an interface.
-pub(crate) fn put_gate_function<W: Write>(
-    press: &mut Press<'_, W>,
-    domain: &Domain,
-    words: &[u8],
-)
+pub(crate) fn put_gate_function<W: Write>(press: &mut Press<'_, W>, domain: &Domain, words: &[u8])
     requires { words.now ≡ gate_words domain.now.cycle_time }
     ensures { Puts W.contents press.old press.new (gate_text domain.now) }
 {
-    press.put(b"\n# stream gate $2 at the interface $1: address $3, VLAN $4, at most $5 octets a cycle\ngate() {\n");
-    press.put(b"    case $($tc actions get action gate index \"$2\" 2>/dev/null || :) in\n    *gate-state*) echo \"gate $2 belongs to another filter\" >&2; exit 1 ;;\n    esac\n");
-    press.put(b"    $tc filter add dev \"$1\" ingress chain \"$chain\" protocol 802.1Q pref \"$2\" flower skip_sw dst_mac \"$3\" vlan_id \"$4\"");
+    press.put(
+        b"\n# stream gate $2 at the interface $1: address $3, VLAN $4, at most $5 octets a cycle\ngate() {\n",
+    );
+    press.put(
+        b"    case $($tc actions get action gate index \"$2\" 2>/dev/null || :) in\n    *gate-state*) echo \"gate $2 belongs to another filter\" >&2; exit 1 ;;\n    esac\n",
+    );
+    press.put(
+        b"    $tc filter add dev \"$1\" ingress chain \"$chain\" protocol 802.1Q pref \"$2\" flower skip_sw dst_mac \"$3\" vlan_id \"$4\"",
+    );
     press.put(b" action gate index \"$2\" base-time \"$BASE\"");
     press.put(words);
     press.put(b"\n}\n\n");

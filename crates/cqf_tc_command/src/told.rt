@@ -7,7 +7,9 @@ ghost use Rattle.cqf_tc_command.specs.TcOutput.{AreWordsOf, text_of_tc};
 ghost use Rattle.cqf_tc_command.specs.TcText.{bridges_text, tc_text};
 
 use crate::bridges::put_bridge_function;
-use crate::frame::{put_choice, put_gate_function, put_given, put_link_function, put_no_gates_function, put_usage};
+use crate::frame::{
+    put_choice, put_gate_function, put_given, put_link_function, put_no_gates_function, put_usage,
+};
 use crate::output::TcOutput;
 use cqf_model::Row;
 use cqf_press::{Press, Told};

@@ -19,7 +19,10 @@ pub(crate) fn leaves(domain: &Domain, link: u8, bridge: u8) -> bool
 fn find_hop<'r>(domain: &Domain, row: &'r Row, bridge: u8) -> Option<&'r Hop>
     ensures { option_copied result ≡ first_hop domain.now bridge row.now }
 {
-    row.tree.as_slice().iter().find(|hop| leaves(domain, hop.link, bridge))
+    row.tree
+        .as_slice()
+        .iter()
+        .find(|hop| leaves(domain, hop.link, bridge))
 }
 
 /// The first hop by which the row's stream leaves the bridge.

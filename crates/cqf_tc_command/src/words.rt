@@ -61,7 +61,9 @@ fn gate_words_of(alloc: Global, cycle_time: u32) -> Result<String, AllocError>
     ensures words { IfOk result (λ words. string_bytes words ≡ gate_words cycle_time) }
     ensures range { cycle_time < 2 ^ 32 }
 {
-    let words = format!(in alloc; " sched-entry open {cycle_time} 6 \"$5\" sched-entry open {cycle_time} 7 \"$5\"")?;
+    let words = format!(in alloc;
+        " sched-entry open {cycle_time} 6 \"$5\" sched-entry open {cycle_time} 7 \"$5\""
+    )?;
     Ok(words)
 }
 

@@ -1,7 +1,7 @@
-use Rattle.std.proofs.Common.{ℕ, ◌∙◌, Bool, None, Option, Some, ap, option_map, refl, sym}
+use Rattle.std.proofs.Common.{◌∙◌, Bool, Some, ap, option_map, sym}
 use Rattle.cqf_model.specs.declared.topology.Hop.{Hop}
 use Rattle.cqf_tc_command.specs.TcBridge.{is_new}
-use Rattle.cqf_tc_command.proofs.Streams.{new_where_unseen, seen_more, seen_same}
+use Rattle.cqf_tc_command.proofs.Streams.{new_where_unseen, seen_more}
 use Rattle.cqf_tc_command.proofs.ways.way_of.Goals as goal
 
 pub returns : goal.returns
