@@ -21,3 +21,4 @@ mod names;
 
 pub use calls::{administrators, read_script};
 pub use faults::ScriptFault;
+pub use names::Names;

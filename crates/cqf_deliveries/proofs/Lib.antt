@@ -1,0 +1,4 @@
+pub mod Noted
+pub mod Passed
+pub mod ByBook
+mod CourseLines

@@ -1,0 +1,6 @@
+pub mod Deliveries
+pub mod DeliveriesText
+pub mod Checked
+pub mod Arrivals
+pub mod Deadlines
+pub mod ByVerdict

@@ -1,0 +1,4 @@
+pub mod PlannedScenario
+pub mod DeliveriesOutput
+pub mod CheckOutput
+pub mod Reading
