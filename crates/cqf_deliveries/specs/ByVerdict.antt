@@ -15,6 +15,10 @@ pub record Known : Type 0 where
   pub due : List ℕ → Option ℕ
   pub whole : ℕ → ℕ → Option Nanos
 
+-- both together
+abbrev pub known_by : (List ℕ → Option ℕ) → (ℕ → ℕ → Option Nanos) → Known
+known_by due whole = record { due = due; whole = whole }
+
 -- those of an offer: each one to a listener of the row by which it goes on, or its drop
 abbrev pub deliveries_for : Domain → Known → Offered → Verdict → List Delivery
 deliveries_for d known x (Queued row) = deliveries_to d (known.whole x.frame) (known.due x.offer.stream) x row

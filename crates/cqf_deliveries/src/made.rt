@@ -8,7 +8,7 @@ ghost use Rattle.cqf_model.specs.Run.{AreOffers};
 ghost use Rattle.cqf_model.specs.Shift.{offer_cycle};
 ghost use Rattle.cqf_model.specs.Traffic.{numbered};
 ghost use Rattle.cqf_deliveries.specs.Arrivals.{IsInTime, whole_in};
-ghost use Rattle.cqf_deliveries.specs.ByVerdict.{deliveries_for, deliveries_of_all};
+ghost use Rattle.cqf_deliveries.specs.ByVerdict.{deliveries_for, deliveries_of_all, known_by};
 ghost use Rattle.cqf_deliveries.specs.Deadlines.{deadline_in};
 ghost use Rattle.cqf_deliveries.specs.Deliveries.{deliveries_to, delivery_of, delivery_to, whole_on};
 
@@ -124,7 +124,7 @@ fn push_judged(
     judgement: Judgement,
 ) -> Result<(), Memory>
     requires { x.now.offer.bridge < length ended.now.domain.now.bridges }
-    ensures { let known = record { due = deadline_in deadlines.now; whole = whole_in arrivals.now } in
+    ensures { let known = known_by (deadline_in deadlines.now) (whole_in arrivals.now) in
         let verdict = verdict_of ended.now.rows.now (offer_cycle ended.now.domain.now x.now) judgement in
         OnOk result (deliveries.new.items ≡ deliveries.old.items ++ deliveries_for ended.now.domain.now known x.now verdict) }
 {
@@ -154,7 +154,7 @@ fn each_delivery(
     requires offers { AreOffers ended.now.domain.now ended.now.offers.now }
     requires few { length ended.now.offers.now ≤ 1000000 }
     requires judged { length ended.now.judgements.now ≡ length ended.now.offers.now }
-    ensures { let known = record { due = deadline_in deadlines.now; whole = whole_in arrivals.now } in
+    ensures { let known = known_by (deadline_in deadlines.now) (whole_in arrivals.now) in
         let verdict = verdict_at ended.now.domain.now ended.now.rows.now ended.now.judgements.now in
         IfOk result (λ deliveries. deliveries.items
             ≡ deliveries_of_all ended.now.domain.now ended.now.cycles known verdict (numbered ended.now.offers.now)) }
@@ -185,7 +185,7 @@ pub fn deliveries_of(
     requires few { length ended.now.offers.now ≤ 1000000 }
     requires judged { length ended.now.judgements.now ≡ length ended.now.offers.now }
     requires in_time { All (IsInTime ended.now.domain.now) ended.now.starts.now }
-    ensures { let known = record { due = deadline_in deadlines.now; whole = whole_on ended.now.domain.now ended.now.starts.now } in
+    ensures { let known = known_by (deadline_in deadlines.now) (whole_on ended.now.domain.now ended.now.starts.now) in
         let verdict = verdict_at ended.now.domain.now ended.now.rows.now ended.now.judgements.now in
         IfOk result (λ deliveries. deliveries.items
             ≡ deliveries_of_all ended.now.domain.now ended.now.cycles known verdict (numbered ended.now.offers.now)) }

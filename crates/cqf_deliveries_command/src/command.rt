@@ -1,11 +1,15 @@
 //! The commands `deliveries` and `check`.
 ghost use Rattle.std.specs.Prelude.{◌≡◌, ◌≤◌, Ok, Err, IfErr, IfOk};
+ghost use Rattle.cqf_laws_report.specs.Judged.{StandInOrder};
+ghost use Rattle.cqf_scenario.specs.Closing.{MayBeRun, scenario_given};
 ghost use Rattle.cqf_stop.specs.Stops.{IsRefused};
-ghost use Rattle.cqf_deliveries.specs.Checked.{checked_by};
+ghost use Rattle.cqf_deliveries.specs.Checked.{checked_by, finished};
 ghost use Rattle.cqf_deliveries.specs.DeliveriesText.{text_of_deliveries};
 ghost use Rattle.cqf_deliveries_command.specs.CheckOutput.{IsCheckRefusal, IsChecked};
+ghost use Rattle.cqf_deliveries_command.specs.Checking.{IsCheckedGiven, IsRefusedGiven};
 ghost use Rattle.cqf_deliveries_command.specs.DeliveriesOutput.{IsDeliveriesOutput};
 ghost use Rattle.cqf_deliveries_command.specs.PlannedScenario.{planned_scenario};
+ghost use Rattle.cqf_deliveries_command.specs.Reading.{AreDeliveriesOf};
 
 use crate::made::{deliveries_of_scenario, later_offers};
 use crate::output::DeliveriesOutput;
@@ -23,7 +27,12 @@ fn output_of(
     alloc: Global,
     cycles: u32,
     planned: &PlannedGiven,
-) -> Result<DeliveriesOutput, Memory> {
+) -> Result<DeliveriesOutput, Memory>
+    requires short { cycles ≤ 100000 }
+    requires may { MayBeRun cycles (scenario_given planned.now.given) }
+    requires order { StandInOrder planned.now.given.offers.items }
+    ensures { IfOk result (λ output. AreDeliveriesOf cycles planned.now output) }
+{
     let deliveries = deliveries_of_scenario(alloc, cycles, planned)?;
     let sheet = Sheet::new(alloc)?;
     Ok(DeliveriesOutput { deliveries, sheet })
@@ -52,7 +61,10 @@ pub fn deliveries_output(
 }
 
 /// The line where all that was counted is well, or the end with the line that tells what hasn't come.
-fn finish(alloc: Global, counts: Counts) -> Result<Vec<u8>, Stop> {
+fn finish(alloc: Global, counts: Counts) -> Result<Vec<u8>, Stop>
+    ensures ok { IfOk result (λ line. finished counts ≡ Ok line.items) }
+    ensures err { IfErr result (IsRefused (finished counts)) }
+{
     if counts.is_finished() {
         match well_line(alloc, counts) {
             Ok(line) => Ok(line.into_bytes()),
@@ -68,7 +80,10 @@ fn check_deliveries(
     alloc: Global,
     deliveries: &[Delivery],
     counts: Counts,
-) -> Result<Vec<u8>, Stop> {
+) -> Result<Vec<u8>, Stop>
+    ensures ok { IfOk result (λ line. checked_by deliveries.now counts ≡ Ok line.items) }
+    ensures err { IfErr result (IsRefused (checked_by deliveries.now counts)) }
+{
     match first_bad(deliveries) {
         Some(delivery) => {
             let line = complaint_about(alloc, delivery);
@@ -79,7 +94,13 @@ fn check_deliveries(
 }
 
 /// What is told of a scenario.
-fn check_scenario(alloc: Global, cycles: u32, planned: &PlannedGiven) -> Result<Vec<u8>, Stop> {
+fn check_scenario(alloc: Global, cycles: u32, planned: &PlannedGiven) -> Result<Vec<u8>, Stop>
+    requires short { cycles ≤ 100000 }
+    requires may { MayBeRun cycles (scenario_given planned.now.given) }
+    requires order { StandInOrder planned.now.given.offers.items }
+    ensures ok { IfOk result (λ line. IsCheckedGiven cycles planned.now (Ok line.items)) }
+    ensures err { IfErr result (IsRefusedGiven cycles planned.now) }
+{
     match deliveries_of_scenario(alloc, cycles, planned) {
         Ok(deliveries) => {
             let (domain, offers) = (&planned.given.domain, planned.given.offers.as_slice());

@@ -1,20 +1,17 @@
 //! The deliveries of a scenario.
-ghost use Rattle.std.specs.Prelude.{◌≡◌, ◌≤◌, IfOk, List, count_by, nat_le};
+ghost use Rattle.std.specs.Prelude.{◌≡◌, ◌≤◌, IfOk, count_by, nat_le};
 ghost use Rattle.cqf_model.specs.Shift.{offer_cycle};
 ghost use Rattle.cqf_model.specs.Traffic.{numbered};
 ghost use Rattle.cqf_laws_report.specs.Judged.{StandInOrder};
 ghost use Rattle.cqf_scenario.specs.Closing.{MayBeRun, scenario_given};
-ghost use Rattle.cqf_topology.specs.PlannedText.{PlannedText};
-ghost use Rattle.cqf_deliveries_command.specs.Reading.{AreDeliveries, ArePlanned};
+ghost use Rattle.cqf_deliveries_command.specs.Reading.{AreDeliveriesOf, IsMade};
 
 use crate::reading::PlannedGiven;
-use cqf_admission::Admission;
 use cqf_coverage::cover;
 use cqf_deliveries::{Deadlines, Delivery, Ended, deliveries_of};
 use cqf_granted::granted_streams;
-use cqf_laws_latency::frames_are_timely;
 use cqf_laws_report::offers_are_judged;
-use cqf_model::{Book, Offer};
+use cqf_model::Offer;
 use cqf_scenario::{Simulated, run_given};
 use cqf_topology::Domain;
 use cqf_units::{Memory, cycle_of};
@@ -26,10 +23,17 @@ fn deliveries_of_run(
     cycles: u32,
     planned: &PlannedGiven,
     made: &Simulated,
-) -> Result<Vec<Delivery>, Memory> {
+) -> Result<Vec<Delivery>, Memory>
+    requires short { cycles ≤ 100000 }
+    requires may { MayBeRun cycles (scenario_given planned.now.given) }
+    requires order { StandInOrder planned.now.given.offers.items }
+    requires made { IsMade cycles (scenario_given planned.now.given) made.now }
+    ensures { IfOk result (λ deliveries. AreDeliveriesOf cycles planned.now deliveries.items) }
+{
     offers_are_judged();
-    frames_are_timely();
     let domain = made.admission.domain();
+    // the domain is accepted: a fact for the instants
+    let _accepted = domain.cycle_time();
     let offers = planned.given.offers.as_slice();
     let rows = granted_streams(alloc, domain, made.admission.history())?;
     let judgements = cover(alloc, domain, rows.as_slice(), offers)?;
@@ -51,7 +55,12 @@ pub(crate) fn deliveries_of_scenario(
     alloc: Global,
     cycles: u32,
     planned: &PlannedGiven,
-) -> Result<Vec<Delivery>, Memory> {
+) -> Result<Vec<Delivery>, Memory>
+    requires short { cycles ≤ 100000 }
+    requires may { MayBeRun cycles (scenario_given planned.now.given) }
+    requires order { StandInOrder planned.now.given.offers.items }
+    ensures { IfOk result (λ deliveries. AreDeliveriesOf cycles planned.now deliveries.items) }
+{
     let made = run_given(alloc, cycles, &planned.given)?;
     deliveries_of_run(alloc, cycles, planned, &made)
 }

@@ -46,6 +46,7 @@ fn read_planned_parts(
     ensures ok { IfOk result (λ made. IsPlannedIn cycles (texts_of parts.entry) made) }
     ensures err { IfErr result (IsRefused (planned_scenario_of cycles (texts_of parts.entry))) }
 {
+    offers_stand_in_order();
     let domain = domain_part(alloc, parts.domain)?;
     let (requests, deadlines) = read_streams(alloc, parts.streams)?;
     let given = read_behind(alloc, cycles, domain, requests.as_slice(), parts)?;
@@ -65,7 +66,6 @@ pub(crate) fn read_planned_given(
     ensures ok { IfOk result (λ made. IsPlannedGiven cycles input.now made) }
     ensures err { IfErr result (IsRefused (planned_scenario cycles input.now)) }
 {
-    offers_stand_in_order();
     let parts = run_parts(alloc, input)?;
     read_planned_parts(alloc, cycles, parts)
 }
