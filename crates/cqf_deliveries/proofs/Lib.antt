@@ -2,3 +2,4 @@ pub mod Noted
 pub mod Passed
 pub mod ByBook
 mod CourseLines
+mod Lines

@@ -1,5 +1,5 @@
 -- What is noted of frames, start by start.
-use Rattle.std.proofs.Common.{◌≡◌, ◌≢◌, ◌∙◌, ◌++◌, ◌∷◌, [], ◌<◌, ◌+◌, ◌≤◌, ◌⊎◌, ℕ, Bool, true, false, List, Option, Some, None, filter, find, map, ap, sym, subst, length, refl, arith, get_or, inl, inr, set, option_map, cond}
+use Rattle.std.proofs.Common.{◌≡◌, ◌≢◌, ◌∙◌, ◌++◌, ◌∷◌, [], ◌<◌, ◌+◌, ◌-◌, ◌≤◌, ◌⊎◌, ℕ, Bool, true, false, List, Option, Some, None, filter, find, map, ap, sym, subst, length, refl, arith, get_or, inl, inr, set, option_map, cond}
 use Rattle.std.specs.Prelude.{◌==◌, ◌&&◌}
 use Rattle.std.specs.Global.{Global}
 use Rattle.std.specs.declared.vec.Vec.{Vec}
@@ -59,7 +59,7 @@ AddsArrival-set lists place frame own old d arrival is below at more = record {
       ∙ get_or-set_same (lists_of lists) place own.items [] (omega (arith, below, length-map lists items))
       ∙ more
       ∙ ap (λ (v : Vec Arrival Global). v.items ++ arrival ∷ []) at
-      ∙ ap (λ (as : List Arrival). as ++ arrival ∷ []) (sym (get_or-map items lists place d [] below))
+      ∙ ap (λ (list : List Arrival). list ++ arrival ∷ []) (sym (get_or-map items lists place d [] below))
       ∙ ap (λ (k : ℕ). get_or (lists_of lists) k [] ++ arrival ∷ []) is;
   others = λ other apart.
       ap (λ (zs : List (List Arrival)). get_or zs other []) same
@@ -135,24 +135,20 @@ Notes-added d s before after comes adds starts frames h = record {
 pub AreArrivals-none : (d : Domain) (frames : ℕ) (lists : List (List Arrival)) → AreEmpty (frames + 1) lists → AreArrivals d [] frames lists
 AreArrivals-none d frames lists empty = record { count = empty.count; each = λ frame below. empty.each frame (omega (arith, below)) }
 
+-- what is found of a list on a link
+abbrev whole_of_list : ℕ → List Arrival → Option Nanos
+whole_of_list link list = option_map (λ (arrival : Arrival). arrival.whole) (find (λ (arrival : Arrival). arrival.link == link) list)
+
 -- on a link to a station, the first that is noted is the first that starts
 found : (d : Domain) (frame link : ℕ) → is_station (end_of d link) ≡ true → (starts : List Started) →
     option_map (λ (arrival : Arrival). arrival.whole) (find (λ (arrival : Arrival). arrival.link == link) (arrivals_of d starts frame)) ≡ whole_on d starts frame link
 found d frame link comes [] = refl
-found d frame link comes (s ∷ starts) = by (s.frame == frame) (s.link == link) refl refl
+found d frame link comes (s ∷ starts) = by (found d frame link comes starts) (s.frame == frame) (s.link == link) refl refl
   where
-    -- what is found of a list
-    abbrev whole_of_list : List Arrival → Option Nanos
-    whole_of_list as = option_map (λ (arrival : Arrival). arrival.whole) (find (λ (arrival : Arrival). arrival.link == link) as)
-
-    -- what is noted of the starts behind
-    abbrev rest : List Arrival
-    rest = arrivals_of d starts frame
-
     -- what is noted of all
     all_by : (b : Bool) → comes_to_listener d frame s ≡ b →
-        whole_of_list (arrivals_of d (s ∷ starts) frame) ≡ whole_of_list (map (arrival_by d) (cond b (s ∷ filter (comes_to_listener d frame) starts) (filter (comes_to_listener d frame) starts)))
-    all_by b e = ap (λ (c : Bool). whole_of_list (map (arrival_by d) (cond c (s ∷ filter (comes_to_listener d frame) starts) (filter (comes_to_listener d frame) starts)))) e
+        whole_of_list link (arrivals_of d (s ∷ starts) frame) ≡ whole_of_list link (map (arrival_by d) (cond b (s ∷ filter (comes_to_listener d frame) starts) (filter (comes_to_listener d frame) starts)))
+    all_by b e = ap (λ (c : Bool). whole_of_list link (map (arrival_by d) (cond c (s ∷ filter (comes_to_listener d frame) starts) (filter (comes_to_listener d frame) starts)))) e
 
     -- what starts, by whether the first is the one
     first_by : (b : Bool) → ((s.frame == frame) && (s.link == link)) ≡ b →
@@ -160,28 +156,28 @@ found d frame link comes (s ∷ starts) = by (s.frame == frame) (s.link == link)
     first_by b e = ap (λ (c : Bool). option_map (whole_instant d) (cond c (Some s) (start_on starts frame link))) (sym e)
 
     -- by whether it is of the frame, and on the link
-    by : (f l : Bool) → (s.frame == frame) ≡ f → (s.link == link) ≡ l → whole_of_list (arrivals_of d (s ∷ starts) frame) ≡ whole_on d (s ∷ starts) frame link
-    by false l ef el =
-        all_by false (ap (λ (b : Bool). b && is_station (end_of d s.link)) ef) ∙ found d frame link comes starts
+    by : whole_of_list link (arrivals_of d starts frame) ≡ whole_on d starts frame link → (f l : Bool) → (s.frame == frame) ≡ f → (s.link == link) ≡ l → whole_of_list link (arrivals_of d (s ∷ starts) frame) ≡ whole_on d (s ∷ starts) frame link
+    by rest false l ef el =
+        all_by false (ap (λ (b : Bool). b && is_station (end_of d s.link)) ef) ∙ rest
         ∙ first_by false (ap (λ (b : Bool). b && (s.link == link)) ef)
-    by true true ef el =
+    by rest true true ef el =
         let same : s.link ≡ link = grind (arith, nat_tests) in
         let here : comes_to_listener d frame s ≡ true = λ i. ef i && (ap (λ k. is_station (end_of d k)) same ∙ comes) i in
         all_by true here
-        ∙ ap (λ (b : Bool). option_map (λ (arrival : Arrival). arrival.whole) (cond b (Some (arrival_by d s)) (find (λ (arrival : Arrival). arrival.link == link) rest))) el
+        ∙ ap (λ (b : Bool). option_map (λ (arrival : Arrival). arrival.whole) (cond b (Some (arrival_by d s)) (find (λ (arrival : Arrival). arrival.link == link) (arrivals_of d starts frame)))) el
         ∙ first_by true (λ i. ef i && el i)
-    by true false ef el = elim (cases_Bool (is_station (end_of d s.link))) [
+    by rest true false ef el = elim (cases_Bool (is_station (end_of d s.link))) [
       | inl comes_too ↦
           all_by true (λ i. ef i && comes_too i)
-          ∙ ap (λ (b : Bool). option_map (λ (arrival : Arrival). arrival.whole) (cond b (Some (arrival_by d s)) (find (λ (arrival : Arrival). arrival.link == link) rest))) el
-          ∙ found d frame link comes starts ∙ first_by false (λ i. ef i && el i)
+          ∙ ap (λ (b : Bool). option_map (λ (arrival : Arrival). arrival.whole) (cond b (Some (arrival_by d s)) (find (λ (arrival : Arrival). arrival.link == link) (arrivals_of d starts frame)))) el
+          ∙ rest ∙ first_by false (λ i. ef i && el i)
       | inr not_there ↦
-          all_by false (λ i. ef i && not_there i) ∙ found d frame link comes starts ∙ first_by false (λ i. ef i && el i)
+          all_by false (λ i. ef i && not_there i) ∙ rest ∙ first_by false (λ i. ef i && el i)
     ]
 
 -- so what is noted tells when a frame is whole at a listener
 pub whole_in-on : (d : Domain) (starts : List Started) (frames : ℕ) (lists : List (List Arrival)) (frame link : ℕ) → AreArrivals d starts frames lists →
     frame ≤ frames → is_station (end_of d link) ≡ true → whole_in lists frame link ≡ whole_on d starts frame link
 whole_in-on d starts frames lists frame link h below comes =
-    ap (λ (as : List Arrival). option_map (λ (arrival : Arrival). arrival.whole) (find (λ (arrival : Arrival). arrival.link == link) as)) (h.each frame below)
+    ap (λ (list : List Arrival). option_map (λ (arrival : Arrival). arrival.whole) (find (λ (arrival : Arrival). arrival.link == link) list)) (h.each frame below)
     ∙ found d frame link comes starts

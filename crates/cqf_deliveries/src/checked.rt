@@ -157,8 +157,8 @@ pub fn complaint_about(alloc: Global, delivery: &Delivery) -> Result<String, All
     requires { is_bad (fate_of delivery.now) ≡ true }
     ensures { IfOk result (λ line. string_bytes line ≡ complaint_line delivery.now) }
 {
-    let complaint = complaint_of(alloc, delivery)?;
-    let complaint = complaint.as_str();
+    let text = complaint_of(alloc, delivery)?;
+    let complaint = text.as_str();
     let (frame, stream) = (delivery.frame, &delivery.stream);
     let (bridge, at) = (&delivery.bridge, delivery.at.0);
     let line = format!(in alloc;

@@ -1,5 +1,5 @@
 //! The deadlines of the frames of streams, by name.
-ghost use Rattle.std.specs.Prelude.{◌≡◌, IfOk};
+ghost use Rattle.std.specs.Prelude.{◌≡◌, IfOk, None, slice_index_or};
 ghost use Rattle.cqf_deliveries.specs.Deadlines.{deadline_in};
 
 use cqf_script::Names;
@@ -7,6 +7,16 @@ use cqf_topology::Request;
 use cqf_units::{Memory, Name};
 use std::alloc::Global;
 use std::marker::Model;
+
+/// The deadline at a place.
+fn deadline_at(deadlines: &[Option<u32>], place: usize) -> Option<u32>
+    ensures { result ≡ slice_index_or deadlines.now place None }
+{
+    match deadlines.get(place) {
+        Some(deadline) => *deadline,
+        None => None,
+    }
+}
 
 /// Deadlines in nanoseconds, found by the names of their streams: a name means the first request of it (profile).
 #[derive(Drop)]
@@ -43,9 +53,8 @@ impl<'r> Deadlines<'r> {
     pub fn of(&self, stream: &Name) -> Option<u32>
         ensures { result ≡ deadline_in self.now stream.now }
     {
-        let place = self.names.place_of(stream.as_str())?;
-        match self.deadlines.get(place) {
-            Some(deadline) => *deadline,
+        match self.names.place_of(stream.as_str()) {
+            Some(place) => deadline_at(self.deadlines, place),
             None => None,
         }
     }

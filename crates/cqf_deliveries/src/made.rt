@@ -8,7 +8,7 @@ ghost use Rattle.cqf_model.specs.Run.{AreOffers};
 ghost use Rattle.cqf_model.specs.Shift.{offer_cycle};
 ghost use Rattle.cqf_model.specs.Traffic.{numbered};
 ghost use Rattle.cqf_deliveries.specs.Arrivals.{IsInTime, whole_in};
-ghost use Rattle.cqf_deliveries.specs.ByVerdict.{deliveries_for, deliveries_of_all, known_by};
+ghost use Rattle.cqf_deliveries.specs.ByVerdict.{deliveries_for, deliveries_of_all, deliveries_within, known_by};
 ghost use Rattle.cqf_deliveries.specs.Deadlines.{deadline_in};
 ghost use Rattle.cqf_deliveries.specs.Deliveries.{deliveries_to, delivery_of, delivery_to, whole_on};
 
@@ -144,6 +144,31 @@ fn push_judged(
     }
 }
 
+/// Puts the deliveries of an offer behind those before it, where its cycle is run.
+fn push_offer(
+    deliveries: &mut Vec<Delivery>,
+    ended: &Ended<'_>,
+    arrivals: &Arrivals,
+    deadlines: &Deadlines<'_>,
+    x: &Offered,
+) -> Result<(), Memory>
+    requires bridge { x.now.offer.bridge < length ended.now.domain.now.bridges }
+    requires early { x.now.offer.at.0 < 1000000000000 }
+    requires first { 1 ≤ x.now.frame }
+    requires last { x.now.frame ≤ length ended.now.judgements.now }
+    ensures { let known = known_by (deadline_in deadlines.now) (whole_in arrivals.now) in
+        let verdict = verdict_at ended.now.domain.now ended.now.rows.now ended.now.judgements.now in
+        OnOk result (deliveries.new.items
+            ≡ deliveries.old.items ++ deliveries_within ended.now.domain.now ended.now.cycles known verdict x.now) }
+{
+    let cycle = cycle_of(x.offer.at, ended.domain.cycle_time());
+    if cycle.0 >= ended.cycles {
+        return Ok(());
+    }
+    let judgement = ended.judgements[x.frame as usize - 1];
+    push_judged(deliveries, ended, arrivals, deadlines, x, judgement)
+}
+
 /// The deliveries of a run that is over, by what is noted of its starts.
 fn each_delivery(
     alloc: Global,
@@ -159,14 +184,10 @@ fn each_delivery(
         IfOk result (λ deliveries. deliveries.items
             ≡ deliveries_of_all ended.now.domain.now ended.now.cycles known verdict (numbered ended.now.offers.now)) }
 {
-    let cycle_time = ended.domain.cycle_time();
     let mut deliveries = Vec::new(alloc);
     for (place, offer) in ended.offers.iter().enumerate() {
-        if cycle_of(offer.at, cycle_time).0 < ended.cycles {
-            let x = offered(place, offer);
-            let judgement = ended.judgements[place];
-            push_judged(&mut deliveries, ended, arrivals, deadlines, &x, judgement)?;
-        }
+        let x = offered(place, offer);
+        push_offer(&mut deliveries, ended, arrivals, deadlines, &x)?;
     }
     Ok(deliveries)
 }

@@ -30,4 +30,5 @@ starts_in_time run book promise accepted short = all_from_members (IsInTime run.
         let first : whole_at run.domain b.link b.of.sent < 1000000000000 =
         early run.domain.cycle_time (whole_at run.domain b.link b.of.sent) b.cycle (omega (arith, accepted.cycle_least)) accepted.cycle_most
         (omega (arith, b.in_run, short)) cycle in
-        subst (λ (z : Started). IsInTime run.domain z) b.of.is (omega (arith, first))
+        let bound : whole_at run.domain b.link b.of.sent < 18446744073709551616 = omega (arith, first) in
+        subst (λ (z : Started). IsInTime run.domain z) b.of.is bound

@@ -52,30 +52,30 @@ due_at streams k None at = none (slice_get_cases streams k).1
     none (inl here) = absurd (let both : Some here.0 ≡ None = sym here.2.0 ∙ at in cc)
     none (inr past) = get_or_past (map (λ (planned : PlannedText). planned.1) streams) k None (omega (arith, past.0, length-map streams (λ (planned : PlannedText). planned.1)))
 
+-- whether a stream has a name
+abbrev named : List ℕ → PlannedText → Bool
+named name planned = is_text planned.0.name name
+
 -- so the deadline of a name is that of the first stream of it
 pub due_is : (streams : List PlannedText) (requests : List Request) (deadlines : List (Option ℕ)) → ArePlanned streams requests deadlines → (name : List ℕ) →
     deadline_in (record { requests = requests; deadlines = deadlines }) name ≡ deadline_named streams name
 due_is streams requests deadlines planned name =
     ap (option_and_then (λ (k : ℕ). get_or deadlines k None)) places
-    ∙ ap (λ (ends : List (Option ℕ)). option_and_then (λ (k : ℕ). get_or ends k None) (position of_name streams)) planned.ends
-    ∙ by (position of_name streams) refl
+    ∙ ap (λ (ends : List (Option ℕ)). option_and_then (λ (k : ℕ). get_or ends k None) (position (named name) streams)) planned.ends
+    ∙ by (position (named name) streams) refl
   where
-    -- whether a stream has the name
-    abbrev of_name : PlannedText → Bool
-    of_name planned = is_text planned.0.name name
-
     -- the first request of it stands where the first stream does
-    places : place_named requests name ≡ position of_name streams
+    places : place_named requests name ≡ position (named name) streams
     places =
         sym (position-map (λ (asked : Asked). is_text asked.name name) asked_of requests)
         ∙ ap (position (λ (asked : Asked). is_text asked.name name)) planned.asked
         ∙ position-map (λ (asked : Asked). is_text asked.name name) (λ (p : PlannedText). asked_by p.0) streams
 
     -- whether there is one
-    by : (place : Option ℕ) → position of_name streams ≡ place →
+    by : (place : Option ℕ) → position (named name) streams ≡ place →
         option_and_then (λ (k : ℕ). get_or (deadlines_in streams) k None) place ≡ deadline_named streams name
-    by None is = ap (option_and_then (λ (planned : PlannedText). planned.1)) (found_nowhere of_name streams is)
-    by (Some k) is = due_at streams k (find of_name streams) (found_there of_name streams k is)
+    by None is = ap (option_and_then (λ (planned : PlannedText). planned.1)) (found_nowhere (named name) streams is)
+    by (Some k) is = due_at streams k (find (named name) streams) (found_there (named name) streams k is)
 
 -- the deliveries by the judgements are those by the book
 pub AreDeliveries-made : OffersAreJudged → (cycles : ℕ) (s : Scenario) (streams : List PlannedText) (book : Contents) (rows : List Row)

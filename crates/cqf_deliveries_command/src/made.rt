@@ -35,7 +35,8 @@ fn deliveries_of_run(
     // the domain is accepted: a fact for the instants
     let _accepted = domain.cycle_time();
     let offers = planned.given.offers.as_slice();
-    let rows = granted_streams(alloc, domain, made.admission.history())?;
+    let entries = made.admission.history();
+    let rows = granted_streams(alloc, domain, entries)?;
     let judgements = cover(alloc, domain, rows.as_slice(), offers)?;
     let (requests, ends) = (planned.requests.as_slice(), planned.deadlines.as_slice());
     let deadlines = Deadlines::new(alloc, requests, ends)?;

@@ -15,8 +15,8 @@ use itoa::Buffer;
 use std::alloc::Global;
 use std::io::Write;
 
-/// The word for a reason, as a book has it.
-pub fn reason_name(reason: Reason) -> &'static str
+/// The word for a reason.
+fn reason_name(reason: Reason) -> &'static str
     ensures name { result.now ≡ name_of_reason reason }
     ensures plain { IsPlain result.now }
 {

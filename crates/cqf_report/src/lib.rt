@@ -36,7 +36,7 @@ mod tables;
 
 pub use arrivals::read_arrivals;
 pub use background::read_background;
-pub use books::{append_book, reason_name, write_book};
+pub use books::{append_book, write_book};
 pub use columns::{Column, write_columns};
 pub use history::write_history;
 pub use laws::{books_are_in_order, first_fault_is_told, most_is_the_greatest};

@@ -21,4 +21,3 @@ mod names;
 
 pub use calls::{administrators, read_script};
 pub use faults::ScriptFault;
-pub use names::Names;

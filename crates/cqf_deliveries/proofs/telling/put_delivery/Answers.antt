@@ -11,10 +11,12 @@ pub returns : goal.returns
 returns g c =
     let x = c.args.delivery.now in
     let name = name_of_fate (fate_of x) in
+    let rest = course_fields x.at.0 x.course (name ∷ []) in
     let stream = Puts-as c.as_bytes.result.now x.stream c.as_bytes.ensures.value c.put.ensures in
-    let course = Puts-as (line_of (course_fields x.at.0 x.course (c.as_bytes-2.result.now ∷ []))) (line_of (course_fields x.at.0 x.course (name ∷ [])))
-    (ap (λ last. line_of (course_fields x.at.0 x.course (last ∷ []))) (c.as_bytes-2.ensures ∙ c.name-last.ensures ∙ ap name_of_fate c.fate.ensures)) c.put_course.ensures in
-    Puts-field (decimal x.frame) x.stream _ c.put_number.ensures c.put_byte.ensures
-    (Puts-field x.stream (decimal x.octets) _ stream c.put_byte-2.ensures
-    (Puts-field (decimal x.octets) (decimal x.at.0) _ c.put_number-2.ensures c.put_byte-3.ensures
+    let course = Puts-as (line_of (course_fields x.at.0 x.course (c.as_bytes-2.result.now ∷ []))) (line_of rest)
+    (ap (λ last. line_of (course_fields x.at.0 x.course (last ∷ []))) (c.as_bytes-2.ensures.value ∙ c.name-last.ensures ∙ ap name_of_fate c.fate.ensures))
+    c.put_course.ensures in
+    Puts-field (decimal x.frame) x.stream (decimal x.octets ∷ decimal x.at.0 ∷ rest) c.put_number.ensures c.put_byte.ensures
+    (Puts-field x.stream (decimal x.octets) (decimal x.at.0 ∷ rest) stream c.put_byte-2.ensures
+    (Puts-field (decimal x.octets) (decimal x.at.0) rest c.put_number-2.ensures c.put_byte-3.ensures
     (Puts-course (decimal x.at.0) x.at.0 x.course (name ∷ []) c.put_number-3.ensures c.put_byte-4.ensures course)))
