@@ -3,7 +3,8 @@
 //! - `cqf port --until N [--rate RATE]` reads a gate list and the arrivals of one output port from standard input, and
 //!   writes the frames that the port starts before instant N.
 //! - `cqf line --cycles N` reads offers, and writes the book of the smallest network over N cycles.
-//! - `cqf compile` reads a domain and its streams, and writes the gate list of each port and the gates of each stream.
+//! - `cqf compile` reads a domain and its streams, and writes the gate list of each port and the gates of each stream. With
+//!   `--format tc` it writes a shell script that sets these by `tc`.
 //! - `cqf load` reads the same, and writes what each link holds of the streams and has left.
 //! - `cqf latency` reads the same, and writes the least and the most that a frame of each stream takes to each listener, and
 //!   whether its deadline is kept. With `--strict` a deadline that isn't kept for sure ends it with status 1.
@@ -11,6 +12,8 @@
 //!   where there are any, and writes the history of the calls and the book of every transmission and drop over N cycles.
 //!   With `--threads` each bridge and each administrator has a thread of its own.
 //! - `cqf report --cycles N` reads the same, and writes what each link carries.
+//! - `cqf deliveries --cycles N` reads the same, and writes what becomes of each offered frame at each listener of its stream.
+//! - `cqf check --cycles N` reads the same, and ends with status 1 where one of them is dropped, late or not yet there.
 //!
 //! Behind the words may stand files, `-` for standard input among them. The input is then what their texts come to, one behind the
 //! other with a line `%%` between them; a first file without such a line stands twice, as the domain and as its streams, unless the

@@ -5,7 +5,7 @@
 //! `specs/Composing.antt` has the same as a definition.
 //!
 //! ```text
-//! composed(alloc, &Job::Compile, &["domain.toml", "streams.toml"], &[b"cycle = 125000", b"streams = []\n"])
+//! composed(alloc, &Job::Load, &["domain.toml", "streams.toml"], &[b"cycle = 125000", b"streams = []\n"])
 //!     is Ok(b"cycle = 125000\n%%\nstreams = []\n")
 //! ```
 #![tactic(auto)]

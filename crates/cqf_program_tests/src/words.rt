@@ -1,7 +1,7 @@
 //! Words read.
 use cqf_stop::{DONE, USAGE};
 use cqf_units::Rate;
-use cqf_words::{Job, read_words};
+use cqf_words::{Format, Job, read_words};
 use std::alloc::Global;
 
 const FIVE: Job = Job::Port {
@@ -18,6 +18,12 @@ const MOST_AT_THE_MIDDLE_RATE: Job = Job::Port {
     until: 100_000_000,
     rate: Rate::Mb100,
 };
+
+const LISTED: Job = Job::Compile {
+    format: Format::List,
+};
+
+const AS_SCRIPT: Job = Job::Compile { format: Format::Tc };
 
 /// Words, the job that they mean, and the status that they end with where they mean none.
 const CASES: &[(&[&str], Option<Job>, u8)] = &[
@@ -37,7 +43,25 @@ const CASES: &[(&[&str], Option<Job>, u8)] = &[
         Some(Job::Line { cycles: 100_000 }),
         DONE,
     ),
-    (&["compile"], Some(Job::Compile), DONE),
+    (&["compile"], Some(LISTED), DONE),
+    (&["compile", "--format", "list"], Some(LISTED), DONE),
+    (&["compile", "--format", "tc"], Some(AS_SCRIPT), DONE),
+    (&["compile", "--format=tc"], Some(AS_SCRIPT), DONE),
+    // the format is of `compile` alone, has one of two values, and stands once
+    (&["compile", "--format"], None, USAGE),
+    (&["compile", "--format", "TC"], None, USAGE),
+    (&["compile", "--format", "lists"], None, USAGE),
+    (&["compile", "--format", ""], None, USAGE),
+    (
+        &["compile", "--format", "tc", "--format", "tc"],
+        None,
+        USAGE,
+    ),
+    (&["compile", "tc"], None, USAGE),
+    (&["compile", "--cycles", "5"], None, USAGE),
+    (&["--format", "tc", "compile"], None, USAGE),
+    (&["load", "--format", "tc"], None, USAGE),
+    (&["port", "--until", "5", "--format", "tc"], None, USAGE),
     (&["load"], Some(Job::Load), DONE),
     (&["latency"], Some(Job::Latency { strict: false }), DONE),
     (
@@ -79,6 +103,31 @@ const CASES: &[(&[&str], Option<Job>, u8)] = &[
         Some(Job::Report { cycles: 100_000 }),
         DONE,
     ),
+    (
+        &["deliveries", "--cycles", "1"],
+        Some(Job::Deliveries { cycles: 1 }),
+        DONE,
+    ),
+    (
+        &["deliveries", "--cycles", "100000"],
+        Some(Job::Deliveries { cycles: 100_000 }),
+        DONE,
+    ),
+    (
+        &["check", "--cycles=100000"],
+        Some(Job::Check { cycles: 100_000 }),
+        DONE,
+    ),
+    (&["deliveries"], None, USAGE),
+    (&["check"], None, USAGE),
+    (&["deliveries", "--cycles", "0"], None, USAGE),
+    (&["deliveries", "--cycles", "100001"], None, USAGE),
+    (&["check", "--cycles", "0"], None, USAGE),
+    (&["check", "--cycles", "100001"], None, USAGE),
+    (&["check", "--cycles", "3", "--cycles", "3"], None, USAGE),
+    (&["deliveries", "--cycles", "3", "--threads"], None, USAGE),
+    (&["check", "--cycles", "3", "--threads"], None, USAGE),
+    (&["check", "--cycles", "3", "--strict"], None, USAGE),
     (&["run"], None, USAGE),
     (&["run", "--cycles", "100001"], None, USAGE),
     // the flag is of `run` alone, takes no value, stands once and in full
@@ -133,7 +182,11 @@ fn help_has(alloc: Global, words: &[&str], text: &str) -> bool {
 /// Words that ask for help, and a text in it.
 const HELP: &[(&[&str], &str)] = &[
     (&["--help"], "Usage: cqf <COMMAND>"),
-    (&["compile", "--help"], "Usage: cqf compile\n"),
+    (&["compile", "--help"], "Usage: cqf compile [OPTIONS]\n"),
+    (
+        &["compile", "--help"],
+        "cqf compile --format tc plant.toml\n",
+    ),
     (&["port", "--help"], "a gate list    80 120000\n"),
     (&["run", "--help"], "a script       0 admit x\n"),
     (
@@ -146,6 +199,19 @@ const HELP: &[(&[&str], &str)] = &[
         "100000 cycles and 6 million transmissions it takes about 10 seconds and 0.5 GB,",
     ),
     (&["report", "--help"], "Usage: cqf report --cycles <N>\n"),
+    (
+        &["deliveries", "--help"],
+        "Usage: cqf deliveries --cycles <N>\n",
+    ),
+    (
+        &["deliveries", "--help"],
+        "cqf deliveries --cycles 5 plant.toml calls.txt offers.csv\n",
+    ),
+    (&["check", "--help"], "Usage: cqf check --cycles <N>\n"),
+    (
+        &["check", "--help"],
+        "cqf: check: unfinished, under way U, not run O\n",
+    ),
     (&["load", "--help"], "cqf load plant.toml\n"),
     (&["latency", "--help"], "Usage: cqf latency [OPTIONS]\n"),
     (&["latency", "--help"], "cqf latency --strict plant.toml\n"),

@@ -11,7 +11,7 @@ use Rattle.cqf_script.specs.declared.faults.ScriptFault.{ScriptFault}
 use Rattle.cqf_script.specs.declared.faults.ScriptFault.TheVariants.{BadLine, UnknownStream, TooMany}
 use Rattle.cqf_script.specs.declared.lines.Wish.{Wish}
 use Rattle.cqf_script.specs.declared.lines.Wish.TheVariants.{Admit, Withdraw}
-use Rattle.cqf_script.specs.Lines.{Ordered, is_seal_line, order_of_line}
+use Rattle.cqf_script.specs.Lines.{Written, is_seal_line, order_of_line}
 use Rattle.cqf_script.specs.Script.{AreFew, Called, act_for, administrators, call_of_line, call_of_order, call_of_seal, called_behind, calls_from, most_calls, others_among, request_named, script_of, sealed_behind, seals_among}
 
 -- what a step and the rest gave, where both gave something
@@ -67,7 +67,7 @@ counted-seal seat cycles number sealed called line call is h =
     }
 
 -- the line of an order
-counted-order : (requests : List Asked) (cycles number sealed called : ℕ) (line : List ℕ) (order : Ordered) (call : Called) → is_seal_line line ≡ false →
+counted-order : (requests : List Asked) (cycles number sealed called : ℕ) (line : List ℕ) (order : Written) (call : Called) → is_seal_line line ≡ false →
     call_of_order requests number called order ≡ Ok call → IsCounted cycles sealed called line call
 counted-order requests cycles number sealed called line order call off h =
     let step = stepped (ok_or (act_for requests order.wish order.name) (UnknownStream number))

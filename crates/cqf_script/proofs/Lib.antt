@@ -1,6 +1,5 @@
-mod NameLemmas
 mod OrderLemmas
-pub mod Places
+mod NamePlaces
 mod ReadLines
 mod Words
 mod Few

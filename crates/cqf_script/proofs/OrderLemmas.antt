@@ -1,18 +1,20 @@
 -- What an order calls for, found among the requests.
-use Rattle.std.proofs.Common.{◌≡◌, ℕ, Bool, true, false, cond, List, [], ◌∷◌, map, Option, Some, None, Ok, Err, find, refl, sym, ap, ◌∙◌, ◌≤◌, ◌<◌, arith}
+use Rattle.std.proofs.Common.{◌≡◌, ℕ, Bool, true, false, cond, List, [], ◌∷◌, map, Option, Some, None, Ok, Err, find, length, refl, sym, ap, ◌∙◌, ◌≤◌, ◌<◌, arith}
 use Rattle.std.proofs.lemmas.Bool.Decides.{nat_tests}
-use Rattle.std.specs.Prelude.{nat_le, String, option_map, string_bytes}
-use Rattle.std.specs.declared.alloc.Global.{Global}
+use Rattle.std.proofs.lemmas.Option.{slice_get-get_or, slice_get-map}
+use Rattle.std.proofs.lemmas.List.{get_or-map}
+use Rattle.std.proofs.lemmas.Grind.{common_steps}
+use Rattle.std.specs.Prelude.{nat_le, option_map, slice_get, slice_index_or}
 use Rattle.cqf_topology.specs.declared.streams.Request.{Request}
-use Rattle.cqf_topology.specs.StreamsText.{request_text}
-use Rattle.cqf_admission.specs.declared.entries.Call.{Call}
-use Rattle.cqf_admission.specs.declared.entries.Call.TheVariants as call
-use Rattle.cqf_admission.specs.Asking.{asked_by, asked_of}
+use Rattle.cqf_admission.specs.Asking.{asked_of}
 use Rattle.cqf_script.specs.declared.faults.ScriptFault.TheVariants.{UnknownStream, TooMany}
-use Rattle.cqf_script.specs.declared.lines.Wish.TheVariants.{Admit, Withdraw}
-use Rattle.cqf_script.specs.Lines.{Ordered}
-use Rattle.cqf_script.specs.Names.{has_name}
-use Rattle.cqf_script.specs.Script.{call_of_order, called_of, most_calls, request_named}
+use Rattle.cqf_script.specs.declared.lines.Wish.TheVariants.{Admit}
+use Rattle.cqf_script.specs.Lines.{Written}
+use Rattle.cqf_model.specs.History.{Act, Admits, Asked}
+use Rattle.cqf_requests.specs.Names.{has_name, place_named}
+use Rattle.cqf_requests.specs.Orders.{request_at}
+use Rattle.cqf_requests.proofs.Places.{found_nowhere, found_there}
+use Rattle.cqf_script.specs.Script.{act_for, call_of_order, most_calls, request_named}
 
 -- what the first request asks for is what is asked for first
 named_first : (requests : List Request) (name : List ℕ) → option_map asked_of (find (has_name name) requests) ≡ request_named (map asked_of requests) name
@@ -26,39 +28,43 @@ named_first (request ∷ requests) name =
     pick true request later = refl
     pick false request later = refl
 
+-- where the first request of a name stands, that is what its name calls for
+pub admits : (requests : List Request) (name : List ℕ) (place : ℕ) → place_named requests name ≡ Some place →
+    act_for (map asked_of requests) Admit name ≡ Some (Admits (request_at (map asked_of requests) place))
+admits requests name place is =
+    let there : slice_get requests place ≡ find (has_name name) requests = found_there (has_name name) requests place is in
+    let asked : slice_get (map asked_of requests) place ≡ request_named (map asked_of requests) name =
+    slice_get-map asked_of requests place ∙ ap (option_map asked_of) there ∙ named_first requests name in
+    let inside : place < length (map asked_of requests) = grind (arith, common_steps) in
+    ap (option_map (λ (asked : Asked). Admits asked)) (sym asked ∙ slice_get-get_or (map asked_of requests) place nobody inside)
+  where
+    nobody : Asked
+    nobody = record { name = []; octets = 0; paths = [] }
+
+-- the request at a place, as it was read there
+pub request_read : (requests : List Request) (place : ℕ) (request : Request) → place < length requests → request ≡ slice_index_or requests place request →
+    request_at (map asked_of requests) place ≡ asked_of request
+request_read requests place request inside is =
+    get_or-map asked_of requests place request (record { name = []; octets = 0; paths = [] }) inside ∙ ap asked_of (sym is)
+
 -- no request has the name
-pub unknown_stream : (requests : List Request) (number called : ℕ) (order : Ordered) (found : Option Request) → found ≡ find (has_name order.name) requests
-    → found ≡ None → order.wish ≡ Admit → call_of_order (map asked_of requests) number called order ≡ Err (UnknownStream number)
-unknown_stream requests number called order found is_found none wish =
+pub unknown_stream : (requests : List Request) (number called : ℕ) (order : Written) → place_named requests order.name ≡ None → order.wish ≡ Admit →
+    call_of_order (map asked_of requests) number called order ≡ Err (UnknownStream number)
+unknown_stream requests number called order none wish =
     let asked : request_named (map asked_of requests) order.name ≡ None =
-    sym (named_first requests order.name) ∙ ap (option_map asked_of) (sym is_found ∙ none) in
+    sym (named_first requests order.name) ∙ ap (option_map asked_of) (sym (found_nowhere (has_name order.name) requests none)) in
     rw (wish, asked) refl
 
--- one has it, and there are as many calls as there may be
-pub too_many : (requests : List Request) (number called : ℕ) (order : Ordered) (found : Option Request) (request : Request)
-    → found ≡ find (has_name order.name) requests → found ≡ Some request → order.wish ≡ Admit → most_calls ≤ called
-    → call_of_order (map asked_of requests) number called order ≡ Err (TooMany number)
-too_many requests number called order found request is_found some wish many =
+-- there are as many calls as there may be
+pub too_many : (requests : List Asked) (number called : ℕ) (order : Written) (act : Act) → act_for requests order.wish order.name ≡ Some act →
+    most_calls ≤ called → call_of_order requests number called order ≡ Err (TooMany number)
+too_many requests number called order act is many =
     let full : nat_le most_calls called ≡ true = grind (arith, nat_tests) in
-    let asked : request_named (map asked_of requests) order.name ≡ Some (asked_of request) =
-    sym (named_first requests order.name) ∙ ap (option_map asked_of) (sym is_found ∙ some) in
-    rw (wish, asked, full) refl
+    rw (is, full) refl
 
 -- or fewer
-pub admitted : (requests : List Request) (number called : ℕ) (order : Ordered) (found : Option Request) (request copy : Request) (made : Call)
-    → found ≡ find (has_name order.name) requests → found ≡ Some request → order.wish ≡ Admit → called < most_calls → request_text copy ≡ request_text request
-    → made ≡ call.Admit copy → call_of_order (map asked_of requests) number called order ≡ Ok (called_of (order.seat, made))
-admitted requests number called order found request copy made is_found some wish few same is_made =
-    let asked : request_named (map asked_of requests) order.name ≡ Some (asked_of request) =
-    sym (named_first requests order.name) ∙ ap (option_map asked_of) (sym is_found ∙ some) in
-    let copied : asked_of copy ≡ asked_of request = ap asked_by same in
+pub called_for : (requests : List Asked) (number called : ℕ) (order : Written) (act : Act) → act_for requests order.wish order.name ≡ Some act →
+    called < most_calls → call_of_order requests number called order ≡ Ok (order.seat, act)
+called_for requests number called order act is few =
     let room : nat_le most_calls called ≡ false = grind (arith, nat_tests) in
-    rw (wish, asked, room, is_made, copied) refl
-
--- a withdrawal
-pub withdrawn : (requests : List Request) (number called : ℕ) (order : Ordered) (name : String Global) (made : Call)
-    → order.wish ≡ Withdraw → called < most_calls
-    → string_bytes name ≡ order.name → made ≡ call.Withdraw name → call_of_order (map asked_of requests) number called order ≡ Ok (called_of (order.seat, made))
-withdrawn requests number called order name made wish few same is_made =
-    let room : nat_le most_calls called ≡ false = grind (arith, nat_tests) in
-    rw (wish, room, is_made, same) refl
+    rw (is, room) refl

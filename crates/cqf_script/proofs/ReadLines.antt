@@ -1,10 +1,20 @@
 -- How far the lines of a script have been read.
-use Rattle.std.proofs.Common.{ℕ, ◌≡◌, ◌+◌, ◌<◌, ◌≤◌, List, [], ◌∷◌, ◌++◌, length, Result, Ok, Err, refl, ap, sym, ◌∙◌, append_assoc, arith}
+use Rattle.std.proofs.Common.{ℕ, ◌≡◌, ◌+◌, ◌<◌, ◌≤◌, List, [], ◌∷◌, ◌++◌, length, Result, Ok, Err, refl, ap, subst, sym, ◌∙◌, append_assoc, arith, ◌-◌, All, drop, take, length-drop, length-take-le, inl, inr}
 use Rattle.std.proofs.lemmas.List.{append-nil}
 use Rattle.cqf_text.specs.Lines.{lines_of}
 use Rattle.cqf_model.specs.History.{Asked}
 use Rattle.cqf_fields.specs.Fields.{and_first}
 use Rattle.cqf_fields.proofs.Arrays.{with_front}
+use Rattle.std.specs.List.{after_first, before_first, position_or_len}
+use Rattle.std.proofs.Math.Seq.{drop-drop}
+use Rattle.std.proofs.lemmas.List.{drop_all}
+use Rattle.std.proofs.lemmas.List.Sums.{prefix_len-le-length}
+use Rattle.std.proofs.lemmas.List.Elements.{All-nil, All-push}
+use Rattle.std.proofs.lemmas.Bool.{cases_lt}
+use Rattle.cqf_text.specs.Lines.{is_line_feed}
+use Rattle.cqf_requests.specs.declared.orders.Ordered.{Ordered}
+use Rattle.cqf_requests.specs.Orders.{StandsIn}
+use Rattle.cqf_script.specs.Placed.{LineEnds}
 use Rattle.cqf_script.specs.declared.faults.ScriptFault.{ScriptFault}
 use Rattle.cqf_script.specs.Script.{Called, administrators, called_behind, call_of_line, calls_from, script_of, sealed_behind}
 
@@ -74,3 +84,49 @@ pub read-all : (requests : List Asked) (seat cycles : ℕ) (text : List ℕ) (ca
 read-all requests seat cycles text calls number sealed called left so_far is_seat none =
     let rest : calls_from requests seat cycles number sealed called (lines_of left) ≡ Ok [] = ap (calls_from requests seat cycles number sealed called) none in
     ap (λ s. calls_from requests s cycles 1 0 0 (lines_of text)) (sym is_seat) ∙ sym so_far.goes_on ∙ ap (with_front calls) rest ∙ ap Ok (append-nil calls)
+
+-- the orders so far stand there, and what is left is the text's end
+pub record AreOrdersSoFar (requests : List Asked) (text : List ℕ) (orders : List Ordered) (left : List ℕ) : Type 0 where
+  pub rest : left ≡ drop (length text - length left) text
+  pub stand : All (λ (order : Ordered). StandsIn requests text order.what) orders
+
+-- what is left of a text behind a place is its end of that length
+end_of_text : (text : List ℕ) (n : ℕ) → drop n text ≡ drop (length text - length (drop n text)) text
+end_of_text text n = elim (cases_lt n (length text)) [
+  | inl low ↦ ap (λ (k : ℕ). drop k text) (omega (arith, low, length-drop n text))
+  | inr high ↦ drop_all n text (omega (arith, high)) ∙ sym (drop_all (length text - length (drop n text)) text (omega (arith, high, length-drop n text)))
+]
+
+-- at first
+pub orders-none : (requests : List Asked) (text : List ℕ) → AreOrdersSoFar requests text [] text
+orders-none requests text = record { rest = end_of_text text 0; stand = All-nil (λ (order : Ordered). StandsIn requests text order.what) }
+
+-- the next line ends so far behind the beginning
+pub line_at : (text left line : List ℕ) → left ≡ drop (length text - length left) text → length left ≤ length text → line ≡ before_first is_line_feed left →
+    LineEnds text (length text - length left + length line) line
+line_at text left line rest inside is =
+    let n = position_or_len is_line_feed left in
+    let few : n ≤ length left = prefix_len-le-length _ left in
+    let many : length line ≡ n = ap length is ∙ length-take-le n left few in
+    let shorter : length line ≤ length left = omega (arith, few, many) in
+    let begins : length text - length left + length line - length line ≡ length text - length left = omega arith in
+    let front : take (length line) left ≡ line = ap (λ (k : ℕ). take k left) many ∙ sym is in
+    record {
+      inside = omega (arith, inside, shorter);
+      long = omega arith;
+      is = ap (λ (k : ℕ). take (length line) (drop k text)) begins ∙ ap (take (length line)) (sym rest) ∙ front;
+    }
+
+-- and one more order stands
+pub orders-one_more : (requests : List Asked) (text : List ℕ) (orders after : List Ordered) (left behind : List ℕ) (order : Ordered) →
+    AreOrdersSoFar requests text orders left → StandsIn requests text order.what → after ≡ orders ++ order ∷ [] → behind ≡ after_first is_line_feed left →
+    AreOrdersSoFar requests text after behind
+orders-one_more requests text orders after left behind order so_far stands more is =
+    let n = position_or_len is_line_feed left + 1 in
+    let b = length text - length left in
+    let cut : behind ≡ drop (b + n) text = is ∙ ap (drop n) so_far.rest ∙ drop-drop n b text in
+    record {
+      rest = cut ∙ end_of_text text (b + n) ∙ ap (λ (xs : List ℕ). drop (length text - length xs) text) (sym cut);
+      stand = subst (λ (os : List Ordered). All (λ (o : Ordered). StandsIn requests text o.what) os) (sym more)
+          (All-push (λ (o : Ordered). StandsIn requests text o.what) orders order so_far.stand stands);
+    }

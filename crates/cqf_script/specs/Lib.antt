@@ -1,5 +1,5 @@
 pub mod Faults
 pub mod Lines
-pub mod Names
-pub mod Orders
+pub mod Placed
 pub mod Script
+pub mod Written

@@ -8,7 +8,7 @@ use Rattle.cqf_script.specs.declared.lines.Wish.{Wish}
 use Rattle.cqf_script.specs.declared.lines.Wish.TheVariants.{Admit, Withdraw}
 
 -- what an administrator orders: whose order it is, what is to be done, and the stream's name
-pub record Ordered : Type 0 where
+pub record Written : Type 0 where
   pub seat : ℕ
   pub wish : Wish
   pub name : List ℕ
@@ -37,15 +37,15 @@ abbrev pub word_behind : List ℕ → List ℕ → Option (List ℕ)
 word_behind start text = if is_text start (take (length start) text) then if_word (drop (length start) text) else None
 
 -- the order of an administrator, by what stands behind the digit
-abbrev pub order_of : Wish → ℕ → Option (List ℕ) → Option Ordered
+abbrev pub order_of : Wish → ℕ → Option (List ℕ) → Option Written
 order_of wish seat name = option_map (λ word. record { seat = seat; wish = wish; name = word }) name
 
-abbrev pub order_behind : List ℕ → ℕ → Option Ordered
+abbrev pub order_behind : List ℕ → ℕ → Option Written
 order_behind rest seat =
     or_else (order_of Admit seat (word_behind (codes " admit ") rest)) (order_of Withdraw seat (word_behind (codes " withdraw ") rest))
 
 -- the order that a line writes, if it writes one
-abbrev pub order_of_line : List ℕ → Option Ordered
+abbrev pub order_of_line : List ℕ → Option Written
 order_of_line [] = None
 order_of_line (digit ∷ rest) = option_and_then (order_behind rest) (seat_of_digit digit)
 

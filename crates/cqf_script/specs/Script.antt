@@ -11,7 +11,7 @@ use Rattle.cqf_script.specs.declared.faults.ScriptFault.{ScriptFault}
 use Rattle.cqf_script.specs.declared.faults.ScriptFault.TheVariants.{BadLine, UnknownStream, TooMany}
 use Rattle.cqf_script.specs.declared.lines.Wish.{Wish}
 use Rattle.cqf_script.specs.declared.lines.Wish.TheVariants.{Admit, Withdraw}
-use Rattle.cqf_script.specs.Lines.{Ordered, is_seal_line, order_of_line}
+use Rattle.cqf_script.specs.Lines.{Written, is_seal_line, order_of_line}
 
 -- a call: whose it is, and what is called for
 abbrev pub Called : Type 0
@@ -22,7 +22,7 @@ abbrev pub most_calls : ℕ
 most_calls = 100000
 
 -- one more than the number of the administrator whose order it is; 0 without one
-abbrev pub seats_up_to : Option Ordered → ℕ
+abbrev pub seats_up_to : Option Written → ℕ
 seats_up_to None = 0
 seats_up_to (Some order) = order.seat + 1
 
@@ -41,7 +41,7 @@ act_for requests Admit name = option_map (λ (asked : Asked). Admits asked) (req
 act_for requests Withdraw name = Some (Withdraws name)
 
 -- the call of an order, on the line of this number behind so many calls that aren't Seals; or the line's fault
-abbrev pub call_of_order : List Asked → ℕ → ℕ → Ordered → Result Called ScriptFault
+abbrev pub call_of_order : List Asked → ℕ → ℕ → Written → Result Called ScriptFault
 call_of_order requests number called order =
     and_then (ok_or (act_for requests order.wish order.name) (UnknownStream number)) (λ act.
     if nat_le most_calls called then Err (TooMany number) else Ok (order.seat, act))

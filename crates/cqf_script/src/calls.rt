@@ -1,18 +1,24 @@
 //! The calls of a script.
-ghost use Rattle.std.specs.Prelude.{◌≡◌, ◌+◌, ◌<◌, ◌≤◌, ◌^◌, IfOk, map};
+ghost use Rattle.std.specs.Prelude.{ℕ, ◌≡◌, ◌+◌, ◌<◌, ◌≤◌, ◌^◌, All, IfOk, List, length, map};
 ghost use Rattle.cqf_text.specs.Lines.{lines_of};
 ghost use Rattle.cqf_fields.specs.Fields.{Gives};
 ghost use Rattle.cqf_admission.specs.Asking.{asked_of};
+ghost use Rattle.cqf_requests.specs.declared.orders.Ordered.{Ordered as AnOrdered};
+ghost use Rattle.std.specs.Str.{IsUtf8};
+ghost use Rattle.cqf_model.specs.History.{Asked};
+ghost use Rattle.cqf_requests.specs.Orders.{StandsIn, act_in, ordered_in, word_at};
 ghost use Rattle.cqf_script.specs.Lines.{order_of_line};
-ghost use Rattle.cqf_script.specs.Orders.{ordered};
+ghost use Rattle.cqf_script.specs.Placed.{LineEnds, NameEnds};
+ghost use Rattle.cqf_script.specs.Written.{written};
 ghost use Rattle.cqf_script.specs.Script.{AreFew, administrators, call_of_line, call_of_order, call_of_seal, called_behind, called_of, script_of, sealed_behind, seats_up_to};
 
 use crate::ScriptFault;
 use crate::lines::{Order, Wish, is_seal_line, read_order};
-use crate::names::Names;
 use cqf_admission::{Call, MOST_CALLS};
+use cqf_requests::{Names, Ordered, What};
 use cqf_text::split_line;
 use cqf_topology::Request;
+use cqf_units::Memory;
 use std::alloc::Global;
 
 /// Where a line stands: its number, from 1, and how many Seals and other calls stand before it.
@@ -74,64 +80,150 @@ pub fn administrators(text: &[u8]) -> u16
     most
 }
 
-/// The call of an order on a line.
-fn call_of_order(
-    alloc: Global,
+/// The order on a line that ends at this place of the script's text.
+fn place_order(
     names: &Names<'_>,
     place: Place,
+    end: usize,
     order: &Order<'_>,
-) -> Result<(u16, Call), ScriptFault>
-    ensures { Gives ScriptFault.Memory called_of result (call_of_order (map asked_of names.now) place.line place.called (ordered order.now)) }
+) -> Result<Ordered, ScriptFault>
+    requires short { length order.now.name.now ≤ 64 }
+    requires long { length order.now.name.now ≤ end }
+    ensures value { (text : List ℕ) → NameEnds text end order.now.name.now →
+        Gives ScriptFault.Memory (ordered_in (map asked_of names.now) text) result
+        (call_of_order (map asked_of names.now) place.line place.called (written order.now)) }
+    ensures stands { (text : List ℕ) → NameEnds text end order.now.name.now →
+        IfOk result (λ ordered. StandsIn (map asked_of names.now) text ordered.what) }
 {
     let many = MOST_CALLS as u64 <= place.called;
-    let call = match order.wish {
+    let what = match order.wish {
         Wish::Admit => {
-            let Some(request) = names.find(order.name) else {
+            let Some(request) = names.place_of(order.name) else {
                 return Err(ScriptFault::UnknownStream(place.line));
             };
-            if many {
-                return Err(ScriptFault::TooMany(place.line));
-            }
-            Call::Admit(request.try_copy(alloc)?)
+            What::Admit(request)
         }
-        Wish::Withdraw => {
-            if many {
-                return Err(ScriptFault::TooMany(place.line));
-            }
-            Call::Withdraw(String::from_str(alloc, order.name)?)
-        }
+        Wish::Withdraw => What::Withdraw {
+            from: end - order.name.len(),
+            octets: order.name.len() as u8,
+        },
     };
-    Ok((order.seat, call))
+    if many {
+        return Err(ScriptFault::TooMany(place.line));
+    }
+    Ok(Ordered {
+        seat: order.seat,
+        what,
+    })
 }
 
 /// The Seal of a line.
-fn call_of_seal(seat: u16, cycles: u32, place: Place) -> Result<(u16, Call), ScriptFault>
-    ensures { Gives ScriptFault.Memory called_of result (call_of_seal seat cycles place.line place.sealed) }
+fn place_seal(seat: u16, cycles: u32, place: Place) -> Result<Ordered, ScriptFault>
+    ensures value { (requests : List Asked) (text : List ℕ) →
+        Gives ScriptFault.Memory (ordered_in requests text) result (call_of_seal seat cycles place.line place.sealed) }
+    ensures seal { IfOk result (λ ordered. ordered.what ≡ What.Seal) }
 {
     if u64::from(cycles) <= place.sealed {
         return Err(ScriptFault::TooMany(place.line));
     }
-    Ok((seat, Call::Seal))
+    Ok(Ordered {
+        seat,
+        what: What::Seal,
+    })
 }
 
-/// The call of a line.
-fn call_of_line(
-    alloc: Global,
+/// The order of a line that ends at this place of the script's text.
+fn place_line(
     names: &Names<'_>,
     seat: u16,
     cycles: u32,
     place: Place,
+    end: usize,
     line: &[u8],
-) -> Result<(u16, Call), ScriptFault>
-    ensures { Gives ScriptFault.Memory called_of result (call_of_line (map asked_of names.now) seat cycles place.line place.sealed place.called line.now) }
+) -> Result<Ordered, ScriptFault>
+    requires long { length line.now ≤ end }
+    ensures value { (text : List ℕ) → LineEnds text end line.now →
+        Gives ScriptFault.Memory (ordered_in (map asked_of names.now) text) result
+        (call_of_line (map asked_of names.now) seat cycles place.line place.sealed place.called line.now) }
+    ensures stands { (text : List ℕ) → LineEnds text end line.now →
+        IfOk result (λ ordered. StandsIn (map asked_of names.now) text ordered.what) }
 {
     if is_seal_line(line) {
-        return call_of_seal(seat, cycles, place);
+        return place_seal(seat, cycles, place);
     }
     match read_order(line) {
-        Some(order) => call_of_order(alloc, names, place, &order),
+        Some(order) => place_order(names, place, end, &order),
         None => Err(ScriptFault::BadLine(place.line)),
     }
+}
+
+/// The orders of a script for so many cycles, where these streams may be admitted: the calls of [`read_script`], each by
+/// where what it names stands, among the requests or in the text, with no copy of it.
+///
+/// # Errors
+/// Those of [`read_script`].
+pub fn read_orders(
+    alloc: Global,
+    text: &[u8],
+    names: &Names<'_>,
+    cycles: u32,
+) -> Result<Vec<Ordered>, ScriptFault>
+    ensures orders { Gives ScriptFault.Memory (λ orders. map (ordered_in (map asked_of names.now) text.now) orders.items) result
+        (script_of (map asked_of names.now) cycles text.now) }
+    ensures stand { IfOk result (λ orders. All (λ (ordered : AnOrdered). StandsIn (map asked_of names.now) text.now ordered.what) orders.items) }
+    ensures few { IfOk result (λ orders. AreFew cycles (map (ordered_in (map asked_of names.now) text.now) orders.items)) }
+{
+    let seat = administrators(text);
+    let mut place = Place {
+        line: 1,
+        sealed: 0,
+        called: 0,
+    };
+    let mut orders = Vec::new(alloc);
+    let mut left = text;
+    while let Some((line, behind)) = split_line(left) {
+        let end = text.len() - left.len() + line.len();
+        let order = match place_line(names, seat, cycles, place, end, line) {
+            Ok(order) => order,
+            Err(fault) => return Err(fault),
+        };
+        orders.push(order).map_err(|_| ScriptFault::Memory)?;
+        place = place.behind(line);
+        left = behind;
+    }
+    Ok(orders)
+}
+
+/// The word of so many octets from a place of a script's text on.
+fn word_of(text: &[u8], from: usize, octets: u8) -> &str
+    requires inside { from + octets ≤ length text.now }
+    requires utf8 { IsUtf8 (word_at text.now from octets) }
+    ensures { result.now ≡ word_at text.now from octets }
+{
+    match std::str::from_utf8(&text[from..from + usize::from(octets)]) {
+        Ok(word) => word,
+        Err(_) => unreachable!(),
+    }
+}
+
+/// The call that is ordered, with a copy of its request or its name.
+fn call_of(
+    alloc: Global,
+    text: &[u8],
+    requests: &[Request],
+    order: Ordered,
+) -> Result<(u16, Call), Memory>
+    requires { StandsIn (map asked_of requests.now) text.now order.what }
+    ensures { IfOk result (λ call. called_of call ≡ ordered_in (map asked_of requests.now) text.now order) }
+{
+    let call = match order.what {
+        What::Admit(place) => Call::Admit(requests[place].try_copy(alloc)?),
+        What::Withdraw { from, octets } => {
+            Call::Withdraw(String::from_str(alloc, word_of(text, from, octets))?)
+        }
+        What::Seal => Call::Seal,
+    };
+    Ok((order.seat, call))
 }
 
 /// The calls of a script for so many cycles, with the seat of each, where these streams may be admitted.
@@ -155,19 +247,11 @@ pub fn read_script(
     ensures few { IfOk result (λ calls. AreFew cycles (map called_of calls.items)) }
 {
     let names = Names::new(alloc, requests)?;
-    let seat = administrators(text);
-    let mut place = Place {
-        line: 1,
-        sealed: 0,
-        called: 0,
-    };
+    let orders = read_orders(alloc, text, &names, cycles)?;
     let mut calls = Vec::new(alloc);
-    let mut left = text;
-    while let Some((line, behind)) = split_line(left) {
-        let call = call_of_line(alloc, &names, seat, cycles, place, line)?;
+    for order in orders.as_slice() {
+        let call = call_of(alloc, text, requests, *order)?;
         calls.push(call).map_err(|_| ScriptFault::Memory)?;
-        place = place.behind(line);
-        left = behind;
     }
     Ok(calls)
 }

@@ -1,6 +1,7 @@
 //! Scripts: what administrators call for, and when cycles close, line by line.
 //!
 //! - [`read_script`] reads the calls of a script, each with its seat, and [`administrators`] the seat of its Seals.
+//!   [`read_orders`] reads the same without a copy of what is named.
 //! - [`ScriptFault`] says why a script is refused, and at which line.
 //!
 //! With a stream `x` among the requests, and two cycles:
@@ -17,7 +18,6 @@
 mod calls;
 mod faults;
 mod lines;
-mod names;
 
-pub use calls::{administrators, read_script};
+pub use calls::{administrators, read_orders, read_script};
 pub use faults::ScriptFault;

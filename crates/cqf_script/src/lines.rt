@@ -2,7 +2,7 @@
 ghost use Rattle.std.specs.Prelude.{◌≡◌, ◌<◌, IfSome, option_map};
 ghost use Rattle.std.specs.List.{list_all};
 ghost use Rattle.cqf_script.specs.Lines.{if_word, is_seal_line, is_word, is_word_byte, order_behind, order_of_line, seat_of_digit, word_behind};
-ghost use Rattle.cqf_script.specs.Orders.{ordered};
+ghost use Rattle.cqf_script.specs.Written.{written};
 
 /// What an administrator may order.
 #[derive(Clone, Copy)]
@@ -87,7 +87,7 @@ fn word_behind<'t>(start: &[u8], text: &'t [u8]) -> Option<&'t str>
 
 /// The order of an administrator, by what stands behind the digit.
 fn order_behind(rest: &[u8], seat: u16) -> Option<Order<'_>>
-    ensures value { option_map ordered result ≡ order_behind rest.now seat }
+    ensures value { option_map written result ≡ order_behind rest.now seat }
     ensures seat { IfSome result (λ order. order.seat ≡ seat) }
 {
     if let Some(name) = word_behind(b" admit ", rest) {
@@ -101,7 +101,7 @@ fn order_behind(rest: &[u8], seat: u16) -> Option<Order<'_>>
 
 /// The order that the line writes, if it writes one.
 pub(crate) fn read_order(line: &[u8]) -> Option<Order<'_>>
-    ensures value { option_map ordered result ≡ order_of_line line.now }
+    ensures value { option_map written result ≡ order_of_line line.now }
     ensures small { IfSome result (λ order. order.seat < 8) }
 {
     let (digit, rest) = line.split_first()?;

@@ -9,10 +9,11 @@ use Rattle.clap.specs.declared.parser.matches.ArgMatches.{ArgMatches}
 use Rattle.clap.specs.declared.error.kind.ErrorKind.{ErrorKind}
 use Rattle.clap.specs.declared.error.kind.ErrorKind.TheVariants.{DisplayHelp, DisplayVersion, InvalidValue, OutOfMemory}
 use Rattle.cqf_units.specs.declared.timing.Rate.{Rate}
+use Rattle.cqf_words.specs.declared.words.Format.{Format}
 use Rattle.cqf_words.specs.declared.words.Job.{Job}
-use Rattle.cqf_words.specs.declared.words.Job.TheVariants.{Compile, Latency, Line, Load, Port, Report, Run}
+use Rattle.cqf_words.specs.declared.words.Job.TheVariants.{Check, Compile, Deliveries, Latency, Line, Load, Port, Report, Run}
 use Rattle.cqf_stop.specs.declared.stops.Stop.{Stop}
-use Rattle.cqf_words.specs.Words.{cqf_app, rate_text, IsJob, IsJobOf, IsNumberIn, Mean, AskForHelp, EndsBy, EndsWords}
+use Rattle.cqf_words.specs.Words.{cqf_app, format_text, rate_text, IsJob, IsJobOf, IsNumberIn, Mean, AskForHelp, EndsBy, EndsWords}
 
 -- an option whose parser was set goes by the rule that it went by, but for the parser
 pub with_parser : (before after : Arg) (rule : Rule) (parser : ValueParser) → after ≡ record before { value_parser = after.value_parser } →
@@ -35,33 +36,52 @@ no_port-until rows text same none (Port until rate) job =
     let P : Option Text → Type 0 = λ t. IsNumberIn 1 100000000 until t in
     none until (subst P (sym same) job.1)
 no_port-until rows text same none (Line cycles) job = omega (arith, marked (codes "port") (codes "line") job.0)
-no_port-until rows text same none Compile job = omega (arith, marked (codes "port") (codes "compile") job)
+no_port-until rows text same none (Compile format) job = omega (arith, marked (codes "port") (codes "compile") job.0)
 no_port-until rows text same none Load job = omega (arith, marked (codes "port") (codes "load") job)
 no_port-until rows text same none (Latency strict) job = omega (arith, marked (codes "port") (codes "latency") job.0)
 no_port-until rows text same none (Run cycles threads) job = omega (arith, marked (codes "port") (codes "run") job.0)
 no_port-until rows text same none (Report cycles) job = omega (arith, marked (codes "port") (codes "report") job.0)
+no_port-until rows text same none (Deliveries cycles) job = omega (arith, marked (codes "port") (codes "deliveries") job.0)
+no_port-until rows text same none (Check cycles) job = omega (arith, marked (codes "port") (codes "check") job.0)
 
 -- nor with no rate
 pub no_port-rate : (rows : List Row) (text : Option Text) → text ≡ first_of (codes "rate") rows → ((rate : Rate) → ¬ (text ≡ Some (rate_text rate))) →
     (job : Job) → ¬ IsJobOf job (codes "port") rows
 no_port-rate rows text same none (Port until rate) job = none rate (same ∙ job.2)
 no_port-rate rows text same none (Line cycles) job = omega (arith, marked (codes "port") (codes "line") job.0)
-no_port-rate rows text same none Compile job = omega (arith, marked (codes "port") (codes "compile") job)
+no_port-rate rows text same none (Compile format) job = omega (arith, marked (codes "port") (codes "compile") job.0)
 no_port-rate rows text same none Load job = omega (arith, marked (codes "port") (codes "load") job)
 no_port-rate rows text same none (Latency strict) job = omega (arith, marked (codes "port") (codes "latency") job.0)
 no_port-rate rows text same none (Run cycles threads) job = omega (arith, marked (codes "port") (codes "run") job.0)
 no_port-rate rows text same none (Report cycles) job = omega (arith, marked (codes "port") (codes "report") job.0)
+no_port-rate rows text same none (Deliveries cycles) job = omega (arith, marked (codes "port") (codes "deliveries") job.0)
+no_port-rate rows text same none (Check cycles) job = omega (arith, marked (codes "port") (codes "check") job.0)
+
+-- with no format there is no job of `compile`
+pub no_compile-format : (rows : List Row) (text : Option Text) → text ≡ first_of (codes "format") rows → ((format : Format) → ¬ (text ≡ Some (format_text format))) →
+    (job : Job) → ¬ IsJobOf job (codes "compile") rows
+no_compile-format rows text same none (Port until rate) job = omega (arith, marked (codes "compile") (codes "port") job.0)
+no_compile-format rows text same none (Line cycles) job = omega (arith, marked (codes "compile") (codes "line") job.0)
+no_compile-format rows text same none (Compile format) job = none format (same ∙ job.1)
+no_compile-format rows text same none Load job = omega (arith, marked (codes "compile") (codes "load") job)
+no_compile-format rows text same none (Latency strict) job = omega (arith, marked (codes "compile") (codes "latency") job.0)
+no_compile-format rows text same none (Run cycles threads) job = omega (arith, marked (codes "compile") (codes "run") job.0)
+no_compile-format rows text same none (Report cycles) job = omega (arith, marked (codes "compile") (codes "report") job.0)
+no_compile-format rows text same none (Deliveries cycles) job = omega (arith, marked (codes "compile") (codes "deliveries") job.0)
+no_compile-format rows text same none (Check cycles) job = omega (arith, marked (codes "compile") (codes "check") job.0)
 
 -- with no number of cycles there is no job of a command that takes them alone
 pub no_cycles : (name : Text) (rows : List Row) → name ≢ codes "port" → name ≢ codes "compile" → name ≢ codes "load" → name ≢ codes "latency" →
     ((n : ℕ) → ¬ IsNumberIn 1 100000 n (first_of (codes "cycles") rows)) → (job : Job) → ¬ IsJobOf job name rows
 no_cycles name rows not_port not_compile not_load not_latency none (Port until rate) job = not_port job.0
 no_cycles name rows not_port not_compile not_load not_latency none (Line cycles) job = none cycles job.1
-no_cycles name rows not_port not_compile not_load not_latency none Compile job = not_compile job
+no_cycles name rows not_port not_compile not_load not_latency none (Compile format) job = not_compile job.0
 no_cycles name rows not_port not_compile not_load not_latency none Load job = not_load job
 no_cycles name rows not_port not_compile not_load not_latency none (Latency strict) job = not_latency job.0
 no_cycles name rows not_port not_compile not_load not_latency none (Run cycles threads) job = none cycles job.1
 no_cycles name rows not_port not_compile not_load not_latency none (Report cycles) job = none cycles job.1
+no_cycles name rows not_port not_compile not_load not_latency none (Deliveries cycles) job = none cycles job.1
+no_cycles name rows not_port not_compile not_load not_latency none (Check cycles) job = none cycles job.1
 
 -- a number of a value is one of its text
 pub number_of-text : (least most number : ℕ) (text value : Option Text) → text ≡ value → IsNumberIn least most number text → IsNumberIn least most number value
@@ -115,9 +135,9 @@ EndsWords-by_error app words error stop same fails e =
     EndsWords-by_fault words (kind_of error) stop (subst P same (fails (ap is_simple_and_free same ∙ simple))) e
 
 -- where clap takes the words, and no job is read of them, they mean none
-pub EndsWords-by_rate : (words : List Text) (stop : Stop) → EndsBy InvalidValue stop → fault_of cqf_app words ≡ [] →
+pub EndsWords-by_value : (words : List Text) (stop : Stop) → EndsBy InvalidValue stop → fault_of cqf_app words ≡ [] →
     ((job : Job) → ¬ IsJob job (subcommand_of cqf_app words)) → EndsWords words stop
-EndsWords-by_rate words stop e taken none = record {
+EndsWords-by_value words stop e taken none = record {
   statuses = e.statuses;
   no_job = λ known job m. none job m.read;
   help = λ zero. elim (e.help zero) [ inl h ↦ (cc) | inr h ↦ (cc) ];
@@ -132,7 +152,7 @@ pub EndsWords-by_matches : (app : App) (words : List Text) (matches : ArgMatches
 EndsWords-by_matches app words matches stop same taken has e none =
     let rows : subcommand_rows_of matches ≡ subcommand_of cqf_app words = (has (ap is_simple same ∙ refl)).1 ∙ ap (λ (a : App). subcommand_of a words) same in
     let P : Option (Text × List Row) → Type 0 = λ r. (job : Job) → ¬ IsJob job r in
-    EndsWords-by_rate words stop e (ap (λ (a : App). fault_of a words) (sym same) ∙ taken (ap is_simple_and_free same ∙ simple)) (subst P rows none)
+    EndsWords-by_value words stop e (ap (λ (a : App). fault_of a words) (sym same) ∙ taken (ap is_simple_and_free same ∙ simple)) (subst P rows none)
 
 -- and the job that is read of them is what the words mean
 pub Mean-by_matches : (app : App) (words : List Text) (matches : ArgMatches) (job : Job) → app ≡ cqf_app →

@@ -9,8 +9,10 @@ use Rattle.clap.specs.declared.error.kind.ErrorKind.{ErrorKind}
 use Rattle.clap.specs.declared.error.kind.ErrorKind.TheVariants.{DisplayHelp, DisplayVersion, OutOfMemory}
 use Rattle.cqf_units.specs.declared.timing.Rate.{Rate}
 use Rattle.cqf_units.specs.declared.timing.Rate.TheVariants.{Mb10, Mb100, Mb1000}
+use Rattle.cqf_words.specs.declared.words.Format.{Format}
+use Rattle.cqf_words.specs.declared.words.Format.TheVariants as form
 use Rattle.cqf_words.specs.declared.words.Job.{Job}
-use Rattle.cqf_words.specs.declared.words.Job.TheVariants.{Compile, Latency, Line, Load, Port, Report, Run}
+use Rattle.cqf_words.specs.declared.words.Job.TheVariants.{Check, Compile, Deliveries, Latency, Line, Load, Port, Report, Run}
 use Rattle.cqf_stop.specs.declared.stops.Stop.{Stop}
 
 -- an option `--NAME N` that has to be given
@@ -21,14 +23,17 @@ wanted_rule name = record (new_rule name) { long = Some name; action = Some Set;
 abbrev pub number_rule : Text → ℕ → ℕ → Rule
 number_rule name least most = record (wanted_rule name) { parser = Some (Unsigned least most) }
 
+-- an option `--NAME VALUE`, and the text that stands for its value where it isn't given
+abbrev pub default_rule : Text → Text → Rule
+default_rule name text = record (new_rule name) { long = Some name; action = Some Set; defaults = text ∷ []; value_names = 1 }
+
 -- the option `--rate RATE`, 1000 where it isn't given
 abbrev pub rate_rule : Rule
-rate_rule = record (new_rule (codes "rate")) {
-  long = Some (codes "rate");
-  action = Some Set;
-  defaults = codes "1000" ∷ [];
-  value_names = 1;
-}
+rate_rule = default_rule (codes "rate") (codes "1000")
+
+-- the option `--format FORMAT`, list where it isn't given
+abbrev pub format_rule : Rule
+format_rule = default_rule (codes "format") (codes "list")
 
 -- a flag `--NAME`
 abbrev pub flag_rule : Text → Rule
@@ -42,9 +47,9 @@ port_app = with_rule (with_rule (new_app (codes "port")) (number_rule (codes "un
 abbrev pub line_app : App
 line_app = with_rule (new_app (codes "line")) (number_rule (codes "cycles") 1 100000)
 
--- `compile`
+-- `compile [--format FORMAT]`
 abbrev pub compile_app : App
-compile_app = new_app (codes "compile")
+compile_app = with_rule (new_app (codes "compile")) format_rule
 
 -- `load`
 abbrev pub load_app : App
@@ -62,19 +67,30 @@ run_app = with_rule (with_rule (new_app (codes "run")) (number_rule (codes "cycl
 abbrev pub report_app : App
 report_app = with_rule (new_app (codes "report")) (number_rule (codes "cycles") 1 100000)
 
+-- `deliveries --cycles N`
+abbrev pub deliveries_app : App
+deliveries_app = with_rule (new_app (codes "deliveries")) (number_rule (codes "cycles") 1 100000)
+
+-- `check --cycles N`
+abbrev pub check_app : App
+check_app = with_rule (new_app (codes "check")) (number_rule (codes "cycles") 1 100000)
+
 -- the program's name, and settings: the words come without the program's name, and one of the commands has to be given
 abbrev pub named_app : App
 named_app = on_top (λ s. record s { no_binary_name = true; subcommand_required = true }) (new_app (codes "cqf"))
 
--- the commands that take no domain, those that run no scenario, and all of the program's
+-- the commands that take no domain, those that run no scenario, those that tell nothing of deliveries, and all of the program's
 abbrev pub app_without_domain : App
 app_without_domain = with_subcommand (with_subcommand named_app port_app.top) line_app.top
 
 abbrev pub first_app : App
 first_app = with_subcommand (with_subcommand (with_subcommand app_without_domain compile_app.top) load_app.top) latency_app.top
 
+abbrev pub app_without_deliveries : App
+app_without_deliveries = with_subcommand (with_subcommand first_app run_app.top) report_app.top
+
 abbrev pub cqf_app : App
-cqf_app = with_subcommand (with_subcommand first_app run_app.top) report_app.top
+cqf_app = with_subcommand (with_subcommand app_without_deliveries deliveries_app.top) check_app.top
 
 -- the text of a value writes a number from least to most: digits, and a plus may stand first
 abbrev pub IsNumberIn : ℕ → ℕ → ℕ → Option Text → Type 0
@@ -88,6 +104,11 @@ rate_text Mb10 = codes "10"
 rate_text Mb100 = codes "100"
 rate_text Mb1000 = codes "1000"
 
+-- the text of a format
+abbrev pub format_text : Format → Text
+format_text form.List = codes "list"
+format_text form.Tc = codes "tc"
+
 -- a flag is given just where its value is `true`
 abbrev pub IsGiven : Bool → Option Text → Type 0
 IsGiven true value = value ≡ Some (codes "true")
@@ -100,7 +121,8 @@ IsJobOf (Port until rate) name rows = (name ≡ codes "port")
     × (first_of (codes "rate") rows ≡ Some (rate_text rate))
 IsJobOf (Line cycles) name rows = (name ≡ codes "line")
     × IsNumberIn 1 100000 cycles (first_of (codes "cycles") rows)
-IsJobOf Compile name rows = name ≡ codes "compile"
+IsJobOf (Compile format) name rows = (name ≡ codes "compile")
+    × (first_of (codes "format") rows ≡ Some (format_text format))
 IsJobOf Load name rows = name ≡ codes "load"
 IsJobOf (Latency strict) name rows = (name ≡ codes "latency")
     × IsGiven strict (first_of (codes "strict") rows)
@@ -108,6 +130,10 @@ IsJobOf (Run cycles threads) name rows = (name ≡ codes "run")
     × IsNumberIn 1 100000 cycles (first_of (codes "cycles") rows)
     × IsGiven threads (first_of (codes "threads") rows)
 IsJobOf (Report cycles) name rows = (name ≡ codes "report")
+    × IsNumberIn 1 100000 cycles (first_of (codes "cycles") rows)
+IsJobOf (Deliveries cycles) name rows = (name ≡ codes "deliveries")
+    × IsNumberIn 1 100000 cycles (first_of (codes "cycles") rows)
+IsJobOf (Check cycles) name rows = (name ≡ codes "check")
     × IsNumberIn 1 100000 cycles (first_of (codes "cycles") rows)
 
 -- whether the input of a job begins with a domain, behind which its streams stand

@@ -18,4 +18,4 @@ mod operands;
 mod words;
 
 pub use operands::{Operands, split_operands};
-pub use words::{Job, read_words};
+pub use words::{Format, Job, read_words};

@@ -38,13 +38,15 @@ fn is_command(word: &str) -> bool
         || word == "latency"
         || word == "run"
         || word == "report"
+        || word == "deliveries"
+        || word == "check"
 }
 
 /// Whether the word is an option behind which its value stands as a word of its own.
 fn wants_value(word: &str) -> bool
     ensures { result ≡ wants_value word.now }
 {
-    word == "--until" || word == "--rate" || word == "--cycles"
+    word == "--until" || word == "--rate" || word == "--cycles" || word == "--format"
 }
 
 /// Whether the word is the one that ends the options.

@@ -4,8 +4,9 @@ ghost use Rattle.clap.specs.declared.error.kind.ErrorKind.TheVariants.{InvalidVa
 ghost use Rattle.cqf_units.specs.declared.timing.Rate.{Rate};
 ghost use Rattle.clap.specs.declared.builder.command.Command.TheViews.{out-Command};
 ghost use Rattle.clap.specs.Words.{app_of, first_of, found_of, kind_of, rows_of, rule_of, subcommand_rows_of};
+ghost use Rattle.cqf_words.specs.declared.words.Format.{Format};
 ghost use Rattle.cqf_words.specs.declared.words.Job.{Job};
-ghost use Rattle.cqf_words.specs.Words.{app_without_domain, cqf_app, compile_app, first_app, latency_app, line_app, load_app, named_app, port_app, report_app, run_app, flag_rule, number_rule, rate_rule, rate_text, wanted_rule, IsGiven, IsJob, IsJobOf, IsNumberIn, Mean, EndsBy, EndsWords, takes_domain};
+ghost use Rattle.cqf_words.specs.Words.{app_without_deliveries, app_without_domain, check_app, cqf_app, compile_app, deliveries_app, first_app, latency_app, line_app, load_app, named_app, port_app, report_app, run_app, default_rule, flag_rule, format_rule, format_text, number_rule, rate_rule, rate_text, wanted_rule, IsGiven, IsJob, IsJobOf, IsNumberIn, Mean, EndsBy, EndsWords, takes_domain};
 
 use clap::error::ErrorKind;
 use clap::{Arg, ArgAction, ArgMatches, Command, value_parser};
@@ -45,8 +46,19 @@ or they are one file with both, or two whose names end with .toml:
     };
 }
 
-/// What the help of `compile` says of standard input.
-const COMPILE_INPUT: &str = plant_input!("compile", "");
+/// What the help of `compile` says of standard input and of its output.
+const COMPILE_INPUT: &str = plant_input!(
+    "compile",
+    r"
+  cqf compile --format tc plant.toml
+
+With --format tc the output is a shell script that sets the same gates in Linux
+by its command tc. Each bridge runs it as root, with its own name as the only
+argument; what it needs besides stands in its first lines. It is for hardware
+that does all of this itself (full offload), since the kernel's own gates move
+no frame to another queue. What is proved ends with the lists of the script:
+nothing is of what tc, Linux and the hardware do with them."
+);
 
 /// What the help of `load` says of standard input and of its output.
 const LOAD_INPUT: &str = plant_input!(
@@ -121,12 +133,56 @@ The output has a line for each link: its frames, their octets, and the most
 octets that it starts in one cycle. Background frames don't count. It runs no
 network: what makes 15 million transmissions takes about 1 second and 0.14 GB.";
 
+/// What the help of `deliveries` says of standard input and of its output.
+const DELIVERIES_INPUT: &str =
+    r"Standard input has the four or five parts of the command run, or they are files:
+  cqf deliveries --cycles 5 plant.toml calls.txt offers.csv
+
+The output has a line for each frame that is offered and each listener of its
+stream: the frame with its stream, its octets and the instant of its offer, the
+listener, the instant at which the frame is whole there, how long after its
+offer that is, the stream's deadline, all in ns, and what becomes of it:
+delivered; late, where that is longer than the deadline; or under-way, where it
+hasn't started on its last link within N cycles. A frame that is dropped at its
+edge has one line, with the reason and no listener. Offers of cycles that aren't
+run have no line, nor have background frames.";
+
+/// What the help of `check` says of standard input and of its statuses.
+const CHECK_INPUT: &str =
+    r"Standard input has the four or five parts of the command run, or they are files:
+  cqf check --cycles 5 plant.toml calls.txt offers.csv
+
+The status is 0 where every frame is offered in a cycle that is run, none is
+dropped, and each is whole at all its listeners, at none of them later after its
+offer than its stream's deadline. The output is then one line:
+  well: frames F, deliveries D, with a deadline W
+Else the status is 1, and standard error has the first frame that is dropped or
+late:
+  cqf: check: frame F of S, offered to B at AT: dropped, REASON
+  cqf: check: frame F of S, offered to B at AT: late at LISTENER, LATENCY after
+  its offer, deadline DEADLINE (in one line)
+or, where there is none, how many deliveries are still under way and how many
+offers are of cycles that aren't run, so that it takes more cycles to tell:
+  cqf: check: unfinished, under way U, not run O
+An input that is refused has status 1 too, and a line that begins otherwise.
+Nothing is said of background frames, nor of offers other than these: latency
+bounds all that a reservation covers.";
+
 /// What the program's help says of files and of its version.
 const MORE_WORDS: &str =
     r"Behind a command stand files, - for standard input; without one all is read
 from standard input. The help of each command has an example.
 
 cqf --version, or cqf -V, prints the version";
+
+/// The form of a configuration.
+#[derive(Clone, Copy, Debug, PartialEq, Eq)]
+pub enum Format {
+    /// Its gate lists and stream gates, line by line.
+    List,
+    /// A shell script that sets them in Linux by `tc`.
+    Tc,
+}
 
 /// What the program is asked to do.
 #[derive(Clone, Copy, Debug, PartialEq, Eq)]
@@ -135,8 +191,8 @@ pub enum Job {
     Port { until: u64, rate: Rate },
     /// The book of one bridge with one stream.
     Line { cycles: u32 },
-    /// The configuration of a domain and its streams.
-    Compile,
+    /// The configuration of a domain and its streams, in a form.
+    Compile { format: Format },
     /// What each link holds and has left.
     Load,
     /// How long the frames of each stream take to each listener; strict where a deadline that isn't kept for sure ends the run.
@@ -145,6 +201,10 @@ pub enum Job {
     Run { cycles: u32, threads: bool },
     /// The sums by link of a scenario's book.
     Report { cycles: u32 },
+    /// What becomes of each offered frame of a scenario at each listener.
+    Deliveries { cycles: u32 },
+    /// Whether all offered frames of a scenario come to their listeners, in time.
+    Check { cycles: u32 },
 }
 
 impl Job {
@@ -154,8 +214,13 @@ impl Job {
     {
         match *self {
             Job::Port { .. } | Job::Line { .. } => false,
-            Job::Compile | Job::Load | Job::Latency { .. } | Job::Run { .. } | Job::Report { .. } =>
-                true,
+            Job::Compile { .. }
+            | Job::Load
+            | Job::Latency { .. }
+            | Job::Run { .. }
+            | Job::Report { .. }
+            | Job::Deliveries { .. }
+            | Job::Check { .. } => true,
         }
     }
 }
@@ -182,17 +247,37 @@ fn until_option<'a>(alloc: Global) -> Arg<'a>
     wanted_option(alloc, "until", help).value_parser(value_parser!(u64).range(1..100_000_001))
 }
 
+/// An option `--NAME VALUE`, and the text that stands for its value where it isn't given.
+fn default_option<'a>(
+    alloc: Global,
+    name: &'static str,
+    default: &'static str,
+    value: &'static str,
+) -> Arg<'a>
+    ensures rule { rule_of result ≡ default_rule name.now default.now }
+    ensures own { result.global ≡ false }
+{
+    Arg::new(alloc, name)
+        .long(name)
+        .action(ArgAction::Set)
+        .default_value(default)
+        .value_name(value)
+}
+
 /// The option `--rate RATE`.
 fn rate_option<'a>(alloc: Global) -> Arg<'a>
     ensures rule { rule_of result ≡ rate_rule }
     ensures own { result.global ≡ false }
 {
-    Arg::new(alloc, "rate")
-        .long("rate")
-        .action(ArgAction::Set)
-        .default_value("1000")
-        .value_name("RATE")
-        .help("the link's rate in Mb/s: 10, 100 or 1000")
+    default_option(alloc, "rate", "1000", "RATE").help("the link's rate in Mb/s: 10, 100 or 1000")
+}
+
+/// The option `--format FORMAT`.
+fn format_option<'a>(alloc: Global) -> Arg<'a>
+    ensures rule { rule_of result ≡ format_rule }
+    ensures own { result.global ≡ false }
+{
+    default_option(alloc, "format", "list", "FORMAT").help("the form of the output: list or tc")
 }
 
 /// The option `--cycles N`.
@@ -249,14 +334,15 @@ fn line_command<'a>(alloc: Global) -> Result<Command<'a>, AllocError>
         .arg(cycles_option(alloc))
 }
 
-/// `compile`.
-fn compile_command<'a>(alloc: Global) -> Command<'a>
-    ensures app { app_of result ≡ compile_app }
-    ensures local { (out-Command result).has_globals ≡ false }
+/// `compile [--format FORMAT]`.
+fn compile_command<'a>(alloc: Global) -> Result<Command<'a>, AllocError>
+    ensures app { IfOk result (λ command. app_of command ≡ compile_app) }
+    ensures local { IfOk result (λ command. (out-Command command).has_globals ≡ false) }
 {
     Command::new(alloc, "compile")
         .about("the gate lists and stream gates of a domain and its streams")
         .after_help(COMPILE_INPUT)
+        .arg(format_option(alloc))
 }
 
 /// `load`.
@@ -303,6 +389,28 @@ fn report_command<'a>(alloc: Global) -> Result<Command<'a>, AllocError>
         .arg(cycles_option(alloc))
 }
 
+/// `deliveries --cycles N`.
+fn deliveries_command<'a>(alloc: Global) -> Result<Command<'a>, AllocError>
+    ensures app { IfOk result (λ command. app_of command ≡ deliveries_app) }
+    ensures local { IfOk result (λ command. (out-Command command).has_globals ≡ false) }
+{
+    Command::new(alloc, "deliveries")
+        .about("what becomes of each offered frame of a run, at each listener")
+        .after_help(DELIVERIES_INPUT)
+        .arg(cycles_option(alloc))
+}
+
+/// `check --cycles N`.
+fn check_command<'a>(alloc: Global) -> Result<Command<'a>, AllocError>
+    ensures app { IfOk result (λ command. app_of command ≡ check_app) }
+    ensures local { IfOk result (λ command. (out-Command command).has_globals ≡ false) }
+{
+    Command::new(alloc, "check")
+        .about("whether all offered frames of a run come to their listeners, in time")
+        .after_help(CHECK_INPUT)
+        .arg(cycles_option(alloc))
+}
+
 /// The program without its commands. Its name stands in the usage of each command.
 fn named_command<'a>(alloc: Global) -> Result<Command<'a>, AllocError>
     ensures app { IfOk result (λ command. app_of command ≡ named_app) }
@@ -333,11 +441,22 @@ fn first_commands<'a>(alloc: Global) -> Result<Command<'a>, AllocError>
     ensures app { IfOk result (λ command. app_of command ≡ first_app) }
     ensures local { IfOk result (λ command. (out-Command command).has_globals ≡ false) }
 {
+    let compile = compile_command(alloc)?;
     let latency = latency_command(alloc)?;
     commands_without_domain(alloc)?
-        .subcommand(compile_command(alloc))?
+        .subcommand(compile)?
         .subcommand(load_command(alloc))?
         .subcommand(latency)
+}
+
+/// The commands that tell nothing of deliveries.
+fn commands_without_deliveries<'a>(alloc: Global) -> Result<Command<'a>, AllocError>
+    ensures app { IfOk result (λ command. app_of command ≡ app_without_deliveries) }
+    ensures local { IfOk result (λ command. (out-Command command).has_globals ≡ false) }
+{
+    let run = run_command(alloc)?;
+    let report = report_command(alloc)?;
+    first_commands(alloc)?.subcommand(run)?.subcommand(report)
 }
 
 /// The program's commands.
@@ -345,9 +464,11 @@ fn commands<'a>(alloc: Global) -> Result<Command<'a>, AllocError>
     ensures app { IfOk result (λ command. app_of command ≡ cqf_app) }
     ensures local { IfOk result (λ command. (out-Command command).has_globals ≡ false) }
 {
-    let run = run_command(alloc)?;
-    let report = report_command(alloc)?;
-    first_commands(alloc)?.subcommand(run)?.subcommand(report)
+    let deliveries = deliveries_command(alloc)?;
+    let check = check_command(alloc)?;
+    commands_without_deliveries(alloc)?
+        .subcommand(deliveries)?
+        .subcommand(check)
 }
 
 /// The text of an error of clap's, or what there is of it where memory lacks.
@@ -392,6 +513,18 @@ fn rate_of(text: Option<&str>) -> Option<Rate>
     }
 }
 
+/// The format of the text, if it is one of the two.
+fn format_of(text: Option<&str>) -> Option<Format>
+    ensures { MatchOption result ((format : Format) → ¬ (option_map (λ text. text.now) text.entry ≡ Some (format_text format)))
+        (λ format. option_map (λ text. text.now) text.entry ≡ Some (format_text format)) }
+{
+    match text? {
+        "list" => Some(Format::List),
+        "tc" => Some(Format::Tc),
+        _ => None,
+    }
+}
+
 /// The text of the value, if it has one.
 fn text_of<'a>(values: &ArgMatches<'a>, id: &str) -> Option<&'a str>
     ensures { option_map (λ text. text.now) result ≡ first_of id.now (rows_of (found_of values.now)) }
@@ -411,6 +544,17 @@ fn port_job(values: &ArgMatches<'_>) -> Option<Job>
         return None;
     };
     Some(Job::Port { until, rate })
+}
+
+/// The job of the command `compile` with its values.
+fn compile_job(values: &ArgMatches<'_>) -> Option<Job>
+    ensures { MatchOption result ((job : Job) → ¬ IsJobOf job (codes "compile") (rows_of (found_of values.now)))
+        (λ job. IsJobOf job (codes "compile") (rows_of (found_of values.now))) }
+{
+    let Some(format) = format_of(text_of(values, "format")) else {
+        return None;
+    };
+    Some(Job::Compile { format })
 }
 
 /// The number of cycles of the command with these values.
@@ -453,6 +597,8 @@ fn cycles_job(name: &str, values: &ArgMatches<'_>) -> Option<Job>
             threads: is_given(values, "threads"),
         }),
         "report" => Some(Job::Report { cycles }),
+        "deliveries" => Some(Job::Deliveries { cycles }),
+        "check" => Some(Job::Check { cycles }),
         _ => None,
     }
 }
@@ -465,7 +611,7 @@ fn job_of(matches: &ArgMatches<'_>) -> Option<Job>
     let (name, values) = matches.subcommand()?;
     match name {
         "port" => port_job(values),
-        "compile" => Some(Job::Compile),
+        "compile" => compile_job(values),
         "load" => Some(Job::Load),
         "latency" => Some(Job::Latency {
             strict: is_given(values, "strict"),
@@ -474,11 +620,19 @@ fn job_of(matches: &ArgMatches<'_>) -> Option<Job>
     }
 }
 
-/// The end where the rate is none of the three, with clap's usage.
-fn no_such_rate(alloc: Global, command: &mut Command<'_>) -> Stop
+/// What a value has to be that clap takes and no job is read of: the format of `compile`, and else the rate of `port`.
+fn wanted_value(matches: &ArgMatches<'_>) -> &'static str {
+    match matches.subcommand() {
+        Some(("compile", _)) => "the format is list or tc",
+        _ => "the rate is 10, 100 or 1000",
+    }
+}
+
+/// The end where a value isn't what it has to be, with that and clap's usage.
+fn no_such_value(alloc: Global, command: &mut Command<'_>, wanted: &str) -> Stop
     ensures { EndsBy InvalidValue result }
 {
-    match command.error(ErrorKind::InvalidValue, "the rate is 10, 100 or 1000") {
+    match command.error(ErrorKind::InvalidValue, wanted) {
         Ok(error) => stop_of(alloc, &error),
         Err(_) => Stop::memory(alloc),
     }
@@ -496,7 +650,7 @@ pub fn read_words<'a>(alloc: Global, words: &'a [&'a str]) -> Result<Job, Stop>
     match command.try_get_matches_from_mut(words) {
         Ok(matches) => match job_of(&matches) {
             Some(job) => Ok(job),
-            None => Err(no_such_rate(alloc, &mut command)),
+            None => Err(no_such_value(alloc, &mut command, wanted_value(&matches))),
         },
         Err(error) => Err(stop_of(alloc, &error)),
     }

@@ -1,13 +1,10 @@
--- The script's calls are those that have been read and those of the lines that are left.
-use Rattle.std.proofs.Common.{length, map}
+-- The calls so far are those of the orders so far.
+use Rattle.std.proofs.Common.{◌≡◌, map, take}
 use Rattle.cqf_admission.specs.Asking.{asked_of}
+use Rattle.cqf_requests.specs.Orders.{ordered_in}
 use Rattle.cqf_script.specs.Script.{called_of}
-use Rattle.cqf_script.proofs.ReadLines.{IsReadSoFar}
 use Rattle.cqf_script.proofs.calls.read_script.Given as goal
 
-abbrev pub invariant-loop-line : goal.invariant-loop-line
-invariant-loop-line l =
-    IsReadSoFar (map asked_of l.requests) l.seat l.cycles l.text (map called_of l.calls.items) l.place.line l.place.sealed l.place.called l.left
-
-abbrev pub decreases-loop-line : goal.decreases-loop-line
-decreases-loop-line l = length l.left
+abbrev pub invariant-loop-order : goal.invariant-loop-order
+invariant-loop-order l =
+    map called_of l.calls.items ≡ map (ordered_in (map asked_of l.requests) l.text) (take l.order-index l.order-items)

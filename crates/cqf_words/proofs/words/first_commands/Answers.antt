@@ -8,8 +8,8 @@ use Rattle.cqf_words.proofs.words.first_commands.Goals as goal
 pub returns-clause-app : goal.returns-clause-app
 returns-clause-app c =
     let with_compile : app_of c.in_ok-subcommand.field-0 ≡ with_subcommand app_without_domain compile_app.top =
-    c.in_ok-subcommand.ensures.shape c.compile_command.ensures.local
-    ∙ ap₂ with_subcommand c.in_ok-commands_without_domain.ensures.app (ap (λ (a : App). a.top) c.compile_command.ensures.app) in
+    c.in_ok-subcommand.ensures.shape c.in_ok-compile.ensures.local
+    ∙ ap₂ with_subcommand c.in_ok-commands_without_domain.ensures.app (ap (λ (a : App). a.top) c.in_ok-compile.ensures.app) in
     let with_load : app_of c.in_ok-subcommand-2.field-0 ≡ with_subcommand (with_subcommand app_without_domain compile_app.top) load_app.top =
     c.in_ok-subcommand-2.ensures.shape c.load_command.ensures.local
     ∙ ap₂ with_subcommand with_compile (ap (λ (a : App). a.top) c.load_command.ensures.app) in

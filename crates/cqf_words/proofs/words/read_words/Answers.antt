@@ -11,8 +11,8 @@ returns-in-Some-clause-ok c =
 pub returns-in-Ok-try_get_matches_from_mut-clause-err : goal.returns-in-Ok-try_get_matches_from_mut-clause-err
 returns-in-Ok-try_get_matches_from_mut-clause-err c =
     EndsWords-by_matches (app_of c.in-Ok.command) (map (λ word. word.now) c.args.words.now) c.in-Ok-try_get_matches_from_mut.matches
-    c.no_such_rate.result c.in-Ok.ensures.app c.in-Ok-try_get_matches_from_mut.ensures.kinds c.in-Ok-try_get_matches_from_mut.ensures.ok.2
-    c.no_such_rate.ensures c.in-None.ensures
+    c.no_such_value.result c.in-Ok.ensures.app c.in-Ok-try_get_matches_from_mut.ensures.kinds c.in-Ok-try_get_matches_from_mut.ensures.ok.2
+    c.no_such_value.ensures c.in-None.ensures
 
 pub returns-clause-err : goal.returns-clause-err
 returns-clause-err c =

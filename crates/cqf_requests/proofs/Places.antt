@@ -1,0 +1,48 @@
+-- The first place of an element that passes a test.
+use Rattle.std.proofs.Common.{◌≡◌, ◌∙◌, ◌+◌, ◌≤◌, ℕ, Bool, true, false, cond, eqb, List, [], ◌∷◌, ◌++◌, Option, Some, None, length, length-append, refl, sym, ap, arith, inl, inr}
+use Rattle.std.specs.Prelude.{IfSome, find, get_or, is_some, nat_lt, option_map, position, slice_get}
+use Rattle.std.specs.List.{position_or_len}
+use Rattle.std.proofs.lemmas.Bool.{cases_lt, eq-eqb, le-ltb, lt-ltb, ltb-false, ltb-true, ne_eqb}
+use Rattle.std.proofs.lemmas.List.Folds.{find_at, position_or_len_push}
+use Rattle.std.proofs.lemmas.List.Sums.{prefix_len-le-length}
+use Rattle.std.proofs.lemmas.Option.{slice_get-get_or, slice_get_past}
+use Rattle.cqf_lists.specs.Lists.{or_else}
+
+-- the place of the last element, where nothing passes before it
+last_place : (m : ℕ) (b : Bool) → cond (nat_lt (m + cond b 0 1) (m + 1)) (Some (m + cond b 0 1)) None ≡ cond b (Some m) None
+last_place m true =
+    let same : m + 0 ≡ m = omega arith in
+    rw (same, lt-ltb m (m + 1) (omega arith)) refl
+last_place m false = rw (le-ltb (m + 1) (m + 1) (omega arith)) refl
+
+-- the first place with one element more, by the first place without it
+place_by : (n m : ℕ) (b : Bool) → n ≤ m → cond (nat_lt (cond (eqb n m) (m + cond b 0 1) n) (m + 1)) (Some (cond (eqb n m) (m + cond b 0 1) n)) None
+    ≡ or_else (cond (nat_lt n m) (Some n) None) (cond b (Some m) None)
+place_by n m b within = elim (cases_lt n m) [
+  | inl l ↦ rw (ne_eqb n m (λ e. omega (arith, l, e)), lt-ltb n (m + 1) (omega (arith, l)), lt-ltb n m l) refl
+  | inr g ↦ rw (eq-eqb n m (omega (arith, g, within)), le-ltb n m g) (last_place m b)
+]
+
+-- with one element more the first place is what it was, or else the last
+pub position-push : {X : Type 0} (p : X → Bool) (xs : List X) (y : X) →
+    position p (xs ++ y ∷ []) ≡ or_else (position p xs) (cond (p y) (Some (length xs)) None)
+position-push p xs y =
+    rw (position_or_len_push p xs y, length-append xs (y ∷ [])) (place_by (position_or_len p xs) (length xs) (p y) (prefix_len-le-length _ xs))
+
+-- the first element that passes stands at the first place
+pub found_there : {X : Type 0} (p : X → Bool) (xs : List X) (place : ℕ) → position p xs ≡ Some place → slice_get xs place ≡ find p xs
+found_there p xs place is = by (nat_lt (position_or_len p xs) (length xs)) is
+  where
+    by : (b : Bool) → cond b (Some (position_or_len p xs)) None ≡ Some place → slice_get xs place ≡ find p xs
+    by true h =
+        let same : position_or_len p xs ≡ place = cc in
+        ap (slice_get xs) (sym same) ∙ sym (find_at p xs)
+    by false h = absurd cc
+
+-- without a place there is none
+pub found_nowhere : {X : Type 0} (p : X → Bool) (xs : List X) → position p xs ≡ None → None ≡ find p xs
+found_nowhere p xs is = by (nat_lt (position_or_len p xs) (length xs)) refl is
+  where
+    by : (b : Bool) → nat_lt (position_or_len p xs) (length xs) ≡ b → cond b (Some (position_or_len p xs)) None ≡ None → None ≡ find p xs
+    by true e h = absurd cc
+    by false e h = sym (find_at p xs ∙ slice_get_past xs (position_or_len p xs) (ltb-false (position_or_len p xs) (length xs) e))
