@@ -18,8 +18,8 @@ use Rattle.cqf_topology.specs.declared.streams.Request.{Request}
 use Rattle.cqf_topology.specs.PlannedText.{PlannedText}
 use Rattle.cqf_admission.specs.Asking.{asked_by, asked_of}
 use Rattle.cqf_admission.proofs.HeldLemmas.{position-map}
-use Rattle.cqf_script.specs.Names.{has_name, place_named}
-use Rattle.cqf_script.proofs.Places.{found_nowhere, found_there}
+use Rattle.cqf_requests.specs.Names.{has_name, place_named}
+use Rattle.cqf_requests.proofs.Places.{found_nowhere, found_there}
 use Rattle.cqf_shift.specs.Edge.{IsDecided}
 use Rattle.cqf_laws_report.specs.Counted.{AreDecided}
 use Rattle.cqf_laws_report.specs.Judged.{OffersAreJudged, StandInOrder, judged_of}
