@@ -2,4 +2,5 @@ pub mod Noted
 pub mod Passed
 pub mod ByBook
 mod CourseLines
+mod Listed
 mod Lines

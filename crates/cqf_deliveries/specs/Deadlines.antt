@@ -2,7 +2,7 @@
 use Rattle.std.specs.Prelude.{ℕ, ◌≡◌, List, Option, None, map, slice_index_or}
 use Rattle.std.specs.Option.{option_and_then}
 use Rattle.cqf_topology.specs.declared.streams.Request.{Request}
-use Rattle.cqf_script.specs.Names.{place_named}
+use Rattle.cqf_requests.specs.Names.{place_named}
 
 -- requests, and their deadlines by the same places
 pub record Due : Type 0 where

@@ -4,3 +4,4 @@ pub mod Checked
 pub mod Arrivals
 pub mod Deadlines
 pub mod ByVerdict
+pub mod BookLaws

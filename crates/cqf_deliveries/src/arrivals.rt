@@ -100,7 +100,10 @@ fn note(lists: &mut Vec<Vec<Arrival>>, domain: &Domain, start: &Started) -> Resu
 fn arrival_on(arrivals: &[Arrival], link: u8) -> Option<Arrival>
     ensures { result ≡ find (λ arrival. arrival.link == link) arrivals.now }
 {
-    arrivals.iter().copied().find(|arrival| arrival.link == link)
+    arrivals
+        .iter()
+        .copied()
+        .find(|arrival| arrival.link == link)
 }
 
 /// When a frame is whole at the end of a link, by its arrivals.

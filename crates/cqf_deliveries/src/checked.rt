@@ -4,7 +4,7 @@ ghost use Rattle.cqf_deliveries.specs.Checked.{complaint_line, complaint_of, cou
 ghost use Rattle.cqf_deliveries.specs.Deliveries.{fate_of};
 
 use crate::delivery::{Course, Delivery, Fate, latency};
-use cqf_report::reason_name;
+use crate::listeners::reason_name;
 use std::alloc::{AllocError, Global};
 
 /// What a check counts.
@@ -175,7 +175,9 @@ pub fn unfinished_line(alloc: Global, counts: Counts) -> Result<String, AllocErr
     ensures { IfOk result (λ line. string_bytes line ≡ unfinished_line counts) }
 {
     let (under_way, later) = (counts.under_way, counts.later);
-    let line = format!(in alloc; "cqf: check: unfinished, under way {under_way}, not run {later}\n")?;
+    let line = format!(in alloc;
+        "cqf: check: unfinished, under way {under_way}, not run {later}\n"
+    )?;
     Ok(line)
 }
 

@@ -2,7 +2,7 @@
 ghost use Rattle.std.specs.Prelude.{◌≡◌, IfOk, None, slice_index_or};
 ghost use Rattle.cqf_deliveries.specs.Deadlines.{deadline_in};
 
-use cqf_script::Names;
+use cqf_requests::Names;
 use cqf_topology::Request;
 use cqf_units::{Memory, Name};
 use std::alloc::Global;

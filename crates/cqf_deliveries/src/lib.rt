@@ -5,6 +5,7 @@
 //! - [`Deadlines`] are the deadlines of the streams' frames, by name.
 //! - [`put_deliveries`] puts the text of deliveries, and [`complaint_about`], [`unfinished_line`] and [`well_line`] are the
 //!   lines of a check.
+//! - [`verdicts_tell_deliveries`] is the law that ties the deliveries by the verdicts on the offers to those of a book.
 //!
 //! `specs/Deliveries.antt` has the deliveries of a run and its book (`deliveries_of`), `specs/DeliveriesText.antt` their text, and
 //! `specs/Checked.antt` whether all goes well (`checked`).
@@ -19,11 +20,14 @@ mod arrivals;
 mod checked;
 mod deadlines;
 mod delivery;
+mod laws;
+mod listeners;
 mod made;
 mod telling;
 
 pub use checked::{Counts, complaint_about, counts_of, first_bad, unfinished_line, well_line};
 pub use deadlines::Deadlines;
 pub use delivery::{Course, Delivery, Fate, Journey};
+pub use laws::verdicts_tell_deliveries;
 pub use made::{Ended, deliveries_of};
 pub use telling::put_deliveries;

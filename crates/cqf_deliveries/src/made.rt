@@ -15,8 +15,8 @@ ghost use Rattle.cqf_deliveries.specs.Deliveries.{deliveries_to, delivery_of, de
 use crate::arrivals::Arrivals;
 use crate::deadlines::Deadlines;
 use crate::delivery::{Course, Delivery, Journey};
+use crate::listeners::listener_at;
 use cqf_coverage::Judgement;
-use cqf_latency_command::listener_at;
 use cqf_model::{Hop, Offer, Offered, Row, Started};
 use cqf_topology::Domain;
 use cqf_units::{Memory, Nanos, cycle_of};
@@ -159,7 +159,7 @@ fn push_offer(
     ensures { let known = known_by (deadline_in deadlines.now) (whole_in arrivals.now) in
         let verdict = verdict_at ended.now.domain.now ended.now.rows.now ended.now.judgements.now in
         OnOk result (deliveries.new.items
-            ≡ deliveries.old.items ++ deliveries_within ended.now.domain.now ended.now.cycles known verdict x.now) }
+        ≡ deliveries.old.items ++ deliveries_within ended.now.domain.now ended.now.cycles known verdict x.now) }
 {
     let cycle = cycle_of(x.offer.at, ended.domain.cycle_time());
     if cycle.0 >= ended.cycles {
@@ -182,7 +182,7 @@ fn each_delivery(
     ensures { let known = known_by (deadline_in deadlines.now) (whole_in arrivals.now) in
         let verdict = verdict_at ended.now.domain.now ended.now.rows.now ended.now.judgements.now in
         IfOk result (λ deliveries. deliveries.items
-            ≡ deliveries_of_all ended.now.domain.now ended.now.cycles known verdict (numbered ended.now.offers.now)) }
+        ≡ deliveries_of_all ended.now.domain.now ended.now.cycles known verdict (numbered ended.now.offers.now)) }
 {
     let mut deliveries = Vec::new(alloc);
     for (place, offer) in ended.offers.iter().enumerate() {
@@ -209,7 +209,7 @@ pub fn deliveries_of(
     ensures { let known = known_by (deadline_in deadlines.now) (whole_on ended.now.domain.now ended.now.starts.now) in
         let verdict = verdict_at ended.now.domain.now ended.now.rows.now ended.now.judgements.now in
         IfOk result (λ deliveries. deliveries.items
-            ≡ deliveries_of_all ended.now.domain.now ended.now.cycles known verdict (numbered ended.now.offers.now)) }
+        ≡ deliveries_of_all ended.now.domain.now ended.now.cycles known verdict (numbered ended.now.offers.now)) }
 {
     let arrivals = Arrivals::new(alloc, ended.domain, ended.offers.len(), ended.starts)?;
     each_delivery(alloc, ended, &arrivals, deadlines)

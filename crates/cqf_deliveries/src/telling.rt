@@ -7,8 +7,8 @@ ghost use Rattle.cqf_latency_command.specs.LatencyText.{text_of_deadline};
 ghost use Rattle.cqf_deliveries.specs.DeliveriesText.{course_fields, deliveries_header, delivery_fields, lines_of_deliveries, name_of_fate, text_of_deliveries, text_of_instant, text_of_latency};
 
 use crate::delivery::{Course, Delivery, Fate, Journey, latency};
+use crate::listeners::reason_name;
 use cqf_press::Press;
-use cqf_report::reason_name;
 use cqf_units::Nanos;
 use std::io::Write;
 

@@ -1,8 +1,9 @@
-use Rattle.std.proofs.Common.{◌≡◌, ◌∙◌, ◌++◌, None, Option, append-nil, ap, sym, option_map}
+use Rattle.std.proofs.Common.{◌≡◌, ◌∙◌, ◌++◌, None, Option, append-nil, ap, is_some, length, sym}
 use Rattle.std.specs.Prelude.{slice_get}
+use Rattle.std.proofs.lemmas.Bool.{ltb-false}
+use Rattle.std.proofs.lemmas.Option.{slice_get_past}
 use Rattle.cqf_model.specs.declared.topology.Row.{Row}
 use Rattle.cqf_model.specs.Shift.{offer_cycle}
-use Rattle.cqf_script.proofs.Places.{read_there}
 use Rattle.cqf_coverage.specs.declared.judged.Judgement.{Judgement}
 use Rattle.cqf_coverage.specs.Coverage.{queued_as, verdict_of}
 use Rattle.cqf_deliveries.specs.Arrivals.{whole_in}
@@ -18,7 +19,7 @@ returns-in-None c =
     let before = c.args.deliveries.now.items in
     let known = known_by (deadline_in c.args.deadlines.now) (whole_in c.args.arrivals.now) in
     let none : slice_get rows c.in-Covered.place ≡ None =
-    sym (read_there (λ r. r.now) c.get.result rows c.in-Covered.place c.get.ensures.lookup.0 c.get.ensures.lookup.1)
-    ∙ ap (option_map (λ r. r.now)) c.in-None.is in
+    slice_get_past rows c.in-Covered.place
+    (ltb-false c.in-Covered.place (length rows) (sym (ap is_some (sym c.in-None.is) ∙ c.get.ensures.lookup.0))) in
     sym (append-nil before) ∙ ap (λ (found : Option Row). before ++ deliveries_for d known x (queued_as (offer_cycle d x) found)) (sym none)
     ∙ ap (λ (judgement : Judgement). before ++ deliveries_for d known x (verdict_of rows (offer_cycle d x) judgement)) (sym c.in-Covered.is)

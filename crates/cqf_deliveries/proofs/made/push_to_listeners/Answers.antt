@@ -3,7 +3,7 @@ use Rattle.cqf_compile.proofs.Bridges.{no_hop}
 use Rattle.cqf_model.specs.declared.topology.Hop.{Hop}
 use Rattle.cqf_model.specs.Domain.{end_of}
 use Rattle.cqf_latency_command.specs.LatencyText.{is_station}
-use Rattle.cqf_latency_command.proofs.Listed.{items_of, listed_more}
+use Rattle.cqf_deliveries.proofs.Listed.{items_of, listed_more}
 use Rattle.cqf_deliveries.specs.Arrivals.{whole_in}
 use Rattle.cqf_deliveries.specs.Deliveries.{delivery_to}
 use Rattle.cqf_deliveries.proofs.made.push_to_listeners.Goals as goal
