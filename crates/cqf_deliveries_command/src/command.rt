@@ -23,11 +23,7 @@ use cqf_units::Memory;
 use std::alloc::Global;
 
 /// The output for a scenario.
-fn output_of(
-    alloc: Global,
-    cycles: u32,
-    planned: &PlannedGiven,
-) -> Result<DeliveriesOutput, Memory>
+fn output_of(alloc: Global, cycles: u32, planned: &PlannedGiven) -> Result<DeliveriesOutput, Memory>
     requires short { cycles ≤ 100000 }
     requires may { MayBeRun cycles (scenario_given planned.now.given) }
     requires order { StandInOrder planned.now.given.offers.items }
@@ -44,11 +40,7 @@ fn output_of(
 /// # Errors
 /// With status 1 and the line of the first fault of the input: of its parts, of the domain, the streams, the script, the
 /// offers, or the background frames; and with status 3 for want of memory.
-pub fn deliveries_output(
-    alloc: Global,
-    cycles: u32,
-    input: &[u8],
-) -> Result<DeliveriesOutput, Stop>
+pub fn deliveries_output(alloc: Global, cycles: u32, input: &[u8]) -> Result<DeliveriesOutput, Stop>
     requires { cycles ≤ 100000 }
     ensures ok { IfOk result (λ output. IsDeliveriesOutput cycles input.now (text_of_deliveries output)) }
     ensures err { IfErr result (IsRefused (planned_scenario cycles input.now)) }
@@ -76,11 +68,7 @@ fn finish(alloc: Global, counts: Counts) -> Result<Vec<u8>, Stop>
 }
 
 /// What is told of some deliveries.
-fn check_deliveries(
-    alloc: Global,
-    deliveries: &[Delivery],
-    counts: Counts,
-) -> Result<Vec<u8>, Stop>
+fn check_deliveries(alloc: Global, deliveries: &[Delivery], counts: Counts) -> Result<Vec<u8>, Stop>
     ensures ok { IfOk result (λ line. checked_by deliveries.now counts ≡ Ok line.items) }
     ensures err { IfErr result (IsRefused (checked_by deliveries.now counts)) }
 {

@@ -38,11 +38,7 @@ fn read_streams(alloc: Global, text: &[u8]) -> Result<(Vec<Request>, Vec<Option<
 }
 
 /// The scenario of some parts, with its streams' deadlines.
-fn read_planned_parts(
-    alloc: Global,
-    cycles: u32,
-    parts: RunParts<'_>,
-) -> Result<PlannedGiven, Stop>
+fn read_planned_parts(alloc: Global, cycles: u32, parts: RunParts<'_>) -> Result<PlannedGiven, Stop>
     ensures ok { IfOk result (λ made. IsPlannedIn cycles (texts_of parts.entry) made) }
     ensures err { IfErr result (IsRefused (planned_scenario_of cycles (texts_of parts.entry))) }
 {
