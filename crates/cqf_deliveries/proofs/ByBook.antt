@@ -1,7 +1,6 @@
 -- The deliveries by the verdicts on the offers are those by the book.
-use Rattle.std.proofs.Common.{◌≡◌, ◌∙◌, ◌∷◌, ◌<◌, [], ℕ, Bool, true, false, List, Option, Some, None, Contains, length, find, ap, sym, subst, refl, arith, if◌then◌else◌, nat_lt, inl, inr}
+use Rattle.std.proofs.Common.{◌≡◌, ◌∙◌, ◌∷◌, ◌<◌, [], ℕ, Bool, true, false, List, Option, Some, None, Contains, length, ap, sym, subst, refl, arith, if◌then◌else◌, nat_lt}
 use Rattle.std.specs.Prelude.{◌==◌}
-use Rattle.std.proofs.lemmas.Bool.{cases_Bool}
 use Rattle.std.proofs.lemmas.Bool.Decides.{nat_tests}
 use Rattle.cqf_lists.proofs.Made.{flat_map_same}
 use Rattle.cqf_lists.proofs.Members.{find_member, find_some}
@@ -11,10 +10,10 @@ use Rattle.cqf_model.specs.declared.frames.Reason.{Reason}
 use Rattle.cqf_model.specs.declared.topology.Row.{Row}
 use Rattle.cqf_model.specs.Book.{Contents}
 use Rattle.cqf_model.specs.Run.{Run}
-use Rattle.cqf_model.specs.Shift.{IsCovered, IsUncovered, offer_cycle, row_for}
+use Rattle.cqf_model.specs.Shift.{IsCovered, IsUncovered, offer_cycle}
 use Rattle.cqf_model.specs.Traffic.{DroppedFor, ExceedsGate, LacksRow, Queued, Verdict, numbered}
 use Rattle.cqf_topology.specs.PlannedText.{PlannedText}
-use Rattle.cqf_shift.specs.Books.{IsOfUncovered, SaysTheShift}
+use Rattle.cqf_shift.specs.Books.{SaysTheShift}
 use Rattle.cqf_shift.specs.Edge.{IsDecided}
 use Rattle.cqf_shift.proofs.Came.{one_number}
 use Rattle.cqf_shift.proofs.Decided.{covered_judged, uncovered_judged}

@@ -1,5 +1,5 @@
 -- The deliveries of the offers so far, and of one more.
-use Rattle.std.proofs.Common.{◌≡◌, ◌∙◌, ◌++◌, ◌<◌, ◌≤◌, ◌+◌, ◌-◌, ℕ, List, [], Option, Some, length, map, take, get_or, ap, sym, refl, arith, filter, option_map, true, if◌then◌else◌, nat_lt}
+use Rattle.std.proofs.Common.{◌≡◌, ◌∙◌, ◌++◌, ◌<◌, ◌≤◌, ◌+◌, ◌-◌, ℕ, List, [], Option, Some, length, take, get_or, ap, sym, refl, arith, option_map, if◌then◌else◌, nat_lt}
 use Rattle.std.specs.Prelude.{slice_get}
 use Rattle.std.proofs.lemmas.List.{get_or_default}
 use Rattle.cqf_units.specs.Timing.{cycle_at}
@@ -27,7 +27,7 @@ use Rattle.cqf_deliveries.specs.declared.arrivals.Arrival.{Arrival}
 use Rattle.cqf_deliveries.specs.declared.delivery.Delivery.{Delivery}
 use Rattle.cqf_deliveries.specs.Arrivals.{AreArrivals, whole_in}
 use Rattle.cqf_deliveries.specs.ByVerdict.{Known, deliveries_for, deliveries_of_all, deliveries_within}
-use Rattle.cqf_deliveries.specs.Deliveries.{deliveries_to, delivery_to, whole_on}
+use Rattle.cqf_deliveries.specs.Deliveries.{delivery_to, whole_on}
 use Rattle.cqf_deliveries.proofs.Noted.{whole_in-on}
 
 module _ (d : Domain) (cycles : ℕ) (known : Known) (verdict : Offered → Verdict) (offers : List Offer) (place : ℕ) (offer : Offer)

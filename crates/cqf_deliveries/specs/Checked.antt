@@ -1,5 +1,5 @@
 -- Whether all goes well in a run, by its deliveries (profile).
-use Rattle.std.specs.Prelude.{ℕ, ◌++◌, ◌==◌, ◌&&◌, Bool, true, false, List, Option, Some, None, Result, Ok, Err, codes, count_by, decimal, find, if◌then◌else◌, is_some, length, nat_le, not, option_map}
+use Rattle.std.specs.Prelude.{ℕ, ◌++◌, ◌==◌, ◌&&◌, Bool, true, false, List, Result, Ok, Err, codes, count_by, decimal, find, if◌then◌else◌, is_some, length, nat_le}
 use Rattle.cqf_lists.specs.Results.{refuse}
 use Rattle.cqf_model.specs.declared.frames.Offered.{Offered}
 use Rattle.cqf_model.specs.Book.{Contents}

@@ -1,5 +1,5 @@
 -- Streams that were read, each request with its deadline.
-use Rattle.std.specs.Prelude.{ℕ, ◌≡◌, List, Option, None, map, slice_index_or}
+use Rattle.std.specs.Prelude.{ℕ, List, Option, None, slice_index_or}
 use Rattle.std.specs.Option.{option_and_then}
 use Rattle.cqf_topology.specs.declared.streams.Request.{Request}
 use Rattle.cqf_requests.specs.Names.{place_named}

@@ -23,7 +23,6 @@ use Rattle.cqf_deliveries.specs.declared.delivery.Course.TheVariants as course
 use Rattle.cqf_deliveries.specs.declared.delivery.Delivery.{Delivery}
 use Rattle.cqf_deliveries.specs.declared.delivery.Fate.{Fate}
 use Rattle.cqf_deliveries.specs.declared.delivery.Fate.TheVariants as fate
-use Rattle.cqf_deliveries.specs.declared.delivery.Journey.{Journey}
 
 -- the deadline of the frames of a name: that of the first of some streams that has it
 abbrev pub deadline_named : List PlannedText → List ℕ → Option ℕ

@@ -1,4 +1,4 @@
-use Rattle.std.proofs.Common.{◌∙◌, ℕ, None, Option, ap, get_or, sym}
+use Rattle.std.proofs.Common.{◌∙◌, ℕ, None, ap, get_or, sym}
 use Rattle.std.specs.Option.{option_and_then}
 use Rattle.cqf_requests.specs.Names.{place_named}
 use Rattle.cqf_deliveries.specs.Deadlines.{Due, deadline_in}
