@@ -1,3 +1,3 @@
 mod Granted
-mod Listed
+pub mod Listed
 mod Lines

@@ -1,0 +1,4 @@
+mod Planned
+mod InTime
+mod Made
+mod Told
