@@ -1,10 +1,10 @@
 -- Each start of a book is whole in time to be told.
-use Rattle.std.proofs.Common.{◌≡◌, ◌∙◌, ℕ, ◌+◌, ◌*◌, ◌/◌, ◌<◌, ◌≤◌, List, All, Contains, ap, arith, length, mul-le-mul_left, mul-le-mul_right, subst, sym}
+use Rattle.std.proofs.Common.{◌≡◌, ◌∙◌, ℕ, ◌*◌, ◌/◌, ◌<◌, ◌≤◌, List, All, Contains, ap, arith, length, mul-le-mul_right, subst}
 use Rattle.cqf_units.proofs.Cycles.{cycle_upto}
 use Rattle.cqf_lists.proofs.Members.{all_from_members}
 use Rattle.cqf_model.specs.declared.frames.Started.{Started}
 use Rattle.cqf_model.specs.Book.{Contents}
-use Rattle.cqf_model.specs.Domain.{Domain, IsAccepted}
+use Rattle.cqf_model.specs.Domain.{IsAccepted}
 use Rattle.cqf_model.specs.Run.{Run}
 use Rattle.cqf_model.specs.Traffic.{whole_at}
 use Rattle.cqf_laws_report.proofs.Octets.{of_batch}

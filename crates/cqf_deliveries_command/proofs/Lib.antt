@@ -1,4 +1,6 @@
 mod Planned
 mod InTime
-mod Made
+mod Passing
+mod Later
+mod Judged
 mod Told

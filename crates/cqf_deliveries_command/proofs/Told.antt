@@ -1,5 +1,6 @@
 -- What is told of the deliveries that were made is told of the input.
-use Rattle.std.proofs.Common.{◌≡◌, ◌∙◌, ℕ, List, Result, Ok, Err, ap, length, refl, subst, sym, count_by, nat_le}
+use Rattle.std.proofs.Common.{◌≡◌, ◌∙◌, ℕ, List, Option, Some, None, Result, Err, ap, find, length, refl, subst, sym, count_by, nat_le}
+use Rattle.cqf_lists.specs.Results.{refuse}
 use Rattle.cqf_lists.proofs.EachBelow.{length-singles}
 use Rattle.cqf_model.specs.declared.frames.Offered.{Offered}
 use Rattle.cqf_model.specs.History.{table_at}
@@ -10,10 +11,11 @@ use Rattle.cqf_scenario.specs.Calls.{history_of}
 use Rattle.cqf_scenario.specs.Closing.{scenario_given}
 use Rattle.cqf_scenario.specs.Scenario.{Scenario}
 use Rattle.cqf_stop.specs.declared.stops.Stop.{Stop}
-use Rattle.cqf_stop.specs.Stops.{IsRefused}
+use Rattle.cqf_stop.specs.Stops.{EndsWith, IsRefused}
+use Rattle.cqf_deliveries.specs.declared.checked.Counts.{Counts}
 use Rattle.cqf_deliveries.specs.declared.delivery.Delivery.{Delivery}
-use Rattle.cqf_deliveries.specs.Checked.{checked_by, counts_of, later_offers}
-use Rattle.cqf_deliveries.specs.Deliveries.{deliveries_of}
+use Rattle.cqf_deliveries.specs.Checked.{checked_by, complaint_line, counts_of, finished, is_bad, later_offers}
+use Rattle.cqf_deliveries.specs.Deliveries.{fate_of}
 use Rattle.cqf_deliveries.specs.DeliveriesText.{text_of_deliveries}
 use Rattle.cqf_deliveries_command.specs.declared.reading.PlannedGiven.{PlannedGiven}
 use Rattle.cqf_deliveries_command.specs.Checking.{IsCheckedGiven, IsRefusedGiven}
@@ -75,3 +77,41 @@ IsCheckRefusal-read cycles input stop refused = record {
   line = λ one. subst (λ read. IsCheckedOf cycles read (Err stop.text.items)) (sym (refused.line one)) refl;
   memory = refused.memory;
 }
+
+-- what is told of deliveries where none is bad, and where one is
+module _ (deliveries : List Delivery) (counts : Counts) where
+  pub checked_none : find (λ (delivery : Delivery). is_bad (fate_of delivery)) deliveries ≡ None → checked_by deliveries counts ≡ finished counts
+  checked_none is = ap (λ (found : Option Delivery). refuse found complaint_line (finished counts)) is
+
+  pub checked_some : (bad : Delivery) → find (λ (delivery : Delivery). is_bad (fate_of delivery)) deliveries ≡ Some bad →
+      checked_by deliveries counts ≡ Err (complaint_line bad)
+  checked_some bad is = ap (λ (found : Option Delivery). refuse found complaint_line (finished counts)) is
+
+-- an end with a line, where that line is what was found
+pub IsRefused-line : {A : Type 0} (found : Result A (List ℕ)) (line : List ℕ) (stop : Stop) → found ≡ Err line → EndsWith 1 line stop → IsRefused found stop
+IsRefused-line found line stop is ends = record {
+  statuses = ends.statuses;
+  line = λ one. is ∙ ap Err (sym (ends.line_is one));
+  memory = ends.memory;
+}
+
+-- what is told of the deliveries that were made is told of what was read
+module _ (cycles : ℕ) (planned : PlannedGiven) (deliveries : List Delivery) (counts : Counts) (are : AreDeliveriesOf cycles planned deliveries)
+    (counted : counts ≡ counts_of (length planned.given.offers.items)
+    (count_by (λ (x : Offered). nat_le cycles (offer_cycle planned.given.domain x)) (numbered planned.given.offers.items)) deliveries) where
+  pub IsCheckedGiven-made : (found : Result (List ℕ) (List ℕ)) → checked_by deliveries counts ≡ found → IsCheckedGiven cycles planned found
+  IsCheckedGiven-made found told streams those =
+      IsCheckedScenario-made cycles (scenario_given planned.given) streams deliveries (length planned.given.offers.items)
+      (count_by (λ (x : Offered). nat_le cycles (offer_cycle planned.given.domain x)) (numbered planned.given.offers.items)) found (are streams those) refl refl
+      (ap (checked_by deliveries) (sym counted) ∙ told)
+
+  pub IsRefusedGiven-made : (stop : Stop) → IsRefused (checked_by deliveries counts) stop → IsRefusedGiven cycles planned stop
+  IsRefusedGiven-made stop refused = record {
+    statuses = refused.statuses;
+    line = λ one. IsCheckedGiven-made (Err stop.text.items) (refused.line one);
+    memory = refused.memory;
+  }
+
+-- and what is the same is refused with it
+pub IsRefused-same : {A : Type 0} (found other : Result A (List ℕ)) (stop : Stop) → found ≡ other → IsRefused other stop → IsRefused found stop
+IsRefused-same {A} found other stop is refused = subst (λ (r : Result A (List ℕ)). IsRefused r stop) (sym is) refused

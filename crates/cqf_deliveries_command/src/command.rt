@@ -1,9 +1,10 @@
 //! The commands `deliveries` and `check`.
-ghost use Rattle.std.specs.Prelude.{◌≡◌, ◌≤◌, Ok, Err, IfErr, IfOk};
+ghost use Rattle.std.specs.Prelude.{◌≡◌, ◌≤◌, true, Ok, Err, IfErr, IfOk};
 ghost use Rattle.cqf_laws_report.specs.Judged.{StandInOrder};
 ghost use Rattle.cqf_scenario.specs.Closing.{MayBeRun, scenario_given};
-ghost use Rattle.cqf_stop.specs.Stops.{IsRefused};
-ghost use Rattle.cqf_deliveries.specs.Checked.{checked_by, finished};
+ghost use Rattle.cqf_stop.specs.Stops.{EndsWith, IsRefused};
+ghost use Rattle.cqf_deliveries.specs.Checked.{checked_by, complaint_line, finished, is_bad, unfinished_line, well_line};
+ghost use Rattle.cqf_deliveries.specs.Deliveries.{fate_of};
 ghost use Rattle.cqf_deliveries.specs.DeliveriesText.{text_of_deliveries};
 ghost use Rattle.cqf_deliveries_command.specs.CheckOutput.{IsCheckRefusal, IsChecked};
 ghost use Rattle.cqf_deliveries_command.specs.Checking.{IsCheckedGiven, IsRefusedGiven};
@@ -52,18 +53,40 @@ pub fn deliveries_output(alloc: Global, cycles: u32, input: &[u8]) -> Result<Del
     }
 }
 
+/// The end where not all has come.
+fn unfinished_stop(alloc: Global, counts: Counts) -> Stop
+    ensures { EndsWith 1 (unfinished_line counts) result }
+{
+    Stop::with_text(alloc, REFUSED, unfinished_line(alloc, counts))
+}
+
+/// The end with the first delivery that is dropped or late.
+fn complaint_stop(alloc: Global, delivery: &Delivery) -> Stop
+    requires { is_bad (fate_of delivery.now) ≡ true }
+    ensures { EndsWith 1 (complaint_line delivery.now) result }
+{
+    Stop::with_text(alloc, REFUSED, complaint_about(alloc, delivery))
+}
+
+/// The line where all is well.
+fn well_bytes(alloc: Global, counts: Counts) -> Result<Vec<u8>, Memory>
+    ensures { IfOk result (λ line. line.items ≡ well_line counts) }
+{
+    let line = well_line(alloc, counts)?;
+    Ok(line.into_bytes())
+}
+
 /// The line where all that was counted is well, or the end with the line that tells what hasn't come.
 fn finish(alloc: Global, counts: Counts) -> Result<Vec<u8>, Stop>
     ensures ok { IfOk result (λ line. finished counts ≡ Ok line.items) }
     ensures err { IfErr result (IsRefused (finished counts)) }
 {
-    if counts.is_finished() {
-        match well_line(alloc, counts) {
-            Ok(line) => Ok(line.into_bytes()),
-            Err(_) => Err(Stop::memory(alloc)),
-        }
-    } else {
-        Err(Stop::with_text(alloc, REFUSED, unfinished_line(alloc, counts)))
+    if !counts.is_finished() {
+        return Err(unfinished_stop(alloc, counts));
+    }
+    match well_bytes(alloc, counts) {
+        Ok(line) => Ok(line),
+        Err(_) => Err(Stop::memory(alloc)),
     }
 }
 
@@ -73,12 +96,27 @@ fn check_deliveries(alloc: Global, deliveries: &[Delivery], counts: Counts) -> R
     ensures err { IfErr result (IsRefused (checked_by deliveries.now counts)) }
 {
     match first_bad(deliveries) {
-        Some(delivery) => {
-            let line = complaint_about(alloc, delivery);
-            Err(Stop::with_text(alloc, REFUSED, line))
-        }
+        Some(delivery) => Err(complaint_stop(alloc, delivery)),
         None => finish(alloc, counts),
     }
+}
+
+/// What is told of a scenario whose deliveries were made.
+fn check_made(
+    alloc: Global,
+    cycles: u32,
+    planned: &PlannedGiven,
+    deliveries: &[Delivery],
+) -> Result<Vec<u8>, Stop>
+    requires may { MayBeRun cycles (scenario_given planned.now.given) }
+    requires made { AreDeliveriesOf cycles planned.now deliveries.now }
+    ensures ok { IfOk result (λ line. IsCheckedGiven cycles planned.now (Ok line.items)) }
+    ensures err { IfErr result (IsRefusedGiven cycles planned.now) }
+{
+    let offers = planned.given.offers.as_slice();
+    let later = later_offers(&planned.given.domain, cycles, offers);
+    let counts = counts_of(offers.len(), later, deliveries);
+    check_deliveries(alloc, deliveries, counts)
 }
 
 /// What is told of a scenario.
@@ -90,12 +128,7 @@ fn check_scenario(alloc: Global, cycles: u32, planned: &PlannedGiven) -> Result<
     ensures err { IfErr result (IsRefusedGiven cycles planned.now) }
 {
     match deliveries_of_scenario(alloc, cycles, planned) {
-        Ok(deliveries) => {
-            let (domain, offers) = (&planned.given.domain, planned.given.offers.as_slice());
-            let later = later_offers(domain, cycles, offers);
-            let counts = counts_of(offers.len(), later, deliveries.as_slice());
-            check_deliveries(alloc, deliveries.as_slice(), counts)
-        }
+        Ok(deliveries) => check_made(alloc, cycles, planned, deliveries.as_slice()),
         Err(_) => Err(Stop::memory(alloc)),
     }
 }

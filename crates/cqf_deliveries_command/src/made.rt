@@ -1,5 +1,7 @@
 //! The deliveries of a scenario.
-ghost use Rattle.std.specs.Prelude.{◌≡◌, ◌≤◌, IfOk, count_by, nat_le};
+ghost use Rattle.std.specs.Prelude.{◌≡◌, ◌≤◌, ◌<◌, IfOk, count_by, nat_le};
+ghost use Rattle.cqf_units.specs.Timing.{cycle_at};
+ghost use Rattle.cqf_model.specs.Run.{AreOffers};
 ghost use Rattle.cqf_model.specs.Shift.{offer_cycle};
 ghost use Rattle.cqf_model.specs.Traffic.{numbered};
 ghost use Rattle.cqf_laws_report.specs.Judged.{StandInOrder};
@@ -37,16 +39,20 @@ fn deliveries_of_run(
     let offers = planned.given.offers.as_slice();
     let entries = made.admission.history();
     let rows = granted_streams(alloc, domain, entries)?;
-    let judgements = cover(alloc, domain, rows.as_slice(), offers)?;
-    let (requests, ends) = (planned.requests.as_slice(), planned.deadlines.as_slice());
+    let rows = rows.as_slice();
+    let judgements = cover(alloc, domain, rows, offers)?;
+    let judgements = judgements.as_slice();
+    let requests = planned.requests.as_slice();
+    let ends = planned.deadlines.as_slice();
     let deadlines = Deadlines::new(alloc, requests, ends)?;
+    let starts = made.book.starts.as_slice();
     let ended = Ended {
         domain,
         cycles,
         offers,
-        rows: rows.as_slice(),
-        judgements: judgements.as_slice(),
-        starts: made.book.starts.as_slice(),
+        rows,
+        judgements,
+        starts,
     };
     deliveries_of(alloc, &ended, &deadlines)
 }
@@ -66,13 +72,24 @@ pub(crate) fn deliveries_of_scenario(
     deliveries_of_run(alloc, cycles, planned, &made)
 }
 
+/// Whether an offer is of a cycle that isn't run.
+fn is_later(domain: &Domain, cycles: u32, offer: &Offer) -> bool
+    requires { offer.now.at.0 < 1000000000000 }
+    ensures { result ≡ nat_le cycles (cycle_at domain.now.cycle_time offer.now.at.0) }
+{
+    cycle_of(offer.at, domain.cycle_time()).0 >= cycles
+}
+
 /// How many offers are of cycles that aren't run.
 pub(crate) fn later_offers(domain: &Domain, cycles: u32, offers: &[Offer]) -> usize
+    requires { AreOffers domain.now offers.now }
     ensures { result ≡ count_by (λ x. nat_le cycles (offer_cycle domain.now x)) (numbered offers.now) }
 {
-    let cycle_time = domain.cycle_time();
-    offers
-        .iter()
-        .filter(|offer| cycle_of(offer.at, cycle_time).0 >= cycles)
-        .count()
+    let mut later = 0;
+    for (place, offer) in offers.iter().enumerate() {
+        if is_later(domain, cycles, offer) {
+            later += 1;
+        }
+    }
+    later
 }

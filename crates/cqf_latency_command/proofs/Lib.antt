@@ -1,3 +1,3 @@
 mod Granted
-pub mod Listed
+mod Listed
 mod Lines

@@ -42,8 +42,8 @@ fn window_at(domain: &Domain, link: u8, cost: u32) -> u64
     octet_time(domain.link(link).rate) * octets
 }
 
-/// The name of the station that a link of the domain ends in, where a listener is; none where it ends in a bridge.
-pub fn listener_at(domain: &Domain, link: u8) -> Option<Name>
+/// The name of the station that a link ends in; none where it ends in a bridge.
+fn listener_at(domain: &Domain, link: u8) -> Option<Name>
     requires { link < length domain.now.links }
     ensures { result ≡ (if is_station (end_of domain.now link) then Some (name_of_end domain.now link) else None) }
 {

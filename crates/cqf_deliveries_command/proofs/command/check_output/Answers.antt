@@ -1,5 +1,7 @@
 use Rattle.std.proofs.Common.{Ok}
 use Rattle.std.proofs.lemmas.Result.{IfErr-weaker, IfOk-weaker}
+use Rattle.cqf_deliveries_command.specs.CheckOutput.{IsCheckRefusal}
+use Rattle.cqf_deliveries_command.proofs.Passing.{passed-on}
 use Rattle.cqf_deliveries_command.proofs.Told.{IsCheckRefusal-given, IsCheckRefusal-read, IsChecked-given}
 use Rattle.cqf_deliveries_command.proofs.command.check_output.Goals as goal
 
@@ -20,4 +22,6 @@ returns-clause-err c =
     (λ stop refused. IsCheckRefusal-given c.args.cycles c.args.input.now c.in_ok-planned.planned stop c.in_ok-planned.ensures.ok refused) c.check_scenario.ensures.err
 
 pub returns-in_err-planned-clause-err : goal.returns-in_err-planned-clause-err
-returns-in_err-planned-clause-err c = IsCheckRefusal-read c.args.cycles c.args.input.now _ c.in_err-planned.ensures.err
+returns-in_err-planned-clause-err c =
+    passed-on c.from_residual.result c.in_err-planned.field-0.0 (IsCheckRefusal c.args.cycles c.args.input.now) c.from_residual.ensures.1
+    (IsCheckRefusal-read c.args.cycles c.args.input.now c.in_err-planned.field-0.0 c.in_err-planned.ensures.err)

@@ -1,11 +1,11 @@
-use Rattle.std.proofs.Common.{List, ap, map, subst, sym, ◌∙◌}
-use Rattle.std.proofs.lemmas.Result.{IfErr-weaker}
+use Rattle.std.proofs.Common.{List, ap, map, ◌∙◌}
 use Rattle.cqf_topology.specs.declared.streams.Request.{Request}
 use Rattle.cqf_admission.specs.Asking.{asked_of}
 use Rattle.cqf_inputs.specs.RunParts.{texts_of}
 use Rattle.cqf_scenario.specs.Closing.{scenario_given}
-use Rattle.cqf_scenario.specs.Scenario.{scenario_behind}
 use Rattle.cqf_stop.specs.Stops.{IsRefused}
+use Rattle.cqf_deliveries_command.specs.PlannedScenario.{planned_scenario_of}
+use Rattle.cqf_deliveries_command.proofs.Passing.{passed-on}
 use Rattle.cqf_deliveries_command.proofs.Planned.{behind_in_order, planned-Ok, planned-refused}
 use Rattle.cqf_deliveries_command.proofs.reading.read_planned_parts.Goals as goal
 
@@ -31,5 +31,6 @@ returns-in_err-given-clause-err c =
     let texts = texts_of c.args.parts in
     let found = c.in_ok-requests.ensures.ok in
     let asked = ap (λ (rs : List Request). map asked_of rs) c.as_slice.ensures.value ∙ found.planned.asked in
-    planned-refused c.args.cycles texts c.in_ok-domain.domain found.streams c.in_ok-domain.ensures.ok found.holds c.as_slice.result.now _ asked
-    c.in_err-given.ensures.err
+    passed-on c.from_residual-in_err-given.result c.in_err-given.field-0.0 (IsRefused (planned_scenario_of c.args.cycles texts)) c.from_residual-in_err-given.ensures.1
+    (planned-refused c.args.cycles texts c.in_ok-domain.domain found.streams c.in_ok-domain.ensures.ok found.holds c.as_slice.result.now c.in_err-given.field-0.0
+    asked c.in_err-given.ensures.err)
