@@ -50,7 +50,7 @@ module _ (d : Domain) (cycles : ℕ) (counts : ℕ → ℕ → ℕ → ℕ) (lat
 module _ (d : Domain) (entries : List Recorded) (rows : List Row) (offers : List Offer) (judgements : List Judgement)
     (judged : AreJudged d entries rows offers (length offers) judgements) (cycles : ℕ) (closed : cycles ≤ seals entries) where
   -- the judgement at an offer's place is the verdict on it
-  at_place : (x : Offered) → Contains (numbered offers) x → offer_cycle d x < cycles → verdict_at d rows judgements x ≡ judged_of d entries offers x
+  pub at_place : (x : Offered) → Contains (numbered offers) x → offer_cycle d x < cycles → verdict_at d rows judgements x ≡ judged_of d entries offers x
   at_place x c early =
       let k = c.0 in
       let inside : k < length offers = omega (arith, c.1, numbered_all offers) in

@@ -4,6 +4,7 @@
 //! - [`latency_output`] is the command's output for its input, a domain and its streams with their deadlines, or the end of the
 //!   run with the line of the input's first fault. [`LatencyOutput::tell`] tells it, and asks for no memory.
 //! - A [`Latency`] is a row of the output, and a [`Verdict`] says whether its frames keep their deadline.
+//! - [`parted`] parts streams from their deadlines.
 //!
 //! `specs/LatencyText.antt` has the rows of a table (`latencies_of`) and their text (`text_of_latency`), and
 //! `specs/LatencyInput.antt` the output for an input (`latency_of_input`). That frames take no less and no more
@@ -30,3 +31,4 @@ pub use command::latency_output;
 pub use latencies::{Latency, Verdict};
 pub use laws::told_latencies_hold;
 pub use output::LatencyOutput;
+pub use reading::parted;

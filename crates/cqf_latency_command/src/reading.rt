@@ -22,8 +22,11 @@ pub(crate) fn read_planned(alloc: Global, input: &[u8]) -> Result<(Domain, Vec<P
     Ok((domain, streams))
 }
 
-/// The requests and the deadlines of some streams, each by stream number.
-pub(crate) fn parted(
+/// The requests and the deadlines of some streams, each by its place among them.
+///
+/// # Errors
+/// Where a growth is refused.
+pub fn parted(
     alloc: Global,
     streams: Vec<Planned>,
 ) -> Result<(Vec<Request>, Vec<Option<u32>>), Memory>

@@ -4,6 +4,7 @@ use Rattle.cqf_lists.specs.Results.{and_then}
 use Rattle.cqf_model.specs.declared.frames.Background.{Background}
 use Rattle.cqf_model.specs.declared.frames.Offer.{Offer}
 use Rattle.cqf_model.specs.Domain.{Domain}
+use Rattle.cqf_model.specs.History.{Asked}
 use Rattle.cqf_text.specs.Lines.{lines_of}
 use Rattle.cqf_text.specs.Parts.{parts_of}
 use Rattle.cqf_topology.specs.DomainText.{domain_of_text}
@@ -38,6 +39,14 @@ background_in d (Some text) = or_line background_line (background_frames_of d te
 abbrev pub frames_in : Domain → RunTexts → Result (List Offer × List Background) (List ℕ)
 frames_in d texts = and_then (or_line offers_line (offers_of d texts.offers)) (λ offers.
     and_then (background_in d texts.background) (λ background. Ok (offers, background)))
+
+-- the scenario of some parts over so many cycles, whose domain and streams are these; or the line of the first fault of its script,
+-- its offers and its background frames
+abbrev pub scenario_behind : ℕ → Domain → List Asked → RunTexts → Result Scenario (List ℕ)
+scenario_behind cycles d streams texts =
+    and_then (or_line script_line (script_of streams cycles texts.script)) (λ calls.
+    and_then (frames_in d texts) (λ frames.
+    Ok (record { domain = d; calls = calls; sealer = administrators (lines_of texts.script); offers = frames.0; background = frames.1 })))
 
 -- the scenario of some parts over so many cycles, or the line of their first fault: of the domain, then of the streams, the
 -- script, the offers and the background frames

@@ -1,12 +1,14 @@
 //! The scenario of an input.
 ghost use Rattle.std.specs.Prelude.{◌≡◌, ◌≤◌, [], Ok, IfOk, IfErr, length, map, option_map};
+ghost use Rattle.cqf_admission.specs.Asking.{asked_of};
+ghost use Rattle.cqf_inputs.specs.Lines.{script_line};
 ghost use Rattle.cqf_inputs.specs.RunParts.{texts_of};
 ghost use Rattle.cqf_model.specs.Run.{AreBackground, AreOffers};
 ghost use Rattle.cqf_scenario.specs.Calls.{HasRoom};
 ghost use Rattle.cqf_scenario.specs.Closing.{MayBeRun, scenario_given};
-ghost use Rattle.cqf_scenario.specs.Scenario.{background_in, calls_in, frames_in, scenario_input, scenario_of};
-ghost use Rattle.cqf_script.specs.Script.{called_of};
-ghost use Rattle.cqf_stop.specs.Stops.{IsRefused};
+ghost use Rattle.cqf_scenario.specs.Scenario.{background_in, frames_in, scenario_behind, scenario_input, scenario_of};
+ghost use Rattle.cqf_script.specs.Script.{called_of, script_of};
+ghost use Rattle.cqf_stop.specs.Stops.{IsRefused, or_line};
 
 use cqf_admission::Call;
 use cqf_inputs::{
@@ -15,7 +17,7 @@ use cqf_inputs::{
 use cqf_model::{Background, Offer};
 use cqf_script::administrators;
 use cqf_stop::Stop;
-use cqf_topology::Domain;
+use cqf_topology::{Domain, Request};
 use std::alloc::Global;
 
 /// What a run is given.
@@ -30,14 +32,18 @@ pub struct Given {
     pub background: Vec<Background>,
 }
 
-/// The calls of the script, by the streams that may be admitted.
-fn read_calls(alloc: Global, cycles: u32, parts: RunParts<'_>) -> Result<Vec<(u16, Call)>, Stop>
-    ensures ok { IfOk result (λ calls. calls_in cycles (texts_of parts.entry) ≡ Ok (map called_of calls.items)) }
+/// The calls of a script, by the streams that may be admitted.
+fn read_calls(
+    alloc: Global,
+    requests: &[Request],
+    cycles: u32,
+    text: &[u8],
+) -> Result<Vec<(u16, Call)>, Stop>
+    ensures ok { IfOk result (λ calls. or_line script_line (script_of (map asked_of requests.now) cycles text.now) ≡ Ok (map called_of calls.items)) }
     ensures room { IfOk result (λ calls. HasRoom cycles [] (map called_of calls.items)) }
-    ensures err { IfErr result (IsRefused (calls_in cycles (texts_of parts.entry))) }
+    ensures err { IfErr result (IsRefused (or_line script_line (script_of (map asked_of requests.now) cycles text.now))) }
 {
-    let requests = streams_part(alloc, parts.streams)?;
-    script_part(alloc, requests.as_slice(), cycles, parts.script)
+    script_part(alloc, requests, cycles, text)
 }
 
 /// The background frames, where there is a part of them.
@@ -75,14 +81,23 @@ fn read_frames(
     Ok((offers, background))
 }
 
-/// The scenario of some parts.
-fn read_parts(alloc: Global, cycles: u32, parts: RunParts<'_>) -> Result<Given, Stop>
-    ensures ok { IfOk result (λ given. scenario_of cycles (texts_of parts.entry) ≡ Ok (scenario_given given)) }
+/// What a run is given in some parts, whose domain and streams were read.
+///
+/// # Errors
+/// With status 1 and the line of the first fault: of the script, the offers, or the background frames; and with status 3 for
+/// want of memory.
+pub fn read_behind(
+    alloc: Global,
+    cycles: u32,
+    domain: Domain,
+    requests: &[Request],
+    parts: RunParts<'_>,
+) -> Result<Given, Stop>
+    ensures ok { IfOk result (λ given. scenario_behind cycles domain (map asked_of requests.now) (texts_of parts.entry) ≡ Ok (scenario_given given)) }
     ensures good { IfOk result (λ given. MayBeRun cycles (scenario_given given)) }
-    ensures err { IfErr result (IsRefused (scenario_of cycles (texts_of parts.entry))) }
+    ensures err { IfErr result (IsRefused (scenario_behind cycles domain (map asked_of requests.now) (texts_of parts.entry))) }
 {
-    let domain = domain_part(alloc, parts.domain)?;
-    let calls = read_calls(alloc, cycles, parts)?;
+    let calls = read_calls(alloc, requests, cycles, parts.script)?;
     let (offers, background) = read_frames(alloc, &domain, parts)?;
     Ok(Given {
         domain,
@@ -91,6 +106,17 @@ fn read_parts(alloc: Global, cycles: u32, parts: RunParts<'_>) -> Result<Given, 
         offers,
         background,
     })
+}
+
+/// The scenario of some parts.
+fn read_parts(alloc: Global, cycles: u32, parts: RunParts<'_>) -> Result<Given, Stop>
+    ensures ok { IfOk result (λ given. scenario_of cycles (texts_of parts.entry) ≡ Ok (scenario_given given)) }
+    ensures good { IfOk result (λ given. MayBeRun cycles (scenario_given given)) }
+    ensures err { IfErr result (IsRefused (scenario_of cycles (texts_of parts.entry))) }
+{
+    let domain = domain_part(alloc, parts.domain)?;
+    let requests = streams_part(alloc, parts.streams)?;
+    read_behind(alloc, cycles, domain, requests.as_slice(), parts)
 }
 
 /// The scenario of the input, or the end with the line of its first fault.

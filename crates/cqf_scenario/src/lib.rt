@@ -4,7 +4,8 @@
 //! cycles that are still open then are closed; so each cycle has a table. The network runs over these tables.
 //!
 //! - [`simulate`] reads the scenario of an input and runs it: the administration with its history, and the book.
-//! - [`run_given`] runs a scenario that was made otherwise.
+//! - [`read_behind`] reads the rest of a scenario whose domain and streams were read otherwise, and [`run_given`] runs a
+//!   scenario that was made otherwise.
 //! - [`administer`] reads the scenario of an input and makes its history alone, with no run of the network.
 //! - [`read_opened`] reads a scenario whose cycles are closed while it runs: what its bridges and administrators begin with.
 //!
@@ -27,6 +28,6 @@ mod parting;
 mod runs;
 
 pub use administered::{Administered, administer};
-pub use given::Given;
+pub use given::{Given, read_behind};
 pub use opening::{Opened, read_opened};
 pub use runs::{Simulated, run_given, simulate};

@@ -1,0 +1,6 @@
+pub mod Noted
+pub mod Passed
+pub mod ByBook
+mod CourseLines
+mod Listed
+mod Lines

@@ -1,0 +1,6 @@
+mod Planned
+mod InTime
+mod Passing
+mod Later
+mod Judged
+mod Told

@@ -1,0 +1,95 @@
+//! The deliveries of a scenario.
+ghost use Rattle.std.specs.Prelude.{◌≡◌, ◌≤◌, ◌<◌, IfOk, count_by, nat_le};
+ghost use Rattle.cqf_units.specs.Timing.{cycle_at};
+ghost use Rattle.cqf_model.specs.Run.{AreOffers};
+ghost use Rattle.cqf_model.specs.Shift.{offer_cycle};
+ghost use Rattle.cqf_model.specs.Traffic.{numbered};
+ghost use Rattle.cqf_laws_report.specs.Judged.{StandInOrder};
+ghost use Rattle.cqf_scenario.specs.Closing.{MayBeRun, scenario_given};
+ghost use Rattle.cqf_deliveries_command.specs.Reading.{AreDeliveriesOf, IsMade};
+
+use crate::reading::PlannedGiven;
+use cqf_coverage::cover;
+use cqf_deliveries::{Deadlines, Delivery, Ended, deliveries_of};
+use cqf_granted::granted_streams;
+use cqf_laws_report::offers_are_judged;
+use cqf_model::Offer;
+use cqf_scenario::{Simulated, run_given};
+use cqf_topology::Domain;
+use cqf_units::{Memory, cycle_of};
+use std::alloc::Global;
+
+/// The deliveries of a scenario that was run over so many cycles.
+fn deliveries_of_run(
+    alloc: Global,
+    cycles: u32,
+    planned: &PlannedGiven,
+    made: &Simulated,
+) -> Result<Vec<Delivery>, Memory>
+    requires short { cycles ≤ 100000 }
+    requires may { MayBeRun cycles (scenario_given planned.now.given) }
+    requires order { StandInOrder planned.now.given.offers.items }
+    requires made { IsMade cycles (scenario_given planned.now.given) made.now }
+    ensures { IfOk result (λ deliveries. AreDeliveriesOf cycles planned.now deliveries.items) }
+{
+    offers_are_judged();
+    let domain = made.admission.domain();
+    // the domain is accepted: a fact for the instants
+    let _accepted = domain.cycle_time();
+    let offers = planned.given.offers.as_slice();
+    let entries = made.admission.history();
+    let rows = granted_streams(alloc, domain, entries)?;
+    let rows = rows.as_slice();
+    let judgements = cover(alloc, domain, rows, offers)?;
+    let judgements = judgements.as_slice();
+    let requests = planned.requests.as_slice();
+    let ends = planned.deadlines.as_slice();
+    let deadlines = Deadlines::new(alloc, requests, ends)?;
+    let starts = made.book.starts.as_slice();
+    let ended = Ended {
+        domain,
+        cycles,
+        offers,
+        rows,
+        judgements,
+        starts,
+    };
+    deliveries_of(alloc, &ended, &deadlines)
+}
+
+/// The deliveries of a scenario over so many cycles, 0 to 100,000.
+pub(crate) fn deliveries_of_scenario(
+    alloc: Global,
+    cycles: u32,
+    planned: &PlannedGiven,
+) -> Result<Vec<Delivery>, Memory>
+    requires short { cycles ≤ 100000 }
+    requires may { MayBeRun cycles (scenario_given planned.now.given) }
+    requires order { StandInOrder planned.now.given.offers.items }
+    ensures { IfOk result (λ deliveries. AreDeliveriesOf cycles planned.now deliveries.items) }
+{
+    let made = run_given(alloc, cycles, &planned.given)?;
+    deliveries_of_run(alloc, cycles, planned, &made)
+}
+
+/// Whether an offer is of a cycle that isn't run.
+fn is_later(domain: &Domain, cycles: u32, offer: &Offer) -> bool
+    requires { offer.now.at.0 < 1000000000000 }
+    ensures { result ≡ nat_le cycles (cycle_at domain.now.cycle_time offer.now.at.0) }
+{
+    cycle_of(offer.at, domain.cycle_time()).0 >= cycles
+}
+
+/// How many offers are of cycles that aren't run.
+pub(crate) fn later_offers(domain: &Domain, cycles: u32, offers: &[Offer]) -> usize
+    requires { AreOffers domain.now offers.now }
+    ensures { result ≡ count_by (λ x. nat_le cycles (offer_cycle domain.now x)) (numbered offers.now) }
+{
+    let mut later = 0;
+    for (place, offer) in offers.iter().enumerate() {
+        if is_later(domain, cycles, offer) {
+            later += 1;
+        }
+    }
+    later
+}
