@@ -14,7 +14,7 @@ use Rattle.cqf_stop.specs.declared.stops.Stop.{Stop}
 use Rattle.cqf_engine.specs.declared.heard.Broken.{Broken}
 use Rattle.cqf_engine.specs.declared.heard.Broken.TheVariants.{Memory, Fault}
 use Rattle.cqf_words.specs.declared.words.Job.{Job}
-use Rattle.cqf_words.specs.declared.words.Job.TheVariants.{Compile, Latency, Line, Load, Port, Report, Run}
+use Rattle.cqf_words.specs.declared.words.Job.TheVariants.{Check, Compile, Deliveries, Latency, Line, Load, Port, Report, Run}
 
 -- words that mean no job, as they are given
 HasCause-given : (words : List (List ℕ)) (bytes : List ℕ) (stop : Stop) → words ≢ [] → EndsWords words stop → HasCause words bytes stop
@@ -185,32 +185,38 @@ IsStopped-by_cause words input stop sound at_end few cause = record {
 refusal_statuses : (job : Job) (input : List ℕ) (stop : Stop) → IsRefusal job input stop → (stop.status ≡ 1) ⊎ (stop.status ≡ 3)
 refusal_statuses (Port until rate) input stop h = h.statuses
 refusal_statuses (Line cycles) input stop h = h.statuses
-refusal_statuses Compile input stop h = h.statuses
+refusal_statuses (Compile format) input stop h = h.statuses
 refusal_statuses Load input stop h = h.statuses
 refusal_statuses (Latency strict) input stop h = h.statuses
 refusal_statuses (Run cycles threads) input stop h = h.statuses
 refusal_statuses (Report cycles) input stop h = h.statuses
+refusal_statuses (Deliveries cycles) input stop h = h.statuses
+refusal_statuses (Check cycles) input stop h = h.statuses
 
 -- a refused input with status 3 is told with no text
 refusal_memory : (job : Job) (input : List ℕ) (stop : Stop) → IsRefusal job input stop → stop.status ≡ 3 → stop.text.items ≡ []
 refusal_memory (Port until rate) input stop h = h.memory
 refusal_memory (Line cycles) input stop h = h.memory
-refusal_memory Compile input stop h = h.memory
+refusal_memory (Compile format) input stop h = h.memory
 refusal_memory Load input stop h = h.memory
 refusal_memory (Latency strict) input stop h = h.memory
 refusal_memory (Run cycles threads) input stop h = h.memory
 refusal_memory (Report cycles) input stop h = h.memory
+refusal_memory (Deliveries cycles) input stop h = h.memory
+refusal_memory (Check cycles) input stop h = h.memory
 
 -- a job that fails has status 4
 failure_status : (job : Job) (input : List ℕ) (stop : Stop) → IsFailure job input stop → stop.status ≡ 4
 failure_status (Port until rate) input stop h = absurd h
 failure_status (Line cycles) input stop h = absurd h
-failure_status Compile input stop h = absurd h
+failure_status (Compile format) input stop h = absurd h
 failure_status Load input stop h = absurd h
 failure_status (Latency strict) input stop h = absurd h
 failure_status (Run cycles true) input stop h = h.0
 failure_status (Run cycles false) input stop h = absurd h
 failure_status (Report cycles) input stop h = absurd h
+failure_status (Deliveries cycles) input stop h = absurd h
+failure_status (Check cycles) input stop h = absurd h
 
 -- a job that ends without its output has a status of at most 4
 pub end_few : (job : Job) (input : List ℕ) (stop : Stop) → IsEnd job input stop → stop.status ≤ 4
@@ -410,11 +416,13 @@ number_within least most number (Some text) is = is.3
 job_within : (job : Job) (name : Text) (rows : List Row) → IsJobOf job name rows → IsWithin job
 job_within (Port until rate) name rows is = number_within 1 100000000 until (first_of (codes "until") rows) is.1
 job_within (Line cycles) name rows is = number_within 1 100000 cycles (first_of (codes "cycles") rows) is.1
-job_within Compile name rows is = tt
+job_within (Compile format) name rows is = tt
 job_within Load name rows is = tt
 job_within (Latency strict) name rows is = tt
 job_within (Run cycles threads) name rows is = number_within 1 100000 cycles (first_of (codes "cycles") rows) is.1
 job_within (Report cycles) name rows is = number_within 1 100000 cycles (first_of (codes "cycles") rows) is.1
+job_within (Deliveries cycles) name rows is = number_within 1 100000 cycles (first_of (codes "cycles") rows) is.1
+job_within (Check cycles) name rows is = number_within 1 100000 cycles (first_of (codes "cycles") rows) is.1
 
 -- the numbers of a job that options give are within their ranges
 found_within : (job : Job) (found : Option (Text × List Row)) → IsJob job found → IsWithin job

@@ -9,6 +9,9 @@ use Rattle.cqf_engine.specs.declared.heard.Broken.TheVariants.{Memory, Fault}
 use Rattle.cqf_engine.specs.Edge.{IsHeard, Reading}
 use Rattle.cqf_press.specs.Edge.{HasTold, Writing}
 use Rattle.cqf_compile_command.specs.CompileOutput.{compiled_input}
+use Rattle.cqf_deliveries_command.specs.CheckOutput.{IsChecked, IsCheckRefusal}
+use Rattle.cqf_deliveries_command.specs.DeliveriesOutput.{IsDeliveriesOutput}
+use Rattle.cqf_deliveries_command.specs.PlannedScenario.{planned_scenario}
 use Rattle.cqf_latency_command.specs.LatencyInput.{latency_of_input}
 use Rattle.cqf_load_command.specs.LoadOutput.{loaded_input}
 use Rattle.cqf_stop.specs.Stops.{EndsWith, IsRefused, line_of}
@@ -17,22 +20,26 @@ use Rattle.cqf_port_command.specs.PortOutput.{IsPortOutput, port_input}
 use Rattle.cqf_report_command.specs.ReportOutput.{IsReportOutput}
 use Rattle.cqf_run_command.specs.RunOutput.{IsRunOutput}
 use Rattle.cqf_scenario.specs.Scenario.{scenario_input}
+use Rattle.cqf_tc_command.specs.TcOutput.{tc_of_input}
 use Rattle.cqf_threads_command.specs.ThreadsOutput.{IsThreadsOutput, TellsFault}
 use Rattle.cqf_words.specs.Words.{AreMistaken, AskForHelp, Mean}
 use Rattle.cqf_stop.specs.declared.stops.Stop.{Stop}
 use Rattle.cqf_engine.specs.declared.runs.TheConstants.{VERSION}
+use Rattle.cqf_words.specs.declared.words.Format.TheVariants as form
 use Rattle.cqf_words.specs.declared.words.Job.{Job}
-use Rattle.cqf_words.specs.declared.words.Job.TheVariants.{Compile, Latency, Line, Load, Port, Report, Run}
+use Rattle.cqf_words.specs.declared.words.Job.TheVariants.{Check, Compile, Deliveries, Latency, Line, Load, Port, Report, Run}
 
 -- the job's numbers aren't above their limits
 abbrev pub IsWithin : Job → Type 0
 IsWithin (Port until rate) = until ≤ 100000000
 IsWithin (Line cycles) = cycles ≤ 100000
-IsWithin Compile = ⊤
+IsWithin (Compile format) = ⊤
 IsWithin Load = ⊤
 IsWithin (Latency strict) = ⊤
 IsWithin (Run cycles threads) = cycles ≤ 100000
 IsWithin (Report cycles) = cycles ≤ 100000
+IsWithin (Deliveries cycles) = cycles ≤ 100000
+IsWithin (Check cycles) = cycles ≤ 100000
 
 -- whether the job is a run on threads
 abbrev pub is_threaded : Job → Bool
@@ -43,22 +50,28 @@ is_threaded job = false
 abbrev pub IsOutput : Job → List ℕ → List ℕ → Type 0
 IsOutput (Port until rate) input output = IsPortOutput until rate input output
 IsOutput (Line cycles) input output = IsLineOutput cycles input output
-IsOutput Compile input output = compiled_input input ≡ Ok output
+IsOutput (Compile form.List) input output = compiled_input input ≡ Ok output
+IsOutput (Compile form.Tc) input output = tc_of_input input ≡ Ok output
 IsOutput Load input output = loaded_input input ≡ Ok output
 IsOutput (Latency strict) input output = latency_of_input strict input ≡ Ok output
 IsOutput (Run cycles false) input output = IsRunOutput cycles input output
 IsOutput (Run cycles true) input output = IsThreadsOutput cycles input output
 IsOutput (Report cycles) input output = IsReportOutput cycles input output
+IsOutput (Deliveries cycles) input output = IsDeliveriesOutput cycles input output
+IsOutput (Check cycles) input output = IsChecked cycles input (Ok output)
 
--- the input of a job is refused, with the line of its first fault; or of a deadline that isn't kept for sure, where that is strict
+-- the input of a job is refused, with the line of its first fault; or of a deadline that isn't kept for sure, where that is strict, or
+-- of what isn't well, where that is checked. `compile` refuses the same whatever its format
 abbrev pub IsRefusal : Job → List ℕ → Stop → Type 0
 IsRefusal (Port until rate) input stop = IsRefused (port_input input) stop
 IsRefusal (Line cycles) input stop = IsRefused (line_input input) stop
-IsRefusal Compile input stop = IsRefused (compiled_input input) stop
+IsRefusal (Compile format) input stop = IsRefused (compiled_input input) stop
 IsRefusal Load input stop = IsRefused (loaded_input input) stop
 IsRefusal (Latency strict) input stop = IsRefused (latency_of_input strict input) stop
 IsRefusal (Run cycles threads) input stop = IsRefused (scenario_input cycles input) stop
 IsRefusal (Report cycles) input stop = IsRefused (scenario_input cycles input) stop
+IsRefusal (Deliveries cycles) input stop = IsRefused (planned_scenario cycles input) stop
+IsRefusal (Check cycles) input stop = IsCheckRefusal cycles input stop
 
 -- a run on threads fails, with the line of its fault: its input isn't refused. No other job fails
 abbrev pub IsFailure : Job → List ℕ → Stop → Type 0

@@ -4,12 +4,14 @@ ghost use Rattle.cqf_engine.specs.Prepared.{text_of};
 ghost use Rattle.cqf_press.specs.Edge.{HasTold, writing};
 
 use cqf_compile_command::ConfigOutput;
+use cqf_deliveries_command::DeliveriesOutput;
 use cqf_latency_command::LatencyOutput;
 use cqf_line_command::LineOutput;
 use cqf_load_command::LoadOutput;
 use cqf_port_command::PortOutput;
 use cqf_press::{Told, write_out};
 use cqf_run_command::RunOutput;
+use cqf_tc_command::TcOutput;
 use cqf_threads_command::ThreadsOutput;
 use std::io::Write;
 
@@ -24,6 +26,8 @@ pub enum Prepared {
     Line(LineOutput),
     /// That of `compile`: a domain, its streams and the gate list of each port.
     Config(ConfigOutput),
+    /// That of `compile --format tc`: the same, for a script.
+    Script(TcOutput),
     /// That of `load`: a domain and its streams.
     Load(LoadOutput),
     /// That of `latency`: a domain, its streams and their deadlines.
@@ -32,6 +36,8 @@ pub enum Prepared {
     Run(RunOutput),
     /// That of `run --threads`: the history and the book of an account.
     Account(ThreadsOutput),
+    /// That of `deliveries`: what becomes of each offer at each listener.
+    Deliveries(DeliveriesOutput),
 }
 
 impl Prepared {
@@ -44,10 +50,12 @@ impl Prepared {
             Prepared::Port(output) => output.tell(told),
             Prepared::Line(output) => output.tell(told),
             Prepared::Config(output) => output.tell(told),
+            Prepared::Script(output) => output.tell(told),
             Prepared::Load(output) => output.tell(told),
             Prepared::Latency(output) => output.tell(told),
             Prepared::Run(output) => output.tell(told),
             Prepared::Account(output) => output.tell(told),
+            Prepared::Deliveries(output) => output.tell(told),
         }
     }
 }

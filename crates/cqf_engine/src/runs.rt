@@ -14,6 +14,7 @@ use crate::inputs::read_input;
 use crate::prepared::Prepared;
 use crate::shown::stop_of_line;
 use cqf_compile_command::compile_output;
+use cqf_deliveries_command::{check_output, deliveries_output};
 use cqf_latency_command::latency_output;
 use cqf_line_command::line_output;
 use cqf_load_command::load_output;
@@ -22,10 +23,11 @@ use cqf_press::{Told, write_out};
 use cqf_report_command::report_output;
 use cqf_run_command::run_output;
 use cqf_stop::{DONE, FAULT, NO_MEMORY, Stop, USAGE};
+use cqf_tc_command::tc_output;
 use cqf_text::split_line;
 use cqf_threads_command::threads_output;
 use cqf_units::Memory;
-use cqf_words::{Job, read_words};
+use cqf_words::{Format, Job, read_words};
 use std::alloc::{AllocError, Global};
 use std::io::{Read, Write};
 use std::sync::Wait;
@@ -47,7 +49,10 @@ fn prepare(
     match *job {
         Job::Port { until, rate } => Ok(Prepared::Port(port_output(alloc, until, rate, input)?)),
         Job::Line { cycles } => Ok(Prepared::Line(line_output(alloc, cycles, input)?)),
-        Job::Compile => Ok(Prepared::Config(compile_output(alloc, input)?)),
+        Job::Compile {
+            format: Format::List,
+        } => Ok(Prepared::Config(compile_output(alloc, input)?)),
+        Job::Compile { format: Format::Tc } => Ok(Prepared::Script(tc_output(alloc, input)?)),
         Job::Load => Ok(Prepared::Load(load_output(alloc, input)?)),
         Job::Latency { strict } => Ok(Prepared::Latency(latency_output(alloc, strict, input)?)),
         Job::Run {
@@ -56,6 +61,10 @@ fn prepare(
         } => Ok(Prepared::Run(run_output(alloc, cycles, input)?)),
         Job::Run { threads: true, .. } => unreachable!(),
         Job::Report { cycles } => Ok(Prepared::Text(report_output(rt, alloc, cycles, input)?)),
+        Job::Deliveries { cycles } => {
+            Ok(Prepared::Deliveries(deliveries_output(alloc, cycles, input)?))
+        }
+        Job::Check { cycles } => Ok(Prepared::Text(check_output(alloc, cycles, input)?)),
     }
 }
 
