@@ -33,6 +33,17 @@ use std::io::{Read, Write};
 use std::sync::Wait;
 use std::thread::Threads;
 
+/// The output of `compile` in a format, ready to be told. `Err` as [`prepare`] has it.
+fn prepare_compiled(alloc: Global, format: Format, input: &[u8]) -> Result<Prepared, Stop>
+    ensures ok { IfOk result (λ output. IsOutput (Job.Compile format) input.now (text_of output)) }
+    ensures err { IfErr result (IsRefusal (Job.Compile format) input.now) }
+{
+    match format {
+        Format::List => Ok(Prepared::Config(compile_output(alloc, input)?)),
+        Format::Tc => Ok(Prepared::Script(tc_output(alloc, input)?)),
+    }
+}
+
 /// The output of a job for its input, ready to be told, unless it is a run on threads; `rt` is for the threads of `report`. `Err`
 /// with status 1 and the line of the first fault of the input, and with status 3 for want of memory.
 fn prepare(
@@ -49,10 +60,7 @@ fn prepare(
     match *job {
         Job::Port { until, rate } => Ok(Prepared::Port(port_output(alloc, until, rate, input)?)),
         Job::Line { cycles } => Ok(Prepared::Line(line_output(alloc, cycles, input)?)),
-        Job::Compile {
-            format: Format::List,
-        } => Ok(Prepared::Config(compile_output(alloc, input)?)),
-        Job::Compile { format: Format::Tc } => Ok(Prepared::Script(tc_output(alloc, input)?)),
+        Job::Compile { format } => prepare_compiled(alloc, format, input),
         Job::Load => Ok(Prepared::Load(load_output(alloc, input)?)),
         Job::Latency { strict } => Ok(Prepared::Latency(latency_output(alloc, strict, input)?)),
         Job::Run {
