@@ -4,3 +4,5 @@ pub mod ByBook
 mod CourseLines
 mod Listed
 mod Lines
+mod Fates
+mod Well

@@ -5,3 +5,4 @@ pub mod Arrivals
 pub mod Deadlines
 pub mod ByVerdict
 pub mod BookLaws
+pub mod CheckLaws

@@ -1,8 +1,15 @@
 //! What a book tells of its deliveries.
 ghost use Rattle.cqf_deliveries.specs.BookLaws.{VerdictsTellDeliveries};
+ghost use Rattle.cqf_deliveries.specs.CheckLaws.{CheckIsWellExactly};
 
 /// Where a book says the shift, its deliveries are those by the verdicts on the offers: one that is covered goes to each listener of
 /// the row that covers it, and every other is dropped for the first reason that fits (profile).
 pub fn verdicts_tell_deliveries()
     ensures { VerdictsTellDeliveries }
+{}
+
+/// Where a book says the shift, a check tells that all is well exactly where each offer is of a cycle that is run, a row covers it,
+/// and its frame is whole within its deadline at each listener of that row (profile).
+pub fn check_is_well_exactly()
+    ensures { CheckIsWellExactly }
 {}
