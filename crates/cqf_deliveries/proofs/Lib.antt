@@ -6,3 +6,4 @@ mod Listed
 mod Lines
 mod Fates
 mod Well
+mod Arrived

@@ -47,14 +47,14 @@ by_bad deliveries counts line is (Some bad) e = absurd (
 
 module _ (run : Run) (streams : List PlannedText) (book : Contents) (says : SaysTheShift run book) where
   -- of an offer of a cycle that is run
-  of_run : (x : Offered) → offer_cycle run.domain x < length run.tables →
+  pub of_run : (x : Offered) → offer_cycle run.domain x < length run.tables →
       deliveries_of_offer run streams book x ≡ deliveries_unless run streams book x (drop_of book.drops x.frame)
   of_run x within =
       ap (λ (b : Bool). if b then deliveries_unless run streams book x (drop_of book.drops x.frame) else [])
       (lt-ltb (offer_cycle run.domain x) (length run.tables) within)
 
   -- the deliveries of one that is covered are those to the listeners of its row
-  of_covered : (x : Offered) → Contains (numbered run.offers) x → offer_cycle run.domain x < length run.tables → (row : Row) → IsCovered run x row →
+  pub of_covered : (x : Offered) → Contains (numbered run.offers) x → offer_cycle run.domain x < length run.tables → (row : Row) → IsCovered run x row →
       deliveries_of_offer run streams book x
       ≡ deliveries_to run.domain (whole_on run.domain book.starts x.frame) (deadline_named streams x.offer.stream) x row
   of_covered x inside within row covered =
@@ -63,7 +63,7 @@ module _ (run : Run) (streams : List PlannedText) (book : Contents) (says : Says
       ∙ ap (deliveries_by run.domain (whole_on run.domain book.starts x.frame) (deadline_named streams x.offer.stream) x) covered.named
 
   -- and of one that isn't there is its drop
-  of_uncovered : (x : Offered) → Contains (numbered run.offers) x → offer_cycle run.domain x < length run.tables → (reason : Reason) →
+  pub of_uncovered : (x : Offered) → Contains (numbered run.offers) x → offer_cycle run.domain x < length run.tables → (reason : Reason) →
       IsUncovered run x reason → (dropped : Dropped) × (deliveries_of_offer run streams book x ≡ delivery_of run.domain x (course.Dropped dropped.reason) ∷ [])
   of_uncovered x inside within reason uncovered =
       let drop = uncovered_drop run book says x inside reason within uncovered in

@@ -6,3 +6,4 @@ pub mod Deadlines
 pub mod ByVerdict
 pub mod BookLaws
 pub mod CheckLaws
+pub mod ArrivalLaws

@@ -1,4 +1,5 @@
 //! What a book tells of its deliveries.
+ghost use Rattle.cqf_deliveries.specs.ArrivalLaws.{ArrivalsAreTheShift};
 ghost use Rattle.cqf_deliveries.specs.BookLaws.{VerdictsTellDeliveries};
 ghost use Rattle.cqf_deliveries.specs.CheckLaws.{CheckIsWellExactly};
 
@@ -12,4 +13,10 @@ pub fn verdicts_tell_deliveries()
 /// and its frame is whole within its deadline at each listener of that row (profile).
 pub fn check_is_well_exactly()
     ensures { CheckIsWellExactly }
+{}
+
+/// Where a book says the shift, the deliveries that have come, in time or late, are exactly the shift's frames on links to stations:
+/// each tells when the frame of an offer that a row covers is whole at a listener of that row (profile).
+pub fn arrivals_are_the_shift()
+    ensures { ArrivalsAreTheShift }
 {}
