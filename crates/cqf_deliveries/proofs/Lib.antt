@@ -7,3 +7,4 @@ mod Lines
 mod Fates
 mod Well
 mod Arrived
+mod Once

@@ -1,13 +1,15 @@
 -- Which deliveries have come.
-use Rattle.std.specs.Prelude.{ℕ, ◌≡◌, Bool, true, false, Some, Contains, List, length}
+use Rattle.std.specs.Prelude.{ℕ, ◌≡◌, ◌<◌, ◌==◌, Bool, true, false, Some, Contains, List, count_by, length}
 use Rattle.cqf_model.specs.declared.frames.Offered.{Offered}
+use Rattle.cqf_model.specs.declared.frames.Reason.{Reason}
 use Rattle.cqf_model.specs.declared.frames.Started.{Started}
 use Rattle.cqf_model.specs.declared.topology.Hop.{Hop}
 use Rattle.cqf_model.specs.declared.topology.Row.{Row}
 use Rattle.cqf_model.specs.Book.{Contents}
 use Rattle.cqf_model.specs.Domain.{end_of}
 use Rattle.cqf_model.specs.Run.{Run}
-use Rattle.cqf_model.specs.Shift.{InShift, IsCovered}
+use Rattle.cqf_model.specs.Shift.{InShift, IsCovered, IsUncovered, offer_cycle}
+use Rattle.cqf_model.specs.Traffic.{numbered}
 use Rattle.cqf_topology.specs.PlannedText.{PlannedText}
 use Rattle.cqf_shift.specs.Books.{SaysTheShift}
 use Rattle.cqf_latency_command.specs.LatencyText.{is_station, listeners_of, name_of_end}
@@ -59,3 +61,16 @@ pub record AreTheShift (run : Run) (streams : List PlannedText) (book : Contents
 -- where a book says the shift
 abbrev pub ArrivalsAreTheShift : Type 0
 ArrivalsAreTheShift = (run : Run) (streams : List PlannedText) (book : Contents) → SaysTheShift run book → AreTheShift run streams book
+
+-- how many deliveries tell of a frame
+abbrev pub told_of : Run → List PlannedText → Contents → ℕ → ℕ
+told_of run streams book frame = count_by (λ (delivery : Delivery). delivery.frame == frame) (deliveries_of run streams book)
+
+-- an offer of a cycle that is run is told of once for each listener of the row that covers it, and else just once
+pub record IsToldOnce (run : Run) (streams : List PlannedText) (book : Contents) (x : Offered) : Type 0 where
+  pub as_covered : (row : Row) → IsCovered run x row → told_of run streams book x.frame ≡ length (listeners_of run.domain row)
+  pub as_dropped : (reason : Reason) → IsUncovered run x reason → told_of run streams book x.frame ≡ 1
+
+abbrev pub EachIsToldOnce : Type 0
+EachIsToldOnce = (run : Run) (streams : List PlannedText) (book : Contents) (x : Offered) → SaysTheShift run book → Contains (numbered run.offers) x →
+    offer_cycle run.domain x < length run.tables → IsToldOnce run streams book x

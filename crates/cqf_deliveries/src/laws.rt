@@ -1,5 +1,5 @@
 //! What a book tells of its deliveries.
-ghost use Rattle.cqf_deliveries.specs.ArrivalLaws.{ArrivalsAreTheShift};
+ghost use Rattle.cqf_deliveries.specs.ArrivalLaws.{ArrivalsAreTheShift, EachIsToldOnce};
 ghost use Rattle.cqf_deliveries.specs.BookLaws.{VerdictsTellDeliveries};
 ghost use Rattle.cqf_deliveries.specs.CheckLaws.{CheckIsWellExactly};
 
@@ -19,4 +19,10 @@ pub fn check_is_well_exactly()
 /// each tells when the frame of an offer that a row covers is whole at a listener of that row (profile).
 pub fn arrivals_are_the_shift()
     ensures { ArrivalsAreTheShift }
+{}
+
+/// Where a book says the shift, an offer of a cycle that is run has a delivery for each listener of the row that covers it, and no
+/// other; and one that is dropped has just one (profile).
+pub fn each_is_told_once()
+    ensures { EachIsToldOnce }
 {}
