@@ -1,5 +1,5 @@
 -- Where the judgements are what the definitions say, so are the sums.
-use Rattle.std.proofs.Common.{◌≡◌, ℕ, ◌+◌, ◌-◌, ◌/◌, ◌^◌, ◌<◌, ◌≤◌, List, Some, inl, inr, sym, ap, ◌∙◌, subst, arith, length, sum_by, get_or, Contains, le-ltb, ne_eqb, ◌==◌, nat_lt}
+use Rattle.std.proofs.Common.{◌≡◌, ℕ, ◌+◌, ◌-◌, ◌<◌, ◌≤◌, List, Some, inl, inr, sym, ap, ◌∙◌, subst, arith, length, sum_by, get_or, Contains, le-ltb, ne_eqb, ◌==◌, nat_lt}
 use Rattle.std.specs.Prelude.{slice_get}
 use Rattle.std.proofs.lemmas.Bool.{cases_lt}
 use Rattle.std.proofs.Math.Nat.{div-le_self}
@@ -10,7 +10,7 @@ use Rattle.cqf_model.specs.declared.frames.Offered.{Offered}
 use Rattle.cqf_model.specs.declared.frames.Reason.TheVariants.{Unknown}
 use Rattle.cqf_model.specs.declared.topology.Hop.{Hop}
 use Rattle.cqf_model.specs.declared.topology.Row.{Row}
-use Rattle.cqf_model.specs.Domain.{Domain, IsAccepted, budget, octet_time_of}
+use Rattle.cqf_model.specs.Domain.{Domain, IsAccepted, octet_time_of}
 use Rattle.cqf_model.specs.History.{IsLegalHistory, Recorded, seals}
 use Rattle.cqf_model.specs.Run.{AreOffers}
 use Rattle.cqf_model.specs.Shift.{offer_cycle}

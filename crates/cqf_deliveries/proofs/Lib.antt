@@ -4,3 +4,7 @@ pub mod ByBook
 mod CourseLines
 mod Listed
 mod Lines
+mod Fates
+mod Well
+mod Arrived
+mod Once

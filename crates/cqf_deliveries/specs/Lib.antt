@@ -5,3 +5,5 @@ pub mod Arrivals
 pub mod Deadlines
 pub mod ByVerdict
 pub mod BookLaws
+pub mod CheckLaws
+pub mod ArrivalLaws

@@ -6,6 +6,8 @@
 //! - [`put_deliveries`] puts the text of deliveries, and [`complaint_about`], [`unfinished_line`] and [`well_line`] are the
 //!   lines of a check.
 //! - [`verdicts_tell_deliveries`] is the law that ties the deliveries by the verdicts on the offers to those of a book.
+//!   [`arrivals_are_the_shift`] says which of them have come, [`each_is_told_once`] how many there are of an offer, and
+//!   [`check_is_well_exactly`] when a check tells that all is well.
 //!
 //! `specs/Deliveries.antt` has the deliveries of a run and its book (`deliveries_of`), `specs/DeliveriesText.antt` their text, and
 //! `specs/Checked.antt` whether all goes well (`checked`).
@@ -28,6 +30,8 @@ mod telling;
 pub use checked::{Counts, complaint_about, counts_of, first_bad, unfinished_line, well_line};
 pub use deadlines::Deadlines;
 pub use delivery::{Course, Delivery, Fate, Journey};
-pub use laws::verdicts_tell_deliveries;
+pub use laws::{
+    arrivals_are_the_shift, check_is_well_exactly, each_is_told_once, verdicts_tell_deliveries,
+};
 pub use made::{Ended, deliveries_of};
 pub use telling::put_deliveries;

@@ -1,4 +1,4 @@
-use Rattle.std.proofs.Common.{ℕ, subst}
+use Rattle.std.proofs.Common.{subst}
 use Rattle.cqf_laws_latency.specs.Latency.{IsTimely, least_of, most_of, whole_of}
 use Rattle.cqf_laws_latency.specs.Verdicts.{IsAsSaid, sure_of}
 use Rattle.cqf_latency_command.proofs.Granted.{table_costs_list}
