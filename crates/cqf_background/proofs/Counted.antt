@@ -1,0 +1,61 @@
+-- In a list of starts in order of instant one stands behind as many as start before it.
+use Rattle.std.proofs.Common.{◌≡◌, ℕ, ◌<◌, ◌≤◌, ◌∷◌, [], Bool, List, length, get_or, filter, nat_lt, inl, inr, sym, ap, ◌∙◌, subst, arith, AllPairs, Contains, suc}
+use Rattle.std.proofs.lemmas.Bool.{cases_order, cond-true, le-ltb, lt-ltb}
+use Rattle.std.proofs.lemmas.List.Elements.{Contains-get_or}
+use Rattle.cqf_model.specs.Port.{Transmission}
+use Rattle.cqf_lists.proofs.EachBelow.{filter_none}
+use Rattle.cqf_lists.proofs.Members.{contains_cases, contains_none}
+use Rattle.cqf_lists.proofs.Pairs.{pairs_head, pairs_tail}
+
+-- a start is before an instant
+abbrev pub is_before : ℕ → Transmission → Bool
+is_before t x = nat_lt x.1 t
+
+-- how many are
+abbrev pub many_before : List Transmission → ℕ → ℕ
+many_before xs t = length (filter (is_before t) xs)
+
+-- a start stands at that place
+pub record StandsBehind (xs : List Transmission) (x d : Transmission) : Type 0 where
+  pub inside : many_before xs x.1 < length xs
+  pub same : get_or xs (many_before xs x.1) d ≡ x
+
+-- behind none before a first one none is
+none_before : (y x : Transmission) (xs : List Transmission) → AllPairs (λ (a b : Transmission). a.1 < b.1) (y ∷ xs) → y ≡ x → filter (is_before x.1) (y ∷ xs) ≡ []
+none_before y x xs pairs e = filter_none (is_before x.1) (y ∷ xs) (λ z h. le-ltb z.1 x.1 (later z h))
+  where
+    later : (z : Transmission) → Contains (y ∷ xs) z → x.1 ≤ z.1
+    later z h = elim (contains_cases y xs z h) [
+      | inl first ↦ omega (arith, ap (λ (w : Transmission). w.1) e, ap (λ (w : Transmission). w.1) first)
+      | inr behind ↦ omega (arith, ap (λ (w : Transmission). w.1) e, pairs_head (λ (a b : Transmission). a.1 < b.1) y xs z pairs behind)
+    ]
+
+-- so does each of the list
+pub stands_behind : (xs : List Transmission) (x d : Transmission) → AllPairs (λ (a b : Transmission). a.1 < b.1) xs → Contains xs x → StandsBehind xs x d
+stands_behind [] x d pairs c = absurd (contains_none x c)
+stands_behind (y ∷ xs) x d pairs c = elim (contains_cases y xs x c) [
+  | inl e ↦
+      let none : many_before (y ∷ xs) x.1 ≡ 0 = ap length (none_before y x xs pairs e) in
+      record { inside = omega (arith, none); same = ap (λ k. get_or (y ∷ xs) k d) none ∙ e }
+  | inr h ↦
+      let first = cond-true (nat_lt y.1 x.1) (y ∷ filter (is_before x.1) xs) (filter (is_before x.1) xs)
+      (lt-ltb y.1 x.1 (pairs_head (λ (a b : Transmission). a.1 < b.1) y xs x pairs h)) in
+      let more : many_before (y ∷ xs) x.1 ≡ suc (many_before xs x.1) = ap length first in
+      let rest = stands_behind xs x d (pairs_tail (λ (a b : Transmission). a.1 < b.1) y xs pairs) h in
+      record { inside = omega (arith, more, rest.inside); same = ap (λ k. get_or (y ∷ xs) k d) more ∙ rest.same }
+]
+
+-- and the one at a place stands behind as many as the place says
+pub many_at : (xs : List Transmission) (k : ℕ) (d : Transmission) → AllPairs (λ (a b : Transmission). a.1 < b.1) xs → k < length xs →
+    many_before xs (get_or xs k d).1 ≡ k
+many_at xs k d pairs inside =
+    let x = get_or xs k d in
+    let at = stands_behind xs x d pairs (Contains-get_or xs k d inside) in
+    let same : (get_or xs (many_before xs x.1) d).1 ≡ x.1 = ap (λ (w : Transmission). w.1) at.same in
+    elim (cases_order (many_before xs x.1) k) [
+      | inl e ↦ e
+      | inr o ↦ elim o [
+        | inl less ↦ absurd (omega (arith, pairs (many_before xs x.1) k d less inside, same))
+        | inr more ↦ absurd (omega (arith, pairs k (many_before xs x.1) d more at.inside, same))
+      ]
+    ]
