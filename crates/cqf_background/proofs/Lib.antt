@@ -2,3 +2,11 @@ pub mod Counted
 pub mod Kept
 pub mod Retimed
 pub mod Starting
+pub mod Carried
+pub mod Comes
+pub mod Arranged
+pub mod Feeds
+pub mod Tellings
+pub mod Numbering
+pub mod Takings
+pub mod Whole

@@ -82,7 +82,7 @@ one_backed t a b (Some k) told same class =
     sym (cond-false (is_low (start_from t b)) (start_from t b ∷ []) [] (le-ltb b.class 6 (omega (arith, class high, high))))
 
 -- a list with something in front is given whole
-given_whole : (frames streams : List Arrival) → 0 < length frames → fed frames streams ≡ frames ++ streams
+pub given_whole : (frames streams : List Arrival) → 0 < length frames → fed frames streams ≡ frames ++ streams
 given_whole [] streams some = absurd (omega (arith, some))
 given_whole (x ∷ frames) streams some = refl
 

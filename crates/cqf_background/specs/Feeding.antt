@@ -70,3 +70,9 @@ pub record AddsArrival (before after : List (List Arrival)) (link : ℕ) (arriva
   pub as_many : length after ≡ length before
   pub own : (none : List Arrival) → slice_index_or after link none ≡ slice_index_or before link none ++ arrival ∷ []
   pub others : (other : ℕ) (none : List Arrival) → (other ≡ link → ⊥) → slice_index_or after other none ≡ slice_index_or before other none
+
+-- the lists with a start more: behind what its link's port is given, where that is anything
+pub record AddsStart (before after : List (List Arrival)) (start : Started) : Type 0 where
+  pub as_many : length after ≡ length before
+  pub each : (link : ℕ) (none : List Arrival) → link < length before →
+      slice_index_or after link none ≡ fed (slice_index_or before link none) (streams_on link (start ∷ []))

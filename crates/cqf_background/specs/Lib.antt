@@ -1,2 +1,4 @@
+pub mod Frames
 pub mod Feeding
 pub mod Sending
+pub mod History

@@ -25,6 +25,14 @@ pub record Backs (d : Domain) (end l : ℕ) (arrivals : List Arrival) (backed : 
   pub legal : AreLegal (record { entries = port_list d.cycle_time d.guard; octet_time = octet_time_of d l }) arrivals end starts
   pub are_backed : backed ≡ filter is_low (map (start_of arrivals) starts)
 
+-- a port hands out, up to an end, starts that are legal for what it is given, and no others are
+pub record Hands (d : Domain) (end l : ℕ) (arrivals : List Arrival) (made : List Start) : Type 0 where
+  pub starts : List Transmission
+  pub legal : AreLegal (record { entries = port_list d.cycle_time d.guard; octet_time = octet_time_of d l }) arrivals end starts
+  pub only : (others : List Transmission) →
+      AreLegal (record { entries = port_list d.cycle_time d.guard; octet_time = octet_time_of d l }) arrivals end others → others ≡ starts
+  pub are : made ≡ map (start_of arrivals) starts
+
 -- a port starts the same background frames where the streams' frames come to it when they start, and where one has no background
 -- frame, none
 abbrev pub PortStartsTheBackground : Type 0
