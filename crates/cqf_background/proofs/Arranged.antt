@@ -1,5 +1,5 @@
 -- The background frames of a run in order of instant.
-use Rattle.std.proofs.Common.{◌≡◌, ℕ, ◌<◌, ◌==◌, List, All, Contains, subst, true, sym, ap, ◌∙◌, arith, refl, filter, eqb-true, ltb-true, nat_lt}
+use Rattle.std.proofs.Common.{◌≡◌, ℕ, ◌<◌, List, All, Contains, subst, sym, ap, ◌∙◌, arith, refl, filter, eqb-true, ltb-true}
 use Rattle.std.specs.List.Sorted.{IsNonDecreasingBy, IsPermutation, IsStableByKey}
 use Rattle.std.specs.Ordering.{nat_cmp}
 use Rattle.std.proofs.lemmas.Bool.{lt-ltb}

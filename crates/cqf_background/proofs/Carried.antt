@@ -1,5 +1,5 @@
 -- The starts of a run on a link are what the link carries, each in its turn.
-use Rattle.std.proofs.Common.{◌≡◌, ℕ, ◌*◌, ◌/◌, ◌<◌, ◌≤◌, ◌==◌, Bool, true, false, List, inl, inr, sym, ap, ◌∙◌, subst, arith, refl, AllPairs, Contains, filter, map, flat_map, length, get_or, eq-eqb}
+use Rattle.std.proofs.Common.{◌≡◌, ℕ, ◌*◌, ◌<◌, ◌==◌, inl, inr, sym, ap, ◌∙◌, subst, arith, AllPairs, Contains, filter, map, length, get_or, eq-eqb}
 use Rattle.std.proofs.Common.{eqb-true, ne_eqb}
 use Rattle.std.specs.List.Sorted.{IsNonDecreasingBy}
 use Rattle.std.proofs.lemmas.Bool.{cases_order}
@@ -13,7 +13,6 @@ use Rattle.cqf_lists.proofs.Picked.{filter_one}
 use Rattle.cqf_units.proofs.Cycles.{cycle_below, cycles_ordered}
 use Rattle.cqf_model.specs.declared.frames.Sent.{Sent}
 use Rattle.cqf_model.specs.declared.frames.Started.{Started}
-use Rattle.cqf_model.specs.declared.ports.Arrival.{Arrival}
 use Rattle.cqf_model.specs.Book.{batch, started, starts_in, starts_of}
 use Rattle.cqf_model.specs.Domain.{Domain, cycle_of}
 use Rattle.cqf_model.specs.Network.{Network, comes_before, sent_of}

@@ -1,5 +1,5 @@
 -- What comes to a port in a run is told by its class, and what of it is background is the link's background frames by instant.
-use Rattle.std.proofs.Common.{◌≡◌, ℕ, zero, suc, ◌+◌, ◌*◌, ◌/◌, ◌<◌, ◌≤◌, ◌==◌, ◌&&◌, ◌++◌, [], All, Bool, true, false, not, List, None, inl, inr, sym, ap, ap₂, ◌∙◌, subst, arith, refl}
+use Rattle.std.proofs.Common.{◌≡◌, ℕ, zero, suc, ◌+◌, ◌*◌, ◌/◌, ◌<◌, ◌≤◌, ◌==◌, ◌++◌, All, true, false, List, inl, inr, sym, ap, ap₂, ◌∙◌, subst, arith}
 use Rattle.std.proofs.Common.{Contains, filter, is_some, map, length, append-nil}
 use Rattle.std.proofs.lemmas.Bool.{false≢true}
 use Rattle.std.proofs.lemmas.List.Elements.{All-contains, filter-append}
@@ -8,13 +8,11 @@ use Rattle.cqf_lists.specs.Lists.{each_below}
 use Rattle.cqf_lists.proofs.EachBelow.{below_plus, contains_from_below, filter_below, filter_each, filter_none, filter_twice, map_below, same_below}
 use Rattle.cqf_lists.proofs.Members.{all_from_members, contains_filter, contains_from_filter, contains_from_map}
 use Rattle.cqf_model.specs.declared.frames.Backed.{Backed}
-use Rattle.cqf_model.specs.declared.frames.Background.{Background}
-use Rattle.cqf_model.specs.declared.ports.Arrival.{Arrival}
 use Rattle.cqf_model.specs.Domain.{Domain, bridge_of, cycle_of}
 use Rattle.cqf_model.specs.Network.{Network, QueuedFrame, arrivals_of, backed_at, backed_frame, backed_in, comes_before, comes_in, is_backed_at, numbered_background}
 use Rattle.cqf_model.specs.Network.{queued_before, queued_in}
 use Rattle.cqf_model.specs.Run.{IsBackground, Run}
-use Rattle.cqf_model.specs.Traffic.{Carried, policed_before}
+use Rattle.cqf_model.specs.Traffic.{policed_before}
 use Rattle.cqf_laws_cycle.specs.Beside.{IsToldByClass, is_of_stream}
 use Rattle.cqf_laws_cycle.specs.Compiled.{GateGivesClass}
 use Rattle.cqf_shift.specs.Run.{IsLegalRun}

@@ -1,5 +1,5 @@
 -- In a list of starts in order of instant one stands behind as many as start before it.
-use Rattle.std.proofs.Common.{◌≡◌, ℕ, ◌<◌, ◌≤◌, ◌∷◌, [], Bool, List, length, get_or, filter, nat_lt, inl, inr, sym, ap, ◌∙◌, subst, arith, AllPairs, Contains, suc}
+use Rattle.std.proofs.Common.{◌≡◌, ℕ, ◌<◌, ◌≤◌, ◌∷◌, [], Bool, List, length, get_or, filter, nat_lt, inl, inr, ap, ◌∙◌, arith, AllPairs, Contains, suc}
 use Rattle.std.proofs.lemmas.Bool.{cases_order, cond-true, le-ltb, lt-ltb}
 use Rattle.std.proofs.lemmas.List.Elements.{Contains-get_or}
 use Rattle.cqf_model.specs.Port.{Transmission}

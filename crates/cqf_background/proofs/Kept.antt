@@ -1,5 +1,5 @@
 -- Lists of what is made of the members that a test keeps.
-use Rattle.std.proofs.Common.{◌≡◌, ◌∷◌, [], ◌++◌, List, Bool, true, false, cond, map, filter, flat_map, ap, ap₂, ◌∙◌, refl, Contains}
+use Rattle.std.proofs.Common.{◌≡◌, ◌∷◌, [], ◌++◌, List, Bool, true, false, cond, map, filter, flat_map, ap₂, ◌∙◌, refl, Contains}
 use Rattle.std.proofs.lemmas.List.{map-append}
 use Rattle.cqf_lists.proofs.Members.{contains_here, contains_later}
 

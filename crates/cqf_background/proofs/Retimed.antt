@@ -1,6 +1,6 @@
 -- A port that is given streams' frames at the instants at which they started, and its background frames when they come, starts
 -- everything as it did.
-use Rattle.std.proofs.Common.{◌≡◌, ℕ, ◌<◌, ◌≤◌, ◌⊎◌, List, length, get_or, map, cond, inl, inr, sym, ap, ◌∙◌, subst, arith, refl, AllPairs, Contains, le-leb}
+use Rattle.std.proofs.Common.{◌≡◌, ℕ, ◌<◌, ◌≤◌, ◌⊎◌, List, length, get_or, map, cond, inl, inr, sym, ap, ◌∙◌, subst, arith, Contains, le-leb}
 use Rattle.std.proofs.lemmas.Bool.{cases_lt, cases_order, cond-false, cond-true, lt-leb}
 use Rattle.cqf_units.specs.Timing.{ending_of, idle_after}
 use Rattle.cqf_model.specs.declared.ports.Arrival.{Arrival}

@@ -1,6 +1,6 @@
 -- A port starts the same background frames where the streams' frames come to it when they start.
-use Rattle.std.proofs.Common.{◌≡◌, ℕ, ◌+◌, ◌-◌, ◌*◌, ◌/◌, ◌<◌, ◌≤◌, ◌⊎◌, ◌↔◌, ◌++◌, ◌∷◌, [], All, Bool, true, false, not, cond, List, None, Option, Some, length, get_or, filter}
-use Rattle.std.proofs.Common.{map, flat_map, nat_lt, is_some, inl, inr, sym, ap, ◌∙◌, subst, arith, refl, AllPairs, Contains, le-leb, leb-true, length-append}
+use Rattle.std.proofs.Common.{◌≡◌, ℕ, ◌+◌, ◌-◌, ◌/◌, ◌<◌, ◌≤◌, ◌⊎◌, ◌↔◌, ◌++◌, ◌∷◌, [], All, Bool, true, not, cond, List, None, Option, Some, length, get_or, filter}
+use Rattle.std.proofs.Common.{map, nat_lt, is_some, inl, inr, sym, ap, ◌∙◌, subst, arith, refl, AllPairs, Contains, le-leb, leb-true, length-append}
 use Rattle.std.proofs.lemmas.Bool.{cases_lt, cond-false, cond-true, false≢true, le-ltb, lt-leb, lt-ltb}
 use Rattle.std.proofs.lemmas.List.{length-map, get_or-append_right, get_or-map, get_or_append_left}
 use Rattle.std.proofs.lemmas.List.Elements.{All-contains, Contains-get_or}
@@ -13,14 +13,14 @@ use Rattle.cqf_model.specs.declared.ports.Start.{Start}
 use Rattle.cqf_model.specs.Domain.{Domain, IsAccepted, octet_time_of}
 use Rattle.cqf_model.specs.GateList.{port_list}
 use Rattle.cqf_model.specs.Network.{QueuedFrame, Sends, arrivals_of, backed_by, backed_of, compiled_lists, no_frame, sent_by, sent_of}
-use Rattle.cqf_model.specs.Port.{AreLegal, IsFirst, PortRules, Transmission, class_of, no_arrival, octets_of}
+use Rattle.cqf_model.specs.Port.{AreLegal, PortRules, Transmission, class_of, no_arrival, octets_of}
 use Rattle.cqf_model.proofs.Links.{octet_positive}
 use Rattle.cqf_lists.proofs.Filters.{filter-map, filter_alike}
 use Rattle.cqf_lists.proofs.Kept.{flat_none}
 use Rattle.cqf_lists.proofs.Members.{contains_filter, contains_from_filter}
 use Rattle.cqf_lists.proofs.Ranks.{StandsAtRank, kept_at_rank, rank, rank_less, ranked}
-use Rattle.cqf_laws_cycle.specs.Beside.{IsToldByClass, is_of_stream, is_start_of_streams}
-use Rattle.cqf_laws_cycle.specs.Compiled.{IsSentIn, PortListSends, open_class}
+use Rattle.cqf_laws_cycle.specs.Beside.{IsToldByClass, is_start_of_streams}
+use Rattle.cqf_laws_cycle.specs.Compiled.{PortListSends, open_class}
 use Rattle.cqf_laws_cycle.specs.OnePort.{BackgroundAt, StreamsAt, is_streams}
 use Rattle.cqf_port.specs.PortState.{start_of}
 use Rattle.cqf_background.specs.Feeding.{arrival_of_sent, backs_among, fed, is_background, retimed}

@@ -1,5 +1,5 @@
 -- What the ports are given may be taken.
-use Rattle.std.proofs.Common.{inl, inr, ◌≡◌, ℕ, ◌*◌, ◌^◌, ◌<◌, ◌≤◌, ◌==◌, ◌++◌, ◌∷◌, [], All, AllPairs, Contains, List, arith, sym, ap, ◌∙◌, subst, refl, length, get_or, map, filter, eqb-true, mul-le-mul_right}
+use Rattle.std.proofs.Common.{inl, inr, ◌≡◌, ℕ, ◌*◌, ◌^◌, ◌<◌, ◌≤◌, ◌==◌, ◌++◌, ◌∷◌, [], All, AllPairs, Contains, List, arith, sym, ap, ◌∙◌, subst, length, get_or, map, filter, eqb-true, mul-le-mul_right}
 use Rattle.std.specs.Prelude.{Bool, true, false, if◌then◌else◌, ◌%◌}
 use Rattle.std.specs.List.{enumerate_from}
 use Rattle.std.proofs.lemmas.List.Elements.{All-contains, Contains-append_cases, Contains-get_or}
@@ -14,11 +14,9 @@ use Rattle.cqf_model.specs.declared.frames.Started.{Started}
 use Rattle.cqf_model.specs.declared.ports.Arrival.{Arrival}
 use Rattle.cqf_model.specs.Book.{starts_of}
 use Rattle.cqf_model.specs.Domain.{Domain, IsAccepted, cycle_of}
-use Rattle.cqf_model.specs.History.{tables_of}
-use Rattle.cqf_model.specs.HistoryBook.{run_of_history}
-use Rattle.cqf_model.specs.Network.{compiled_lists, numbered_background}
+use Rattle.cqf_model.specs.Network.{numbered_background}
 use Rattle.cqf_model.specs.Port.{no_arrival}
-use Rattle.cqf_model.specs.Run.{AreBackground, IsBackground, Run}
+use Rattle.cqf_model.specs.Run.{AreBackground, IsBackground}
 use Rattle.cqf_model.specs.Traffic.{Carried}
 use Rattle.cqf_laws_cycle.specs.Compiled.{open_class}
 use Rattle.cqf_port.specs.PortState.{AreTaken}

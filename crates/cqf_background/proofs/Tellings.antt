@@ -1,5 +1,5 @@
 -- What ports start of background frames is told, one after the other.
-use Rattle.std.proofs.Common.{◌≡◌, ℕ, suc, ◌+◌, ◌*◌, ◌/◌, ◌^◌, ◌≤◌, ◌<◌, ◌++◌, All, Bool, true, false, List, [], ◌∷◌, Some, arith, sym, ap, ◌∙◌, subst, length, map, take, get_or, filter, append_assoc, append-nil, inl, inr, Contains}
+use Rattle.std.proofs.Common.{◌≡◌, ℕ, suc, ◌+◌, ◌^◌, ◌≤◌, ◌<◌, ◌++◌, All, Bool, true, false, List, [], ◌∷◌, Some, arith, sym, ap, ◌∙◌, subst, length, map, take, get_or, filter, append_assoc, append-nil, inl, inr}
 use Rattle.std.specs.Prelude.{slice_get}
 use Rattle.std.specs.Option.{option_map_or}
 use Rattle.std.specs.Global.{Global}
@@ -18,7 +18,7 @@ use Rattle.cqf_model.specs.declared.ports.Start.{Start}
 use Rattle.cqf_model.specs.declared.topology.Link.{Link}
 use Rattle.cqf_model.specs.Domain.{Domain, octet_time_of}
 use Rattle.cqf_model.specs.GateList.{Entry, port_list}
-use Rattle.cqf_model.specs.Port.{AreLegal, PortRules, Transmission}
+use Rattle.cqf_model.specs.Port.{PortRules, Transmission}
 use Rattle.cqf_port.specs.PortState.{Advances, AreOnly, AreTaken, IsPort, PortState, rules_of, start_of}
 use Rattle.cqf_background.specs.Feeding.{lists_of}
 use Rattle.cqf_background.specs.Sending.{Backs, Hands, TellsLink, TellsLinks, is_low, told}

@@ -1,5 +1,5 @@
 -- What the ports start of background frames is what the legal network of the run does, in the order of a book.
-use Rattle.std.proofs.Common.{◌≡◌, ℕ, ◌+◌, ◌*◌, ◌/◌, ◌^◌, ◌<◌, ◌≤◌, ◌==◌, [], All, Contains, List, arith, sym, ap, ◌∙◌, subst, refl, length, get_or, map, filter, eqb-true}
+use Rattle.std.proofs.Common.{◌≡◌, ℕ, ◌*◌, ◌/◌, ◌^◌, ◌<◌, ◌==◌, [], All, Contains, List, arith, sym, ap, ◌∙◌, subst, refl, length, get_or, map, filter, eqb-true}
 use Rattle.std.specs.List.Sorted.{IsNonDecreasingBy, IsPermutation, IsStableByKey}
 use Rattle.std.specs.Ordering.{nat_cmp}
 use Rattle.cqf_lists.specs.Lists.{each_below}
@@ -17,7 +17,7 @@ use Rattle.cqf_model.specs.declared.ports.Arrival.{Arrival}
 use Rattle.cqf_model.specs.declared.ports.Start.{Start}
 use Rattle.cqf_model.specs.Book.{background_in, background_of, started_backed, starts_of}
 use Rattle.cqf_model.specs.Domain.{Domain, IsAccepted, cycle_of}
-use Rattle.cqf_model.specs.History.{Recorded, table_at, tables_of}
+use Rattle.cqf_model.specs.History.{Recorded, table_at}
 use Rattle.cqf_model.specs.HistoryBook.{run_of_history}
 use Rattle.cqf_model.specs.Network.{Network, comes_before, compiled_lists}
 use Rattle.cqf_model.specs.Run.{Run}
@@ -28,7 +28,7 @@ use Rattle.cqf_laws_history.specs.HistoryLaws.{TablesAreOrderly}
 use Rattle.cqf_laws_network.specs.NetworkLaws.{LegalNetworkExists}
 use Rattle.cqf_shift.specs.Run.{IsLegalRun}
 use Rattle.cqf_edge_drops.specs.Parts.{AreBackgroundOfHistory, AreStartsOfHistory}
-use Rattle.cqf_background.specs.Feeding.{AreFed, arrival_of_sent, fed, frames_on, streams_on}
+use Rattle.cqf_background.specs.Feeding.{AreFed, arrival_of_sent, fed, streams_on}
 use Rattle.cqf_background.specs.Frames.{by_instant}
 use Rattle.cqf_background.specs.History.{SomeStarts}
 use Rattle.cqf_background.specs.Sending.{Backs, PortStartsTheBackground, TellsLinks, told}

@@ -1,6 +1,6 @@
 -- What the port of a link is given, so that it starts the link's background frames: these, and the streams' frames of the link,
 -- each from the instant on at which it starts.
-use Rattle.std.specs.Prelude.{ℕ, ◌≡◌, ◌≤◌, ◌<◌, ◌==◌, ◌++◌, Bool, List, [], ◌∷◌, filter, length, map, not, slice_index_or}
+use Rattle.std.specs.Prelude.{ℕ, ◌≡◌, ◌<◌, ◌==◌, ◌++◌, Bool, List, [], ◌∷◌, filter, length, map, not, slice_index_or}
 use Rattle.std.specs.Global.{Global}
 use Rattle.std.specs.declared.vec.Vec.{Vec}
 use Rattle.cqf_model.specs.declared.frames.Backed.{Backed}

@@ -1,9 +1,6 @@
-use Rattle.std.proofs.Common.{◌≡◌, ◌<◌, List, arith, length, subst, take}
-use Rattle.std.specs.Global.{Global}
-use Rattle.std.specs.declared.vec.Vec.{Vec}
-use Rattle.std.proofs.lemmas.List.{length-map, take_all, take_more}
+use Rattle.std.proofs.Common.{◌≡◌, List, subst, take}
+use Rattle.std.proofs.lemmas.List.{take_all, take_more}
 use Rattle.cqf_model.specs.declared.frames.Started.{Started}
-use Rattle.cqf_model.specs.declared.ports.Arrival.{Arrival}
 use Rattle.cqf_background.specs.Feeding.{AreFed, lists_of}
 use Rattle.cqf_background.proofs.Feeds.{AreFed-start, start_there}
 use Rattle.cqf_background.proofs.feeding.feed_links.Goals as goal

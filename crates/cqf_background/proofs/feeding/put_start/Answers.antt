@@ -1,4 +1,4 @@
-use Rattle.std.proofs.Common.{◌≡◌, ◌∙◌, ◌<◌, ap, arith, eqb-true, length, subst, sym}
+use Rattle.std.proofs.Common.{◌∙◌, ap, arith, eqb-true, length, subst, sym}
 use Rattle.cqf_model.specs.declared.ports.Arrival.{Arrival}
 use Rattle.cqf_background.specs.Feeding.{AddsArrival, lists_of}
 use Rattle.cqf_background.proofs.Feeds.{AddsStart-none, AddsStart-some, some_in}

@@ -1,4 +1,4 @@
-use Rattle.std.proofs.Common.{◌≡◌, ◌∙◌}
+use Rattle.std.proofs.Common.{◌∙◌}
 use Rattle.cqf_model.specs.GateList.{port_list}
 use Rattle.cqf_background.proofs.Tellings.{hands}
 use Rattle.cqf_background.proofs.telling.starts_of_port.Goals as goal
