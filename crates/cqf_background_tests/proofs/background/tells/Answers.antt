@@ -11,5 +11,5 @@ background_of_history-requires-clause-starts c = record {
   sealed = c.requires.history.is.sealed;
   offered = c.requires.offers;
   behind = c.requires.background;
-  are = λ net legal. c.as_slice.ensures.value ∙ c.in-Ok-starts_of_history.ensures c.requires.history.entries c.args.background.now net c.requires.history.is legal;
+  are = λ net legal. c.as_slice.ensures.value ∙ c.in-Ok.ensures c.requires.history.entries c.args.background.now net c.requires.history.is legal;
 }
