@@ -35,6 +35,7 @@ arranged background end early sorted is moved ascends stable =
     ap (filter (is_at t)) is
     ∙ sym (filter_weaker (is_at t) (is_early end) all (λ x c e. lt-ltb (at_of x) end (omega (arith, less, eqb-true (at_of x) t e)))))
   where
+    -- each of those before the end is
     before : (xs : List Backed) → xs ≡ filter (is_early end) (numbered_background background) → All (λ x. at_of x < end) xs
     before xs e = all_from_members (λ x. at_of x < end) xs (λ x c.
         ltb-true (at_of x) end (contains_from_filter (is_early end) (numbered_background background) x (subst (λ z. Contains z x) e c)).1)

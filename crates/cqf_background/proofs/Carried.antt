@@ -66,6 +66,7 @@ module _ (d : Domain) (cycles : ℕ) (carried : Carried) (some : 0 < d.cycle_tim
   batches : (l : ℕ) → l < length d.links → carried l ≡ each_below (batch d carried l) cycles
   batches l is_link = by_key (λ (x : Sent). cycle_of d x.start.0) cycles (carried l) ascends (λ x c. cycle_below d.cycle_time x.start.0 cycles (turn.before_end l x c))
     where
+      -- its cycles ascend
       ascends : IsNonDecreasingBy (λ (x : Sent). cycle_of d x.start.0) (carried l)
       ascends i j z le inside =
           cycles_ordered d.cycle_time (get_or (carried l) i z).start.0 (get_or (carried l) j z).start.0 some (elim (cases_order i j) [

@@ -25,11 +25,13 @@ use Rattle.cqf_background.specs.Feeding.{arrival_of_frame, backs_among, frames_o
 stretches : {X : Type 0} (f : ℕ → List X) (n cycles : ℕ) → each_below (λ c. each_below (λ k. f (c * n + k)) n) cycles ≡ each_below f (cycles * n)
 stretches f n zero = ap (each_below f) (nothing n)
   where
+    -- no stretch has no length
     nothing : (n : ℕ) → 0 ≡ 0 * n
     nothing n = omega arith
 stretches f n (suc c) =
     ap (λ xs. xs ++ each_below (λ k. f (c * n + k)) n) (stretches f n c) ∙ sym (below_plus f (c * n) n) ∙ ap (each_below f) (one_more c n)
   where
+    -- one stretch more
     one_more : (c n : ℕ) → c * n + n ≡ suc c * n
     one_more c n = omega arith
 
@@ -101,8 +103,10 @@ module _ (gives : GateGivesClass) (run : Run) (net : Network) (legal : IsLegalRu
       ∙ ap (map arrival_of_frame) (sym (filter_below (is_frame_on l) at end))
       ∙ ap (frames_on l) (sym is)
     where
+      -- the end of the run
       end : ℕ
       end = length run.tables * run.domain.cycle_time
 
+      -- the background frames of an instant
       at : ℕ → List Backed
       at t = filter (is_at t) (numbered_background run.background)

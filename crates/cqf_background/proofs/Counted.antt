@@ -24,6 +24,7 @@ pub record StandsBehind (xs : List Transmission) (x d : Transmission) : Type 0 w
 none_before : (y x : Transmission) (xs : List Transmission) → AllPairs (λ (a b : Transmission). a.1 < b.1) (y ∷ xs) → y ≡ x → filter (is_before x.1) (y ∷ xs) ≡ []
 none_before y x xs pairs e = filter_none (is_before x.1) (y ∷ xs) (λ z h. le-ltb z.1 x.1 (later z h))
   where
+    -- each start is no earlier than the first
     later : (z : Transmission) → Contains (y ∷ xs) z → x.1 ≤ z.1
     later z h = elim (contains_cases y xs z h) [
       | inl first ↦ omega (arith, ap (λ (w : Transmission). w.1) e, ap (λ (w : Transmission). w.1) first)

@@ -95,6 +95,7 @@ frames_on-push frames x link =
 frame_here : (x : Backed) (link : ℕ) → (x.background.link == link) ≡ true → frames_on link (x ∷ []) ≡ arrival_of_frame x ∷ []
 frame_here x link e = ap (λ (b : Bool). map arrival_of_frame (if b then x ∷ [] else [])) e
 
+-- and elsewhere nothing
 frame_elsewhere : (x : Backed) (link : ℕ) → (x.background.link == link) ≡ false → frames_on link (x ∷ []) ≡ []
 frame_elsewhere x link e = ap (λ (b : Bool). map arrival_of_frame (if b then x ∷ [] else [])) e
 
@@ -107,6 +108,7 @@ AreFed-frame links frames more x before after is adds h = record {
       ∙ ap (frames_on link) (sym is) ∙ sym (fed-nil (frames_on link more));
 }
   where
+    -- its own link's list has it, and the others are the same
     by : (link : ℕ) (none : List Arrival) → link < links → (b : Bool) → (x.background.link == link) ≡ b →
         get_or after link none ≡ frames_on link frames ++ frames_on link (x ∷ [])
     by link none below true e =
@@ -130,6 +132,7 @@ streams_on-push starts s link =
 start_here : (s : Started) (link : ℕ) → (s.link == link) ≡ true → streams_on link (s ∷ []) ≡ arrival_of_start s ∷ []
 start_here s link e = ap (λ (b : Bool). map arrival_of_start (if b then s ∷ [] else [])) e
 
+-- and elsewhere nothing
 start_elsewhere : (s : Started) (link : ℕ) → (s.link == link) ≡ false → streams_on link (s ∷ []) ≡ []
 start_elsewhere s link e = ap (λ (b : Bool). map arrival_of_start (if b then s ∷ [] else [])) e
 
@@ -138,6 +141,7 @@ pub AddsStart-none : (lists : List (Vec Arrival Global)) (place : ℕ) (list d :
     list ≡ get_or lists place d → length list.items ≡ 0 → AddsStart (lists_of lists) (lists_of lists) s
 AddsStart-none lists place list d s is below at empty = record { as_many = refl; each = λ link none inside. by link none (s.link == link) refl }
   where
+    -- its link has nothing, and the others are the same
     by : (link : ℕ) (none : List Arrival) → (b : Bool) → (s.link == link) ≡ b → get_or (lists_of lists) link none ≡ fed (get_or (lists_of lists) link none) (streams_on link (s ∷ []))
     by link none true e =
         let same : link ≡ s.link = grind (arith, nat_tests) in
@@ -152,6 +156,7 @@ pub AddsStart-some : (lists : List (Vec Arrival Global)) (after : List (List Arr
     list ≡ get_or lists place d → 0 < length list.items → AddsArrival (lists_of lists) after s.link (arrival_of_start s) → AddsStart (lists_of lists) after s
 AddsStart-some lists after place list d s is below at some adds = record { as_many = adds.as_many; each = λ link none inside. by link none (s.link == link) refl }
   where
+    -- its link's list has it, and the others are the same
     by : (link : ℕ) (none : List Arrival) → (b : Bool) → (s.link == link) ≡ b → get_or after link none ≡ fed (get_or (lists_of lists) link none) (streams_on link (s ∷ []))
     by link none true e =
         let same : link ≡ s.link = grind (arith, nat_tests) in

@@ -31,6 +31,7 @@ start_at p s = (p, s)
 abbrev pub place_by : List Arrival → (ℕ → ℕ) → (ℕ → ℕ) → Transmission → ℕ
 place_by mixed back_place stream_place start = cond (is_streams (get_or mixed start.0 no_arrival)) (stream_place start.1) (back_place start.0)
 
+-- and with its instant
 abbrev pub moved_by : List Arrival → (ℕ → ℕ) → (ℕ → ℕ) → Transmission → Transmission
 moved_by mixed back_place stream_place start = (place_by mixed back_place stream_place start, start.1)
 
@@ -63,6 +64,7 @@ module _ (rules : PortRules) (mixed alone : List Arrival) (end : ℕ) (starts : 
     octets : octets_of alone k ≡ octets_of mixed p
     come : instant_of alone k ≤ s
 
+  -- so each start does
   stands : (p s : ℕ) → Contains starts (p, s) → Stands p s (place_of (p, s))
   stands p s c = elim (cases_lt (class_of mixed p) 6) [
     | inl back ↦
@@ -113,6 +115,7 @@ module _ (rules : PortRules) (mixed alone : List Arrival) (end : ℕ) (starts : 
     started : Contains starts (p, s)
     is_place : place_of (p, s) ≡ k
 
+  -- by the start that was moved there
   from_moved : (k s : ℕ) → Contains moved (k, s) → CameFrom k s
   from_moved k s c =
       let m = contains_from_map (moved_by mixed back_place stream_place) starts (k, s) c in
@@ -131,9 +134,11 @@ module _ (rules : PortRules) (mixed alone : List Arrival) (end : ℕ) (starts : 
   stream_back : (p s k t : ℕ) → Contains starts (p, s) → StreamsAt mixed p → stream_place s ≡ k → Contains moved (k, t) → s ≡ t
   stream_back p s k t c streams is e = same (from_moved k t e)
     where
+      -- what stands there is the stream's frame at its start
       here : get_or alone k no_arrival ≡ retimed s (get_or mixed p no_arrival)
       here = ap (λ z. get_or alone z no_arrival) (sym is) ∙ are.stream_is p s c streams
 
+      -- and so it starts at that instant
       same : CameFrom k t → s ≡ t
       same m = elim (cases_lt (class_of mixed m.p) 6) [
         | inl back ↦
@@ -171,6 +176,7 @@ module _ (rules : PortRules) (mixed alone : List Arrival) (end : ℕ) (starts : 
     not_started = λ s c. waits.not_started s (own s (from_moved (back_place p) s c));
   }
     where
+      -- a start there is the background frame's own
       own : (s : ℕ) → CameFrom (back_place p) s → Contains starts (p, s)
       own s m = elim (cases_lt (class_of mixed m.p) 6) [
         | inl low ↦ subst (λ z. Contains starts (z, s))
@@ -189,6 +195,7 @@ module _ (rules : PortRules) (mixed alone : List Arrival) (end : ℕ) (starts : 
       class_there : class_of alone k ≡ class_of mixed p
       class_there = ap (class_of alone) (sym is) ∙ ap (λ (a : Arrival). a.class) (are.back_is p inside back)
 
+      -- none of its class waits before it
       none_before : (q : ℕ) → q < p → class_of mixed q ≡ class_of mixed p → Waits mixed starts q t → ⊥
       none_before q less same waits =
           let q_back : BackgroundAt mixed q = omega (arith, same, back) in
@@ -250,6 +257,7 @@ module _ (rules : PortRules) (mixed alone : List Arrival) (end : ℕ) (starts : 
     none_before = λ j less same waits. none_there p s j c less same waits;
   }
     where
+      -- a start at its place is at its instant
       same_instant : (t : ℕ) → CameFrom (place_of (p, s)) t → s ≡ t
       same_instant t m = elim (cases_lt (class_of mixed p) 6) [
         | inl back ↦ elim (cases_lt (class_of mixed m.p) 6) [
@@ -310,6 +318,7 @@ module _ (rules : PortRules) (mixed alone : List Arrival) (end : ℕ) (starts : 
     work_conserving = some_starts;
   }
     where
+      -- and the other way round
       again : (t s k : ℕ) → Contains moved (k, t) → Contains moved (k, s) → t ≤ s
       again t s k e c = let m = from_moved k t e in
           (first_there m.p t m.started).waits.not_started s (subst (λ z. Contains moved (z, s)) (sym m.is_place) c)

@@ -194,6 +194,7 @@ module _ (law : PortListSends) (d : Domain) (end l : ℕ) (queued : List QueuedF
     each = each_place;
   }
     where
+      -- a background frame stands at its rank
       at_rank : (p : ℕ) → p < length mixed → BackgroundAt mixed p → StandsAtRank is_other mixed p no_arrival
       at_rank p inside back = kept_at_rank is_other mixed p no_arrival inside (other_low (get_or mixed p no_arrival) back)
 
@@ -201,6 +202,7 @@ module _ (law : PortListSends) (d : Domain) (end l : ℕ) (queued : List QueuedF
   abbrev moved : List Transmission
   moved = map (moved_by mixed back_place stream_place) starts
 
+  -- they are, by the law of a port that is fed with them
   legal_alone : AreLegal rules alone end moved
   legal_alone = legal_there rules mixed alone end starts back_place stream_place are_fed sends.legal
 
@@ -225,6 +227,7 @@ module _ (law : PortListSends) (d : Domain) (end l : ℕ) (queued : List QueuedF
   streams_come = sym (ap (map (arrival_of_sent d)) sends.are_sent
       ∙ map_flat (sent_of queued) (arrival_of_sent d) (is_start_of_streams mixed) as_started starts one)
     where
+      -- one start sends one frame, or none of a stream
       one : (x : Transmission) → Contains starts x → map (arrival_of_sent d) (sent_of queued x) ≡ cond (is_start_of_streams mixed x) (as_started x ∷ []) []
       one x c =
           let q = get_or queued x.0 no_frame in
@@ -237,19 +240,23 @@ module _ (law : PortListSends) (d : Domain) (end l : ℕ) (queued : List QueuedF
   backs_start : backed ≡ filter is_low (map (start_of alone) moved)
   backs_start = sends.are_backed ∙ flat_filter (backed_of queued) (moved_by mixed back_place stream_place) (start_of alone) is_low starts one
     where
+      -- what stands at a start's place
       there : (x : Transmission) → Arrival
       there x = get_or alone (place_by mixed back_place stream_place x) no_arrival
 
+      -- a background frame is the same there
       same : (x : Transmission) → Contains starts x → class_of mixed x.0 < 6 → there x ≡ get_or mixed x.0 no_arrival
       same x c low =
           ap (λ k. get_or alone k no_arrival) (cond-false (is_streams (get_or mixed x.0 no_arrival)) (stream_place x.1) (back_place x.0) (lt-leb 6 (class_of mixed x.0) low))
           ∙ are_fed.back_is x.0 (sends.legal.first x.0 x.1 c).waits.inside low
 
+      -- and a stream's frame has its class
       class_there : (x : Transmission) → Contains starts x → 6 ≤ class_of mixed x.0 → (there x).class ≡ class_of mixed x.0
       class_there x c high =
           ap (λ k. class_of alone k) (cond-true (is_streams (get_or mixed x.0 no_arrival)) (stream_place x.1) (back_place x.0) (le-leb 6 (class_of mixed x.0) high))
           ∙ ap (λ (a : Arrival). a.class) (are_fed.stream_is x.0 x.1 c high)
 
+      -- one start is of one background frame, or of none
       one : (x : Transmission) → Contains starts x →
           backed_of queued x ≡ cond (is_low (start_from x.1 (there x))) (start_from x.1 (there x) ∷ []) []
       one x c =
@@ -264,6 +271,7 @@ module _ (law : PortListSends) (d : Domain) (end l : ℕ) (queued : List QueuedF
   backs_are = filter-map (λ (x : QueuedFrame). x.arrival) is_other queued
       ∙ ap arrivals_of (filter_alike (λ (x : QueuedFrame). is_other x.arrival) is_background queued (λ x c. same_test x (All-contains IsToldByClass queued x told c)))
     where
+      -- by its class a frame is of no stream
       by_stream : (stream : Option ℕ) (class : ℕ) → ((stream ≡ None) ↔ (class < 6)) → not (is_some stream) ≡ nat_lt class 6
       by_stream None class t = sym (lt-ltb class 6 (t.0 refl))
       by_stream (Some k) class t = elim (cases_lt class 6) [
@@ -271,12 +279,14 @@ module _ (law : PortListSends) (d : Domain) (end l : ℕ) (queued : List QueuedF
         | inr high ↦ sym (le-ltb class 6 high)
       ]
 
+      -- by its class an arrival is of none
       low_test : (a : Arrival) → is_other a ≡ nat_lt a.class 6
       low_test a = elim (cases_lt a.class 6) [
         | inl low ↦ other_low a low ∙ sym (lt-ltb a.class 6 low)
         | inr high ↦ ap not (le-leb 6 a.class high) ∙ sym (le-ltb a.class 6 high)
       ]
 
+      -- so both tests are one
       same_test : (x : QueuedFrame) → IsToldByClass x → is_other x.arrival ≡ is_background x
       same_test x t = low_test x.arrival ∙ sym (by_stream x.stream x.arrival.class t)
 
@@ -284,10 +294,12 @@ module _ (law : PortListSends) (d : Domain) (end l : ℕ) (queued : List QueuedF
   none_starts : length others ≡ 0 → backed ≡ []
   none_starts none = sends.are_backed ∙ flat_none (backed_of queued) starts one
     where
+      -- a stream's frame is no background frame
       nothing : (t : ℕ) (a : Arrival) (stream : Option ℕ) → ((stream ≡ None) ↔ (a.class < 6)) → (a.class < 6 → ⊥) → backed_by t a stream ≡ []
       nothing t a None t_told high = absurd (high (t_told.0 refl))
       nothing t a (Some k) t_told high = refl
 
+      -- no start is of a background frame
       one : (x : Transmission) → Contains starts x → backed_of queued x ≡ []
       one x c =
           let q = get_or queued x.0 no_frame in

@@ -57,6 +57,7 @@ both_taken (x ∷ xs) ys low high first second = taken (x ∷ xs ++ ys) each
     (pairs_weaker (λ (a b : Arrival). a.at.0 ≤ b.at.0) (λ (a b : Arrival). a.class ≡ b.class → a.at.0 ≤ b.at.0) ys (λ a b c e le same. le) second)
     (λ a b c e same. absurd (omega (arith, (low a c).below, (high b e).from, same))))
   where
+    -- each arrival is of one of eight classes, and early
     each : (a : Arrival) → Contains (x ∷ xs ++ ys) a → IsGiven 0 8 a
     each a c = elim (Contains-append_cases (x ∷ xs) ys a c) [
       | inl front ↦ let g = low a front in record { from = omega arith; below = omega (arith, g.below); early = g.early }
@@ -67,6 +68,7 @@ both_taken (x ∷ xs) ys low high first second = taken (x ∷ xs ++ ys) each
 sent_class : (cycle : ℕ) → (6 ≤ open_class cycle) × (open_class cycle < 8)
 sent_class cycle = either (cycle % 2 == 0)
   where
+    -- 6 and 7 are such classes
     either : (b : Bool) → (6 ≤ (if b then 7 else 6)) × ((if b then 7 else 6) < 8)
     either true = (omega arith, omega arith)
     either false = (omega arith, omega arith)
@@ -81,6 +83,7 @@ of_background d background end x behind c =
     let member = placed_member 1 background placed.0.0 placed.0.1 placed.1 in
     subst (λ (z : Backed). IsBackground d z.background) placed.2 (All-contains (IsBackground d) background placed.0.1 behind member.0)
   where
+    -- a background frame with its number
     the_backed : ℕ × Background → Backed
     the_backed y = record { frame = y.0; background = y.1 }
 
@@ -91,9 +94,11 @@ in_order background end =
     (λ t less. pairs_members (λ (a b : Backed). a.background.at.0 ≤ b.background.at.0) (at t) (λ x y c e. omega (arith, when t x c, when t y e)))
     (λ j k x y less below c e. omega (arith, when j x c, when k y e, less))
   where
+    -- those of an instant
     at : ℕ → List Backed
     at t = filter (is_at t) (numbered_background background)
 
+    -- which is theirs
     when : (t : ℕ) (x : Backed) → Contains (at t) x → x.background.at.0 ≡ t
     when t x c = eqb-true x.background.at.0 t (contains_from_filter (is_at t) (numbered_background background) x c).1
 

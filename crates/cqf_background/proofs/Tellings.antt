@@ -79,6 +79,7 @@ module _ (d : Domain) (end l : ℕ) (arrivals : List Arrival) (after : PortState
         became [] (p.0 ∙ ap (λ t. at_instant t) none) facts only p.1
   ]
     where
+      -- the port, as if it had reached an instant without a start
       at_instant : ℕ → PortState
       at_instant t = record { rules = rules_on d l; reached = t; arrivals = arrivals; starts = [] }
 

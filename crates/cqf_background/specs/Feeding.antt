@@ -28,22 +28,24 @@ arrival_of_sent d x = record { at = x.start; class = open_class (cycle_of d x.st
 abbrev pub arrival_of_frame : Backed → Arrival
 arrival_of_frame x = (backed_frame x).arrival
 
--- a start is on the link, and so is a background frame
+-- a start is on the link
 abbrev pub is_start_on : ℕ → Started → Bool
 is_start_on link s = s.link == link
 
+-- a background frame is on the link
 abbrev pub is_frame_on : ℕ → Backed → Bool
 is_frame_on link x = x.background.link == link
 
--- what the port of a link is given of each kind
+-- what the port of a link is given of streams' frames
 abbrev pub streams_on : ℕ → List Started → List Arrival
 streams_on link starts = map arrival_of_start (filter (is_start_on link) starts)
 
+-- and of background frames
 abbrev pub frames_on : ℕ → List Backed → List Arrival
 frames_on link frames = map arrival_of_frame (filter (is_frame_on link) frames)
 
--- the background frames and then the streams' frames; nothing where there is no background frame, since no start of such is to
--- be found then
+-- what it is given in all: the background frames and then the streams'; nothing where there is no background frame, since then
+-- none starts
 abbrev pub fed : List Arrival → List Arrival → List Arrival
 fed [] streams = []
 fed (x ∷ frames) streams = x ∷ frames ++ streams
