@@ -2,7 +2,7 @@
 //!
 //! - [`background_of_history`] gives the background list of a run's book. The port of each link that has background frames is given
 //!   these, and the streams' frames of the link, each from the instant on at which it starts; what it then starts of the former is
-//!   told. No stream gate is asked, and no port of a link without background frames.
+//!   told. No stream gate is asked, and the port of a link without background frames is given nothing.
 //! - [`port_starts_the_background`] is the law behind it: where the streams' frames come only when they start, a port starts the
 //!   same background frames from the same instants on.
 //!
