@@ -1,0 +1,63 @@
+-- How many starts there are, and that there is room for them.
+use Rattle.std.proofs.Common.{◌≡◌, ◌∷◌, [], ◌<◌, ◌+◌, ◌-◌, ◌*◌, ◌≤◌, ℕ, zero, suc, List, ap, ap₂, length, refl, arith, get_or, add-one}
+use Rattle.std.specs.Global.{Global}
+use Rattle.std.specs.declared.vec.Vec.{Vec}
+use Rattle.std.proofs.lemmas.List.{length-append}
+use Rattle.std.proofs.lemmas.List.Sorted.{length_permutation}
+use Rattle.cqf_units.specs.Timing.{wire_of}
+use Rattle.cqf_model.specs.declared.frames.Started.{Started}
+use Rattle.cqf_instants.specs.declared.lanes.Branch.{Branch}
+use Rattle.cqf_instants.specs.declared.lanes.Waiting.{Waiting}
+use Rattle.cqf_instants.specs.declared.link.Sender.{Sender}
+use Rattle.cqf_instants.specs.Lanes.{TellsLane, cap_at, caps_below, in_pace, start_of, sum_below}
+use Rattle.cqf_instants.proofs.Adding.{cap_there}
+
+-- sums of the same numbers
+pub sums_same : (f g : ℕ → ℕ) (n : ℕ) → ((l : ℕ) → l < n → f l ≡ g l) → sum_below f n ≡ sum_below g n
+sums_same f g zero same = refl
+sums_same f g (suc n) same = ap₂ (λ (a b : ℕ). a + b) (sums_same f g n (λ l below. same l (omega (arith, below)))) (same n (omega arith))
+
+-- a sum of more is no less
+sums_more : (f : ℕ → ℕ) (m k : ℕ) → sum_below f m ≤ sum_below f (m + k)
+sums_more f m zero =
+    let e : m + zero ≡ m = omega arith in
+    omega (arith, ap (sum_below f) e)
+sums_more f m (suc k) =
+    let e : m + suc k ≡ suc (m + k) = omega arith in
+    omega (arith, sums_more f m k, ap (sum_below f) e)
+
+pub sums_rise : (f : ℕ → ℕ) (m n : ℕ) → m ≤ n → sum_below f m ≤ sum_below f n
+sums_rise f m n upto =
+    let k = n - m in
+    let e : m + k ≡ n = omega (arith, upto) in
+    omega (arith, sums_more f m k, ap (sum_below f) e)
+
+-- a start a frame
+one_each : (cycle link begins r t : ℕ) (xs : List Waiting) → length (in_pace (start_of cycle link begins) r t xs) ≡ length xs
+one_each cycle link begins r t [] = refl
+one_each cycle link begins r t (x ∷ xs) =
+    let n = t + r * wire_of x.octets in
+    omega (
+      arith,
+      length-append (start_of cycle link begins t x) (in_pace (start_of cycle link begins) r n xs),
+      one_each cycle link begins r n xs,
+    )
+
+-- so as many more as the lane had
+pub lane_told : (sender : Sender) (cycle begins : ℕ) (lane : List Waiting) (old own : Vec Waiting Global) (branches : List Branch)
+    (before after : List (Vec Waiting Global)) (told all : List Started) →
+    TellsLane sender cycle begins lane old own branches before after told all → length all ≡ length told + length lane
+lane_told sender cycle begins lane old own branches before after told all h = omega (
+  arith,
+  ap length h.tells.starts,
+  length-append told (in_pace (start_of cycle sender.link begins) sender.octet_time 0 h.sorted),
+  one_each cycle sender.link begins sender.octet_time 0 h.sorted,
+  length_permutation lane h.sorted h.same,
+)
+
+-- a lane has no more than it has room for, nor have those up to it
+pub lane_within : (before now : List (Vec Waiting Global)) (place : ℕ) (own d : Vec Waiting Global) (count : ℕ) → place < length now →
+    own ≡ get_or now place d → ((l : ℕ) → cap_at now l ≡ cap_at before l) → count ≤ caps_below before place →
+    count + length own.items ≤ caps_below before (place + 1)
+lane_within before now place own d count below at same so_far =
+    omega (arith, own.ok.0, own.ok.1, cap_there now place own d below at, same place, so_far, ap (caps_below before) (add-one place))

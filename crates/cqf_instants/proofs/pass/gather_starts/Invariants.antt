@@ -1,0 +1,16 @@
+-- The starts of the cycles told are gathered, of each run that the basis is of.
+use Rattle.std.proofs.Common.{◌≡◌, ◌-◌}
+use Rattle.cqf_model.specs.Book.{starts_of}
+use Rattle.cqf_instants.specs.Meaning.{Given}
+use Rattle.cqf_instants.specs.Progress.{IsBasisOf}
+use Rattle.cqf_instants.proofs.pass.gather_starts.Given as goal
+
+abbrev pub invariant-loop-starts : goal.invariant-loop-starts
+invariant-loop-starts l = record {
+  basis : l.pass.basis ≡ l.initial.pass.basis;
+  gathered : (given : Given) → IsBasisOf given l.initial.pass.basis →
+      l.starts.items ≡ starts_of given.run.domain l.pass.told given.net.carried;
+}
+
+abbrev pub decreases-loop-starts : goal.decreases-loop-starts
+decreases-loop-starts l = l.pass.basis.cycles - l.pass.told

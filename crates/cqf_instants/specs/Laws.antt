@@ -1,0 +1,14 @@
+-- The laws by which a pass goes.
+use Rattle.cqf_laws_instants.specs.Instants.{BatchIsDue, FirstBatchIsEmpty, QueueHasRoom}
+use Rattle.cqf_laws_taken.specs.LaneLaws.{CoveredGoByTheirTree, LaneIsQueued, UncoveredGoNowhere}
+use Rattle.cqf_laws_taken.specs.QueueLaws.{CoveringCovers}
+
+-- what a link sends in a cycle, how much that is, and what comes to its lane
+pub record TheLaws : Type 0 where
+  pub lane : LaneIsQueued
+  pub due : BatchIsDue
+  pub first : FirstBatchIsEmpty
+  pub room : QueueHasRoom
+  pub covered : CoveredGoByTheirTree
+  pub uncovered : UncoveredGoNowhere
+  pub covers : CoveringCovers

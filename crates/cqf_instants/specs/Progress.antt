@@ -1,0 +1,61 @@
+-- How far a pass over the cycles of a run is, and what it tells.
+use Rattle.std.specs.Prelude.{ℕ, ◌≡◌, ◌+◌, ◌≤◌, ◌<◌, List, length, vec_capacity}
+use Rattle.cqf_lists.specs.Lists.{each_below}
+use Rattle.cqf_model.specs.declared.frames.Started.{Started}
+use Rattle.cqf_model.specs.Book.{starts_in, starts_of}
+use Rattle.cqf_instants.specs.declared.basis.Basis.{Basis}
+use Rattle.cqf_instants.specs.declared.standing.Standing.{Standing}
+use Rattle.cqf_instants.specs.Lanes.{caps_below}
+use Rattle.cqf_instants.specs.Meaning.{Given}
+use Rattle.cqf_instants.specs.Telling.{CanTell, IsReadyFor}
+
+-- a basis is that of a run, in its legal network
+abbrev pub IsBasisOf : Given → Basis → Type 0
+IsBasisOf given basis =
+    CanTell given basis.links.items basis.cycle_time basis.guard basis.cycles basis.branches.items basis.offers.items
+
+-- there is such a run
+pub record SomeBasis (basis : Basis) : Type 0 where
+  pub given : Given
+  pub is : IsBasisOf given basis
+
+-- the starts of streams' frames in a cycle of it, by link, then instant
+abbrev pub starts_of_cycle : Given → ℕ → List Started
+starts_of_cycle given cycle = each_below (starts_in given.run.domain given.net.carried cycle) (length given.run.domain.links)
+
+-- these are the starts of a run that the basis is of, by cycle, then link, then instant
+pub record AreStartsOf (basis : Basis) (starts : List Started) : Type 0 where
+  pub given : Given
+  pub is : IsBasisOf given basis
+  pub are : starts ≡ starts_of given.run.domain basis.cycles given.net.carried
+
+-- how far a pass is: what it tells the starts from, how many cycles are told, and the starts of the last of them
+pub record Progress : Type 0 where
+  pub basis : Basis
+  pub told : ℕ
+  pub starts : List Started
+
+-- the next cycle is told: the starts are those of it, in each run that the basis is of
+pub record TellsNext (old new : Progress) : Type 0 where
+  pub basis : new.basis ≡ old.basis
+  pub in_run : old.told < old.basis.cycles
+  pub told : new.told ≡ old.told + 1
+  pub starts : (given : Given) → IsBasisOf given old.basis → new.starts ≡ starts_of_cycle given old.told
+
+-- all cycles are told, and the pass is as it was
+pub record IsOver (old new : Progress) : Type 0 where
+  pub same : new ≡ old
+  pub all : old.told ≡ old.basis.cycles
+
+-- the starts have room for what the lanes of so many links can hold
+pub record HasRoomFor (links : ℕ) (standing : Standing) : Type 0 where
+  pub now : caps_below standing.now.items links ≤ vec_capacity standing.starts
+  pub next : caps_below standing.next.items links ≤ vec_capacity standing.starts
+
+-- so many cycles are told, and the lanes are ready for the next one, in each run that the basis is of
+pub record IsUnderWay (basis : Basis) (told : ℕ) (standing : Standing) : Type 0 where
+  pub some : SomeBasis basis
+  pub within : told ≤ basis.cycles
+  pub room : HasRoomFor (length basis.links.items) standing
+  pub ready : (given : Given) → IsBasisOf given basis →
+      IsReadyFor given basis.offers.items (length basis.links.items) basis.branches.items told standing.begins standing.from standing.now.items standing.next.items

@@ -1,0 +1,93 @@
+//! Where a pass stands, and how it goes on by a cycle.
+ghost use Rattle.std.specs.Prelude.{ℕ, ◌≡◌, ◌+◌, ◌<◌, [], IfOk};
+ghost use Rattle.cqf_instants.specs.Laws.{TheLaws};
+ghost use Rattle.cqf_instants.specs.Meaning.{Given};
+ghost use Rattle.cqf_instants.specs.Progress.{IsBasisOf, IsUnderWay, SomeBasis, starts_of_cycle};
+
+use crate::basis::Basis;
+use crate::cycle::tell_waiting;
+use crate::lanes::Waiting;
+use crate::offers::put_offers;
+use crate::rooms::{empty_lanes, frames_in_all};
+use cqf_model::Started;
+use cqf_units::{Cycle, Memory};
+use std::alloc::Global;
+
+/// Where a pass stands.
+#[derive(Debug, Drop)]
+pub(crate) struct Standing {
+    /// A lane for each link, of what it sends in the next cycle.
+    pub(crate) now: Vec<Vec<Waiting>>,
+    /// And of what it sends in the cycle behind that one: nothing yet.
+    pub(crate) next: Vec<Vec<Waiting>>,
+    /// The place of the first offer of the next cycle or a later one.
+    pub(crate) from: usize,
+    /// When the next cycle begins, in nanoseconds.
+    pub(crate) begins: u64,
+    /// The starts of the cycle told last.
+    pub(crate) starts: Vec<Started>,
+}
+
+/// The laws by which a pass goes.
+fn the_laws()
+    ensures { TheLaws }
+{
+    cqf_laws_instants::batch_is_due();
+    cqf_laws_instants::queue_has_room();
+    cqf_laws_taken::what_a_cycle_queues();
+    cqf_laws_taken::lane_is_queued();
+}
+
+/// Where a pass stands before its first cycle. It has all the memory that it will need.
+pub(crate) fn stand_at_first(alloc: Global, basis: &Basis) -> Result<Standing, Memory>
+    requires { SomeBasis basis.now }
+    ensures way { IfOk result (IsUnderWay basis.now 0) }
+    ensures none { IfOk result (λ standing. standing.starts.items ≡ []) }
+{
+    the_laws();
+    let links = basis.links.as_slice();
+    let now = empty_lanes(alloc, links, basis.cycle_time, basis.guard)?;
+    let next = empty_lanes(alloc, links, basis.cycle_time, basis.guard)?;
+    let frames = frames_in_all(links, basis.cycle_time, basis.guard);
+    let starts = Vec::with_capacity(alloc, frames)?;
+    Ok(Standing {
+        now,
+        next,
+        from: 0,
+        begins: 0,
+        starts,
+    })
+}
+
+/// Tells the starts of a cycle, and stands before the next one.
+pub(crate) fn tell_cycle(basis: &Basis, cycle: u32, standing: &mut Standing)
+    requires way { IsUnderWay basis.now cycle standing.old }
+    requires in_run { cycle < basis.now.cycles }
+    ensures way { IsUnderWay basis.now (cycle + 1) standing.new }
+    ensures starts { (given : Given) → IsBasisOf given basis.now → standing.new.starts.items ≡ starts_of_cycle given cycle }
+{
+    the_laws();
+    let begins = standing.begins;
+    let ends = begins + u64::from(basis.cycle_time);
+    let branches = basis.branches.as_slice();
+    standing.starts.clear();
+    tell_waiting(
+        basis.links.as_slice(),
+        Cycle(cycle),
+        begins,
+        branches,
+        &mut standing.now,
+        &mut standing.next,
+        &mut standing.starts,
+    );
+    standing.from = put_offers(
+        basis.offers.as_slice(),
+        standing.from,
+        begins,
+        ends,
+        branches,
+        &mut standing.next,
+    );
+    std::mem::swap(&mut standing.now, &mut standing.next);
+    standing.begins = ends;
+}
