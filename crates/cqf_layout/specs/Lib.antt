@@ -1,3 +1,4 @@
 pub mod Laid
 pub mod Entered
 pub mod History
+pub mod Passes

@@ -9,19 +9,51 @@ ghost use Rattle.cqf_model.specs.Run.{AreOffers};
 ghost use Rattle.cqf_laws_report.specs.Judged.{StandInOrder};
 ghost use Rattle.cqf_shift.specs.Run.{IsLegalRun};
 ghost use Rattle.cqf_layout.specs.History.{IsHistoryOf, SomeHistory};
+ghost use Rattle.cqf_layout.specs.Passes.{IsPassOf};
 
 use crate::layout::lay_run;
 use cqf_coverage::Judgement;
-use cqf_instants::starts_of_run;
+use cqf_instants::{Pass, gather_starts};
 use cqf_model::{Offer, Row, Started};
 use cqf_topology::Domain;
 use cqf_units::Memory;
 use std::alloc::Global;
 
-/// The starts of the streams' frames in a run over so many cycles of a domain, all of which a history of it has closed, by cycle,
-/// then link, then instant: of each legal network of the run, beside any background frames. The rows are the streams that the
-/// history ever granted, the offers stand in order of instant, and the judgements say what becomes of them (profile). The
-/// time grows with the hops of the rows, with the offers, and with the starts.
+/// A pass over so many cycles of a domain, all of which a history of it has closed. It tells the starts of the streams' frames cycle by
+/// cycle, each by link, then instant: those of each legal network of the run, beside any background frames. The rows are the streams that
+/// the history ever granted, the offers stand in order of instant, and the judgements say what becomes of them (profile). It has all the
+/// memory that it will need, and the time grows with the hops of the rows and with the offers.
+///
+/// # Errors
+/// Where a growth is refused.
+pub fn pass_of_history(
+    alloc: Global,
+    domain: &Domain,
+    cycles: u32,
+    rows: &[Row],
+    offers: &[Offer],
+    judgements: &[Judgement],
+) -> Result<Pass, Memory>
+    requires offers { AreOffers domain.now offers.now }
+    requires order { StandInOrder offers.now }
+    requires few { length offers.now ≤ 1000000 }
+    requires history { SomeHistory domain.now cycles rows.now offers.now judgements.now }
+    ensures { IfOk result (IsPassOf domain.now cycles rows.now offers.now judgements.now) }
+{
+    let layout = lay_run(alloc, domain, cycles, rows, offers, judgements)?;
+    Pass::new(
+        alloc,
+        layout.links,
+        domain.cycle_time().0 as u32,
+        domain.guard().0 as u32,
+        cycles,
+        layout.branches,
+        layout.offers,
+    )
+}
+
+/// The starts that such a pass tells, of all cycles, by cycle, then link, then instant (profile). The time grows with the hops of the
+/// rows, with the offers, and with the starts.
 ///
 /// # Errors
 /// Where a growth is refused.
@@ -42,14 +74,6 @@ pub fn starts_of_history(
         IsLegalRun (run_of_history domain.now entries offers.now background cycles) net →
         starts.items ≡ starts_of domain.now cycles net.carried) }
 {
-    let layout = lay_run(alloc, domain, cycles, rows, offers, judgements)?;
-    starts_of_run(
-        alloc,
-        layout.links.as_slice(),
-        domain.cycle_time().0 as u32,
-        domain.guard().0 as u32,
-        cycles,
-        layout.branches.as_slice(),
-        layout.offers.as_slice(),
-    )
+    let pass = pass_of_history(alloc, domain, cycles, rows, offers, judgements)?;
+    gather_starts(alloc, pass)
 }
