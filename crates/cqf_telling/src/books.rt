@@ -25,7 +25,7 @@ fn put_reason<W: Write>(press: &mut Press<'_, W>, reason: Reason)
 }
 
 /// Puts the header of a book.
-fn put_header<W: Write>(press: &mut Press<'_, W>)
+pub fn put_book_header<W: Write>(press: &mut Press<'_, W>)
     ensures { Puts W.contents press.old press.new (line_of book_header) }
 {
     press.put(b"what,cycle,where,frame,octets,detail\n");
@@ -49,8 +49,8 @@ fn put_started<W: Write>(press: &mut Press<'_, W>, what: &[u8], domain: &Domain,
     press.put_byte(b'\n');
 }
 
-/// Puts a line for each transmission.
-fn put_starts<W: Write>(press: &mut Press<'_, W>, what: &[u8], domain: &Domain, starts: &[Started])
+/// Puts a line for each transmission, which begins with the word for what they are.
+pub fn put_starts<W: Write>(press: &mut Press<'_, W>, what: &[u8], domain: &Domain, starts: &[Started])
     ensures { Puts W.contents press.old press.new (lines_of_starts what.now domain.now starts.now) }
 {
     for started in starts {
@@ -77,7 +77,7 @@ fn put_dropped<W: Write>(press: &mut Press<'_, W>, domain: &Domain, dropped: &Dr
 }
 
 /// Puts a line for each drop.
-fn put_drops<W: Write>(press: &mut Press<'_, W>, domain: &Domain, drops: &[Dropped])
+pub fn put_drops<W: Write>(press: &mut Press<'_, W>, domain: &Domain, drops: &[Dropped])
     ensures { Puts W.contents press.old press.new (lines_of_drops domain.now drops.now) }
 {
     for dropped in drops {
@@ -89,7 +89,7 @@ fn put_drops<W: Write>(press: &mut Press<'_, W>, domain: &Domain, drops: &[Dropp
 pub fn put_book<W: Write>(press: &mut Press<'_, W>, domain: &Domain, book: &Book)
     ensures { Puts W.contents press.old press.new (text_of_book domain.now (contents_of book.now)) }
 {
-    put_header(press);
+    put_book_header(press);
     put_starts(press, b"start", domain, book.starts.as_slice());
     put_starts(press, b"background", domain, book.background.as_slice());
     put_drops(press, domain, book.drops.as_slice());

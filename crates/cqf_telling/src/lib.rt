@@ -1,7 +1,9 @@
 //! Books, histories and a port's starts, told line by line: their lines are put on a press, with no memory asked for.
 //!
 //! - [`put_book`] puts the text of a book, [`put_history`] that of a history, and [`put_starts_of_port`] that of a port's
-//!   starts. [`put_link`] puts a link by the names of its ends, and [`put_bridge`] the name of a bridge.
+//!   starts.
+//! - [`put_book_header`], [`put_starts`] and [`put_drops`] put the parts of a book's text, where the book isn't at hand as a whole.
+//! - [`put_link`] puts a link by the names of its ends, and [`put_bridge`] the name of a bridge.
 //!
 //! The texts are those of `cqf_report`, which makes each as one list of bytes: `Books`, `HistoryText` and `Starts` of its `specs/`. A field of
 //! theirs needs no quotes, so that a line is its fields with commas between them.
@@ -17,7 +19,7 @@ mod history;
 mod names;
 mod ports;
 
-pub use books::put_book;
+pub use books::{put_book, put_book_header, put_drops, put_starts};
 pub use history::put_history;
 pub use names::{put_bridge, put_link};
 pub use ports::put_starts_of_port;

@@ -15,6 +15,6 @@ returns g c =
     let drops : List ℕ = lines_of_drops d book.drops in
     Puts-then ((header ++ starts) ++ background) drops
     (Puts-then (header ++ starts) background
-    (Puts-then header starts c.put_header.ensures (rw c.as_slice.ensures.value at c.put_starts.ensures))
+    (Puts-then header starts c.put_book_header.ensures (rw c.as_slice.ensures.value at c.put_starts.ensures))
     (rw c.as_slice-2.ensures.value at c.put_starts-2.ensures))
     (rw c.as_slice-3.ensures.value at c.put_drops.ensures)
