@@ -1,11 +1,9 @@
 -- The calls that a follower makes.
-use Rattle.std.proofs.Common.{◌≡◌, ℕ, ◌+◌, ◌<◌, List, Option, None, Some, [], ◌∷◌, ◌++◌, map, length, take, drop, get_or, ap, sym, ◌∙◌, subst}
-use Rattle.std.specs.Prelude.{IfSome}
-use Rattle.std.proofs.lemmas.List.{append_assoc, drop-map, length-map, map-append}
+use Rattle.std.proofs.Common.{◌≡◌, ℕ, ◌+◌, ◌<◌, ◌≤◌, List, [], ◌∷◌, ◌++◌, map, length, take, drop, get_or, refl, ap, sym, ◌∙◌, subst}
+use Rattle.std.proofs.lemmas.List.{append-nil, append_assoc, drop-map, length-map, take_all}
 use Rattle.cqf_model.specs.History.{Recorded}
 use Rattle.cqf_admission.specs.declared.entries.Entry.{Entry}
 use Rattle.cqf_admission.specs.Admission.{recorded_of}
-use Rattle.cqf_admission.specs.Tables.{CycleTable}
 use Rattle.cqf_desk.specs.Again.{GoesOn}
 use Rattle.cqf_desk.specs.declared.following.Follower.{Follower}
 use Rattle.cqf_desk.specs.Following.{HasMade, KeepsTables}
@@ -37,15 +35,22 @@ passes_one old mid new others number k e passed inside is keeps made = record {
       (makes_more old mid new (map recorded_of (take k others)) (recorded_of e ∷ []) passed.made made);
 }
 
--- calls and a last one are all of a history behind as many as were made before
-pub makes_rest : (old mid new : Follower) (done history rest others : List Entry) (own : Entry) (found : Option CycleTable) →
-    map recorded_of done ≡ old.admission.entries → rest ≡ drop (length done) history → rest ≡ others ++ own ∷ [] → HasMade old mid (map recorded_of others) →
-    IfSome found (λ table. HasMade mid new (recorded_of own ∷ [])) →
-    IfSome found (λ table. HasMade old new (drop (length old.admission.entries) (map recorded_of history)))
-makes_rest old mid new done history rest others own None before is in_parts made then = tt
-makes_rest old mid new done history rest others own (Some table) before is in_parts made then =
-    let many : length old.admission.entries ≡ length done = ap length (sym before) ∙ length-map done recorded_of in
-    subst (HasMade old new)
-    (sym (map-append recorded_of others (own ∷ [])) ∙ ap (map recorded_of) (sym in_parts ∙ is) ∙ sym (drop-map recorded_of (length done) history)
-    ∙ ap (λ (n : ℕ). drop n (map recorded_of history)) (sym many))
-    (makes_more old mid new (map recorded_of others) (recorded_of own ∷ []) made then)
+-- all of them
+pub passes_through : (old new : Follower) (others : List Entry) (number k : ℕ) → HasPassed old new others number k → length others ≤ k →
+    KeepsTables old new number × HasMade old new (map recorded_of others)
+passes_through old new others number k passed through =
+    (passed.keeps, subst (λ (xs : List Entry). HasMade old new (map recorded_of xs)) (take_all k others through) passed.made)
+
+-- none yet
+pub passes_none : (f : Follower) (others : List Entry) (number : ℕ) → HasPassed f f others number 0
+passes_none f others number = record {
+  keeps = λ tables has. has;
+  made = record { first = refl; domain = refl; entries = sym (append-nil f.admission.entries) };
+}
+
+-- the calls behind those that were made
+pub rest_of : (f : Follower) (history done rest : List Entry) → map recorded_of done ≡ f.admission.entries → rest ≡ drop (length done) history →
+    map recorded_of rest ≡ drop (length f.admission.entries) (map recorded_of history)
+rest_of f history done rest is behind =
+    let many : length done ≡ length f.admission.entries = sym (length-map done recorded_of) ∙ ap length is in
+    ap (map recorded_of) behind ∙ sym (drop-map recorded_of (length done) history) ∙ ap (λ (n : ℕ). drop n (map recorded_of history)) many

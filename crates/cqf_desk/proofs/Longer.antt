@@ -1,6 +1,6 @@
 -- The tables that a seat closes in a history that goes on.
-use Rattle.std.proofs.Common.{◌≡◌, ℕ, ◌+◌, ◌-◌, ◌<◌, ◌≤◌, ◌==◌, Bool, List, Option, None, Some, [], ◌∷◌, ◌++◌, true, false, map, length, take, drop, refl, ap, sym, ◌∙◌, arith, length-append, subst}
-use Rattle.std.specs.Prelude.{IfSome, slice_get}
+use Rattle.std.proofs.Common.{◌≡◌, ℕ, ◌+◌, ◌-◌, ◌<◌, ◌≤◌, ◌==◌, Bool, List, Some, [], ◌∷◌, ◌++◌, true, false, map, length, take, drop, refl, ap, sym, ◌∙◌, arith, length-append, subst}
+use Rattle.std.specs.Prelude.{slice_get}
 use Rattle.std.specs.List.{list_any}
 use Rattle.std.proofs.lemmas.Bool.{and_parts, or_parts}
 use Rattle.std.proofs.lemmas.List.{append-nil, append_assoc, length-map, map-append, take-append-drop, take-append-le}
@@ -16,13 +16,13 @@ use Rattle.cqf_admission.specs.Admission.{Administration, recorded_of}
 use Rattle.cqf_admission.specs.Tables.{CycleTable}
 use Rattle.cqf_laws_definitions.specs.TableLaws.{ClosedTablesStay}
 use Rattle.cqf_laws_history.specs.StateLaws.{SealClosesTable, SealsAreCounted}
-use Rattle.cqf_desk.specs.Again.{GoesOn, next_table}
+use Rattle.cqf_desk.specs.Again.{GoesOn, HasGone, next_table}
 use Rattle.cqf_desk.specs.Closing.{closed_by, is_seal_by, table_closed, tables_by}
 use Rattle.cqf_desk.specs.declared.following.Follower.{Follower}
-use Rattle.cqf_desk.specs.Following.{AddsTable, AreFollowed, HasFollowed, IsUpToSeal, KeepsTables, at_opening}
+use Rattle.cqf_desk.specs.Following.{AddsTable, HasFollowed, HasTables, IsUpToSeal, KeepsTables}
 use Rattle.cqf_desk.proofs.ClosedTables.{is_the_seal, stays, table_there}
 use Rattle.cqf_desk.proofs.Rests.{front_is, parts_at}
-use Rattle.cqf_desk.proofs.Steps.{closes, no_tables, one_place, some_at}
+use Rattle.cqf_desk.proofs.Steps.{closes, one_place, some_at}
 
 -- entries more have no fewer Seals
 not_fewer : SealsAreCounted → (es more : List Recorded) → seals es ≤ seals (es ++ more)
@@ -133,15 +133,25 @@ begun_so old new e first after same goes begun =
     let longer = length-append old.entries (e ∷ []) in
     omega (arith, same, long, longer, begun)
 
--- a follower that has followed nothing yet
-pub begins : (opening : Administration) (fs : List Follower) (f : Follower) (tables : List CycleTable) (number : ℕ) → fs ≡ f ∷ [] → f ≡ at_opening opening →
-    length tables ≡ 0 → AreFollowed fs number tables
-begins opening fs f tables number one is none =
-    let through : length opening.entries - length opening.entries ≡ 0 = omega arith in
-    subst (λ (gs : List Follower). AreFollowed gs number tables) (sym (one ∙ ap (λ (g : Follower). g ∷ []) is)) (record {
-      begun = omega arith;
-      own = no_tables tables none ∙ sym (ap (each_below (λ i. closed_by opening.domain opening.entries number (length opening.entries + i))) through);
+-- a follower that has made all calls behind an opening part, by which the seat closes its tables
+pub joins_so : (opening again : Administration) (f : Follower) (rest : List Recorded) (tables : List CycleTable) (number : ℕ) →
+    f ≡ record { first = length opening.entries; admission = again } → HasGone opening again rest →
+    tables ≡ tables_by opening.domain (opening.entries ++ rest) (length opening.entries) number → HasTables f number tables
+joins_so opening again f rest tables number is gone own =
+    let longer = length-append opening.entries rest in
+    let many : length again.entries ≡ length (opening.entries ++ rest) = ap length gone.entries in
+    subst (λ (g : Follower). HasTables g number tables) (sym is) (record {
+      begun = omega (arith, longer, many);
+      own = own ∙ (λ i. tables_by (sym gone.domain i) (sym gone.entries i) (length opening.entries) number);
     })
+
+-- the tables of one that is as it was
+pub keeps_all : (old new : Follower) (number : ℕ) → new ≡ old → KeepsTables old new number
+keeps_all old new number same = λ tables has. subst (λ (f : Follower). HasTables f number tables) (sym same) has
+
+-- and of one that went on, and then as it was
+pub keeps_on : (old mid new : Follower) (number : ℕ) → KeepsTables old mid number → KeepsTables mid new number → KeepsTables old new number
+keeps_on old mid new number keeps then = λ tables has. then tables (keeps tables has)
 
 -- a follower goes on by a call that is no Seal of the seat
 pub keeps_tables : ClosedTablesStay → SealsAreCounted → (old new : Follower) (e : Recorded) (number : ℕ) → new.first ≡ old.first →
@@ -162,12 +172,6 @@ adds_table stay counted closing old new e number table same goes its sealed is =
       ∙ sym (by_own stay counted closing old.admission.domain old.admission.entries e old.first number has.begun its sealed)
       ∙ gone_on old.admission new.admission e old.first new.first number same goes;
 }
-
--- by calls that are none of its Seals, and then by one
-pub adds_behind : (old mid new : Follower) (number : ℕ) (found : Option CycleTable) → KeepsTables old mid number →
-    IfSome found (λ table. AddsTable mid new number table) → IfSome found (λ table. AddsTable old new number table)
-adds_behind old mid new number None keeps adds = tt
-adds_behind old mid new number (Some table) keeps adds = λ tables has. adds tables (keeps tables has)
 
 -- calls that come first, and behind them no Seal of the seat
 pub up_to_seal : (followed rest front behind : List Entry) (number n : ℕ) → front ≡ take n rest → behind ≡ drop n rest → map recorded_of followed ≡ map recorded_of front →

@@ -15,7 +15,7 @@ use Rattle.cqf_model.specs.History.{IsLegalHistory, Recorded, held_in, is_seal, 
 use Rattle.cqf_admission.specs.declared.entries.Entry.{Entry}
 use Rattle.cqf_admission.specs.Admission.{Administration, recorded_of}
 use Rattle.cqf_admission.specs.Tables.{CycleTable}
-use Rattle.cqf_desk.specs.Again.{GoesOn, MovesOn, StepsTo, next_table}
+use Rattle.cqf_desk.specs.Again.{GoesOn, HasGone, MovesOn, StepsTo, next_table}
 use Rattle.cqf_desk.specs.Closing.{closed_by, is_seal_by, table_closed, tables_by}
 use Rattle.cqf_model.specs.declared.history.Reply.TheVariants.{Sealed}
 use Rattle.cqf_laws_definitions.specs.TableLaws.{ClosedTablesStay}
@@ -162,6 +162,14 @@ closes_all start again rest number tables next k has through all =
     sym (take_all next tables (omega (arith, all))) ∙ has.closed
     ∙ ap (each_below (λ i. closed_by start.domain (start.entries ++ map recorded_of rest) number (length start.entries + i)))
     (sym through ∙ sym (rest_length start.entries rest))
+
+-- all calls
+pub goes_through : (start again : Administration) (rest : List Entry) (number : ℕ) (tables : List CycleTable) (next k : ℕ) →
+    HasClosed start again rest number tables next k → length rest ≤ k → HasGone start again (map recorded_of rest)
+goes_through start again rest number tables next k has through = record {
+  domain = has.gone.domain;
+  entries = has.gone.entries ∙ ap (λ xs. start.entries ++ map recorded_of xs) (take_all k rest through);
+}
 
 -- a seat that seals nothing closes no table
 pub closes_none : (start : Administration) (rest : List Entry) (number : ℕ) → list_any (λ e. is_seal_by number (recorded_of e)) rest ≡ false →

@@ -1,10 +1,16 @@
 -- What follows a history for a seat (profile).
-use Rattle.std.specs.Prelude.{ℕ, ◌≡◌, ◌≤◌, ◌++◌, List, [], ◌∷◌, false, drop, length}
+use Rattle.std.specs.Prelude.{ℕ, ◌≡◌, ◌≤◌, ◌++◌, List, [], ◌∷◌, false, length, Option, None, Some, Result, Ok, Err}
 use Rattle.std.specs.List.{list_any}
-use Rattle.cqf_model.specs.History.{Recorded}
+use Rattle.std.specs.declared.alloc.AllocError.{AllocError}
+use Rattle.cqf_model.specs.History.{Recorded, Seals}
+use Rattle.cqf_model.specs.declared.history.Reply.TheVariants.{Sealed}
 use Rattle.cqf_admission.specs.Admission.{Administration}
 use Rattle.cqf_admission.specs.Tables.{CycleTable}
 use Rattle.cqf_desk.specs.Closing.{is_seal_by, tables_by}
+use Rattle.cqf_desk.specs.declared.again.Made.{Made}
+use Rattle.cqf_desk.specs.declared.again.Made.TheVariants as made
+use Rattle.cqf_desk.specs.declared.following.Followed.{Followed}
+use Rattle.cqf_desk.specs.declared.following.Followed.TheVariants as followed
 use Rattle.cqf_desk.specs.declared.following.Follower.{Follower}
 
 -- these are the tables that a seat's Seals close in what was followed
@@ -18,19 +24,15 @@ AreFollowed [] number tables = Unit {0}
 AreFollowed (f ∷ []) number tables = HasTables f number tables
 AreFollowed (f ∷ g ∷ more) number tables = ⊥
 
--- a follower of what comes behind an opening part, with no calls yet
-abbrev pub at_opening : Administration → Follower
-at_opening opening = record { first = length opening.entries; admission = opening }
-
 -- a follower has made just these calls behind those that it had made, each with its answer
 pub record HasMade (old new : Follower) (calls : List Recorded) : Type 0 where
   pub first : new.first ≡ old.first
   pub domain : new.admission.domain ≡ old.admission.domain
   pub entries : new.admission.entries ≡ old.admission.entries ++ calls
 
--- where there is a follower before and after, it has made all calls of a history behind as many as it had made
-abbrev pub MakesRest : List Follower → List Follower → List Recorded → Type 0
-MakesRest old new history = (f g : Follower) → old ≡ f ∷ [] → new ≡ g ∷ [] → HasMade f g (drop (length f.admission.entries) history)
+-- a Seal of a seat
+abbrev pub own_seal : ℕ → Recorded
+own_seal number = record { seat = number; act = Seals; reply = Sealed }
 
 -- a follower goes on by calls with which the seat closes no table, or by such calls and then a Seal that closes this one
 abbrev pub KeepsTables : Follower → Follower → ℕ → Type 0
@@ -39,14 +41,28 @@ KeepsTables old new number = (tables : List CycleTable) → HasTables old number
 abbrev pub AddsTable : Follower → Follower → ℕ → CycleTable → Type 0
 AddsTable old new number table = (tables : List CycleTable) → HasTables old number tables → HasTables new number (tables ++ table ∷ [])
 
--- a seat's tables are followed as they were before, whatever its number
-abbrev pub StaysFollowed : List Follower → List Follower → List CycleTable → Type 0
-StaysFollowed old new tables = (number : ℕ) → AreFollowed old number tables → AreFollowed new number tables
+-- how far a follower got with calls with which the seat closes no table: where a growth was refused, it goes on from there
+abbrev pub Follows : Follower → Follower → ℕ → List Recorded → Followed → Type 0
+Follows old new number calls followed.All = KeepsTables old new number × HasMade old new calls
+Follows old new number calls followed.Otherwise = Unit {0}
+Follows old new number calls followed.Memory = KeepsTables old new number
 
--- a seat's tables are followed with one more, as they were before
-abbrev pub GoesOnWith : List Follower → List Follower → ℕ → CycleTable → Type 0
-GoesOnWith old new number table =
-    (tables : List CycleTable) → AreFollowed old number tables → AreFollowed new number (tables ++ table ∷ [])
+-- the seat's own Seal, which closes a table
+abbrev pub ClosesOwn : Follower → Follower → ℕ → Made → Type 0
+ClosesOwn old new number made.Answered = ⊥
+ClosesOwn old new number (made.Closed table) = AddsTable old new number table × HasMade old new (own_seal number ∷ [])
+ClosesOwn old new number made.Otherwise = Unit {0}
+ClosesOwn old new number made.Memory = KeepsTables old new number
+
+-- a seat's tables are followed as they were before
+abbrev pub StayFollowed : List Follower → List Follower → ℕ → Type 0
+StayFollowed old new number = (tables : List CycleTable) → AreFollowed old number tables → AreFollowed new number tables
+
+-- a seat's tables are followed with one more, where there is one, and nothing follows where there is none
+abbrev pub AreFollowedWith : List Follower → ℕ → List CycleTable → Result (Option CycleTable) AllocError → Type 0
+AreFollowedWith followers number tables (Ok None) = followers ≡ []
+AreFollowedWith followers number tables (Ok (Some own)) = AreFollowed followers number (tables ++ own ∷ [])
+AreFollowedWith followers number tables (Err fault) = AreFollowed followers number tables
 
 -- the calls that were followed come first, and behind them the seat seals no more
 abbrev pub IsUpToSeal : List Recorded → List Recorded → ℕ → Type 0

@@ -2,7 +2,7 @@
 ghost use Rattle.std.specs.Prelude.{◌≡◌, ◌++◌, true, Some, length, map, slice_get, IfOk, IfSome};
 ghost use Rattle.cqf_model.specs.History.{IsLegalHistory};
 ghost use Rattle.cqf_admission.specs.Admission.{recorded_of};
-ghost use Rattle.cqf_desk.specs.Again.{ComesTo, IsAnsweredSo, IsClosedSo, StepsTo};
+ghost use Rattle.cqf_desk.specs.Again.{ComesTo, HasGone, IsAnsweredSo, IsClosedSo, StepsTo};
 ghost use Rattle.cqf_desk.specs.Closing.{tables_by};
 
 use crate::same::is_same_table;
@@ -133,8 +133,9 @@ pub(crate) fn has_tables(
     number: u16,
     tables: &[Table],
 ) -> Result<bool, Memory>
-    ensures { IfOk result (λ same. same ≡ true →
+    ensures closes { IfOk result (λ same. same ≡ true →
         tables.now ≡ tables_by again.old.domain (again.old.entries ++ map recorded_of rest.now) (length again.old.entries) number) }
+    ensures goes { IfOk result (λ same. same ≡ true → HasGone again.old again.new (map recorded_of rest.now)) }
 {
     closed_tables_stay();
     state_follows_history();

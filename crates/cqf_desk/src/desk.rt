@@ -80,9 +80,9 @@ impl Desk {
     }
 
     /// Closes the next cycle to changes, by [`Admission::seal`]. The seat keeps the Seal and a table, which is the cycle's
-    /// where the desk closes. It follows the history up to there, unless memory runs out or a call answers otherwise; then
-    /// its tables are compared as the desk is closed. With `CyclesSpent` and `Memory` neither the history nor the seat
-    /// changes; `Memory` comes only where `CyclesSpent` isn't due. It waits for the lock alone.
+    /// where the desk closes. It follows the history up to there, unless a call answers otherwise; then its tables are compared
+    /// as the desk is closed. With `CyclesSpent` and `Memory` neither the history nor the seat changes; `Memory` comes where any
+    /// growth is refused, also of what follows the history, and only where `CyclesSpent` isn't due. It waits for the lock alone.
     pub fn seal<R: Wait>(&self, rt: &R, seat: &mut Seat) -> Result<(), SealFault>
         ensures { KeepsSeal seat.old seat.new result }
     {

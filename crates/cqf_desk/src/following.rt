@@ -1,18 +1,19 @@
 //! What follows the history of a desk for a seat that seals.
-ghost use Rattle.std.specs.Prelude.{◌≡◌, ◌≢◌, [], ◌∷◌, true, drop, length, map, All, IfOk, IfSome};
+ghost use Rattle.std.specs.Prelude.{ℕ, ◌≡◌, ◌++◌, List, [], ◌∷◌, Ok, true, false, drop, length, map, IfOk, IfSome, OnOk};
 ghost use Rattle.std.specs.List.{list_any};
 ghost use Rattle.cqf_admission.specs.Admission.{recorded_of};
 ghost use Rattle.cqf_desk.specs.Closing.{is_seal_by};
-ghost use Rattle.cqf_desk.specs.Following.{AddsTable, GoesOnWith, HasFollowed, HasMade, IsUpToSeal, KeepsTables, MakesRest, StaysFollowed, at_opening};
+ghost use Rattle.cqf_admission.specs.Tables.{CycleTable};
+ghost use Rattle.cqf_desk.specs.Following.{AreFollowed, AreFollowedWith, ClosesOwn, Follows, HasFollowed, HasTables, IsUpToSeal, StayFollowed};
 
-use crate::again::{Made, make};
+use crate::again::{Made, has_tables, make};
 use crate::domains::is_same_domain;
 use crate::same::are_same_entries;
-use cqf_admission::{Admission, Call, Entry, Table};
+use cqf_admission::{Admission, Call, Entry, Reply, Table};
 use cqf_laws_definitions::closed_tables_stay;
 use cqf_laws_history::state_follows_history;
 use cqf_units::Memory;
-use std::alloc::Global;
+use std::alloc::{AllocError, Global};
 
 /// A copy of the admission that a desk was made with, on which all calls up to a seat's last Seal were made once more.
 #[derive(Debug, Drop)]
@@ -20,6 +21,16 @@ pub(crate) struct Follower {
     /// How many entries the opening part has.
     first: usize,
     admission: Admission,
+}
+
+/// How far a follower got with some calls.
+pub(crate) enum Followed {
+    /// It made all of them.
+    All,
+    /// One is a Seal of its seat, or its answer is another.
+    Otherwise,
+    /// A growth was refused. It has made the calls before, and goes on from there.
+    Memory,
 }
 
 /// Whether an entry is a Seal of the seat.
@@ -51,83 +62,67 @@ fn are_up_to_seal(followed: &[Entry], rest: &[Entry], number: u16) -> bool
 }
 
 impl Follower {
-    /// One that has followed no calls yet behind the opening part, unless memory runs out.
-    pub(crate) fn new(alloc: Global, opening: &Admission) -> Result<Follower, Memory>
-        ensures { IfOk result (λ f. f ≡ at_opening opening.now) }
-    {
-        Ok(Follower {
-            first: opening.history().len(),
-            admission: opening.try_copy(alloc)?,
-        })
-    }
-
-    /// Makes a call once more that is no Seal of the seat, and says whether it got the same answer.
-    fn passes(&mut self, entry: &Entry, number: u16) -> bool
-        ensures keeps { result ≡ true → KeepsTables self.old self.new number }
-        ensures made { result ≡ true → HasMade self.old self.new (recorded_of entry.now ∷ []) }
+    /// Makes a call once more that is no Seal of the seat.
+    fn passes(&mut self, entry: &Entry, number: u16) -> Followed
+        ensures { Follows self.old self.new number (recorded_of entry.now ∷ []) result }
     {
         closed_tables_stay();
         state_follows_history();
         if is_seal_of(entry, number) {
-            return false;
+            return Followed::Otherwise;
         }
         match make(&mut self.admission, entry) {
-            Made::Answered => true,
-            Made::Closed(_table) => true,
-            Made::Otherwise => false,
-            Made::Memory => false,
+            Made::Answered => Followed::All,
+            Made::Closed(_table) => Followed::All,
+            Made::Otherwise => Followed::Otherwise,
+            Made::Memory => Followed::Memory,
         }
     }
 
     /// Makes all of these calls once more likewise.
-    fn passes_all(&mut self, others: &[Entry], number: u16) -> bool
-        ensures keeps { result ≡ true → KeepsTables self.old self.new number }
-        ensures made { result ≡ true → HasMade self.old self.new (map recorded_of others.now) }
+    fn passes_all(&mut self, others: &[Entry], number: u16) -> Followed
+        ensures { Follows self.old self.new number (map recorded_of others.now) result }
     {
         for entry in others {
-            if !self.passes(entry, number) {
-                return false;
+            match self.passes(entry, number) {
+                Followed::All => {}
+                Followed::Otherwise => return Followed::Otherwise,
+                Followed::Memory => return Followed::Memory,
             }
         }
-        true
+        Followed::All
     }
 
-    /// Makes a Seal of the seat once more: its table.
-    fn closes(&mut self, own: &Entry, number: u16) -> Option<Table>
-        ensures adds { IfSome result (λ table. AddsTable self.old self.new number table) }
-        ensures made { IfSome result (λ table. HasMade self.old self.new (recorded_of own.now ∷ [])) }
-    {
-        closed_tables_stay();
-        state_follows_history();
-        if !is_seal_of(own, number) {
-            return None;
-        }
-        match make(&mut self.admission, own) {
-            Made::Closed(table) => Some(table),
-            Made::Answered => None,
-            Made::Otherwise => None,
-            Made::Memory => None,
-        }
-    }
-
-    /// Follows a history up to its last call, a Seal of the seat: the table of it. It makes all of its calls behind as many as
-    /// it has made already. None where it can't.
-    fn follow(&mut self, history: &[Entry], number: u16) -> Option<Table>
-        ensures adds { IfSome result (λ table. AddsTable self.old self.new number table) }
-        ensures made { IfSome result (λ table. HasMade self.old self.new (drop (length self.old.admission.entries) (map recorded_of history.now))) }
+    /// Follows a history in which no call behind those that it has made is a Seal of the seat.
+    fn follow(&mut self, history: &[Entry], number: u16) -> Followed
+        ensures { Follows self.old self.new number (drop (length self.old.admission.entries) (map recorded_of history.now)) result }
     {
         let done = self.admission.history().len();
         if history.len() < done {
-            return None;
+            return Followed::Otherwise;
         }
-        match history.split_at(done).1.split_last() {
-            Some((own, others)) => {
-                if !self.passes_all(others, number) {
-                    return None;
-                }
-                self.closes(own, number)
-            }
-            None => None,
+        self.passes_all(history.split_at(done).1, number)
+    }
+
+    /// Makes a Seal of the seat, and gives its table.
+    fn closes(&mut self, number: u16) -> Made
+        ensures { ClosesOwn self.old self.new number result }
+    {
+        closed_tables_stay();
+        state_follows_history();
+        let own = Entry {
+            seat: number,
+            call: Call::Seal,
+            reply: Reply::Sealed,
+        };
+        if !is_seal_of(&own, number) {
+            return Made::Otherwise;
+        }
+        match make(&mut self.admission, &own) {
+            Made::Closed(table) => Made::Closed(table),
+            Made::Answered => Made::Otherwise,
+            Made::Otherwise => Made::Otherwise,
+            Made::Memory => Made::Memory,
         }
     }
 
@@ -153,46 +148,126 @@ impl Follower {
     }
 }
 
-/// Makes what follows for a seat that has no tables yet, a copy of the admission that the desk was made with. Where memory
-/// runs out there is none.
-pub(crate) fn begin(
-    follower: &mut Vec<Follower>,
+/// What follows a history for a seat with these tables: a copy of the admission that the desk was made with, on which all calls
+/// of the history were made once more. None where a call gets another answer, or a Seal of the seat closes another table.
+fn joined(
     alloc: Global,
     opening: &Admission,
+    history: &[Entry],
+    number: u16,
     tables: &[Table],
-)
-    ensures followed { StaysFollowed follower.old.items follower.new.items tables.now }
-    ensures begun { length tables.now ≡ 0 → All (λ f. f ≡ at_opening opening.now) follower.new.items }
-    ensures unchanged { length tables.now ≢ 0 → follower.new.items ≡ follower.old.items }
+) -> Result<Option<Follower>, Memory>
+    ensures { IfOk result (λ found. IfSome found (λ f. HasTables f number tables.now)) }
 {
-    if tables.len() != 0 {
-        return;
+    let start = opening.history();
+    if history.len() < start.len() {
+        return Ok(None);
     }
-    follower.clear();
-    if follower.reserve(1).is_err() {
-        return;
-    }
-    if let Ok(beginning) = Follower::new(alloc, opening) {
-        follower.push(beginning).unwrap();
+    let mut again = opening.try_copy(alloc)?;
+    match has_tables(&mut again, history.split_at(start.len()).1, number, tables) {
+        Ok(true) => Ok(Some(Follower {
+            first: start.len(),
+            admission: again,
+        })),
+        Ok(false) => Ok(None),
+        Err(fault) => Err(fault),
     }
 }
 
-/// The table that a seat keeps of its Seal, the last call of this history, for which it got that one: the follower's own,
-/// which goes on to that Seal. One that can't is let go of, and then it is the table that the seat got.
-pub(crate) fn followed(
+/// Makes what follows the history for a seat with these tables, where it can be followed. The error is want of memory.
+fn join(
     follower: &mut Vec<Follower>,
+    alloc: Global,
+    opening: &Admission,
     history: &[Entry],
     number: u16,
-    table: Table,
-) -> Table
-    ensures goes_on { GoesOnWith follower.old.items follower.new.items number result }
-    ensures made { MakesRest follower.old.items follower.new.items (map recorded_of history.now) }
-    ensures cycle { result.cycle ≡ table.cycle }
+    tables: &[Table],
+) -> Result<(), Memory>
+    ensures { AreFollowed follower.new.items number tables.now }
+{
+    follower.clear();
+    if follower.reserve(1).is_err() {
+        return Err(AllocError);
+    }
+    match joined(alloc, opening, history, number, tables) {
+        Ok(Some(joined)) => {
+            follower.push(joined).unwrap();
+            Ok(())
+        }
+        Ok(None) => Ok(()),
+        Err(fault) => Err(fault),
+    }
+}
+
+/// Lets what follows the history, where there is something, make the calls that it hasn't made, none of which is a Seal of the
+/// seat. What can't is let go of. The error is want of memory; it goes on from there then.
+fn go_on(follower: &mut Vec<Follower>, history: &[Entry], number: u16) -> Result<(), Memory>
+    ensures { StayFollowed follower.old.items follower.new.items number }
 {
     let Some(following) = follower.first_mut() else {
-        return table;
+        return Ok(());
     };
-    if let Some(own) = following.follow(history, number) {
+    match following.follow(history, number) {
+        Followed::All => return Ok(()),
+        Followed::Memory => return Err(AllocError),
+        Followed::Otherwise => {}
+    }
+    follower.clear();
+    Ok(())
+}
+
+/// Brings what follows a seat's history up to its end: where it `joins`, it is made, and is to be made no more, and else it goes
+/// on. The error is want of memory.
+pub(crate) fn catch_up(
+    follower: &mut Vec<Follower>,
+    joins: &mut bool,
+    alloc: Global,
+    opening: &Admission,
+    history: &[Entry],
+    number: u16,
+    tables: &[Table],
+) -> Result<(), Memory>
+    ensures followed { AreFollowed follower.old.items number tables.now → AreFollowed follower.new.items number tables.now }
+    ensures joined { OnOk result (joins.new ≡ false) }
+{
+    if !*joins {
+        return go_on(follower, history, number);
+    }
+    match join(follower, alloc, opening, history, number, tables) {
+        Ok(()) => {
+            *joins = false;
+            Ok(())
+        }
+        Err(fault) => Err(fault),
+    }
+}
+
+/// Makes a Seal of the seat on what follows its history: the table of it, and none where nothing follows. The error is want of
+/// memory; then it hasn't made the Seal.
+pub(crate) fn close_own(follower: &mut Vec<Follower>, number: u16) -> Result<Option<Table>, Memory>
+    ensures { (tables : List CycleTable) → AreFollowed follower.old.items number tables → AreFollowedWith follower.new.items number tables result }
+{
+    let Some(following) = follower.first_mut() else {
+        return Ok(None);
+    };
+    match following.closes(number) {
+        Made::Closed(table) => return Ok(Some(table)),
+        Made::Memory => return Err(AllocError),
+        Made::Otherwise => {}
+        Made::Answered => {}
+    }
+    follower.clear();
+    Ok(None)
+}
+
+/// The table that a seat keeps of its Seal, for which it got that one: the follower's own. Where there is none, or it is of another
+/// cycle, the follower is let go of, and it is the table that the seat got.
+pub(crate) fn kept(follower: &mut Vec<Follower>, own: Option<Table>, table: Table) -> Table
+    ensures followed { (number : ℕ) → (tables : List CycleTable) → AreFollowedWith follower.old.items number tables (Ok own) →
+        AreFollowed follower.new.items number (tables ++ result ∷ []) }
+    ensures cycle { result.cycle ≡ table.cycle }
+{
+    if let Some(own) = own {
         if own.cycle() == table.cycle() {
             return own;
         }

@@ -6,7 +6,7 @@ ghost use Rattle.cqf_admission.specs.Asking.{asked_of};
 ghost use Rattle.cqf_desk.specs.Closing.{tables_by};
 ghost use Rattle.cqf_desk.specs.Desk.{IsAnswered, IsSealed, Keeps};
 
-use crate::following::{Follower, begin, followed};
+use crate::following::{Follower, catch_up, close_own, kept};
 use cqf_admission::{
     Admission, Call, Entry, MOST_CALLS, MOST_SEALS, Receipt, Refused, Reply, SealFault, Table,
 };
@@ -16,7 +16,7 @@ use std::marker::Model;
 
 /// A seat of a desk: a number, the calls that were made with it, in order, with the answers that they got, and the tables
 /// of its Seals (profile). A seat that seals follows the history: at each Seal all calls up to it have been made once more
-/// on a copy of the admission that the desk was made with, unless memory ran out or an answer was another.
+/// on a copy of the admission that the desk was made with, unless an answer was another.
 #[derive(Debug, Drop)]
 pub struct Seat {
     number: u16,
@@ -25,6 +25,9 @@ pub struct Seat {
     /// What follows the history, one at most: its tables are these. It stands in a `Vec`, so that whoever lets go of a seat
     /// lets go of it in one step.
     follower: Vec<Follower>,
+    /// Whether what follows is to be made at the next Seal: nothing has followed yet, or what did was ahead of a Seal that there was no
+    /// memory for.
+    joins: bool,
 }
 
 impl Model for Seat {
@@ -50,6 +53,7 @@ impl Seat {
             calls: Vec::new(alloc),
             tables: Vec::new(alloc),
             follower: Vec::new(alloc),
+            joins: true,
         }
     }
 
@@ -131,7 +135,7 @@ impl Seat {
     }
 
     /// Closes the next cycle of an admission to changes, and keeps the Seal and its table. The first Seal makes a follower of
-    /// the admission that the desk was made with.
+    /// the admission that the desk was made with. Each growth that is refused, of the follower too, refuses the Seal.
     pub(crate) fn seal(
         &mut self,
         alloc: Global,
@@ -140,21 +144,45 @@ impl Seat {
     ) -> Result<(), SealFault>
         ensures { IsSealed admission.old admission.new self.old self.new result }
     {
+        if admission.next_cycle().0 >= MOST_SEALS {
+            return Err(unsealed(admission));
+        }
         if self.calls.reserve(1).is_err() {
             return Err(unsealed(admission));
         }
         if self.tables.reserve(1).is_err() {
             return Err(unsealed(admission));
         }
+        let (history, tables) = (admission.history(), self.tables.as_slice());
+        if catch_up(
+            &mut self.follower,
+            &mut self.joins,
+            alloc,
+            opening,
+            history,
+            self.number,
+            tables,
+        )
+        .is_err()
+        {
+            return Err(unsealed(admission));
+        }
+        let Ok(own) = close_own(&mut self.follower, self.number) else {
+            return Err(unsealed(admission));
+        };
         match admission.seal(self.number) {
             Ok(table) => {
-                begin(&mut self.follower, alloc, opening, self.tables.as_slice());
-                let own = followed(&mut self.follower, admission.history(), self.number, table);
+                let own = kept(&mut self.follower, own, table);
                 self.tables.push(own).unwrap();
                 enter(&mut self.calls, self.number, Call::Seal, Reply::Sealed);
                 Ok(())
             }
-            Err(fault) => Err(fault),
+            Err(fault) => {
+                // what follows has made a Seal that isn't in the history: it is made anew at the next one
+                self.follower.clear();
+                self.joins = true;
+                Err(fault)
+            }
         }
     }
 }

@@ -1,14 +1,10 @@
-use Rattle.cqf_desk.proofs.Followers.{makes_rest}
-use Rattle.cqf_desk.proofs.Longer.{adds_behind}
+use Rattle.std.proofs.Common.{subst}
+use Rattle.cqf_desk.specs.Following.{Follows}
+use Rattle.cqf_desk.proofs.Followers.{rest_of}
 use Rattle.cqf_desk.proofs.following.Follower.follow.Goals as goal
 
-pub returns-else-not-passes_all-clause-adds : goal.returns-else-not-passes_all-clause-adds
-returns-else-not-passes_all-clause-adds c =
-    adds_behind c.args.self.now c.passes_all.new.self c.closes.new.self c.args.number c.closes.result (c.passes_all.ensures.keeps c.if-not-passes_all.false)
-    c.closes.ensures.adds
-
-pub returns-else-not-passes_all-clause-made : goal.returns-else-not-passes_all-clause-made
-returns-else-not-passes_all-clause-made c =
-    makes_rest c.args.self.now c.passes_all.new.self c.closes.new.self c.history-done.result.now c.args.history.now c.split_at.result.1.now
-    c.in-Some.others.now c.in-Some.own.now c.closes.result c.history-done.ensures.entries c.split_at.ensures.back c.in-Some.ensures.cases.0
-    (c.passes_all.ensures.made c.if-not-passes_all.false) c.closes.ensures.made
+pub returns : goal.returns
+returns c =
+    subst (λ calls. Follows c.args.self.now c.passes_all.new.self c.args.number calls c.passes_all.result)
+    (rest_of c.args.self.now c.args.history.now c.history-done.result.now c.split_at.result.1.now c.history-done.ensures.entries c.split_at.ensures.back)
+    c.passes_all.ensures

@@ -16,12 +16,12 @@ sealed old number had calls kept tables own is longer more =
     let entered = ap (map recorded_of) longer ∙ map-append recorded_of had (record { seat = number; call = Seal; reply = Sealed } ∷ []) in
     (λ i. record { number = number; calls = entered i; tables = more i }) ∙ ap (λ s. with_seal s own) (sym is)
 
-pub returns-in-Ok : goal.returns-in-Ok
-returns-in-Ok c = (
-  c.in-Ok.table,
-  c.followed-own.result,
+pub returns-in-Ok-seal : goal.returns-in-Ok-seal
+returns-in-Ok-seal c = (
+  c.in-Ok-seal.table,
+  c.kept-own.result,
   search rules,
   search rules,
   sealed c.args.self.now c.self.inside.number c.self.inside.calls.items c.enter.new.calls.items c.self.inside.tables.items c.push.new.self.items
-      c.followed-own.result (search rules) (search rules) (search rules),
+      c.kept-own.result (search rules) (search rules) (search rules),
 )
