@@ -121,7 +121,11 @@ fn octets_of(alloc: Global, starts: &[Started]) -> Result<u128, Memory>
 fn octet_column(alloc: Global, starts: &[Started]) -> Result<Vec<u32>, Memory>
     ensures { IfOk result (λ column. column.items ≡ map (λ start. start.octets) starts.now) }
 {
-    starts.iter().map(|start| start.octets).collect(alloc)
+    let mut column = Vec::with_capacity(alloc, starts.len())?;
+    for start in starts {
+        column.push(start.octets)?;
+    }
+    Ok(column)
 }
 
 /// Raises what a link has to a number, if that is more.
