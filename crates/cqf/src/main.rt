@@ -82,13 +82,19 @@ impl<R: Env> Env for BehindName<'_, R> {
 
 /// The words that the process was started with, without the program's name.
 fn arguments<R: Env>(rt: &R, alloc: Global) -> io::Result<Vec<String>> {
-    let words = std::env::args(&(BehindName { rt }, alloc))?.collect(alloc)?;
+    let mut words = Vec::new(alloc);
+    for word in std::env::args(&(BehindName { rt }, alloc))? {
+        words.push(word)?;
+    }
     Ok(words)
 }
 
 /// The words, with those that name files told from the others. The error is want of memory.
 fn operands_of(alloc: Global, words: &[String]) -> Result<Operands<'_>, AllocError> {
-    let texts: Vec<&str> = words.iter().map(|word| word.as_str()).collect(alloc)?;
+    let mut texts = Vec::with_capacity(alloc, words.len())?;
+    for word in words {
+        texts.push(word.as_str())?;
+    }
     split_operands(alloc, texts.as_slice())
 }
 

@@ -10,7 +10,7 @@ use Rattle.cqf_model.specs.declared.topology.Row.{Row}
 use Rattle.cqf_model.specs.Domain.{Domain}
 use Rattle.cqf_model.specs.History.{Admits, Asked, IsLegalHistory, Recorded, admit_reply, held_in, next_number, refusal_of, reply_to, seals}
 use Rattle.cqf_topology.specs.declared.streams.Request.{Request}
-use Rattle.cqf_laws_history.specs.StateLaws.{GrantedFindsRoom, GrantedIsHeld, HistoryGoesOn, SealsAreCounted, granted_row, with_entry}
+use Rattle.cqf_laws_history.specs.StateLaws.{AreHeld, GrantedFindsRoom, GrantedIsHeld, HeldAreSound, HistoryGoesOn, SealsAreCounted, granted_row, with_entry}
 use Rattle.cqf_admission.specs.Admission.{Administration, Answers, is_entered}
 use Rattle.cqf_admission.specs.Asking.{asked_by, asked_of}
 use Rattle.cqf_text.specs.Parts.{parts_of}
@@ -68,6 +68,13 @@ AreAllHeld-more d entries asked goes_on counted grants finds all granted_is =
       one_each = omega arith;
       few = omega arith;
     }
+
+-- where each stream is held, those that are held in cycle 0 are sound
+pub AreAllHeld-sound : (d : Domain) (entries : List Recorded) → HeldAreSound → AreAllHeld d entries → AreHeld d (held_in d entries 0) (next_number d entries) 0
+AreAllHeld-sound d entries sound all =
+    let held : AreHeld d (held_in d entries (seals entries)) (next_number d entries) (seals entries) =
+    sound d entries (held_in d entries (seals entries)) (next_number d entries) all.legal (record { held = refl; number = refl }) in
+    subst (λ cycle. AreHeld d (held_in d entries cycle) (next_number d entries) cycle) all.no_seal held
 
 -- what a granted call tells
 module _ (old new : Administration) (asked : Asked) (receipt : Receipt) (answers : Answers old new 0 (Admits asked) (Ok receipt)) where
@@ -135,6 +142,19 @@ IsRefused-memory found stop e =
 never_full : (old new : Administration) (asked : Asked) → AreAllHeld old.domain old.entries → ¬ Answers old new 0 (Admits asked) (Err HistoryFull)
 never_full old new asked all answers = omega (arith, answers.full.0 refl, all.few)
 
+-- a refused stream ends the run with its line, or for want of memory
+pub refused_so : (d : Domain) (entries : List Recorded) (asked : Asked) (refused : Refused) (place : ℕ) (stop : Stop) (more : List Asked) →
+    (refused ≢ Memory → refusal_of d (held_in d entries (seals entries)) asked ≡ Some refused) → (refused ≢ Memory → EndsWith 1 (stream_line place refused) stop) →
+    (refused ≡ Memory → EndsWith 3 [] stop) → IsRefused (admitted_from d entries place (asked ∷ more)) stop
+refused_so d entries asked refused place stop more due line memory =
+    let found = admitted_from d entries place (asked ∷ more) in
+    elim (is_memory refused) [
+      | inl lacks ↦ IsRefused-memory found stop (memory lacks)
+      | inr there ↦
+          IsRefused-line found (stream_line place refused) stop
+          (ap (λ r. refuse r (stream_line place) (admitted_from d (with_asked d entries asked) (place + 1) more)) (due there)) (line there)
+    ]
+
 -- what a refused call tells
 pub refused-ends : (old new : Administration) (asked : Asked) (refused : Refused) (place : ℕ) (stop : Stop) (more : List Asked) →
     AreAllHeld old.domain old.entries → Answers old new 0 (Admits asked) (Err refused) → (refused ≢ Memory → EndsWith 1 (stream_line place refused) stop) →
@@ -142,15 +162,8 @@ pub refused-ends : (old new : Administration) (asked : Asked) (refused : Refused
 refused-ends old new asked refused place stop more all answers line memory =
     let full : refused ≢ HistoryFull = λ is. never_full old new asked all (subst (λ r. Answers old new 0 (Admits asked) (Err r)) is answers) in
     let refusal : Option Refused = refusal_of old.domain (held_in old.domain old.entries (seals old.entries)) asked in
-    let found = admitted_from old.domain old.entries place (asked ∷ more) in
-    elim (is_memory refused) [
-      | inl lacks ↦ IsRefused-memory found stop (memory lacks)
-      | inr there ↦
-          let due : refusal ≡ Some refused =
-          refused_for (next_number old.domain old.entries) (seals old.entries) refused refusal (answers.due (entered_unless refused full there)) in
-          IsRefused-line found (stream_line place refused) stop
-          (ap (λ r. refuse r (stream_line place) (admitted_from old.domain (with_asked old.domain old.entries asked) (place + 1) more)) due) (line there)
-    ]
+    refused_so old.domain old.entries asked refused place stop more
+    (λ there. refused_for (next_number old.domain old.entries) (seals old.entries) refused refusal (answers.due (entered_unless refused full there))) line memory
 
 -- the domain and the streams that are read are the input's
 pub compile_input-is : (input domain_text streams_text : List ℕ) (domain : Domain) (requests : List Request) →

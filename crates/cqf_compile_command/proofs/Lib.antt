@@ -1,2 +1,3 @@
 pub mod CompileLemmas
 pub mod ConfigPieces
+mod Planned

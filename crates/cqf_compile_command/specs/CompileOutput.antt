@@ -1,6 +1,7 @@
 -- What the command `compile` gives for its input (profile): the configuration of a domain and its streams, or the line of
 -- the input's first fault.
 use Rattle.std.specs.Prelude.{ℕ, ◌≡◌, ◌≤◌, ◌+◌, ◌++◌, codes, decimal, length, List, [], ◌∷◌, map, Result, Ok}
+use Rattle.cqf_model.specs.declared.topology.Row.{Row}
 use Rattle.cqf_model.specs.Domain.{Domain}
 use Rattle.cqf_model.specs.History.{Admits, Asked, Recorded, held_in, IsLegalHistory, refusal_of, reply_to, seals}
 use Rattle.cqf_text.specs.Parts.{parts_of}
@@ -8,8 +9,8 @@ use Rattle.cqf_topology.specs.DomainText.{domain_of_text}
 use Rattle.cqf_lists.specs.Results.{and_then, refuse}
 use Rattle.cqf_topology.specs.StreamsText.{streams_of_text}
 use Rattle.cqf_laws_history.specs.StateLaws.{with_entry}
+use Rattle.cqf_admission.specs.Admission.{Administration}
 use Rattle.cqf_admission.specs.Asking.{asked_by}
-use Rattle.cqf_admission.specs.Tables.{CycleTable}
 use Rattle.cqf_compile.specs.ConfigText.{config_text}
 use Rattle.cqf_inputs.specs.Lines.{domain_line, streams_line}
 use Rattle.cqf_inputs.specs.Parts.{two_parts}
@@ -53,8 +54,14 @@ pub record AreAllHeld (d : Domain) (entries : List Recorded) : Type 0 where
   pub one_each : length (held_in d entries 0) ≡ length entries
   pub few : length entries ≤ 1024
 
--- the table holds all of these streams, which were admitted before cycle 0
-pub record HoldsAll (d : Domain) (streams : List Asked) (table : CycleTable) : Type 0 where
+-- an administration of a domain with all of its streams held from cycle 0 on, and their rows
+pub record ArePlanned (d : Domain) (administration : Administration) (rows : List Row) : Type 0 where
+  pub domain : administration.domain ≡ d
+  pub all : AreAllHeld d administration.entries
+  pub held : rows ≡ held_in d administration.entries 0
+
+-- the rows are those of all of these streams, which were admitted before cycle 0, in the table of that cycle
+pub record HoldsAll (d : Domain) (streams : List Asked) (rows : List Row) : Type 0 where
   pub entries : List Recorded
   pub admitted : admitted_from d [] 1 streams ≡ Ok entries
-  pub held : table.rows ≡ held_in d entries 0
+  pub held : rows ≡ held_in d entries 0

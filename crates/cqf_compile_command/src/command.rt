@@ -1,23 +1,29 @@
 //! The command `compile`: the configuration of a domain and its streams.
-ghost use Rattle.std.specs.Prelude.{ℕ, ◌≡◌, ◌≢◌, ◌+◌, [], ◌∷◌, List, Ok, IfOk, IfErr, map, string_bytes};
+ghost use Rattle.std.specs.Prelude.{ℕ, ◌≡◌, ◌≢◌, ◌+◌, ◌++◌, ◌<◌, ◌^◌, [], ◌∷◌, List, Ok, IfOk, IfErr, OnOk, length, map, string_bytes};
+ghost use Rattle.cqf_admission.specs.Admission.{HoldsOneMore};
 ghost use Rattle.cqf_admission.specs.Asking.{asked_of};
 ghost use Rattle.cqf_admission.specs.Tables.{AreAlongLinks};
 ghost use Rattle.cqf_laws_history.specs.StateLaws.{AreHeld};
-ghost use Rattle.cqf_model.specs.History.{Asked, held_in};
-ghost use Rattle.cqf_compile_command.specs.CompileOutput.{stream_line, admitted_from, compile_input, compiled_input, configuration_of, AreAllHeld, HoldsAll};
+ghost use Rattle.cqf_ledger.specs.Forms.{IsRowOfGoodForm};
+ghost use Rattle.cqf_model.specs.History.{Asked, Recorded};
+ghost use Rattle.cqf_compile_command.specs.CompileOutput.{stream_line, admitted_from, compile_input, compiled_input, configuration_of, AreAllHeld, ArePlanned, HoldsAll};
 ghost use Rattle.cqf_compile_command.specs.ConfigTold.{text_of_config};
+ghost use Rattle.cqf_requests.specs.Orders.{request_at};
 ghost use Rattle.cqf_stop.specs.Stops.{EndsWith, IsRefused};
 
 use crate::output::ConfigOutput;
-use cqf_admission::{Admission, Refused, SealFault, Table};
+use cqf_admission::{Judged, judge};
 use cqf_compile::compile;
 use cqf_gates::{compiled_list, write_tx};
 use cqf_inputs::{domain_part, streams_part, two_parts};
 use cqf_laws_history::state_follows_history;
+use cqf_ledger::{Ledger, Receipt, Refused};
+use cqf_model::Row;
 use cqf_press::Sheet;
 use cqf_stop::{REFUSED, Stop};
 use cqf_topology::{Domain, Request};
-use cqf_units::Memory;
+use cqf_trees::count_places;
+use cqf_units::{Cycle, Memory};
 use std::alloc::{AllocError, Global};
 
 /// The administrator that the streams of `compile` are admitted by.
@@ -58,94 +64,159 @@ pub fn stream_stop(alloc: Global, place: usize, refused: Refused) -> Stop
     }
 }
 
-/// Admits the stream at a place, from 1, where each call so far admitted one.
-fn admit_one(
-    alloc: Global,
-    admission: &mut Admission,
-    place: usize,
-    request: &Request,
-) -> Result<(), Stop>
-    requires { AreAllHeld admission.old.domain admission.old.entries }
-    ensures domain { admission.new.domain ≡ admission.old.domain }
-    ensures held { IfOk result (λ _. AreAllHeld admission.new.domain admission.new.entries) }
-    ensures ok { IfOk result (λ _. (more : List Asked) → admitted_from admission.old.domain admission.old.entries place (asked_of request.now ∷ more)
-        ≡ admitted_from admission.old.domain admission.new.entries (place + 1) more) }
-    ensures err { IfErr result (λ stop. (more : List Asked) → IsRefused
-        (admitted_from admission.old.domain admission.old.entries place (asked_of request.now ∷ more)) stop) }
+/// The row of the stream at a place, from 0, as that of number 0 and of cycle 0: its form is good.
+fn row_at(alloc: Global, domain: &Domain, request: &Request, place: usize) -> Result<Row, Stop>
+    requires { place + 1 < 2 ^ 64 }
+    ensures ok { IfOk result (IsRowOfGoodForm domain.now (asked_of request.now)) }
+    ensures err { IfErr result (λ stop. (entries : List Recorded) → (more : List Asked) → IsRefused
+        (admitted_from domain.now entries (place + 1) (asked_of request.now ∷ more)) stop) }
 {
-    state_follows_history();
-    match admission.admit(SEAT, request) {
-        Ok(_) => Ok(()),
-        Err(Refused::HistoryFull) => unreachable!(),
-        Err(refused) => Err(stream_stop(alloc, place, refused)),
+    if count_places(request.paths.as_slice()).is_none() {
+        return Err(Stop::memory(alloc));
+    }
+    match judge(domain, request) {
+        Ok(Judged { name, tree, .. }) => Ok(Row {
+            no: 0,
+            name,
+            octets: request.octets,
+            tree,
+            admitted: Cycle(0),
+            withdrawn: None,
+        }),
+        Err(refused) => Err(stream_stop(alloc, place + 1, refused)),
     }
 }
 
-/// Admits the streams in turn, where no call was made before.
-fn admit_all(alloc: Global, admission: &mut Admission, requests: &[Request]) -> Result<(), Stop>
-    requires { admission.old.entries ≡ [] }
-    ensures domain { admission.new.domain ≡ admission.old.domain }
-    ensures held { IfOk result (λ _. AreAllHeld admission.new.domain admission.new.entries) }
-    ensures ok { IfOk result (λ _. admitted_from admission.old.domain [] 1 (map asked_of requests.now) ≡ Ok admission.new.entries) }
-    ensures err { IfErr result (IsRefused (admitted_from admission.old.domain [] 1 (map asked_of requests.now))) }
+/// Admits the stream at a place, from 0, where each call so far admitted one.
+fn admit_one(alloc: Global, ledger: &mut Ledger<'_>, place: usize) -> Result<Receipt, Stop>
+    requires there { place < length ledger.old.requests }
+    requires few { place + 1 < 2 ^ 64 }
+    requires held { AreAllHeld ledger.old.administration.domain ledger.old.administration.entries }
+    ensures domain { ledger.new.administration.domain ≡ ledger.old.administration.domain }
+    ensures requests { ledger.new.requests ≡ ledger.old.requests }
+    ensures held { IfOk result (λ _. AreAllHeld ledger.new.administration.domain ledger.new.administration.entries) }
+    ensures one_more { IfOk result (λ receipt.
+        HoldsOneMore ledger.old.administration ledger.new.administration (request_at ledger.old.requests place) (Ok receipt)) }
+    ensures ok { let d = ledger.old.administration.domain in IfOk result (λ _. (more : List Asked) →
+        admitted_from d ledger.old.administration.entries (place + 1) (request_at ledger.old.requests place ∷ more)
+        ≡ admitted_from d ledger.new.administration.entries (place + 1 + 1) more) }
+    ensures err { let d = ledger.old.administration.domain in IfErr result (λ stop. (more : List Asked) →
+        IsRefused (admitted_from d ledger.old.administration.entries (place + 1) (request_at ledger.old.requests place ∷ more)) stop) }
+{
+    state_follows_history();
+    match ledger.admit(SEAT, place) {
+        Ok(receipt) => Ok(receipt),
+        Err(Refused::HistoryFull) => unreachable!(),
+        Err(refused) => Err(stream_stop(alloc, place + 1, refused)),
+    }
+}
+
+/// Lets a ledger know the row of the request at a place.
+fn learn(alloc: Global, ledger: &mut Ledger<'_>, place: usize, row: &Row) -> Result<(), Stop>
+    requires there { place < length ledger.old.requests }
+    requires row { IsRowOfGoodForm ledger.old.administration.domain (request_at ledger.old.requests place) row.now }
+    ensures same { ledger.new ≡ ledger.old }
+    ensures memory { IfErr result (EndsWith 3 []) }
+{
+    match ledger.learn(place, row) {
+        Ok(()) => Ok(()),
+        Err(_) => Err(Stop::memory(alloc)),
+    }
+}
+
+/// Puts a row behind others, with the number and the cycle of its receipt.
+fn push_row(alloc: Global, rows: &mut Vec<Row>, row: Row, receipt: Receipt) -> Result<(), Stop>
+    ensures ok { OnOk result (rows.new.items ≡ rows.old.items ++ record row { no = receipt.no; admitted = receipt.effect } ∷ []) }
+    ensures memory { IfErr result (EndsWith 3 []) }
+{
+    let mut row = row;
+    row.no = receipt.no;
+    row.admitted = receipt.effect;
+    match rows.push(row) {
+        Ok(()) => Ok(()),
+        Err(_) => Err(Stop::memory(alloc)),
+    }
+}
+
+/// Admits the streams in turn by a ledger over them, in which no call was made before, and puts their rows.
+fn admit_all(
+    alloc: Global,
+    domain: &Domain,
+    requests: &[Request],
+    ledger: &mut Ledger<'_>,
+    rows: &mut Vec<Row>,
+) -> Result<(), Stop>
+    requires domain { ledger.old.administration.domain ≡ domain.now }
+    requires begins { ledger.old.administration.entries ≡ [] }
+    requires requests { ledger.old.requests ≡ map asked_of requests.now }
+    requires none { rows.old.items ≡ [] }
+    ensures held { IfOk result (λ _. ArePlanned domain.now ledger.new.administration rows.new.items) }
+    ensures ok { IfOk result (λ _. admitted_from domain.now [] 1 (map asked_of requests.now) ≡ Ok ledger.new.administration.entries) }
+    ensures err { IfErr result (IsRefused (admitted_from domain.now [] 1 (map asked_of requests.now))) }
 {
     // the history is legal: a fact for the loop
-    let _legal = admission.history();
-    for (place, request) in requests.iter().enumerate() {
-        admit_one(alloc, admission, place + 1, request)?;
+    let _legal = ledger.log();
+    for place in 0..requests.len() {
+        let row = match row_at(alloc, domain, &requests[place], place) {
+            Ok(row) => row,
+            Err(stop) => return Err(stop),
+        };
+        learn(alloc, ledger, place, &row)?;
+        let receipt = match admit_one(alloc, ledger, place) {
+            Ok(receipt) => receipt,
+            Err(stop) => return Err(stop),
+        };
+        push_row(alloc, rows, row, receipt)?;
     }
     Ok(())
 }
 
-/// Closes cycle 0 to changes, and gives its table.
-fn close_cycle_0(alloc: Global, admission: &mut Admission) -> Result<Table, Stop>
-    requires { AreAllHeld admission.old.domain admission.old.entries }
-    ensures rows { IfOk result (λ table. table.rows ≡ held_in admission.old.domain admission.old.entries 0) }
-    ensures along { IfOk result (λ table. AreAlongLinks admission.old.domain table.rows) }
-    ensures sound { IfOk result (λ table. (next : ℕ) × AreHeld admission.old.domain table.rows next 0) }
-    ensures memory { IfErr result (EndsWith 3 []) }
+/// Admits the streams in turn by a ledger over them, in which no call was made before: their rows.
+fn rows_with(
+    alloc: Global,
+    domain: &Domain,
+    requests: &[Request],
+    ledger: &mut Ledger<'_>,
+) -> Result<Vec<Row>, Stop>
+    requires domain { ledger.old.administration.domain ≡ domain.now }
+    requires begins { ledger.old.administration.entries ≡ [] }
+    requires requests { ledger.old.requests ≡ map asked_of requests.now }
+    ensures held { IfOk result (λ rows. HoldsAll domain.now (map asked_of requests.now) rows.items) }
+    ensures along { IfOk result (λ rows. AreAlongLinks domain.now rows.items) }
+    ensures sound { IfOk result (λ rows. (next : ℕ) × AreHeld domain.now rows.items next 0) }
+    ensures err { IfErr result (IsRefused (admitted_from domain.now [] 1 (map asked_of requests.now))) }
 {
     state_follows_history();
-    match admission.seal(SEAT) {
-        Ok(table) => Ok(table),
-        Err(SealFault::CyclesSpent) => unreachable!(),
-        Err(SealFault::Memory) => Err(Stop::memory(alloc)),
-    }
+    let mut rows = Vec::new(alloc);
+    admit_all(alloc, domain, requests, ledger, &mut rows)?;
+    Ok(rows)
 }
 
-/// Admits the streams in turn, where no call was made before, and closes cycle 0 to changes: its table.
-fn table_with(alloc: Global, admission: &mut Admission, requests: &[Request]) -> Result<Table, Stop>
-    requires { admission.old.entries ≡ [] }
-    ensures held { IfOk result (HoldsAll admission.old.domain (map asked_of requests.now)) }
-    ensures along { IfOk result (λ table. AreAlongLinks admission.old.domain table.rows) }
-    ensures sound { IfOk result (λ table. (next : ℕ) × AreHeld admission.old.domain table.rows next 0) }
-    ensures err { IfErr result (IsRefused (admitted_from admission.old.domain [] 1 (map asked_of requests.now))) }
-{
-    admit_all(alloc, admission, requests)?;
-    close_cycle_0(alloc, admission)
-}
-
-/// The table of cycle 0, with all streams: each is admitted before it, in their order. The rows are what held streams are: their
-/// trees are trees of the domain, and what they cost of a link is within its budget.
+/// The rows of the table of cycle 0, with all streams, by number: each is admitted before it, in their order. They are what held
+/// streams are: their trees are trees of the domain, and what they cost of a link is within its budget.
 ///
 /// # Errors
 /// With status 1 and the line of the first stream that isn't admitted; and with status 3 for want of memory.
-pub fn table_of_cycle_0(alloc: Global, domain: &Domain, requests: &[Request]) -> Result<Table, Stop>
-    ensures held { IfOk result (HoldsAll domain.now (map asked_of requests.now)) }
-    ensures along { IfOk result (λ table. AreAlongLinks domain.now table.rows) }
-    ensures sound { IfOk result (λ table. (next : ℕ) × AreHeld domain.now table.rows next 0) }
+pub fn rows_of_cycle_0(
+    alloc: Global,
+    domain: &Domain,
+    requests: &[Request],
+) -> Result<Vec<Row>, Stop>
+    ensures held { IfOk result (λ rows. HoldsAll domain.now (map asked_of requests.now) rows.items) }
+    ensures along { IfOk result (λ rows. AreAlongLinks domain.now rows.items) }
+    ensures sound { IfOk result (λ rows. (next : ℕ) × AreHeld domain.now rows.items next 0) }
     ensures err { IfErr result (IsRefused (admitted_from domain.now [] 1 (map asked_of requests.now))) }
 {
-    let Ok(mut admission) = Admission::new(alloc, domain) else {
+    let Ok(mut ledger) = Ledger::new(alloc, domain, requests, &[]) else {
         return Err(Stop::memory(alloc));
     };
-    table_with(alloc, &mut admission, requests)
+    rows_with(alloc, domain, requests, &mut ledger)
 }
 
-/// The domain's configuration with the streams of a table, ready to be told.
-fn config_ready(alloc: Global, domain: &Domain, table: Table) -> Result<ConfigOutput, Memory>
-    requires { AreAlongLinks domain.now table.rows }
-    ensures { IfOk result (λ output. output ≡ record { domain = domain.now; rows = table.rows }) }
+/// The domain's configuration with the streams of these rows, ready to be told.
+fn config_ready(alloc: Global, domain: &Domain, rows: Vec<Row>) -> Result<ConfigOutput, Memory>
+    requires { AreAlongLinks domain.now rows.items }
+    ensures { IfOk result (λ output. output ≡ record { domain = domain.now; rows = rows.items }) }
 {
     let port_list = compiled_list(domain.cycle_time(), domain.guard());
     let port_text = write_tx(alloc, &port_list)?;
@@ -153,7 +224,7 @@ fn config_ready(alloc: Global, domain: &Domain, table: Table) -> Result<ConfigOu
     let sheet = Sheet::new(alloc)?;
     Ok(ConfigOutput {
         plan,
-        table,
+        rows,
         port_text,
         sheet,
     })
@@ -164,8 +235,8 @@ fn config_of(alloc: Global, domain: &Domain, requests: &[Request]) -> Result<Con
     ensures ok { IfOk result (λ output. configuration_of domain.now (map asked_of requests.now) ≡ Ok (text_of_config output)) }
     ensures err { IfErr result (IsRefused (configuration_of domain.now (map asked_of requests.now))) }
 {
-    let table = table_of_cycle_0(alloc, domain, requests)?;
-    match config_ready(alloc, domain, table) {
+    let rows = rows_of_cycle_0(alloc, domain, requests)?;
+    match config_ready(alloc, domain, rows) {
         Ok(output) => Ok(output),
         Err(_) => Err(Stop::memory(alloc)),
     }

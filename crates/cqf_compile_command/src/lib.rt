@@ -3,8 +3,8 @@
 //! - [`compile_output`] is the command's output for its input, a domain and its streams, or the end of the run with the
 //!   line of the input's first fault. [`ConfigOutput::tell`] tells it, and asks for no memory.
 //! - [`read_plan`] has the domain and the streams of an input, and [`stream_stop`] the end where a stream isn't admitted.
-//! - [`table_of_cycle_0`] has the streams of a domain, all admitted before cycle 0, or the end of the run with the line of the
-//!   first that isn't.
+//! - [`rows_of_cycle_0`] has the rows of a domain's streams, all admitted before cycle 0, or the end of the run with the line of
+//!   the first that isn't.
 //!
 //! `specs/CompileOutput.antt` has the value of an input (`compile_input`), and the output for it (`compiled_input`);
 //! `specs/ConfigTold.antt` what an output tells (`text_of_config`).
@@ -21,5 +21,5 @@ mod output;
 mod pieces;
 mod told;
 
-pub use command::{compile_output, read_plan, stream_stop, table_of_cycle_0};
+pub use command::{compile_output, read_plan, rows_of_cycle_0, stream_stop};
 pub use output::ConfigOutput;

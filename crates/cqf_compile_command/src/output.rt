@@ -1,16 +1,16 @@
 //! The output of `compile`, before it is told.
 
-use cqf_admission::Table;
 use cqf_compile::Plan;
+use cqf_model::Row;
 use cqf_press::Sheet;
 use std::marker::Model;
 
-/// What the output of `compile` is told from: the plan of a domain, its streams, the text of the gate list that each port has, and
+/// What the output of `compile` is told from: the plan of a domain, the rows of its streams by number, the text of the gate list that each port has, and
 /// a sheet.
 #[derive(Drop)]
 pub struct ConfigOutput {
     pub(crate) plan: Plan,
-    pub(crate) table: Table,
+    pub(crate) rows: Vec<Row>,
     pub(crate) port_text: Vec<u8>,
     pub(crate) sheet: Sheet,
 }
@@ -20,7 +20,7 @@ impl Model for ConfigOutput {
 
     ghost Value = { ConfiguredPlan };
 
-    ghost view = { λ o. record { domain = o.plan; rows = o.table.rows } };
+    ghost view = { λ o. record { domain = o.plan; rows = o.rows.items } };
 
-    ghost invariant = { λ o. IsReady o.plan o.table.rows o.port_text.items };
+    ghost invariant = { λ o. IsReady o.plan o.rows.items o.port_text.items };
 }

@@ -11,7 +11,6 @@ ghost use Rattle.cqf_report.specs.Books.{name_of_bridge, name_of_link};
 
 use crate::output::ConfigOutput;
 use crate::pieces::{gate_text, row_front};
-use cqf_admission::Table;
 use cqf_compile::{Plan, bridges_of};
 use cqf_model::Row;
 use cqf_press::{Press, Told};
@@ -68,23 +67,23 @@ fn put_row<W: Write>(press: &mut Press<'_, W>, plan: &Plan, row: &Row)
     }
 }
 
-/// Puts each stream of a table, and its gates.
-fn put_rows<W: Write>(press: &mut Press<'_, W>, plan: &Plan, table: &Table)
-    requires { AreAlongLinks plan.now table.now.rows }
-    ensures { Puts W.contents press.old press.new (flat_map (text_of_row plan.now) table.now.rows) }
+/// Puts each stream of some rows, and its gates.
+fn put_rows<W: Write>(press: &mut Press<'_, W>, plan: &Plan, rows: &[Row])
+    requires { AreAlongLinks plan.now rows.now }
+    ensures { Puts W.contents press.old press.new (flat_map (text_of_row plan.now) rows.now) }
 {
-    for row in table.rows() {
+    for row in rows {
         put_row(press, plan, row);
     }
 }
 
-/// Puts the configuration of a plan and the streams of a table, where the text is that of the gate list of each port.
-fn put_config<W: Write>(press: &mut Press<'_, W>, plan: &Plan, table: &Table, port_text: &[u8])
-    requires { IsReady plan.now table.now.rows port_text.now }
-    ensures { Puts W.contents press.old press.new (config_text plan.now table.now.rows) }
+/// Puts the configuration of a plan and the streams of some rows, where the text is that of the gate list of each port.
+fn put_config<W: Write>(press: &mut Press<'_, W>, plan: &Plan, rows: &[Row], port_text: &[u8])
+    requires { IsReady plan.now rows.now port_text.now }
+    ensures { Puts W.contents press.old press.new (config_text plan.now rows.now) }
 {
     put_ports(press, plan.domain(), port_text);
-    put_rows(press, plan, table);
+    put_rows(press, plan, rows);
 }
 
 impl ConfigOutput {
@@ -94,12 +93,12 @@ impl ConfigOutput {
     {
         let ConfigOutput {
             plan,
-            table,
+            rows,
             port_text,
             sheet,
         } = self;
         let mut press = Press::new(told, sheet);
-        put_config(&mut press, &plan, &table, port_text.as_slice());
+        put_config(&mut press, &plan, rows.as_slice(), port_text.as_slice());
         let _told = press.close();
     }
 }

@@ -9,7 +9,7 @@ use Rattle.cqf_deliveries_command.specs.Reading.{ArePlanned}
 
 -- what was found is told of it, for whatever streams its requests and deadlines are those of
 abbrev pub IsCheckedGiven : ℕ → PlannedGiven → Result (List ℕ) (List ℕ) → Type 0
-IsCheckedGiven cycles planned found = (streams : List PlannedText) → ArePlanned streams planned.requests.items planned.deadlines.items →
+IsCheckedGiven cycles planned found = (streams : List PlannedText) → ArePlanned streams planned.given.requests.items planned.deadlines.items →
     IsCheckedScenario cycles (scenario_given planned.given) streams found
 
 -- not all is well, and this tells why; or the run lacks memory

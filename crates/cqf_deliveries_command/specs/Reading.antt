@@ -1,16 +1,14 @@
 -- A scenario that was read with its streams, and the deliveries that were made of it.
 use Rattle.std.specs.Prelude.{ℕ, ◌≡◌, List, Option, Ok, map}
 use Rattle.cqf_admission.specs.Asking.{asked_of}
-use Rattle.cqf_model.specs.Book.{Contents, contents_of}
+use Rattle.cqf_model.specs.Book.{Contents}
 use Rattle.cqf_topology.specs.declared.streams.Request.{Request}
 use Rattle.cqf_topology.specs.PlannedText.{PlannedText, planned_of_text}
 use Rattle.cqf_inputs.specs.Parts.{RunTexts}
 use Rattle.cqf_latency_command.specs.LatencyInput.{asked_in, deadlines_in}
-use Rattle.cqf_laws_report.specs.Judged.{StandInOrder}
-use Rattle.cqf_scenario.specs.declared.runs.Simulated.{Simulated}
 use Rattle.cqf_scenario.specs.Books.{IsBookOfScenario}
-use Rattle.cqf_scenario.specs.Calls.{history_of}
 use Rattle.cqf_scenario.specs.Closing.{MayBeRun, scenario_given}
+use Rattle.cqf_scenario.specs.Logged.{HasOrders}
 use Rattle.cqf_scenario.specs.Scenario.{Scenario}
 use Rattle.cqf_deliveries.specs.declared.delivery.Delivery.{Delivery}
 use Rattle.cqf_deliveries.specs.Deliveries.{deliveries_of}
@@ -28,21 +26,21 @@ pub record ArePlannedIn (text : List ℕ) (requests : List Request) (deadlines :
   pub holds : planned_of_text text ≡ Ok streams
   pub planned : ArePlanned streams requests deadlines
 
--- what a run is given is what some parts have, and may be run; its offers stand in order of instant
+-- what a run is given is what some parts have, and may be run; what its orders name stands there
 pub record IsPlannedIn (cycles : ℕ) (texts : RunTexts) (made : PlannedGiven) : Type 0 where
   pub streams : List PlannedText
   pub holds : planned_scenario_of cycles texts ≡ Ok (scenario_given made.given, streams)
-  pub planned : ArePlanned streams made.requests.items made.deadlines.items
+  pub planned : ArePlanned streams made.given.requests.items made.deadlines.items
   pub may : MayBeRun cycles (scenario_given made.given)
-  pub in_order : StandInOrder made.given.offers.items
+  pub stand : HasOrders made.given
 
 -- it is what the input has
 pub record IsPlannedGiven (cycles : ℕ) (input : List ℕ) (made : PlannedGiven) : Type 0 where
   pub streams : List PlannedText
   pub holds : planned_scenario cycles input ≡ Ok (scenario_given made.given, streams)
-  pub planned : ArePlanned streams made.requests.items made.deadlines.items
+  pub planned : ArePlanned streams made.given.requests.items made.deadlines.items
   pub may : MayBeRun cycles (scenario_given made.given)
-  pub in_order : StandInOrder made.given.offers.items
+  pub stand : HasOrders made.given
 
 -- the deliveries are those in the one-thread book of the scenario
 pub record AreDeliveries (cycles : ℕ) (s : Scenario) (streams : List PlannedText) (deliveries : List Delivery) : Type 0 where
@@ -52,11 +50,5 @@ pub record AreDeliveries (cycles : ℕ) (s : Scenario) (streams : List PlannedTe
 
 -- they are, for whatever streams the requests and the deadlines are those of
 abbrev pub AreDeliveriesOf : ℕ → PlannedGiven → List Delivery → Type 0
-AreDeliveriesOf cycles planned deliveries = (streams : List PlannedText) → ArePlanned streams planned.requests.items planned.deadlines.items →
+AreDeliveriesOf cycles planned deliveries = (streams : List PlannedText) → ArePlanned streams planned.given.requests.items planned.deadlines.items →
     AreDeliveries cycles (scenario_given planned.given) streams deliveries
-
--- what comes of a scenario
-pub record IsMade (cycles : ℕ) (s : Scenario) (made : Simulated) : Type 0 where
-  pub domain : made.admission.domain ≡ s.domain
-  pub entries : made.admission.entries ≡ history_of cycles s
-  pub is_book : IsBookOfScenario cycles s (contents_of made.book)

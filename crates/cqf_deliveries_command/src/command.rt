@@ -1,7 +1,7 @@
 //! The commands `deliveries` and `check`.
 ghost use Rattle.std.specs.Prelude.{◌≡◌, ◌≤◌, true, Ok, Err, IfErr, IfOk};
-ghost use Rattle.cqf_laws_report.specs.Judged.{StandInOrder};
 ghost use Rattle.cqf_scenario.specs.Closing.{MayBeRun, scenario_given};
+ghost use Rattle.cqf_scenario.specs.Logged.{HasOrders};
 ghost use Rattle.cqf_stop.specs.Stops.{EndsWith, IsRefused};
 ghost use Rattle.cqf_deliveries.specs.Checked.{checked_by, complaint_line, finished, is_bad, unfinished_line, well_line};
 ghost use Rattle.cqf_deliveries.specs.Deliveries.{fate_of};
@@ -27,7 +27,7 @@ use std::alloc::Global;
 fn output_of(alloc: Global, cycles: u32, planned: &PlannedGiven) -> Result<DeliveriesOutput, Memory>
     requires short { cycles ≤ 100000 }
     requires may { MayBeRun cycles (scenario_given planned.now.given) }
-    requires order { StandInOrder planned.now.given.offers.items }
+    requires stand { HasOrders planned.now.given }
     ensures { IfOk result (λ output. AreDeliveriesOf cycles planned.now output) }
 {
     let deliveries = deliveries_of_scenario(alloc, cycles, planned)?;
@@ -123,7 +123,7 @@ fn check_made(
 fn check_scenario(alloc: Global, cycles: u32, planned: &PlannedGiven) -> Result<Vec<u8>, Stop>
     requires short { cycles ≤ 100000 }
     requires may { MayBeRun cycles (scenario_given planned.now.given) }
-    requires order { StandInOrder planned.now.given.offers.items }
+    requires stand { HasOrders planned.now.given }
     ensures ok { IfOk result (λ line. IsCheckedGiven cycles planned.now (Ok line.items)) }
     ensures err { IfErr result (IsRefusedGiven cycles planned.now) }
 {

@@ -4,17 +4,18 @@ ghost use Rattle.cqf_units.specs.Timing.{cycle_at};
 ghost use Rattle.cqf_model.specs.Run.{AreOffers};
 ghost use Rattle.cqf_model.specs.Shift.{offer_cycle};
 ghost use Rattle.cqf_model.specs.Traffic.{numbered};
-ghost use Rattle.cqf_laws_report.specs.Judged.{StandInOrder};
 ghost use Rattle.cqf_scenario.specs.Closing.{MayBeRun, scenario_given};
-ghost use Rattle.cqf_deliveries_command.specs.Reading.{AreDeliveriesOf, IsMade};
+ghost use Rattle.cqf_scenario.specs.Logged.{HasOrders};
+ghost use Rattle.cqf_scenario.specs.Ran.{IsRan};
+ghost use Rattle.cqf_deliveries_command.specs.Reading.{AreDeliveriesOf};
 
 use crate::reading::PlannedGiven;
 use cqf_coverage::cover;
 use cqf_deliveries::{Deadlines, Delivery, Ended, deliveries_of};
-use cqf_granted::granted_streams;
+use cqf_granted::granted_of_log;
 use cqf_laws_report::offers_are_judged;
 use cqf_model::Offer;
-use cqf_scenario::{Simulated, run_given};
+use cqf_scenario::{Ran, run_given};
 use cqf_topology::Domain;
 use cqf_units::{Memory, cycle_of};
 use std::alloc::Global;
@@ -24,28 +25,29 @@ fn deliveries_of_run(
     alloc: Global,
     cycles: u32,
     planned: &PlannedGiven,
-    made: &Simulated,
+    ran: &Ran,
 ) -> Result<Vec<Delivery>, Memory>
     requires short { cycles ≤ 100000 }
     requires may { MayBeRun cycles (scenario_given planned.now.given) }
-    requires order { StandInOrder planned.now.given.offers.items }
-    requires made { IsMade cycles (scenario_given planned.now.given) made.now }
+    requires ran { IsRan cycles planned.now.given ran.now }
     ensures { IfOk result (λ deliveries. AreDeliveriesOf cycles planned.now deliveries.items) }
 {
     offers_are_judged();
-    let domain = made.admission.domain();
+    let given = &planned.given;
+    let domain = &given.domain;
     // the domain is accepted: a fact for the instants
     let _accepted = domain.cycle_time();
-    let offers = planned.given.offers.as_slice();
-    let entries = made.admission.history();
-    let rows = granted_streams(alloc, domain, entries)?;
+    let requests = given.requests.as_slice();
+    let script = given.script.as_slice();
+    let offers = given.offers.as_slice();
+    let entries = ran.entries.as_slice();
+    let rows = granted_of_log(alloc, domain, requests, script, entries)?;
     let rows = rows.as_slice();
     let judgements = cover(alloc, domain, rows, offers)?;
     let judgements = judgements.as_slice();
-    let requests = planned.requests.as_slice();
     let ends = planned.deadlines.as_slice();
     let deadlines = Deadlines::new(alloc, requests, ends)?;
-    let starts = made.book.starts.as_slice();
+    let starts = ran.book.starts.as_slice();
     let ended = Ended {
         domain,
         cycles,
@@ -65,11 +67,11 @@ pub(crate) fn deliveries_of_scenario(
 ) -> Result<Vec<Delivery>, Memory>
     requires short { cycles ≤ 100000 }
     requires may { MayBeRun cycles (scenario_given planned.now.given) }
-    requires order { StandInOrder planned.now.given.offers.items }
+    requires stand { HasOrders planned.now.given }
     ensures { IfOk result (λ deliveries. AreDeliveriesOf cycles planned.now deliveries.items) }
 {
-    let made = run_given(alloc, cycles, &planned.given)?;
-    deliveries_of_run(alloc, cycles, planned, &made)
+    let ran = run_given(alloc, cycles, &planned.given)?;
+    deliveries_of_run(alloc, cycles, planned, &ran)
 }
 
 /// Whether an offer is of a cycle that isn't run.

@@ -9,7 +9,6 @@ ghost use Rattle.cqf_deliveries_command.specs.Reading.{ArePlannedIn, IsPlannedGi
 
 use cqf_inputs::{RunParts, domain_part, planned_part, run_parts};
 use cqf_latency_command::parted;
-use cqf_laws_report::offers_stand_in_order;
 use cqf_scenario::{Given, read_behind};
 use cqf_stop::Stop;
 use cqf_topology::Request;
@@ -19,9 +18,7 @@ use std::alloc::Global;
 #[derive(Drop)]
 pub(crate) struct PlannedGiven {
     pub(crate) given: Given,
-    /// The requests for the streams, in the order of their text.
-    pub(crate) requests: Vec<Request>,
-    /// Their deadlines in nanoseconds, where they have one, by the same places.
+    /// The deadlines of its requests in nanoseconds, where they have one, by the same places.
     pub(crate) deadlines: Vec<Option<u32>>,
 }
 
@@ -42,15 +39,10 @@ fn read_planned_parts(alloc: Global, cycles: u32, parts: RunParts<'_>) -> Result
     ensures ok { IfOk result (λ made. IsPlannedIn cycles (texts_of parts.entry) made) }
     ensures err { IfErr result (IsRefused (planned_scenario_of cycles (texts_of parts.entry))) }
 {
-    offers_stand_in_order();
     let domain = domain_part(alloc, parts.domain)?;
     let (requests, deadlines) = read_streams(alloc, parts.streams)?;
-    let given = read_behind(alloc, cycles, domain, requests.as_slice(), parts)?;
-    Ok(PlannedGiven {
-        given,
-        requests,
-        deadlines,
-    })
+    let given = read_behind(alloc, cycles, domain, requests, parts)?;
+    Ok(PlannedGiven { given, deadlines })
 }
 
 /// The scenario of the input with its streams' deadlines, or the end with the line of its first fault.

@@ -199,7 +199,11 @@ fn version_text(alloc: Global) -> Result<String, AllocError>
 fn split_words(alloc: Global, line: &str) -> Result<Vec<&str>, AllocError>
     ensures { IfOk result (λ words. map (λ word. word.now) words.items ≡ slice_split is_space line.now) }
 {
-    line.split(' ').collect(alloc)
+    let mut words = Vec::new(alloc);
+    for word in line.split(' ') {
+        words.push(word)?;
+    }
+    Ok(words)
 }
 
 /// The run of words that are given.

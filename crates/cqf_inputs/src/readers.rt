@@ -1,21 +1,23 @@
 //! The readers of parts that several commands have (profile).
-ghost use Rattle.std.specs.Prelude.{◌≡◌, ◌≢◌, ◌≤◌, [], Ok, IfOk, IfErr, length, map};
+ghost use Rattle.std.specs.Prelude.{◌≡◌, ◌≢◌, ◌≤◌, [], All, Ok, IfOk, IfErr, length, map};
 ghost use Rattle.cqf_admission.specs.Asking.{asked_of};
 ghost use Rattle.cqf_inputs.specs.Lines.{background_line, domain_line, offers_line, script_line, streams_line};
 ghost use Rattle.cqf_model.specs.Run.{AreBackground, AreOffers};
 ghost use Rattle.cqf_report.specs.BackgroundFrames.{background_frames_of};
 ghost use Rattle.cqf_report.specs.Faults.{table_fault_text};
 ghost use Rattle.cqf_report.specs.Offers.{offers_of};
-ghost use Rattle.cqf_script.specs.Script.{AreFew, called_of, script_of};
+ghost use Rattle.cqf_requests.specs.declared.orders.Ordered.{Ordered as AnOrdered};
+ghost use Rattle.cqf_requests.specs.Orders.{StandsIn, ordered_in};
+ghost use Rattle.cqf_script.specs.Script.{AreFew, script_of};
 ghost use Rattle.cqf_stop.specs.Stops.{EndsWith, IsRefused, fault_line, or_line};
 ghost use Rattle.cqf_topology.specs.DomainText.{domain_of_text};
 ghost use Rattle.cqf_topology.specs.PlannedText.{planned_of_text, planned_text};
 ghost use Rattle.cqf_topology.specs.StreamsText.{request_text, streams_of_text};
 
-use cqf_admission::Call;
 use cqf_model::{Background, Offer};
 use cqf_report::{TableFault, read_background, read_offers};
-use cqf_script::{ScriptFault, read_script};
+use cqf_requests::{Names, Ordered};
+use cqf_script::{ScriptFault, read_orders};
 use cqf_stop::Stop;
 use cqf_topology::{
     Domain, DomainFault, Planned, Request, StreamsFault, read_planned_streams, read_streams,
@@ -99,20 +101,21 @@ pub fn planned_part(alloc: Global, text: &[u8]) -> Result<Vec<Planned>, Stop>
     }
 }
 
-/// The calls of a script for so many cycles, each with its seat, where these streams may be admitted. `Err` as
-/// [`domain_part`].
+/// The orders of a script for so many cycles, each by where what it names stands, where these are the names that may be admitted.
+/// `Err` as [`domain_part`].
 pub fn script_part(
     alloc: Global,
-    requests: &[Request],
+    names: &Names<'_>,
     cycles: u32,
     text: &[u8],
-) -> Result<Vec<(u16, Call)>, Stop>
-    ensures ok { IfOk result (λ calls. script_of (map asked_of requests.now) cycles text.now ≡ Ok (map called_of calls.items)) }
-    ensures few { IfOk result (λ calls. AreFew cycles (map called_of calls.items)) }
-    ensures err { IfErr result (IsRefused (or_line script_line (script_of (map asked_of requests.now) cycles text.now))) }
+) -> Result<Vec<Ordered>, Stop>
+    ensures ok { IfOk result (λ orders. script_of (map asked_of names.now) cycles text.now ≡ Ok (map (ordered_in (map asked_of names.now) text.now) orders.items)) }
+    ensures stand { IfOk result (λ orders. All (λ (ordered : AnOrdered). StandsIn (map asked_of names.now) text.now ordered.what) orders.items) }
+    ensures few { IfOk result (λ orders. AreFew cycles (map (ordered_in (map asked_of names.now) text.now) orders.items)) }
+    ensures err { IfErr result (IsRefused (or_line script_line (script_of (map asked_of names.now) cycles text.now))) }
 {
-    match read_script(alloc, text, requests, cycles) {
-        Ok(calls) => Ok(calls),
+    match read_orders(alloc, text, names, cycles) {
+        Ok(orders) => Ok(orders),
         Err(fault) => Err(script_stop(alloc, fault)),
     }
 }

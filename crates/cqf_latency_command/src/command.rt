@@ -14,8 +14,8 @@ use crate::latencies::Latency;
 use crate::listeners::latencies_of;
 use crate::output::LatencyOutput;
 use crate::reading::{parted, read_planned};
-use cqf_admission::Table;
-use cqf_compile_command::table_of_cycle_0;
+use cqf_compile_command::rows_of_cycle_0;
+use cqf_model::Row;
 use cqf_press::Sheet;
 use cqf_stop::{REFUSED, Stop};
 use cqf_topology::{Domain, Planned, Request};
@@ -68,39 +68,39 @@ fn refuse_not_sure(alloc: Global, strict: bool, latencies: &[Latency]) -> Result
     }
 }
 
-/// The latencies of the streams of a table, ready to be told.
+/// The latencies of the streams of a table's rows, ready to be told.
 fn latencies_ready(
     alloc: Global,
     domain: Domain,
-    table: Table,
+    rows: Vec<Row>,
     deadlines: &[Option<u32>],
 ) -> Result<LatencyOutput, Memory>
-    requires along { AreAlongLinks domain table.rows }
-    requires held { (next : ℕ) × AreHeld domain table.rows next 0 }
-    ensures { IfOk result (λ output. output ≡ latencies_of domain table.rows deadlines.now) }
+    requires along { AreAlongLinks domain rows.items }
+    requires held { (next : ℕ) × AreHeld domain rows.items next 0 }
+    ensures { IfOk result (λ output. output ≡ latencies_of domain rows.items deadlines.now) }
 {
-    let costs = Costs::new(alloc, domain, table)?;
+    let costs = Costs::new(alloc, domain, rows)?;
     let latencies = latencies_of(alloc, &costs, deadlines)?;
     let sheet = Sheet::new(alloc)?;
     Ok(LatencyOutput { latencies, sheet })
 }
 
-/// The output for a table.
-fn output_of_table(
+/// The output for a table's rows.
+fn output_of_rows(
     alloc: Global,
     strict: bool,
     domain: Domain,
-    table: Table,
+    rows: Vec<Row>,
     deadlines: &[Option<u32>],
 ) -> Result<LatencyOutput, Stop>
-    requires along { AreAlongLinks domain table.rows }
-    requires held { (next : ℕ) × AreHeld domain table.rows next 0 }
-    ensures ok { let told = unless_strict strict (first_not_sure domain table.rows deadlines.now) (latency_text domain table.rows deadlines.now) in
+    requires along { AreAlongLinks domain rows.items }
+    requires held { (next : ℕ) × AreHeld domain rows.items next 0 }
+    ensures ok { let told = unless_strict strict (first_not_sure domain rows.items deadlines.now) (latency_text domain rows.items deadlines.now) in
         IfOk result (λ output. told ≡ Ok (text_of_latency output)) }
-    ensures err { let told = unless_strict strict (first_not_sure domain table.rows deadlines.now) (latency_text domain table.rows deadlines.now) in
+    ensures err { let told = unless_strict strict (first_not_sure domain rows.items deadlines.now) (latency_text domain rows.items deadlines.now) in
         IfErr result (IsRefused told) }
 {
-    match latencies_ready(alloc, domain, table, deadlines) {
+    match latencies_ready(alloc, domain, rows, deadlines) {
         Ok(output) => {
             refuse_not_sure(alloc, strict, output.latencies.as_slice())?;
             Ok(output)
@@ -126,8 +126,8 @@ fn latency_of(
     ensures ok { IfOk result (λ output. latency_of_plan strict domain (map asked_of requests.now) deadlines.now ≡ Ok (text_of_latency output)) }
     ensures err { IfErr result (IsRefused (latency_of_plan strict domain (map asked_of requests.now) deadlines.now)) }
 {
-    let table = table_of_cycle_0(alloc, &domain, requests)?;
-    output_of_table(alloc, strict, domain, table, deadlines)
+    let rows = rows_of_cycle_0(alloc, &domain, requests)?;
+    output_of_rows(alloc, strict, domain, rows, deadlines)
 }
 
 /// The output for streams with their deadlines.

@@ -16,7 +16,7 @@ use std::alloc::Global;
 
 /// A call of a history.
 #[derive(Clone, Copy)]
-enum Step {
+pub(crate) enum Step {
     Admit(Asked),
     Withdraw(&'static str),
     Seal,
@@ -107,7 +107,7 @@ fn is_taken(alloc: Global, admission: &mut Admission, step: Step) -> bool {
 }
 
 /// Whether all are.
-fn are_taken(alloc: Global, admission: &mut Admission, steps: &[Step]) -> bool {
+pub(crate) fn are_taken(alloc: Global, admission: &mut Admission, steps: &[Step]) -> bool {
     for place in 0..steps.len() {
         if !is_taken(alloc, admission, steps[place]) {
             return false;

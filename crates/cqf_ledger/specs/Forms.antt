@@ -6,6 +6,7 @@ use Rattle.cqf_lists.specs.Lists.{or_else}
 use Rattle.cqf_units.specs.Timing.{cost_of}
 use Rattle.cqf_model.specs.declared.history.Refused.{Refused}
 use Rattle.cqf_model.specs.declared.history.Refused.TheVariants.{AlreadyWithdrawn, BudgetShort, NameHeld, NotHeld, TooManyStreams}
+use Rattle.cqf_model.specs.declared.topology.Row.{Row}
 use Rattle.cqf_model.specs.Domain.{Domain, budget}
 use Rattle.cqf_model.specs.History.{Asked, refused_at, refused_if}
 use Rattle.cqf_model.specs.Table.{links_of, residence}
@@ -34,6 +35,12 @@ pub record IsJudgementOf (d : Domain) (requests : List Request) (asked : Asked) 
   pub resides : judgement.residence ≡ residence (granted_row d 0 0 asked)
   pub linked : judgement.links.items ≡ links_of (granted_row d 0 0 asked)
   pub most_octets : asked.octets ≤ 60000
+
+-- a request of good form, and its row as that of number 0 and of cycle 0
+pub record IsRowOfGoodForm (d : Domain) (asked : Asked) (row : Row) : Type 0 where
+  pub none : form_refusal d asked ≡ None
+  pub most_octets : asked.octets ≤ 60000
+  pub is : row ≡ granted_row d 0 0 asked
 
 -- what is known of a request's form is so
 abbrev pub IsFormOf : Domain → List Request → Asked → Form → Type 0

@@ -1,16 +1,16 @@
 //! What requests are by themselves, each looked over once.
-ghost use Rattle.std.specs.Prelude.{◌≡◌, Contains, IfOk, OnOk, fold, length};
+ghost use Rattle.std.specs.Prelude.{◌≡◌, ◌≤◌, Contains, IfOk, OnOk, fold, length};
 ghost use Rattle.cqf_model.specs.Table.{links_of, residence};
 ghost use Rattle.cqf_admission.specs.Asking.{asked_of};
 ghost use Rattle.cqf_admission.specs.Rows.{mask_of, with_link};
-ghost use Rattle.cqf_ledger.specs.Forms.{AreUnseen, IsFormOf, IsSeen};
+ghost use Rattle.cqf_ledger.specs.Forms.{AreUnseen, IsFormOf, IsRowOfGoodForm, IsSeen};
 
 use cqf_admission::judge;
 use cqf_model::{Refused, Row};
 use cqf_requests::Names;
 use cqf_topology::{Domain, Request};
 use cqf_trees::count_places;
-use cqf_units::{Cycle, Memory, Octets};
+use cqf_units::{Cycle, Memory, Octets, cost};
 use std::alloc::{AllocError, Global};
 
 /// A request of good form.
@@ -111,6 +111,47 @@ pub(crate) fn look_over(
         }
         Err(refused) => Ok(Form::Bad(refused)),
     }
+}
+
+/// The form of a request by its row, as that of number 0 and of cycle 0.
+fn form_by_row(
+    alloc: Global,
+    _domain: &Domain,
+    names: &Names<'_>,
+    request: &Request,
+    row: &Row,
+) -> Result<Form, Memory>
+    requires among { Contains names.now request.now }
+    requires row { IsRowOfGoodForm _domain.now (asked_of request.now) row.now }
+    requires most { row.now.octets ≤ 60000 }
+    ensures { IfOk result (IsFormOf _domain.now names.now (asked_of request.now)) }
+{
+    let Some(name) = names.place_of(request.name.as_str()) else {
+        unreachable!();
+    };
+    let judgement = judgement_of(alloc, name, cost(Octets(row.octets)), row)?;
+    Ok(Form::Good(judgement))
+}
+
+/// Takes a request's form from its row, as that of number 0 and of cycle 0.
+///
+/// # Errors
+/// Where a growth is refused.
+pub(crate) fn take_over(
+    alloc: Global,
+    domain: &Domain,
+    names: &Names<'_>,
+    request: &Request,
+    row: &Row,
+    form: &mut Form,
+) -> Result<(), Memory>
+    requires among { Contains names.now request.now }
+    requires known { IsFormOf domain.now names.now (asked_of request.now) form.old }
+    requires row { IsRowOfGoodForm domain.now (asked_of request.now) row.now }
+    ensures { IsFormOf domain.now names.now (asked_of request.now) form.new }
+{
+    *form = form_by_row(alloc, domain, names, request, row)?;
+    Ok(())
 }
 
 /// Sees to it that a request's form is known.

@@ -7,17 +7,18 @@ ghost use Rattle.cqf_requests.specs.declared.orders.What.TheVariants.{Withdraw};
 ghost use Rattle.cqf_requests.specs.Orders.{StandsIn, request_at, word_at};
 ghost use Rattle.cqf_admission.specs.Asking.{asked_of};
 ghost use Rattle.cqf_admission.specs.Admission.{Answers, EndsOne, HoldsOneMore, held_of};
+ghost use Rattle.cqf_ledger.specs.Forms.{IsRowOfGoodForm};
 ghost use Rattle.cqf_ledger.specs.Ledger.{ClosesCycle, recorded_in};
 ghost use Rattle.cqf_ledger.specs.Running.{AreThere};
 
-use crate::forms::{Form, see, unseen};
+use crate::forms::{Form, see, take_over, unseen};
 use crate::holdings::Holdings;
 use crate::logs::{Logged, enter};
 use crate::slots::{Slots, slot_of};
 use crate::weighing::{find_open, know_domain, taken_of, weigh};
 use cqf_admission::{MOST_CALLS, MOST_SEALS, SealFault};
 use cqf_laws_history::{state_follows_history, streams_follow_history};
-use cqf_model::{Receipt, Refused, Reply};
+use cqf_model::{Receipt, Refused, Reply, Row};
 use cqf_requests::{Names, What, word_of};
 use cqf_topology::{Domain, Request};
 use cqf_units::{Cycle, Memory, Octets};
@@ -182,6 +183,21 @@ impl<'s> Ledger<'s> {
                 Err(refused)
             }
         }
+    }
+
+    /// Takes what the request at this place is by itself from somebody who found its row, so that no call looks it over again.
+    ///
+    /// # Errors
+    /// Where a growth is refused.
+    pub fn learn(&mut self, place: usize, row: &Row) -> Result<(), Memory>
+        requires there { place < length self.old.requests }
+        requires row { IsRowOfGoodForm self.old.administration.domain (request_at self.old.requests place) row.now }
+        ensures { self.new ≡ self.old }
+    {
+        let alloc = self.alloc;
+        let request = &self.requests[place];
+        let form = &mut self.forms[place];
+        take_over(alloc, self.domain, &self.names, request, row, form)
     }
 
     /// Withdraws the stream whose name stands in the script, from a place on and of so many octets. The receipt has its

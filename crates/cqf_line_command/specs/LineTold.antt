@@ -6,4 +6,4 @@ use Rattle.cqf_report.specs.Books.{text_of_book}
 
 -- the text of an output: of its book
 abbrev pub text_of_line : LineOutput → List ℕ
-text_of_line output = text_of_book output.made.admission.domain (contents_of output.made.book)
+text_of_line output = text_of_book output.domain (contents_of output.book)

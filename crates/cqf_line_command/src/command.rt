@@ -1,9 +1,8 @@
 //! The command `line`: the book of one bridge with one stream.
 ghost use Rattle.std.specs.Prelude.{◌≡◌, ◌≤◌, Ok, IfOk, IfErr, length};
-ghost use Rattle.cqf_model.specs.Book.{contents_of};
+ghost use Rattle.cqf_laws_report.specs.Judged.{StandInOrder};
 ghost use Rattle.cqf_model.specs.Run.{AreOffers};
 ghost use Rattle.cqf_press.specs.Edge.{HasTold, writing};
-ghost use Rattle.cqf_report.specs.Books.{text_of_book};
 ghost use Rattle.cqf_stop.specs.Stops.{IsRefused};
 ghost use Rattle.cqf_line_command.specs.Line.{line_domain};
 ghost use Rattle.cqf_line_command.specs.LineTold.{text_of_line};
@@ -15,9 +14,10 @@ use crate::output::LineOutput;
 use cqf_inputs::{offers_part, one_part};
 use cqf_laws_definitions::closed_tables_stay;
 use cqf_laws_history::state_follows_history;
+use cqf_laws_report::offers_stand_in_order;
 use cqf_model::Offer;
 use cqf_press::{Press, Sheet, Told};
-use cqf_scenario::{Simulated, run_given};
+use cqf_scenario::run_given;
 use cqf_stop::Stop;
 use cqf_telling::put_book;
 use cqf_topology::Domain;
@@ -30,29 +30,38 @@ fn read_line(alloc: Global, domain: &Domain, input: &[u8]) -> Result<Vec<Offer>,
     ensures ok { IfOk result (λ offers. offers_input domain.now input.now ≡ Ok offers.items) }
     ensures good { IfOk result (λ offers. AreOffers domain.now offers.items) }
     ensures few { IfOk result (λ offers. length offers.items ≤ 1000000) }
+    ensures order { IfOk result (λ offers. StandInOrder offers.items) }
     ensures err { IfErr result (IsRefused (offers_input domain.now input.now)) }
 {
+    offers_stand_in_order();
     let text = one_part(alloc, input)?;
     offers_part(alloc, domain, text)
 }
 
-/// The book of these offers.
-fn book_of_line(
+/// The output for these offers.
+fn output_of_line(
     alloc: Global,
     domain: Domain,
     offers: Vec<Offer>,
     cycles: u32,
-) -> Result<Simulated, Memory>
+) -> Result<LineOutput, Memory>
     requires domain { domain ≡ line_domain }
     requires offers { AreOffers line_domain offers.items }
     requires few { length offers.items ≤ 1000000 }
+    requires order { StandInOrder offers.items }
     requires short { cycles ≤ 100000 }
-    ensures { IfOk result (λ made. IsBookText cycles offers.items (text_of_book made.admission.domain (contents_of made.book))) }
+    ensures { IfOk result (λ output. IsBookText cycles offers.items (text_of_line output)) }
 {
     state_follows_history();
     closed_tables_stay();
     let given = given_to_line(alloc, domain, offers)?;
-    run_given(alloc, cycles, &given)
+    let ran = run_given(alloc, cycles, &given)?;
+    let sheet = Sheet::new(alloc)?;
+    Ok(LineOutput {
+        domain: given.domain,
+        book: ran.book,
+        sheet,
+    })
 }
 
 impl LineOutput {
@@ -60,9 +69,13 @@ impl LineOutput {
     pub fn tell<W: Write>(self, told: &mut Told<W>)
         ensures { HasTold (writing W.contents told.old told.new) (text_of_line self) }
     {
-        let LineOutput { made, sheet } = self;
+        let LineOutput {
+            domain,
+            book,
+            sheet,
+        } = self;
         let mut press = Press::new(told, sheet);
-        put_book(&mut press, made.admission.domain(), &made.book);
+        put_book(&mut press, &domain, &book);
         let _told = press.close();
     }
 }
@@ -78,11 +91,8 @@ pub fn line_output(alloc: Global, cycles: u32, input: &[u8]) -> Result<LineOutpu
         return Err(Stop::memory(alloc));
     };
     let offers = read_line(alloc, &domain, input)?;
-    let Ok(made) = book_of_line(alloc, domain, offers, cycles) else {
-        return Err(Stop::memory(alloc));
-    };
-    match Sheet::new(alloc) {
-        Ok(sheet) => Ok(LineOutput { made, sheet }),
+    match output_of_line(alloc, domain, offers, cycles) {
+        Ok(output) => Ok(output),
         Err(_) => Err(Stop::memory(alloc)),
     }
 }

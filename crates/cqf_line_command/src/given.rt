@@ -3,9 +3,10 @@ ghost use Rattle.std.specs.Prelude.{◌≡◌, ◌∷◌, [], IfOk, codes, map, 
 ghost use Rattle.cqf_admission.specs.Asking.{asked_of};
 ghost use Rattle.cqf_line_command.specs.Line.{line_asked, line_domain, line_scenario};
 ghost use Rattle.cqf_scenario.specs.Closing.{scenario_given};
+ghost use Rattle.cqf_scenario.specs.Logged.{HasOrders};
 
-use cqf_admission::Call;
 use cqf_model::Offer;
+use cqf_requests::{Ordered, What};
 use cqf_scenario::Given;
 use cqf_topology::{Domain, Request};
 use cqf_units::{Memory, Octets};
@@ -50,13 +51,21 @@ pub(crate) fn given_to_line(
     offers: Vec<Offer>,
 ) -> Result<Given, Memory>
     requires { domain ≡ line_domain }
-    ensures { IfOk result (λ given. scenario_given given ≡ line_scenario offers.items) }
+    ensures given { IfOk result (λ given. scenario_given given ≡ line_scenario offers.items) }
+    ensures stand { IfOk result (λ given. HasOrders given) }
 {
-    let mut calls = Vec::with_capacity(alloc, 1)?;
-    calls.push((ADMINISTRATOR, Call::Admit(request_of_line(alloc)?)))?;
+    let mut requests = Vec::with_capacity(alloc, 1)?;
+    requests.push(request_of_line(alloc)?)?;
+    let mut orders = Vec::with_capacity(alloc, 1)?;
+    orders.push(Ordered {
+        seat: ADMINISTRATOR,
+        what: What::Admit(0),
+    })?;
     Ok(Given {
         domain,
-        calls,
+        requests,
+        script: Vec::new(alloc),
+        orders,
         sealer: SEALER,
         offers,
         background: Vec::new(alloc),

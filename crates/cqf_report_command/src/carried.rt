@@ -5,36 +5,35 @@ ghost use Rattle.cqf_model.specs.Run.{AreOffers};
 ghost use Rattle.cqf_laws_report.specs.Judged.{StandInOrder, judged_of};
 ghost use Rattle.cqf_columns.specs.Columns.{AreSumsBy};
 
-use cqf_admission::Admission;
 use cqf_columns::columns_of;
 use cqf_coverage::cover;
-use cqf_granted::granted_streams;
 use cqf_laws_report::report_is_told;
 use cqf_model::Offer;
 use cqf_report::Column;
+use cqf_scenario::Log;
 use cqf_units::Memory;
 use std::alloc::Global;
 
-/// What each link carries in so many cycles, all of which an administration has closed, when these are the offers: each is
+/// What each link carries in so many cycles, all of which a history has closed, when these are the offers: each is
 /// judged as the definitions say (profile).
 pub(crate) fn carried_columns(
     alloc: Global,
     cycles: u32,
-    admission: &Admission,
+    log: &Log,
     offers: &[Offer],
 ) -> Result<Vec<Column>, Memory>
-    requires offers { AreOffers admission.now.domain offers.now }
+    requires offers { AreOffers log.now.administration.domain offers.now }
     requires order { StandInOrder offers.now }
     requires few { length offers.now ≤ 1000000 }
-    requires closed { seals admission.now.entries ≡ cycles }
-    ensures { IfOk result (λ columns. AreSumsBy admission.now.domain cycles (judged_of admission.now.domain admission.now.entries offers.now) offers.now columns.items) }
+    requires closed { seals log.now.administration.entries ≡ cycles }
+    ensures { IfOk result (λ columns. AreSumsBy log.now.administration.domain cycles (judged_of log.now.administration.domain log.now.administration.entries offers.now) offers.now columns.items) }
 {
     report_is_told();
-    let domain = admission.domain();
-    // the domain is accepted: a fact for the room in the columns
+    let domain = log.domain();
+    // the domain is accepted and the history legal: facts for the room in the columns
     let _accepted = domain.cycle_time();
-    let entries = admission.history();
-    let rows = granted_streams(alloc, domain, entries)?;
+    let _legal = log.entries();
+    let rows = log.granted(alloc)?;
     let rows = rows.as_slice();
     let judgements = cover(alloc, domain, rows, offers)?;
     columns_of(alloc, domain, rows, offers, judgements.as_slice(), cycles)

@@ -10,11 +10,10 @@ ghost use Rattle.cqf_scenario.specs.Scenario.{scenario_input};
 ghost use Rattle.cqf_stop.specs.Stops.{IsRefused};
 
 use crate::carried::carried_columns;
-use cqf_admission::Admission;
-use cqf_laws_report::{book_of_history_is_there, offers_stand_in_order, report_is_told};
+use cqf_laws_report::{book_of_history_is_there, report_is_told};
 use cqf_model::Offer;
 use cqf_report::write_columns;
-use cqf_scenario::administer;
+use cqf_scenario::{Log, administer};
 use cqf_stop::Stop;
 use cqf_units::Memory;
 use std::alloc::Global;
@@ -26,23 +25,23 @@ fn text_of_report(
     rt: &(impl Threads + Sync),
     alloc: Global,
     cycles: u32,
-    admission: &Admission,
+    log: &Log,
     offers: &[Offer],
 ) -> Result<Vec<u8>, Memory>
-    requires offers { AreOffers admission.now.domain offers.now }
+    requires offers { AreOffers log.now.administration.domain offers.now }
     requires order { StandInOrder offers.now }
     requires few { length offers.now ≤ 1000000 }
-    requires closed { seals admission.now.entries ≡ cycles }
-    ensures { IfOk result (λ text. (background : List Background) → AreBackground admission.now.domain background
-        → TellsTheBook admission.now.domain admission.now.entries offers.now background cycles text.items) }
+    requires closed { seals log.now.administration.entries ≡ cycles }
+    ensures { IfOk result (λ text. (background : List Background) → AreBackground log.now.administration.domain background
+        → TellsTheBook log.now.administration.domain log.now.administration.entries offers.now background cycles text.items) }
 {
     report_is_told();
     book_of_history_is_there();
     // the domain is accepted and the history legal: facts for the book
-    let _accepted = admission.domain().cycle_time();
-    let _legal = admission.history();
-    let columns = carried_columns(alloc, cycles, admission, offers)?;
-    write_columns(rt, alloc, admission.domain(), columns.as_slice())
+    let _accepted = log.domain().cycle_time();
+    let _legal = log.entries();
+    let columns = carried_columns(alloc, cycles, log, offers)?;
+    write_columns(rt, alloc, log.domain(), columns.as_slice())
 }
 
 /// The output of `report` over so many cycles, 0 to 100,000: the sums by link of the book of the input's scenario, which is
@@ -62,9 +61,8 @@ pub fn report_output(
     ensures ok { IfOk result (λ output. IsReportOutput cycles input.now output.items) }
     ensures err { IfErr result (IsRefused (scenario_input cycles input.now)) }
 {
-    offers_stand_in_order();
     let made = administer(alloc, cycles, input)?;
-    match text_of_report(rt, alloc, cycles, &made.admission, made.offers.as_slice()) {
+    match text_of_report(rt, alloc, cycles, &made.log, made.offers.as_slice()) {
         Ok(text) => Ok(text),
         Err(_) => Err(Stop::memory(alloc)),
     }

@@ -6,4 +6,4 @@ use Rattle.cqf_run_command.specs.declared.output.RunOutput.{RunOutput}
 
 -- the text of an output: of its history and of its book
 abbrev pub text_of_run : RunOutput → List ℕ
-text_of_run output = run_text output.made.admission.domain output.made.admission.entries (contents_of output.made.book)
+text_of_run output = run_text output.made.log.administration.domain output.made.log.administration.entries (contents_of output.made.book)

@@ -1,32 +1,48 @@
 //! The command `run`: the history and the book of a scenario.
-ghost use Rattle.std.specs.Prelude.{◌≡◌, ◌≤◌, IfErr, IfOk, map};
+ghost use Rattle.std.specs.Prelude.{◌≤◌, ◌++◌, IfErr, IfOk, codes, map};
 ghost use Rattle.cqf_admission.specs.Admission.{recorded_of};
 ghost use Rattle.cqf_model.specs.Book.{contents_of};
 ghost use Rattle.cqf_press.specs.Edge.{HasTold, writing};
 ghost use Rattle.cqf_press.specs.Press.{Puts};
+ghost use Rattle.cqf_report.specs.Books.{text_of_book};
 ghost use Rattle.cqf_run_command.specs.RunOutput.{IsRunOutput, run_text};
 ghost use Rattle.cqf_run_command.specs.RunTold.{text_of_run};
 ghost use Rattle.cqf_scenario.specs.Scenario.{scenario_input};
-ghost use Rattle.cqf_stop.specs.Stops.{IsRefused};
+ghost use Rattle.cqf_stop.specs.Stops.{IsRefused, line_of};
 
 use crate::output::RunOutput;
 use cqf_admission::Entry;
 use cqf_model::Book;
 use cqf_press::{Press, Sheet, Told};
-use cqf_scenario::simulate;
+use cqf_scenario::{Log, simulate};
 use cqf_stop::Stop;
-use cqf_telling::{put_book, put_history};
+use cqf_telling::{put_book, put_history, put_log};
 use cqf_topology::Domain;
 use std::alloc::Global;
 use std::io::Write;
+
+/// Puts a line `%%`, and the text of a book behind it.
+fn put_rest<W: Write>(press: &mut Press<'_, W>, domain: &Domain, book: &Book)
+    ensures { Puts W.contents press.old press.new (line_of (codes "%%") ++ text_of_book domain.now (contents_of book.now)) }
+{
+    press.put(b"%%\n");
+    put_book(press, domain, book);
+}
 
 /// Puts the text of a history and of a book, with a line `%%` between them.
 fn put_run<W: Write>(press: &mut Press<'_, W>, domain: &Domain, history: &[Entry], book: &Book)
     ensures { Puts W.contents press.old press.new (run_text domain.now (map recorded_of history.now) (contents_of book.now)) }
 {
     put_history(press, history);
-    press.put(b"%%\n");
-    put_book(press, domain, book);
+    put_rest(press, domain, book);
+}
+
+/// Puts the same of the history that a log stands for.
+fn put_logged<W: Write>(press: &mut Press<'_, W>, log: &Log, book: &Book)
+    ensures { Puts W.contents press.old press.new (run_text log.now.administration.domain log.now.administration.entries (contents_of book.now)) }
+{
+    put_log(press, log.requests(), log.script(), log.entries());
+    put_rest(press, log.domain(), book);
 }
 
 /// Tells the text of a history and of a book of the domain, with a line `%%` between them. It asks for no memory.
@@ -51,8 +67,9 @@ impl RunOutput {
         ensures { HasTold (writing W.contents told.old told.new) (text_of_run self) }
     {
         let RunOutput { made, sheet } = self;
-        let (domain, history) = (made.admission.domain(), made.admission.history());
-        tell_run(told, sheet, domain, history, &made.book);
+        let mut press = Press::new(told, sheet);
+        put_logged(&mut press, &made.log, &made.book);
+        let _told = press.close();
     }
 }
 

@@ -3,4 +3,4 @@ mod Room
 mod ReadInput
 pub mod BookOf
 mod Commands
-mod InOrder
+mod ExactParts

@@ -6,12 +6,12 @@ use Rattle.cqf_scenario.specs.Calls.{history_of}
 use Rattle.cqf_scenario.specs.Closing.{MayBeRun}
 use Rattle.cqf_scenario.specs.Scenario.{Scenario, scenario_input}
 
--- an administration with the scenario's history over so many cycles, which are all closed, and the scenario's offers
+-- the log of the scenario's history over so many cycles, which are all closed, and the scenario's offers
 pub record IsAdministered (cycles : ℕ) (s : Scenario) (made : Administered) : Type 0 where
   pub may : MayBeRun cycles s
-  pub domain : made.admission.domain ≡ s.domain
-  pub entries : made.admission.entries ≡ history_of cycles s
-  pub closed : seals made.admission.entries ≡ cycles
+  pub domain : made.log.administration.domain ≡ s.domain
+  pub entries : made.log.administration.entries ≡ history_of cycles s
+  pub closed : seals made.log.administration.entries ≡ cycles
   pub offers : made.offers.items ≡ s.offers
 
 -- that of the scenario of an input

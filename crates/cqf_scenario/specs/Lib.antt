@@ -6,3 +6,5 @@ pub mod Parting
 pub mod Parted
 pub mod Opening
 pub mod Administered
+pub mod Logged
+pub mod Ran

@@ -2,12 +2,13 @@
 ghost use Rattle.std.specs.Prelude.{◌≤◌, IfErr, IfOk};
 ghost use Rattle.cqf_scenario.specs.Administered.{IsAdministered, IsAdministeredInput};
 ghost use Rattle.cqf_scenario.specs.Closing.{MayBeRun, scenario_given};
+ghost use Rattle.cqf_scenario.specs.Logged.{HasOrders};
 ghost use Rattle.cqf_scenario.specs.Scenario.{scenario_input};
 ghost use Rattle.cqf_stop.specs.Stops.{IsRefused};
 
-use crate::calls::administer_calls;
+use crate::administering::log_of;
 use crate::given::{Given, read_given};
-use cqf_admission::Admission;
+use crate::logs::Log;
 use cqf_model::Offer;
 use cqf_stop::Stop;
 use cqf_units::Memory;
@@ -16,22 +17,29 @@ use std::alloc::Global;
 /// What comes of the calls of a scenario.
 #[derive(Debug, Drop)]
 pub struct Administered {
-    /// The administration with the history of all calls.
-    pub admission: Admission,
+    /// The log of the history of all calls.
+    pub log: Log,
     pub offers: Vec<Offer>,
 }
 
 /// Administers the calls of a scenario.
-fn administer_given(alloc: Global, cycles: u32, given: Given) -> Result<Administered, Memory>
+fn log_given(alloc: Global, cycles: u32, given: Given) -> Result<Administered, Memory>
     requires short { cycles ≤ 100000 }
     requires may { MayBeRun cycles (scenario_given given) }
+    requires stand { HasOrders given }
     ensures { IfOk result (λ made. IsAdministered cycles (scenario_given given) made) }
 {
-    let mut admission = Admission::new(alloc, &given.domain)?;
-    administer_calls(&mut admission, &given, cycles)?;
+    let entries = log_of(alloc, cycles, &given)?;
+    let Given {
+        domain,
+        requests,
+        script,
+        offers,
+        ..
+    } = given;
     Ok(Administered {
-        admission,
-        offers: given.offers,
+        log: Log::new(domain, requests, script, entries),
+        offers,
     })
 }
 
@@ -48,7 +56,7 @@ pub fn administer(alloc: Global, cycles: u32, input: &[u8]) -> Result<Administer
     ensures err { IfErr result (IsRefused (scenario_input cycles input.now)) }
 {
     let given = read_given(alloc, cycles, input)?;
-    match administer_given(alloc, cycles, given) {
+    match log_given(alloc, cycles, given) {
         Ok(made) => Ok(made),
         Err(_) => Err(Stop::memory(alloc)),
     }

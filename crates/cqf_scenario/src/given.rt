@@ -1,49 +1,73 @@
 //! The scenario of an input.
-ghost use Rattle.std.specs.Prelude.{◌≡◌, ◌≤◌, [], Ok, IfOk, IfErr, length, map, option_map};
+ghost use Rattle.std.specs.Prelude.{◌≡◌, ◌≤◌, [], All, Ok, IfOk, IfErr, length, map, option_map};
 ghost use Rattle.cqf_admission.specs.Asking.{asked_of};
 ghost use Rattle.cqf_inputs.specs.Lines.{script_line};
 ghost use Rattle.cqf_inputs.specs.RunParts.{texts_of};
+ghost use Rattle.cqf_laws_report.specs.Judged.{StandInOrder};
 ghost use Rattle.cqf_model.specs.Run.{AreBackground, AreOffers};
+ghost use Rattle.cqf_requests.specs.declared.orders.Ordered.{Ordered as AnOrdered};
+ghost use Rattle.cqf_requests.specs.Orders.{StandsIn, ordered_in};
 ghost use Rattle.cqf_scenario.specs.Calls.{HasRoom};
 ghost use Rattle.cqf_scenario.specs.Closing.{MayBeRun, scenario_given};
 ghost use Rattle.cqf_scenario.specs.Scenario.{background_in, frames_in, scenario_behind, scenario_input, scenario_of};
-ghost use Rattle.cqf_script.specs.Script.{called_of, script_of};
+ghost use Rattle.cqf_scenario.specs.Logged.{HasOrders};
+ghost use Rattle.cqf_script.specs.Script.{script_of};
 ghost use Rattle.cqf_stop.specs.Stops.{IsRefused, or_line};
 
-use cqf_admission::Call;
 use cqf_inputs::{
     RunParts, background_part, domain_part, offers_part, run_parts, script_part, streams_part,
 };
+use cqf_laws_report::offers_stand_in_order;
 use cqf_model::{Background, Offer};
+use cqf_requests::{Names, Ordered};
 use cqf_script::administrators;
 use cqf_stop::Stop;
 use cqf_topology::{Domain, Request};
+use cqf_units::Memory;
 use std::alloc::Global;
 
 /// What a run is given.
 #[derive(Debug, Drop)]
 pub struct Given {
     pub domain: Domain,
-    /// The calls of the script, in order, each with its seat.
-    pub calls: Vec<(u16, Call)>,
+    /// The requests for the streams that may be admitted.
+    pub requests: Vec<Request>,
+    /// The script's text.
+    pub script: Vec<u8>,
+    /// What its lines order, each by where what it names stands among the requests or in the text.
+    pub orders: Vec<Ordered>,
     /// The seat of the Seals that follow the calls.
     pub sealer: u16,
     pub offers: Vec<Offer>,
     pub background: Vec<Background>,
 }
 
-/// The calls of a script, by the streams that may be admitted.
-fn read_calls(
+/// The orders of a script, by the streams that may be admitted.
+fn read_orders(
     alloc: Global,
     requests: &[Request],
     cycles: u32,
     text: &[u8],
-) -> Result<Vec<(u16, Call)>, Stop>
-    ensures ok { IfOk result (λ calls. or_line script_line (script_of (map asked_of requests.now) cycles text.now) ≡ Ok (map called_of calls.items)) }
-    ensures room { IfOk result (λ calls. HasRoom cycles [] (map called_of calls.items)) }
+) -> Result<Vec<Ordered>, Stop>
+    ensures ok { IfOk result (λ orders. or_line script_line (script_of (map asked_of requests.now) cycles text.now)
+        ≡ Ok (map (ordered_in (map asked_of requests.now) text.now) orders.items)) }
+    ensures stand { IfOk result (λ orders. All (λ (order : AnOrdered). StandsIn (map asked_of requests.now) text.now order.what) orders.items) }
+    ensures room { IfOk result (λ orders. HasRoom cycles [] (map (ordered_in (map asked_of requests.now) text.now) orders.items)) }
     ensures err { IfErr result (IsRefused (or_line script_line (script_of (map asked_of requests.now) cycles text.now))) }
 {
-    script_part(alloc, requests, cycles, text)
+    let Ok(names) = Names::new(alloc, requests) else {
+        return Err(Stop::memory(alloc));
+    };
+    script_part(alloc, &names, cycles, text)
+}
+
+/// A copy of a text.
+fn copy_of(alloc: Global, text: &[u8]) -> Result<Vec<u8>, Memory>
+    ensures { IfOk result (λ copy. copy.items ≡ text.now) }
+{
+    let mut copy = Vec::with_capacity(alloc, text.len())?;
+    copy.extend_from_slice(text)?;
+    Ok(copy)
 }
 
 /// The background frames, where there is a part of them.
@@ -71,11 +95,13 @@ fn read_frames(
 ) -> Result<(Vec<Offer>, Vec<Background>), Stop>
     ensures ok { IfOk result (λ frames. frames_in domain.now (texts_of parts.entry) ≡ Ok (frames.0.items, frames.1.items)) }
     ensures offers { IfOk result (λ frames. AreOffers domain.now frames.0.items) }
+    ensures order { IfOk result (λ frames. StandInOrder frames.0.items) }
     ensures background { IfOk result (λ frames. AreBackground domain.now frames.1.items) }
     ensures few_offers { IfOk result (λ frames. length frames.0.items ≤ 1000000) }
     ensures few_background { IfOk result (λ frames. length frames.1.items ≤ 1000000) }
     ensures err { IfErr result (IsRefused (frames_in domain.now (texts_of parts.entry))) }
 {
+    offers_stand_in_order();
     let offers = offers_part(alloc, domain, parts.offers)?;
     let background = read_background_of(alloc, domain, parts.background)?;
     Ok((offers, background))
@@ -90,18 +116,25 @@ pub fn read_behind(
     alloc: Global,
     cycles: u32,
     domain: Domain,
-    requests: &[Request],
+    requests: Vec<Request>,
     parts: RunParts<'_>,
 ) -> Result<Given, Stop>
-    ensures ok { IfOk result (λ given. scenario_behind cycles domain (map asked_of requests.now) (texts_of parts.entry) ≡ Ok (scenario_given given)) }
+    ensures ok { IfOk result (λ given. scenario_behind cycles domain (map asked_of requests.items) (texts_of parts.entry) ≡ Ok (scenario_given given)) }
+    ensures same { IfOk result (λ given. given.requests.items ≡ requests.items) }
+    ensures stand { IfOk result (λ given. HasOrders given) }
     ensures good { IfOk result (λ given. MayBeRun cycles (scenario_given given)) }
-    ensures err { IfErr result (IsRefused (scenario_behind cycles domain (map asked_of requests.now) (texts_of parts.entry))) }
+    ensures err { IfErr result (IsRefused (scenario_behind cycles domain (map asked_of requests.items) (texts_of parts.entry))) }
 {
-    let calls = read_calls(alloc, requests, cycles, parts.script)?;
+    let orders = read_orders(alloc, requests.as_slice(), cycles, parts.script)?;
     let (offers, background) = read_frames(alloc, &domain, parts)?;
+    let Ok(script) = copy_of(alloc, parts.script) else {
+        return Err(Stop::memory(alloc));
+    };
     Ok(Given {
         domain,
-        calls,
+        requests,
+        script,
+        orders,
         sealer: administrators(parts.script),
         offers,
         background,
@@ -111,17 +144,19 @@ pub fn read_behind(
 /// The scenario of some parts.
 fn read_parts(alloc: Global, cycles: u32, parts: RunParts<'_>) -> Result<Given, Stop>
     ensures ok { IfOk result (λ given. scenario_of cycles (texts_of parts.entry) ≡ Ok (scenario_given given)) }
+    ensures stand { IfOk result (λ given. HasOrders given) }
     ensures good { IfOk result (λ given. MayBeRun cycles (scenario_given given)) }
     ensures err { IfErr result (IsRefused (scenario_of cycles (texts_of parts.entry))) }
 {
     let domain = domain_part(alloc, parts.domain)?;
     let requests = streams_part(alloc, parts.streams)?;
-    read_behind(alloc, cycles, domain, requests.as_slice(), parts)
+    read_behind(alloc, cycles, domain, requests, parts)
 }
 
 /// The scenario of the input, or the end with the line of its first fault.
 pub(crate) fn read_given(alloc: Global, cycles: u32, input: &[u8]) -> Result<Given, Stop>
     ensures ok { IfOk result (λ given. scenario_input cycles input.now ≡ Ok (scenario_given given)) }
+    ensures stand { IfOk result (λ given. HasOrders given) }
     ensures good { IfOk result (λ given. MayBeRun cycles (scenario_given given)) }
     ensures err { IfErr result (IsRefused (scenario_input cycles input.now)) }
 {

@@ -1,17 +1,18 @@
 //! Scenarios: what `run` and `report` are given, and what comes of it on one thread.
 //!
 //! A scenario is a domain, the calls of a script, offers and background frames. Its calls are applied in order, and the
-//! cycles that are still open then are closed; so each cycle has a table. The network runs over these tables.
+//! cycles that are still open then are closed. The network runs over the tables of that history: its book is told by the exact
+//! instants at which frames start, with no port and no gate, but for the ports of links that have background frames.
 //!
-//! - [`simulate`] reads the scenario of an input and runs it: the administration with its history, and the book.
+//! - [`simulate`] reads the scenario of an input and runs it: the log of its history, and the book.
 //! - [`read_behind`] reads the rest of a scenario whose domain and streams were read otherwise, and [`run_given`] runs a
 //!   scenario that was made otherwise.
 //! - [`administer`] reads the scenario of an input and makes its history alone, with no run of the network.
 //! - [`read_opened`] reads a scenario whose cycles are closed while it runs: what its bridges and administrators begin with.
 //!
-//! `specs/` says what an input holds (`Scenario`), which history its calls make (`Calls`), which book is its book
-//! (`Books`), what there is without a run (`Administered`), and what is begun with where cycles are closed while it runs
-//! (`Opening`).
+//! `specs/` says what an input holds (`Scenario`), which history its calls make (`Calls`), what its log stands for (`Logged`),
+//! which book is its book (`Books`, `Ran`), what there is without a run (`Administered`), and what is begun with where cycles
+//! are closed while it runs (`Opening`).
 //!
 //! ```text
 //! a script of the one line "0 admit x" over two cycles has the history
@@ -20,14 +21,17 @@
 #![tactic(auto)]
 
 mod administered;
+mod administering;
 mod calls;
 mod exact;
 mod given;
+mod logs;
 mod opening;
 mod parting;
 mod runs;
 
 pub use administered::{Administered, administer};
 pub use given::{Given, read_behind};
+pub use logs::Log;
 pub use opening::{Opened, read_opened};
-pub use runs::{Simulated, run_given, simulate};
+pub use runs::{Ran, Simulated, run_given, simulate};

@@ -3,6 +3,7 @@ ghost use Rattle.std.specs.Prelude.{◌≡◌, ◌≤◌, [], IfErr, IfOk, map};
 ghost use Rattle.cqf_model.specs.History.{seals};
 ghost use Rattle.cqf_scenario.specs.Calls.{HasRoom, with_calls};
 ghost use Rattle.cqf_scenario.specs.Closing.{MayBeRun, scenario_given};
+ghost use Rattle.cqf_scenario.specs.Logged.{HasOrders};
 ghost use Rattle.cqf_scenario.specs.Opening.{IsOpened, IsOpenedInput};
 ghost use Rattle.cqf_scenario.specs.Scenario.{scenario_input};
 ghost use Rattle.cqf_script.specs.Script.{called_of};
@@ -13,6 +14,7 @@ use crate::given::{Given, read_given};
 use crate::parting::{Parted, part_calls};
 use cqf_admission::{Admission, Call, Command};
 use cqf_model::{Background, Offer};
+use cqf_script::calls_of;
 use cqf_stop::Stop;
 use cqf_topology::Domain;
 use cqf_units::Memory;
@@ -44,15 +46,20 @@ fn open(alloc: Global, domain: &Domain, calls: &[(u16, Call)]) -> Result<Admissi
 
 /// What a scenario's bridges and administrators begin with.
 fn open_given(alloc: Global, cycles: u32, given: Given) -> Result<Opened, Memory>
-    requires { MayBeRun cycles (scenario_given given) }
+    requires may { MayBeRun cycles (scenario_given given) }
+    requires stand { HasOrders given }
     ensures { IfOk result (λ made. IsOpened cycles (scenario_given given) made) }
 {
+    let requests = given.requests.as_slice();
+    let script = given.script.as_slice();
+    let orders = given.orders.as_slice();
+    let calls = calls_of(alloc, script, requests, orders)?;
     let Given {
         domain,
-        calls,
         sealer,
         offers,
         background,
+        ..
     } = given;
     let Parted { opening, commands } = part_calls(alloc, calls, sealer)?;
     let admission = open(alloc, &domain, opening.as_slice())?;

@@ -1,112 +1,92 @@
 //! A scenario, run on one thread.
-ghost use Rattle.std.specs.Prelude.{◌≡◌, ◌≤◌, [], IfErr, IfOk};
+ghost use Rattle.std.specs.Prelude.{◌≡◌, ◌≤◌, IfErr, IfOk};
 ghost use Rattle.cqf_model.specs.Book.{contents_of};
-ghost use Rattle.cqf_laws_report.specs.Judged.{StandInOrder};
-ghost use Rattle.cqf_model.specs.History.{seals};
+ghost use Rattle.cqf_model.specs.History.{IsLegalHistory, seals};
 ghost use Rattle.cqf_scenario.specs.Books.{IsBookOfScenario, IsSimulated};
 ghost use Rattle.cqf_scenario.specs.Calls.{history_of};
-ghost use Rattle.cqf_scenario.specs.Closing.{HasClosed, MayBeRun, scenario_given};
+ghost use Rattle.cqf_scenario.specs.Closing.{MayBeRun, scenario_given};
+ghost use Rattle.cqf_scenario.specs.Logged.{HasOrders, entries_in};
+ghost use Rattle.cqf_scenario.specs.Ran.{IsRan};
 ghost use Rattle.cqf_scenario.specs.Scenario.{scenario_input};
 ghost use Rattle.cqf_stop.specs.Stops.{IsRefused};
 
-use crate::calls::{administer_calls, close_cycles};
-use crate::exact::{exact_book, stand_in_order};
+use crate::administering::log_of;
+use crate::exact::exact_book;
 use crate::given::{Given, read_given};
-use cqf_admission::{Admission, Table};
-use cqf_compile::compile;
+use crate::logs::Log;
+use cqf_ledger::Logged;
 use cqf_model::Book;
-use cqf_plain::{RunFault, run};
 use cqf_stop::Stop;
 use cqf_units::Memory;
-use std::alloc::{AllocError, Global};
+use std::alloc::Global;
 
-/// What comes of a scenario: its administration with the history of all calls, and the book.
+/// What comes of a scenario that is run.
 #[derive(Debug, Drop)]
-pub struct Simulated {
-    pub admission: Admission,
+pub struct Ran {
+    /// The log of its history, over its own requests and script.
+    pub entries: Vec<Logged>,
     pub book: Book,
 }
 
-/// The book of a scenario, whose cycles an administration has closed.
-fn book_of(
+/// What comes of the scenario of an input: the log of its history, and the book.
+#[derive(Debug, Drop)]
+pub struct Simulated {
+    pub log: Log,
+    pub book: Book,
+}
+
+/// The book of a scenario that has this log, by the exact instants at which its frames start.
+fn book_by_log(
     alloc: Global,
-    admission: &Admission,
-    tables: &[Table],
-    given: &Given,
     cycles: u32,
+    given: &Given,
+    entries: &[Logged],
 ) -> Result<Book, Memory>
-    requires short { cycles ≤ 100000 }
     requires may { MayBeRun cycles (scenario_given given.now) }
-    requires domain { admission.now.domain ≡ given.now.domain }
-    requires entries { admission.now.entries ≡ history_of cycles (scenario_given given.now) }
-    requires closed { HasClosed admission.now tables.now }
-    requires all { seals admission.now.entries ≡ cycles }
+    requires entries { entries_in given.now entries.now ≡ history_of cycles (scenario_given given.now) }
+    requires legal { IsLegalHistory given.now.domain (entries_in given.now entries.now) }
+    requires closed { seals (entries_in given.now entries.now) ≡ cycles }
     ensures { IfOk result (λ book. IsBookOfScenario cycles (scenario_given given.now) (contents_of book)) }
 {
-    // the history is legal: a fact for the book
-    let _legal = admission.history();
-    let plan = compile(alloc, &given.domain)?;
-    let offers = given.offers.as_slice();
-    let background = given.background.as_slice();
-    match run(alloc, &plan, tables, offers, background, cycles) {
-        Ok(book) => Ok(book),
-        Err(fault) => match fault {
-            RunFault::Memory => Err(AllocError),
-            // there is one table a cycle, and nothing is lost under the tables of a history
-            RunFault::WrongTables | RunFault::Inside(_) => unreachable!(),
-        },
-    }
-}
-
-/// A scenario with its tables, run port by port.
-fn run_by_ports(alloc: Global, cycles: u32, given: &Given) -> Result<Simulated, Memory>
-    requires short { cycles ≤ 100000 }
-    requires may { MayBeRun cycles (scenario_given given.now) }
-    ensures domain { IfOk result (λ made. made.admission.domain ≡ given.now.domain) }
-    ensures entries { IfOk result (λ made. made.admission.entries ≡ history_of cycles (scenario_given given.now)) }
-    ensures book { IfOk result (λ made. IsBookOfScenario cycles (scenario_given given.now) (contents_of made.book)) }
-{
-    let mut admission = Admission::new(alloc, &given.domain)?;
-    let tables = close_cycles(alloc, &mut admission, given, cycles)?;
-    let book = book_of(alloc, &admission, tables.as_slice(), given, cycles)?;
-    Ok(Simulated { admission, book })
-}
-
-/// A scenario with no background frame, run by the exact instants at which its streams' frames start.
-fn run_by_instants(alloc: Global, cycles: u32, given: &Given) -> Result<Simulated, Memory>
-    requires short { cycles ≤ 100000 }
-    requires may { MayBeRun cycles (scenario_given given.now) }
-    requires order { StandInOrder given.now.offers.items }
-    requires quiet { given.now.background.items ≡ [] }
-    ensures domain { IfOk result (λ made. made.admission.domain ≡ given.now.domain) }
-    ensures entries { IfOk result (λ made. made.admission.entries ≡ history_of cycles (scenario_given given.now)) }
-    ensures book { IfOk result (λ made. IsBookOfScenario cycles (scenario_given given.now) (contents_of made.book)) }
-{
-    let mut admission = Admission::new(alloc, &given.domain)?;
-    administer_calls(&mut admission, given, cycles)?;
-    let book = exact_book(alloc, cycles, &admission, given.offers.as_slice())?;
-    Ok(Simulated { admission, book })
+    exact_book(alloc, cycles, given, entries)
 }
 
 /// Runs a scenario over so many cycles, 0 to 100,000: its calls are applied in order, and then the cycles that are still open are
-/// closed, by the seat of the Seals; the book is that of the history on one thread. Its offers are at bridges of its domain and
-/// its background frames on links of it, at most 1,000,000 each; its calls are at most as many Seals as cycles, and at most
-/// 100,000 others (profile).
+/// closed, by the seat of the Seals; the book is that of the history on one thread. What its orders name stands among its requests
+/// and in its script. Its offers are at bridges of its domain, in order of instant, and its background frames on links of it, at
+/// most 1,000,000 each; its calls are at most as many Seals as cycles, and at most 100,000 others (profile).
 ///
 /// # Errors
 /// Where a growth is refused.
-pub fn run_given(alloc: Global, cycles: u32, given: &Given) -> Result<Simulated, Memory>
+pub fn run_given(alloc: Global, cycles: u32, given: &Given) -> Result<Ran, Memory>
     requires short { cycles ≤ 100000 }
     requires may { MayBeRun cycles (scenario_given given.now) }
-    ensures domain { IfOk result (λ made. made.admission.domain ≡ given.now.domain) }
-    ensures entries { IfOk result (λ made. made.admission.entries ≡ history_of cycles (scenario_given given.now)) }
-    ensures book { IfOk result (λ made. IsBookOfScenario cycles (scenario_given given.now) (contents_of made.book)) }
+    requires stand { HasOrders given.now }
+    ensures { IfOk result (λ ran. IsRan cycles given.now ran) }
 {
-    if given.background.is_empty() && stand_in_order(given.offers.as_slice()) {
-        run_by_instants(alloc, cycles, given)
-    } else {
-        run_by_ports(alloc, cycles, given)
-    }
+    let entries = log_of(alloc, cycles, given)?;
+    let book = book_by_log(alloc, cycles, given, entries.as_slice())?;
+    Ok(Ran { entries, book })
+}
+
+/// Runs the scenario of an input.
+fn simulate_given(alloc: Global, cycles: u32, given: Given) -> Result<Simulated, Memory>
+    requires short { cycles ≤ 100000 }
+    requires may { MayBeRun cycles (scenario_given given) }
+    requires stand { HasOrders given }
+    ensures domain { IfOk result (λ made. made.log.administration.domain ≡ given.domain) }
+    ensures entries { IfOk result (λ made. made.log.administration.entries ≡ history_of cycles (scenario_given given)) }
+    ensures book { IfOk result (λ made. IsBookOfScenario cycles (scenario_given given) (contents_of made.book)) }
+{
+    let Ran { entries, book } = run_given(alloc, cycles, &given)?;
+    let Given {
+        domain,
+        requests,
+        script,
+        ..
+    } = given;
+    let log = Log::new(domain, requests, script, entries);
+    Ok(Simulated { log, book })
 }
 
 /// Reads the scenario of an input and runs it over so many cycles, 0 to 100,000. All of the input is read before anything is
@@ -118,11 +98,11 @@ pub fn run_given(alloc: Global, cycles: u32, given: &Given) -> Result<Simulated,
 /// offers, or the background frames; and with status 3 for want of memory.
 pub fn simulate(alloc: Global, cycles: u32, input: &[u8]) -> Result<Simulated, Stop>
     requires { cycles ≤ 100000 }
-    ensures ok { IfOk result (λ made. IsSimulated cycles input.now made.admission (contents_of made.book)) }
+    ensures ok { IfOk result (λ made. IsSimulated cycles input.now made.log.administration (contents_of made.book)) }
     ensures err { IfErr result (IsRefused (scenario_input cycles input.now)) }
 {
     let given = read_given(alloc, cycles, input)?;
-    match run_given(alloc, cycles, &given) {
+    match simulate_given(alloc, cycles, given) {
         Ok(made) => Ok(made),
         Err(_) => Err(Stop::memory(alloc)),
     }

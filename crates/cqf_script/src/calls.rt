@@ -213,6 +213,28 @@ fn call_of(
     Ok((order.seat, call))
 }
 
+/// The calls that are ordered, each with its seat, and with a copy of its request or its name. What the orders name stands among
+/// these requests and in this text. The time grows with the orders and with what is copied.
+///
+/// # Errors
+/// Where a growth is refused.
+pub fn calls_of(
+    alloc: Global,
+    text: &[u8],
+    requests: &[Request],
+    orders: &[Ordered],
+) -> Result<Vec<(u16, Call)>, Memory>
+    requires { All (λ (ordered : AnOrdered). StandsIn (map asked_of requests.now) text.now ordered.what) orders.now }
+    ensures { IfOk result (λ calls. map called_of calls.items ≡ map (ordered_in (map asked_of requests.now) text.now) orders.now) }
+{
+    let mut calls = Vec::new(alloc);
+    for order in orders {
+        let call = call_of(alloc, text, requests, *order)?;
+        calls.push(call)?;
+    }
+    Ok(calls)
+}
+
 /// The calls of a script for so many cycles, with the seat of each, where these streams may be admitted.
 ///
 /// Each line is `N admit NAME`, `N withdraw NAME` or `seal`, with single spaces: `N` is one digit from 0 to 7, the
@@ -235,10 +257,6 @@ pub fn read_script(
 {
     let names = Names::new(alloc, requests)?;
     let orders = read_orders(alloc, text, &names, cycles)?;
-    let mut calls = Vec::new(alloc);
-    for order in orders.as_slice() {
-        let call = call_of(alloc, text, requests, *order)?;
-        calls.push(call).map_err(|_| ScriptFault::Memory)?;
-    }
+    let calls = calls_of(alloc, text, requests, orders.as_slice())?;
     Ok(calls)
 }

@@ -1,7 +1,7 @@
 //! Scripts: what administrators call for, and when cycles close, line by line.
 //!
 //! - [`read_script`] reads the calls of a script, each with its seat, and [`administrators`] the seat of its Seals.
-//!   [`read_orders`] reads the same without a copy of what is named.
+//!   [`read_orders`] reads the same without a copy of what is named, and [`calls_of`] gives the calls of such orders.
 //! - [`ScriptFault`] says why a script is refused, and at which line.
 //!
 //! With a stream `x` among the requests, and two cycles:
@@ -19,5 +19,5 @@ mod calls;
 mod faults;
 mod lines;
 
-pub use calls::{administrators, read_orders, read_script};
+pub use calls::{administrators, calls_of, read_orders, read_script};
 pub use faults::ScriptFault;

@@ -1,9 +1,9 @@
 -- The streams of a bridge, one more with each step, and what is noted of the ways by which they come.
-use Rattle.std.proofs.Common.{ℕ, ◌≡◌, ◌<◌, ◌+◌, ◌++◌, ◌==◌, ◌∙◌, ◌||◌, Bool, true, false, not, List, [], ◌∷◌, Option, Some, None, add-one, ap, arith, cond, eq-eqb, get_or, inl, inr, length, map, refl, set, subst, sym, take}
+use Rattle.std.proofs.Common.{ℕ, ◌≡◌, ◌<◌, ◌+◌, ◌++◌, ◌==◌, ◌∙◌, ◌||◌, Bool, true, false, not, List, [], ◌∷◌, Option, Some, None, add-one, ap, arith, cond, eq-eqb, get_or, inl, inr, length, refl, set, subst, sym, take}
 use Rattle.std.specs.Prelude.{replicate, slice_get}
 use Rattle.std.specs.List.{list_any}
 use Rattle.std.specs.Option.{option_map_or}
-use Rattle.std.proofs.lemmas.List.{get_or-map, get_or-replicate, get_or-set_other, get_or-set_same, length-map, length-set, take_more}
+use Rattle.std.proofs.lemmas.List.{get_or-replicate, get_or-set_other, get_or-set_same, length-set, take_more}
 use Rattle.std.proofs.lemmas.Bool.Decides.{eqb_tells}
 use Rattle.std.proofs.lemmas.List.Folds.{list_any-append, list_any_at, list_any_more}
 use Rattle.std.proofs.lemmas.Option.{same_Some, slice_get-get_or, slice_get_read, slice_get_within}
@@ -17,14 +17,12 @@ use Rattle.cqf_tc_command.specs.TcBridge.{comes_by, first_hop, is_new, stream_at
 use Rattle.cqf_tc_command.specs.TcWays.{IsSeen, Notes, is_unseen}
 
 -- the row at a place of a loop, and the rows up to it
-pub row_at : {X : Type 0} (f : X → Row) (items : List X) (k : ℕ) (item : X) → k < length items → item ≡ get_or items k item →
-    (slice_get (map f items) k ≡ Some (f item)) × (take (k + 1) (map f items) ≡ take k (map f items) ++ f item ∷ [])
-row_at f items k item inside is =
-    let low : k < length (map f items) = omega (arith, inside, length-map items f) in
-    let same : get_or (map f items) k (f item) ≡ f item = get_or-map f items k item (f item) inside ∙ ap f (sym is) in (
-      slice_get_read (map f items) (length (map f items)) k (f item) refl low (sym same),
-      take_more (map f items) k (f item) low ∙ ap (λ (x : Row). take k (map f items) ++ x ∷ []) same,
-    )
+pub row_at : (rows : List Row) (k : ℕ) (row : Row) → k < length rows → row ≡ get_or rows k row →
+    (slice_get rows k ≡ Some row) × (take (k + 1) rows ≡ take k rows ++ row ∷ [])
+row_at rows k row inside is = (
+  slice_get_read rows (length rows) k row refl inside is,
+  take_more rows k row inside ∙ ap (λ (x : Row). take k rows ++ x ∷ []) (sym is),
+)
 
 -- one more text behind those so far
 pub stream_more : (text : List Row → Row → List ℕ) (rows : List Row) (k : ℕ) (row : Row) → slice_get rows k ≡ Some row →

@@ -1,6 +1,5 @@
 //! What a bridge does in the script.
-ghost use Rattle.std.specs.Arc.{arc_value};
-ghost use Rattle.std.specs.Prelude.{◌≡◌, ◌==◌, [], map, Some, None, if◌then◌else◌};
+ghost use Rattle.std.specs.Prelude.{◌≡◌, ◌==◌, [], Some, None, if◌then◌else◌};
 ghost use Rattle.std.specs.List.{flat_map, list_any};
 ghost use Rattle.std.specs.Option.{option_map_or};
 ghost use Rattle.cqf_model.specs.declared.topology.Link.{Link as ALink};
@@ -15,7 +14,6 @@ use cqf_press::Press;
 use cqf_telling::{put_bridge, put_link};
 use cqf_topology::Domain;
 use std::io::Write;
-use std::sync::Arc;
 
 /// Puts the name of a node. One that the domain lacks has none.
 fn put_node<W: Write>(press: &mut Press<'_, W>, domain: &Domain, node: Node)
@@ -317,8 +315,8 @@ fn put_needs_of<W: Write>(
 }
 
 /// Puts what the streams need that leave the bridge.
-fn put_needs<W: Write>(press: &mut Press<'_, W>, domain: &Domain, bridge: u8, rows: &[Arc<Row>])
-    ensures { Puts W.contents press.old press.new (each_stream (stream_needs domain.now bridge) (map (λ row. arc_value row) rows.now)) }
+fn put_needs<W: Write>(press: &mut Press<'_, W>, domain: &Domain, bridge: u8, rows: &[Row])
+    ensures { Puts W.contents press.old press.new (each_stream (stream_needs domain.now bridge) rows.now) }
 {
     let mut seen = [false; 256];
     for row in rows {
@@ -346,8 +344,8 @@ fn put_clearing_of<W: Write>(press: &mut Press<'_, W>, row: &Row, way: Option<(O
 }
 
 /// Puts the lines that clear the interfaces by which streams come.
-fn put_clearings<W: Write>(press: &mut Press<'_, W>, domain: &Domain, bridge: u8, rows: &[Arc<Row>])
-    ensures { Puts W.contents press.old press.new (each_stream (stream_clearing domain.now bridge) (map (λ row. arc_value row) rows.now)) }
+fn put_clearings<W: Write>(press: &mut Press<'_, W>, domain: &Domain, bridge: u8, rows: &[Row])
+    ensures { Puts W.contents press.old press.new (each_stream (stream_clearing domain.now bridge) rows.now) }
 {
     let mut seen = [false; 256];
     for row in rows {
@@ -366,8 +364,8 @@ fn put_stream<W: Write>(press: &mut Press<'_, W>, domain: &Domain, bridge: u8, r
 }
 
 /// Puts the lines of the streams that leave the bridge.
-fn put_streams<W: Write>(press: &mut Press<'_, W>, domain: &Domain, bridge: u8, rows: &[Arc<Row>])
-    ensures { Puts W.contents press.old press.new (flat_map (stream_gates domain.now bridge) (map (λ row. arc_value row) rows.now)) }
+fn put_streams<W: Write>(press: &mut Press<'_, W>, domain: &Domain, bridge: u8, rows: &[Row])
+    ensures { Puts W.contents press.old press.new (flat_map (stream_gates domain.now bridge) rows.now) }
 {
     for row in rows {
         put_stream(press, domain, bridge, row);
@@ -379,9 +377,9 @@ pub(crate) fn put_bridge_function<W: Write>(
     press: &mut Press<'_, W>,
     domain: &Domain,
     bridge: u8,
-    rows: &[Arc<Row>],
+    rows: &[Row],
 )
-    ensures { Puts W.contents press.old press.new (bridge_text domain.now (map (λ row. arc_value row) rows.now) bridge) }
+    ensures { Puts W.contents press.old press.new (bridge_text domain.now rows.now bridge) }
 {
     press.put(b"bridge_");
     press.put_number(bridge);

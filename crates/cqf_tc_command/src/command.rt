@@ -7,18 +7,18 @@ ghost use Rattle.cqf_tc_command.specs.TcOutput.{tc_of, tc_of_input, text_of_tc};
 
 use crate::output::TcOutput;
 use crate::words::{write_gate_words, write_tx_words};
-use cqf_admission::Table;
-use cqf_compile_command::{read_plan, table_of_cycle_0};
+use cqf_compile_command::{read_plan, rows_of_cycle_0};
 use cqf_gates::compiled_list;
+use cqf_model::Row;
 use cqf_press::Sheet;
 use cqf_stop::Stop;
 use cqf_topology::{Domain, Request};
 use cqf_units::Memory;
 use std::alloc::Global;
 
-/// The script of a domain with the streams of a table, ready to be told.
-fn script_ready(alloc: Global, domain: Domain, table: Table) -> Result<TcOutput, Memory>
-    ensures { IfOk result (λ output. output ≡ record { domain = domain; rows = table.rows }) }
+/// The script of a domain with the streams of these rows, ready to be told.
+fn script_ready(alloc: Global, domain: Domain, rows: Vec<Row>) -> Result<TcOutput, Memory>
+    ensures { IfOk result (λ output. output ≡ record { domain = domain; rows = rows.items }) }
 {
     let port_list = compiled_list(domain.cycle_time(), domain.guard());
     let port_words = write_tx_words(alloc, &port_list)?;
@@ -26,7 +26,7 @@ fn script_ready(alloc: Global, domain: Domain, table: Table) -> Result<TcOutput,
     let sheet = Sheet::new(alloc)?;
     Ok(TcOutput {
         domain,
-        table,
+        rows,
         port_words,
         gate_words,
         sheet,
@@ -39,8 +39,8 @@ fn script_of(alloc: Global, domain: Domain, requests: &[Request]) -> Result<TcOu
     ensures err { IfErr result (IsRefused (tc_of domain (map asked_of requests.now))) }
     ensures as_compile { IfErr result (IsRefused (configuration_of domain (map asked_of requests.now))) }
 {
-    let table = table_of_cycle_0(alloc, &domain, requests)?;
-    match script_ready(alloc, domain, table) {
+    let rows = rows_of_cycle_0(alloc, &domain, requests)?;
+    match script_ready(alloc, domain, rows) {
         Ok(output) => Ok(output),
         Err(_) => Err(Stop::memory(alloc)),
     }

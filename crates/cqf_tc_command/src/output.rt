@@ -1,16 +1,16 @@
 //! The output of `compile --format tc`, before it is told.
 
-use cqf_admission::Table;
+use cqf_model::Row;
 use cqf_press::Sheet;
 use cqf_topology::Domain;
 use std::marker::Model;
 
-/// What the output of `compile --format tc` is told from: a domain, its streams, the words of the list that each port has and of the
+/// What the output of `compile --format tc` is told from: a domain, the rows of its streams by number, the words of the list that each port has and of the
 /// list that each stream's gate has, and a sheet.
 #[derive(Drop)]
 pub struct TcOutput {
     pub(crate) domain: Domain,
-    pub(crate) table: Table,
+    pub(crate) rows: Vec<Row>,
     pub(crate) port_words: Vec<u8>,
     pub(crate) gate_words: Vec<u8>,
     pub(crate) sheet: Sheet,
@@ -22,7 +22,7 @@ impl Model for TcOutput {
 
     ghost Value = { ConfiguredPlan };
 
-    ghost view = { λ o. record { domain = o.domain; rows = o.table.rows } };
+    ghost view = { λ o. record { domain = o.domain; rows = o.rows.items } };
 
     ghost invariant = { λ o. AreWordsOf o.domain o.port_words.items o.gate_words.items };
 }

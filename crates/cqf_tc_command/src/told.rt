@@ -1,6 +1,4 @@
 //! The script, told line by line.
-ghost use Rattle.std.specs.Arc.{arc_value};
-ghost use Rattle.std.specs.Prelude.{map};
 ghost use Rattle.cqf_press.specs.Edge.{HasTold, writing};
 ghost use Rattle.cqf_press.specs.Press.{Puts};
 ghost use Rattle.cqf_tc_command.specs.TcOutput.{AreWordsOf, text_of_tc};
@@ -15,11 +13,10 @@ use cqf_model::Row;
 use cqf_press::{Press, Told};
 use cqf_topology::Domain;
 use std::io::Write;
-use std::sync::Arc;
 
 /// Puts a function a bridge.
-fn put_bridges<W: Write>(press: &mut Press<'_, W>, domain: &Domain, rows: &[Arc<Row>])
-    ensures { Puts W.contents press.old press.new (bridges_text domain.now (map (λ row. arc_value row) rows.now)) }
+fn put_bridges<W: Write>(press: &mut Press<'_, W>, domain: &Domain, rows: &[Row])
+    ensures { Puts W.contents press.old press.new (bridges_text domain.now rows.now) }
 {
     for bridge in 0..domain.bridges() {
         put_bridge_function(press, domain, bridge, rows);
@@ -30,12 +27,12 @@ fn put_bridges<W: Write>(press: &mut Press<'_, W>, domain: &Domain, rows: &[Arc<
 fn put_script<W: Write>(
     press: &mut Press<'_, W>,
     domain: &Domain,
-    rows: &[Arc<Row>],
+    rows: &[Row],
     port_words: &[u8],
     gate_words: &[u8],
 )
     requires { AreWordsOf domain.now port_words.now gate_words.now }
-    ensures { Puts W.contents press.old press.new (tc_text domain.now (map (λ row. arc_value row) rows.now)) }
+    ensures { Puts W.contents press.old press.new (tc_text domain.now rows.now) }
 {
     put_usage(press, domain);
     put_given(press, domain);
@@ -53,7 +50,7 @@ impl TcOutput {
     {
         let TcOutput {
             domain,
-            table,
+            rows,
             port_words,
             gate_words,
             sheet,
@@ -62,7 +59,7 @@ impl TcOutput {
         put_script(
             &mut press,
             &domain,
-            table.rows(),
+            rows.as_slice(),
             port_words.as_slice(),
             gate_words.as_slice(),
         );

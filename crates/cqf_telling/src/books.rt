@@ -50,7 +50,12 @@ fn put_started<W: Write>(press: &mut Press<'_, W>, what: &[u8], domain: &Domain,
 }
 
 /// Puts a line for each transmission, which begins with the word for what they are.
-pub fn put_starts<W: Write>(press: &mut Press<'_, W>, what: &[u8], domain: &Domain, starts: &[Started])
+pub fn put_starts<W: Write>(
+    press: &mut Press<'_, W>,
+    what: &[u8],
+    domain: &Domain,
+    starts: &[Started],
+)
     ensures { Puts W.contents press.old press.new (lines_of_starts what.now domain.now starts.now) }
 {
     for started in starts {

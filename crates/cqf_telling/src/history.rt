@@ -82,7 +82,13 @@ fn put_reply<W: Write>(press: &mut Press<'_, W>, reply: Reply)
 }
 
 /// Puts the line of a call that names a stream.
-fn put_call<W: Write>(press: &mut Press<'_, W>, seat: u16, word: &[u8], name: &str, reply: Reply)
+pub(crate) fn put_call<W: Write>(
+    press: &mut Press<'_, W>,
+    seat: u16,
+    word: &[u8],
+    name: &str,
+    reply: Reply,
+)
     ensures { Puts W.contents press.old press.new (named_text seat word.now name.now reply) }
 {
     press.put_number(seat);
@@ -93,7 +99,7 @@ fn put_call<W: Write>(press: &mut Press<'_, W>, seat: u16, word: &[u8], name: &s
 }
 
 /// Puts a Seal's line without its end.
-fn put_seal<W: Write>(press: &mut Press<'_, W>, seat: u16)
+pub(crate) fn put_seal<W: Write>(press: &mut Press<'_, W>, seat: u16)
     ensures { Puts W.contents press.old press.new (decimal seat ++ codes " seal") }
 {
     press.put_number(seat);

@@ -1,7 +1,7 @@
 //! Books, histories and a port's starts, told line by line: their lines are put on a press, with no memory asked for.
 //!
-//! - [`put_book`] puts the text of a book, [`put_history`] that of a history, and [`put_starts_of_port`] that of a port's
-//!   starts.
+//! - [`put_book`] puts the text of a book, [`put_history`] that of a history, [`put_log`] that of the history that a ledger's log
+//!   stands for, and [`put_starts_of_port`] that of a port's starts.
 //! - [`put_book_header`], [`put_starts`] and [`put_drops`] put the parts of a book's text, where the book isn't at hand as a whole.
 //! - [`put_link`] puts a link by the names of its ends, and [`put_bridge`] the name of a bridge.
 //!
@@ -16,10 +16,12 @@
 
 mod books;
 mod history;
+mod logs;
 mod names;
 mod ports;
 
 pub use books::{put_book, put_book_header, put_drops, put_starts};
 pub use history::put_history;
+pub use logs::put_log;
 pub use names::{put_bridge, put_link};
 pub use ports::put_starts_of_port;

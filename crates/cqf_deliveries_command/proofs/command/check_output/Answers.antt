@@ -8,9 +8,6 @@ use Rattle.cqf_deliveries_command.proofs.command.check_output.Goals as goal
 pub check_scenario-requires-clause-may : goal.check_scenario-requires-clause-may
 check_scenario-requires-clause-may c = c.in_ok-planned.ensures.ok.may
 
-pub check_scenario-requires-clause-order : goal.check_scenario-requires-clause-order
-check_scenario-requires-clause-order c = c.in_ok-planned.ensures.ok.in_order
-
 pub returns-clause-ok : goal.returns-clause-ok
 returns-clause-ok c =
     IfOk-weaker c.check_scenario.result _ _

@@ -6,7 +6,7 @@ use Rattle.cqf_scenario.specs.Closing.{scenario_given}
 use Rattle.cqf_stop.specs.Stops.{IsRefused}
 use Rattle.cqf_deliveries_command.specs.PlannedScenario.{planned_scenario_of}
 use Rattle.cqf_deliveries_command.proofs.Passing.{passed-on}
-use Rattle.cqf_deliveries_command.proofs.Planned.{behind_in_order, planned-Ok, planned-refused}
+use Rattle.cqf_deliveries_command.proofs.Planned.{planned-Ok, planned-refused}
 use Rattle.cqf_deliveries_command.proofs.reading.read_planned_parts.Goals as goal
 
 pub returns-clause-ok : goal.returns-clause-ok
@@ -15,22 +15,20 @@ returns-clause-ok c =
     let d = c.in_ok-domain.domain in
     let found = c.in_ok-requests.ensures.ok in
     let given = c.in_ok-given.given in
-    let asked = ap (λ (rs : List Request). map asked_of rs) c.as_slice.ensures.value ∙ found.planned.asked in
+    let requests = c.in_ok-requests.requests.items in
     record {
       streams = found.streams;
-      holds = planned-Ok c.args.cycles texts d found.streams c.in_ok-domain.ensures.ok found.holds c.as_slice.result.now (scenario_given given) asked
+      holds = planned-Ok c.args.cycles texts d found.streams c.in_ok-domain.ensures.ok found.holds requests (scenario_given given) found.planned.asked
           c.in_ok-given.ensures.ok;
-      planned = found.planned;
+      planned = record { asked = ap (λ (rs : List Request). map asked_of rs) c.in_ok-given.ensures.same ∙ found.planned.asked; ends = found.planned.ends };
       may = c.in_ok-given.ensures.good;
-      in_order = behind_in_order c.offers_stand_in_order.ensures.read c.args.cycles texts d (map asked_of c.as_slice.result.now) (scenario_given given)
-          c.in_ok-given.ensures.ok;
+      stand = c.in_ok-given.ensures.stand;
     }
 
 pub returns-in_err-given-clause-err : goal.returns-in_err-given-clause-err
 returns-in_err-given-clause-err c =
     let texts = texts_of c.args.parts in
     let found = c.in_ok-requests.ensures.ok in
-    let asked = ap (λ (rs : List Request). map asked_of rs) c.as_slice.ensures.value ∙ found.planned.asked in
     passed-on c.from_residual-in_err-given.result c.in_err-given.field-0.0 (IsRefused (planned_scenario_of c.args.cycles texts)) c.from_residual-in_err-given.ensures.1
-    (planned-refused c.args.cycles texts c.in_ok-domain.domain found.streams c.in_ok-domain.ensures.ok found.holds c.as_slice.result.now c.in_err-given.field-0.0
-    asked c.in_err-given.ensures.err)
+    (planned-refused c.args.cycles texts c.in_ok-domain.domain found.streams c.in_ok-domain.ensures.ok found.holds c.in_ok-requests.requests.items c.in_err-given.field-0.0
+    found.planned.asked c.in_err-given.ensures.err)

@@ -5,4 +5,4 @@ use Rattle.cqf_model.specs.Table.{link_cost}
 use Rattle.cqf_latency_command.proofs.costs.link_costs.Given as goal
 
 abbrev pub invariant-loop-link : goal.invariant-loop-link
-invariant-loop-link l = l.costs.items ≡ each_below (λ link. link_cost l.table.rows link ∷ []) l.link
+invariant-loop-link l = l.costs.items ≡ each_below (λ link. link_cost l.rows link ∷ []) l.link

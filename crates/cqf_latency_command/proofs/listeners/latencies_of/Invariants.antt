@@ -1,6 +1,5 @@
 -- The latencies of the rows so far.
-use Rattle.std.proofs.Common.{◌≡◌, map, take}
-use Rattle.std.specs.Arc.{arc_value}
+use Rattle.std.proofs.Common.{◌≡◌, take}
 use Rattle.std.specs.List.{flat_map}
 use Rattle.cqf_model.specs.declared.topology.Row.{Row}
 use Rattle.cqf_latency_command.specs.LatencyText.{deadline_of, latencies_of_row}
@@ -9,4 +8,4 @@ use Rattle.cqf_latency_command.proofs.listeners.latencies_of.Given as goal
 abbrev pub invariant-loop-row : goal.invariant-loop-row
 invariant-loop-row l =
     l.latencies.items ≡ flat_map (λ (row : Row). latencies_of_row l.costs.domain l.costs.rows row (deadline_of l.deadlines row.no))
-    (map (λ row. arc_value row) (take l.row-index l.row-items))
+    (take l.row-index l.row-items)

@@ -12,13 +12,13 @@ use Rattle.cqf_report_command.proofs.carried.carried_columns.Goals as goal
 
 pub columns_of-requires-clause-room : goal.columns_of-requires-clause-room
 columns_of-requires-clause-room c =
-    let a = c.args.admission.now in
+    let a = c.args.log.now.administration in
     let d = c.domain-domain.result.now in
     let rows = c.as_slice-rows.result.now in
     let offers = c.args.offers.now in
-    let legal : IsLegalHistory d a.entries = subst (λ (x : Domain). IsLegalHistory x a.entries) (sym c.domain-domain.ensures) c.history-entries.ensures.legal in
+    let legal : IsLegalHistory d a.entries = subst (λ (x : Domain). IsLegalHistory x a.entries) (sym c.domain-domain.ensures) c.entries-legal.ensures.legal in
     let streams : streams_of d a.entries ≡ rows =
-    sym (c.as_slice-rows.ensures.value ∙ c.in_ok-rows.ensures ∙ ap (streams_of d) c.history-entries.ensures.entries) in
+    sym (c.as_slice-rows.ensures.value ∙ c.in_ok-rows.ensures ∙ ap (λ (x : Domain). streams_of x a.entries) (sym c.domain-domain.ensures)) in
     let judged : AreJudged d a.entries rows offers (length offers) c.as_slice.result.now =
     subst (λ (js : List Judgement). AreJudged d a.entries rows offers (length offers) js) (sym c.as_slice.ensures.value)
     (c.in_ok-judgements.ensures a.entries legal streams) in
@@ -27,13 +27,13 @@ columns_of-requires-clause-room c =
 
 pub returns : goal.returns
 returns c =
-    let a = c.args.admission.now in
+    let a = c.args.log.now.administration in
     let d = c.domain-domain.result.now in
     let rows = c.as_slice-rows.result.now in
     let offers = c.args.offers.now in
-    let legal : IsLegalHistory d a.entries = subst (λ (x : Domain). IsLegalHistory x a.entries) (sym c.domain-domain.ensures) c.history-entries.ensures.legal in
+    let legal : IsLegalHistory d a.entries = subst (λ (x : Domain). IsLegalHistory x a.entries) (sym c.domain-domain.ensures) c.entries-legal.ensures.legal in
     let streams : streams_of d a.entries ≡ rows =
-    sym (c.as_slice-rows.ensures.value ∙ c.in_ok-rows.ensures ∙ ap (streams_of d) c.history-entries.ensures.entries) in
+    sym (c.as_slice-rows.ensures.value ∙ c.in_ok-rows.ensures ∙ ap (λ (x : Domain). streams_of x a.entries) (sym c.domain-domain.ensures)) in
     let judged : AreJudged d a.entries rows offers (length offers) c.as_slice.result.now =
     subst (λ (js : List Judgement). AreJudged d a.entries rows offers (length offers) js) (sym c.as_slice.ensures.value)
     (c.in_ok-judgements.ensures a.entries legal streams) in

@@ -9,8 +9,5 @@ use Rattle.cqf_run_command.proofs.command.put_run.Goals as goal
 
 pub returns : goal.returns
 returns g c =
-    let history : List ℕ = history_text (map recorded_of c.args.history.now) in
-    let divider : List ℕ = line_of (codes "%%") in
-    let book : List ℕ = text_of_book c.args.domain.now (contents_of c.args.book.now) in
-    Puts-then history (divider ++ book) c.put_history.ensures
-    (Puts-then divider book c.put.ensures c.put_book.ensures)
+    let rest : List ℕ = line_of (codes "%%") ++ text_of_book c.args.domain.now (contents_of c.args.book.now) in
+    Puts-then (history_text (map recorded_of c.args.history.now)) rest c.put_history.ensures c.put_rest.ensures

@@ -1,5 +1,4 @@
-use Rattle.std.proofs.Common.{◌≡◌, ◌∙◌, ◌++◌, ◌∷◌, List, [], ap, map, subst, sym, take}
-use Rattle.std.specs.Arc.{arc_value}
+use Rattle.std.proofs.Common.{◌≡◌, List, [], ap, subst, sym, take}
 use Rattle.std.specs.Option.{option_map_or}
 use Rattle.cqf_model.specs.declared.topology.Row.{Row}
 use Rattle.cqf_press.proofs.PressLemmas.{Puts-as, Puts-nil, Puts-then}
@@ -18,18 +17,15 @@ pub loop-row-preserved : goal.loop-row-preserved
 loop-row-preserved g c =
     let d = c.args.domain.now in
     let bridge = c.args.bridge in
-    let items = c.args.rows.now in
-    let rows : List Row = map (λ row. arc_value row) items in
+    let rows = c.args.rows.now in
     let k = c.loop-row.row-index in
-    let row = arc_value c.row-item.result in
-    let at = row_at (λ row. arc_value row) items k c.row-item.result c.loop-row-test.true c.row-item.is in
+    let row = c.row-item.result in
+    let at = row_at rows k row c.loop-row-test.true c.row-item.is in
     let invariant = c.loop-row.invariant in
-    let way : c.way_of-way.result ≡ way_at d bridge (take k rows) row =
-    c.way_of-way.ensures.way (take k rows) invariant.seen ∙ ap (λ (r : Row). way_at d bridge (take k rows) r) c.deref.ensures in
-    let put = Puts-as (option_map_or (clearing_by c.deref-in-loop-row.result.now) c.way_of-way.result []) (stream_clearing d bridge (take k rows) row)
-    (ap (λ (r : Row). option_map_or (clearing_by r) c.way_of-way.result []) c.deref-in-loop-row.ensures ∙ ap (λ found. option_map_or (clearing_by row) found []) way) c.put_clearing_of.ensures in
+    let way : c.way_of-way.result ≡ way_at d bridge (take k rows) row = c.way_of-way.ensures.way (take k rows) invariant.seen in
+    let put = Puts-as (option_map_or (clearing_by row) c.way_of-way.result []) (stream_clearing d bridge (take k rows) row)
+    (ap (λ found. option_map_or (clearing_by row) found []) way) c.put_clearing_of.ensures in
     record {
       put = Puts-as _ _ (sym (stream_more (stream_clearing d bridge) rows k row at.0)) (Puts-then _ _ invariant.put put);
-      seen = subst (λ (before : List Row). IsSeen d bridge before c.way_of-way.new.seen) (ap (λ (r : Row). take k rows ++ r ∷ []) c.deref.ensures ∙ sym at.1)
-          (c.way_of-way.ensures.noted (take k rows) invariant.seen);
+      seen = subst (λ (before : List Row). IsSeen d bridge before c.way_of-way.new.seen) (sym at.1) (c.way_of-way.ensures.noted (take k rows) invariant.seen);
     }

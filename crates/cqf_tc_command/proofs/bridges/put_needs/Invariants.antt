@@ -1,6 +1,5 @@
 -- The lines so far are put, and it is noted by which links streams came.
-use Rattle.std.proofs.Common.{map, take}
-use Rattle.std.specs.Arc.{arc_value}
+use Rattle.std.proofs.Common.{take}
 use Rattle.cqf_lists.specs.Lists.{each_below}
 use Rattle.cqf_press.specs.Press.{Puts}
 use Rattle.cqf_tc_command.specs.TcBridge.{stream_at, stream_needs}
@@ -9,6 +8,6 @@ use Rattle.cqf_tc_command.proofs.bridges.put_needs.Given as goal
 
 abbrev pub invariant-loop-row : goal.invariant-loop-row
 invariant-loop-row g l = record {
-  put : Puts g.W.Write.contents l.initial.press l.press (each_below (stream_at (stream_needs l.domain l.bridge) (map (λ row. arc_value row) l.rows)) l.row-index);
-  seen : IsSeen l.domain l.bridge (take l.row-index (map (λ row. arc_value row) l.rows)) l.seen;
+  put : Puts g.W.Write.contents l.initial.press l.press (each_below (stream_at (stream_needs l.domain l.bridge) l.rows) l.row-index);
+  seen : IsSeen l.domain l.bridge (take l.row-index l.rows) l.seen;
 }

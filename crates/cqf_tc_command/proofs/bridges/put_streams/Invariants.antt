@@ -1,6 +1,5 @@
 -- The streams so far are put.
-use Rattle.std.proofs.Common.{map, take}
-use Rattle.std.specs.Arc.{arc_value}
+use Rattle.std.proofs.Common.{take}
 use Rattle.std.specs.List.{flat_map}
 use Rattle.cqf_press.specs.Press.{Puts}
 use Rattle.cqf_tc_command.specs.TcBridge.{stream_gates}
@@ -8,4 +7,4 @@ use Rattle.cqf_tc_command.proofs.bridges.put_streams.Given as goal
 
 abbrev pub invariant-loop-row : goal.invariant-loop-row
 invariant-loop-row g l = Puts g.W.Write.contents l.initial.press l.press
-    (flat_map (stream_gates l.domain l.bridge) (map (λ row. arc_value row) (take l.row-index l.rows)))
+    (flat_map (stream_gates l.domain l.bridge) (take l.row-index l.rows))

@@ -10,7 +10,7 @@ use Rattle.cqf_tc_command.proofs.command.script_of.Goals as goal
 pub returns-in-Ok-clause-ok : goal.returns-in-Ok-clause-ok
 returns-in-Ok-clause-ok c =
     let d = c.args.domain in
-    let held = c.in_ok-table.ensures.held in
+    let held = c.in_ok-rows.ensures.held in
     let told : List Row → Result (List ℕ) (List ℕ) = λ rows. Ok (tc_text d rows) in
     let told_of : ConfiguredPlan → Result (List ℕ) (List ℕ) = λ plan. Ok (text_of_tc plan) in
     ap (λ (found : Result (List Recorded) (List ℕ)). and_then found (λ entries. told (held_in d entries 0))) held.admitted

@@ -1,5 +1,4 @@
-use Rattle.std.proofs.Common.{ap, sym, add-one, map}
-use Rattle.std.specs.Arc.{arc_value}
+use Rattle.std.proofs.Common.{ap, sym, add-one}
 use Rattle.cqf_lists.specs.Lists.{each_below}
 use Rattle.cqf_press.proofs.PressLemmas.{Puts-as, Puts-then}
 use Rattle.cqf_tc_command.specs.TcBridge.{bridge_text}
@@ -7,6 +6,6 @@ use Rattle.cqf_tc_command.proofs.told.put_bridges.Goals as goal
 
 pub loop-bridge-preserved : goal.loop-bridge-preserved
 loop-bridge-preserved g c =
-    let text = bridge_text c.args.domain.now (map (λ row. arc_value row) c.args.rows.now) in
+    let text = bridge_text c.args.domain.now c.args.rows.now in
     let bridge = c.loop-bridge.bridge in
     Puts-as _ _ (sym (ap (each_below text) (add-one bridge))) (Puts-then (each_below text bridge) (text bridge) c.loop-bridge.invariant c.put_bridge_function.ensures)

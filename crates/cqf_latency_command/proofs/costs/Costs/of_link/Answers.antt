@@ -6,7 +6,7 @@ use Rattle.cqf_latency_command.proofs.costs.Costs.of_link.Goals as goal
 
 pub index-requires : goal.index-requires
 index-requires c =
-    let many = ap length c.self.invariant.each ∙ length-singles (λ l. link_cost c.self.inside.table.rows l) (length c.self.inside.domain.links) in
+    let many = ap length c.self.invariant.each ∙ length-singles (λ l. link_cost c.self.inside.rows.items l) (length c.self.inside.domain.links) in
     let links = ap (λ (v : DomainTable). length v.domain.links) c.self.view_is in
     omega (arith, many, links, c.requires, c.from.ensures)
 
@@ -14,7 +14,7 @@ pub returns : goal.returns
 returns c =
     let link = c.from.result in
     let none = c.index.result.now in
-    let rows = c.self.inside.table.rows in
+    let rows = c.self.inside.rows.items in
     let links = ap (λ (v : DomainTable). length v.domain.links) c.self.view_is in
     let below : link < length c.self.inside.domain.links = omega (arith, links, c.requires, c.from.ensures) in
     c.index.ensures

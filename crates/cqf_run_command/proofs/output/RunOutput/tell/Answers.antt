@@ -1,16 +1,13 @@
-use Rattle.std.proofs.Common.{List, ℕ, map, subst}
-use Rattle.cqf_admission.specs.Admission.{recorded_of}
-use Rattle.cqf_model.specs.Book.{contents_of}
-use Rattle.cqf_model.specs.Domain.{Domain}
-use Rattle.cqf_model.specs.History.{Recorded}
+use Rattle.std.proofs.Common.{◌∙◌, arith}
 use Rattle.cqf_press.specs.Edge.{HasTold, writing}
-use Rattle.cqf_run_command.specs.RunOutput.{run_text}
+use Rattle.cqf_press.proofs.PressLemmas.{HasTold-pressed}
+use Rattle.cqf_run_command.specs.RunTold.{text_of_run}
 use Rattle.cqf_run_command.proofs.output.RunOutput.tell.Goals as goal
 
 pub returns : goal.returns
 returns g c =
-    let book = contents_of c.args.self.made.book in
-    let told = writing g.W.Write.contents c.args.told.now c.tell_run.new.told in
-    subst (λ (d : Domain). HasTold told (run_text d c.args.self.made.admission.entries book)) c.domain-domain.ensures
-    (subst (λ (entries : List Recorded). HasTold told (run_text c.domain-domain.result.now entries book)) c.history-history.ensures.entries
-    c.tell_run.ensures)
+    let done : HasTold (writing g.W.Write.contents c.args.told.now c.close-told.result.now) (text_of_run c.args.self) =
+    HasTold-pressed g.W.Write.contents c.args.told.now c.new-press.result c.put_logged.new.press c.close-told.result.now _
+    c.new-press.ensures.opens c.put_logged.ensures c.close-told.ensures.closes in
+    let names = c.close-told.ensures.same ∙ c.put_logged.ensures.same ∙ c.new-press.ensures.same in
+    grind (arith, done, names)

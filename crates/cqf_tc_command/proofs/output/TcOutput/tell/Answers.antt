@@ -1,5 +1,4 @@
-use Rattle.std.proofs.Common.{◌∙◌, ap, arith, map}
-use Rattle.std.specs.Arc.{arc_value}
+use Rattle.std.proofs.Common.{◌∙◌, ap, arith}
 use Rattle.cqf_press.specs.Edge.{HasTold, writing}
 use Rattle.cqf_press.proofs.PressLemmas.{HasTold-pressed, Puts-as}
 use Rattle.cqf_tc_command.specs.TcOutput.{text_of_tc}
@@ -8,8 +7,8 @@ use Rattle.cqf_tc_command.proofs.output.TcOutput.tell.Goals as goal
 
 pub returns : goal.returns
 returns g c =
-    let put = Puts-as (tc_text c.self.inside.domain (map (λ row. arc_value row) c.rows.result.now)) (text_of_tc c.args.self)
-    (ap (tc_text c.self.inside.domain) c.rows.ensures.rows ∙ ap text_of_tc c.self.view_is) c.put_script.ensures in
+    let put = Puts-as (tc_text c.self.inside.domain c.as_slice.result.now) (text_of_tc c.args.self)
+    (ap (tc_text c.self.inside.domain) c.as_slice.ensures.value ∙ ap text_of_tc c.self.view_is) c.put_script.ensures in
     let done : HasTold (writing g.W.Write.contents c.args.told.now c.close-told.result.now) (text_of_tc c.args.self) =
     HasTold-pressed g.W.Write.contents c.args.told.now c.new-press.result c.put_script.new.press c.close-told.result.now _
     c.new-press.ensures.opens put c.close-told.ensures.closes in
