@@ -122,8 +122,9 @@ fn gathered(alloc: Global, posted: &Pages, bridges: u8) -> Result<Book, Memory>
     Ok(book)
 }
 
-/// The book of the pages of the first bridges, so many of them.
-fn book_of(alloc: Global, posted: &Pages, bridges: u8) -> Result<Book, Memory>
+/// The book of the pages of the first bridges, so many of them: what stands on them, in the order of a book. `Memory` where a growth
+/// is refused.
+pub fn book_of(alloc: Global, posted: &Pages, bridges: u8) -> Result<Book, Memory>
     ensures { IfOk result (λ book. IsBookOfPages (pages_of posted.now) bridges (contents_of book)) }
 {
     let mut book = gathered(alloc, posted, bridges)?;
@@ -131,6 +132,29 @@ fn book_of(alloc: Global, posted: &Pages, bridges: u8) -> Result<Book, Memory>
     sort_starts(&mut book.background)?;
     sort_drops(&mut book.drops)?;
     Ok(book)
+}
+
+/// Refused where the shares aren't one of each bridge, or don't agree with the pages that were posted. It asks for no memory.
+pub(crate) fn check_shares(
+    opening: &Pages,
+    posted: &Pages,
+    shares: &[Share],
+) -> Result<(), BookClose>
+    ensures missing { IsErrOf result BookClose.ShareMissing ↔ (AreOneEach opening.now.bridges shares.now → ⊥) }
+    ensures memory { IsErrOf result BookClose.Memory → ⊥ }
+    ensures ok { OnOk result (Agree opening.now shares.now posted.now opening.now.bridges) }
+    ensures once { OnOk result (ArePosted (with_shares opening.now shares.now)) }
+{
+    if !are_one_each(shares, opening.bridges()) {
+        return Err(BookClose::ShareMissing);
+    }
+    if let Some(bridge) = first_to_disagree(opening, posted, shares) {
+        return Err(BookClose::SharesDisagree(bridge));
+    }
+    // the pages of both stand in order: a fact for those that are closed
+    let _before = opening.cycles();
+    let _in_order = posted.cycles();
+    Ok(())
 }
 
 /// The book of the pages that were posted, where the shares are one of each bridge and agree with them.
@@ -144,15 +168,10 @@ pub(crate) fn closed(
     ensures ok { IfOk result (λ book. IsBookOfShares opening.now shares.now (contents_of book)) }
     ensures once { IfOk result (λ book. ArePosted (with_shares opening.now shares.now)) }
 {
-    if !are_one_each(shares, opening.bridges()) {
-        return Err(BookClose::ShareMissing);
+    match check_shares(opening, posted, shares) {
+        Ok(()) => {}
+        Err(fault) => return Err(fault),
     }
-    if let Some(bridge) = first_to_disagree(opening, posted, shares) {
-        return Err(BookClose::SharesDisagree(bridge));
-    }
-    // the pages of both stand in order: a fact for those that are closed
-    let _before = opening.cycles();
-    let _in_order = posted.cycles();
     match book_of(alloc, posted, opening.bridges()) {
         Ok(book) => Ok(book),
         Err(_) => Err(BookClose::Memory),

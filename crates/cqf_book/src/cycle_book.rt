@@ -2,9 +2,9 @@
 ghost use Rattle.std.specs.Prelude.{◌≡◌, ◌≢◌, ◌↔◌, ◌≤◌, ◌+◌, [], IfErr, IfOk, IsErrOf, OnErr, OnOk, vec_len, vec_capacity};
 ghost use Rattle.cqf_model.specs.Book.{contents_of};
 ghost use Rattle.cqf_book.specs.Pages.{ArePosted, AreWholeOfSome, AreTotalsOfSome};
-ghost use Rattle.cqf_book.specs.Shares.{AreOneEach, IsBookOfShares, new_shares, said, with_own, with_shares};
+ghost use Rattle.cqf_book.specs.Shares.{Agree, AreOneEach, IsBookOfShares, new_shares, said, with_own, with_shares};
 
-use crate::closing::closed;
+use crate::closing::{check_shares, closed};
 use crate::faults::{BookClose, PageFault};
 use crate::pages::Pages;
 use crate::same_pages::copied_page;
@@ -166,6 +166,26 @@ impl CycleBook {
         ensures { AreTotalsOfSome link result.frames result.octets }
     {
         self.posted.lock(rt).totals(link)
+    }
+
+    /// The pages of the book: those that it was made of and, bridge by bridge, those of the bridge's share behind them. It is
+    /// refused as [`CycleBook::close`] is, but asks for no memory, and waits for nobody.
+    pub fn close_pages(self, shares: Vec<Share>) -> Result<Pages, BookClose>
+        ensures missing { IsErrOf result BookClose.ShareMissing ↔ (AreOneEach self.bridges shares.items → ⊥) }
+        ensures memory { IsErrOf result BookClose.Memory → ⊥ }
+        ensures ok { IfOk result (λ pages. Agree self shares.items pages self.bridges) }
+        ensures once { IfOk result (λ pages. ArePosted (with_shares self shares.items)) }
+    {
+        let CycleBook {
+            opening,
+            posted,
+            ..
+        } = self;
+        let posted = posted.into_inner();
+        match check_shares(&opening, &posted, shares.as_slice()) {
+            Ok(()) => Ok(posted),
+            Err(fault) => Err(fault),
+        }
     }
 
     /// The book of the pages that it was made of and, bridge by bridge, of those of the bridge's share behind them: the

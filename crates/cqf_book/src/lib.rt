@@ -3,7 +3,7 @@
 //! - [`Pages`] takes each bridge's [`Page`]s in order of cycle, each once, and refuses the others with a [`PageFault`].
 //! - [`Totals`] is how many streams' frames and octets the pages have on a link.
 //! - [`CycleBook`] is pages under a lock, which bridges write in threads of their own, each by its [`Share`]. Closed, it is
-//!   the book of all pages, or says with a [`BookClose`] why it isn't.
+//!   the book of all pages, or these pages, of which [`book_of`] gives the book; or it says with a [`BookClose`] why it isn't.
 //!
 //! ```text
 //! Pages::new(alloc, 3, 5)      three bridges, five cycles, no page
@@ -22,6 +22,7 @@ mod pages;
 mod same_pages;
 mod totals;
 
+pub use closing::book_of;
 pub use cqf_model::Page;
 pub use cycle_book::{CycleBook, Share};
 pub use faults::{BookClose, PageFault};

@@ -12,16 +12,16 @@ use cqf_units::{Cycle, Memory, Nanos};
 use std::alloc::Global;
 
 /// A start: its cycle, link, frame, octets and instant.
-type Start = (u32, u8, u32, u32, u64);
+pub(crate) type Start = (u32, u8, u32, u32, u64);
 
 /// A drop: its cycle, bridge, frame, octets and reason.
-type Drop = (u32, u8, u32, u32, Reason);
+pub(crate) type Drop = (u32, u8, u32, u32, Reason);
 
 /// What is asked for and offered in a run, with at most one background frame.
-struct Run {
-    calls: &'static [Call],
-    offers: &'static [Offering],
-    background: Option<Background>,
+pub(crate) struct Run {
+    pub(crate) calls: &'static [Call],
+    pub(crate) offers: &'static [Offering],
+    pub(crate) background: Option<Background>,
 }
 
 /// The book of a run: starts of streams' frames and of background frames by cycle, then bridge, then link, and drops.
@@ -33,10 +33,21 @@ struct Told {
 
 /// A book that is being written.
 #[derive(Drop)]
-struct Written {
-    starts: Vec<Start>,
-    others: Vec<Start>,
-    drops: Vec<Drop>,
+pub(crate) struct Written {
+    pub(crate) starts: Vec<Start>,
+    pub(crate) others: Vec<Start>,
+    pub(crate) drops: Vec<Drop>,
+}
+
+impl Written {
+    /// One in which nothing is written.
+    pub(crate) fn new(alloc: Global) -> Written {
+        Written {
+            starts: Vec::new(alloc),
+            others: Vec::new(alloc),
+            drops: Vec::new(alloc),
+        }
+    }
 }
 
 /// The octets that start on a batch's link in its cycle, in a book.
@@ -159,7 +170,7 @@ fn receive_all(
 }
 
 /// Goes through a cycle with all bridges.
-fn go_through(
+pub(crate) fn go_through(
     alloc: Global,
     bridges: &mut Vec<Bridge>,
     table: &Table,
@@ -210,7 +221,7 @@ fn go_through_all(
 }
 
 /// The bridges of a plan.
-fn bridges_of(alloc: Global, plan: &Plan) -> Result<Vec<Bridge>, Memory> {
+pub(crate) fn bridges_of(alloc: Global, plan: &Plan) -> Result<Vec<Bridge>, Memory> {
     let mut bridges = Vec::new(alloc);
     for number in 0..plan.domain().bridges() {
         bridges.push(Bridge::new(alloc, plan, number)?)?;
@@ -227,11 +238,7 @@ fn has_book(
     offers: &[Offer],
     told: &Told,
 ) -> bool {
-    let mut written = Written {
-        starts: Vec::new(alloc),
-        others: Vec::new(alloc),
-        drops: Vec::new(alloc),
-    };
+    let mut written = Written::new(alloc);
     go_through_all(
         alloc,
         bridges,

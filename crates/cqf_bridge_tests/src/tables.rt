@@ -31,7 +31,7 @@ pub(crate) fn plan_of(alloc: Global, text: &str) -> Option<Plan> {
 }
 
 /// Whether a request for the stream `x` is granted.
-fn admit(alloc: Global, asked: &mut Admission, octets: u32, branches: Branches) -> bool {
+pub(crate) fn admit(alloc: Global, asked: &mut Admission, octets: u32, branches: Branches) -> bool {
     match request(alloc, &("x", octets, branches)) {
         Ok(request) => asked.admit(0, &request).is_ok(),
         Err(_) => false,

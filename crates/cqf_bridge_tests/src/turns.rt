@@ -30,7 +30,7 @@ fn refuses_to_send(alloc: Global, bridge: &mut Bridge, cycle: Cycle, fault: Brid
     bridge.send(alloc, cycle, &[], &mut batches) == Err(fault) && batches.is_empty()
 }
 
-/// Whether a bridge receives the cycle of a table.
+/// Whether a bridge receives the cycle of a table, and drops nothing.
 fn receives(
     alloc: Global,
     bridge: &mut Bridge,
@@ -39,7 +39,13 @@ fn receives(
     offers: &[Offer],
 ) -> bool {
     let cycle = table.cycle();
-    cycle.0 < 100_000 && receive(alloc, bridge, cycle, table, batches, offers).is_ok()
+    if cycle.0 >= 100_000 {
+        return false;
+    }
+    match receive(alloc, bridge, cycle, table, batches, offers) {
+        Ok(dropped) => dropped.is_empty(),
+        Err(_) => false,
+    }
 }
 
 /// Whether a bridge refuses to receive the cycle of a table for this cause.

@@ -1,8 +1,9 @@
 //! Runs that give no account: with more administrators than a desk has seats for, and with a call more than a history holds.
 use crate::asking::{Ask, all_commands};
 use crate::running::outcome_of;
-use cqf_admission::Command;
+use cqf_admission::{Call, Command, Entry};
 use cqf_fixtures::one_link;
+use cqf_model::{Refused, Reply};
 use cqf_topology::Domain;
 use cqf_worker::{ConductFault, Free};
 use std::alloc::Global;
@@ -11,6 +12,20 @@ use std::thread::Threads;
 
 /// How many entries the history of a run has, or why it gives none.
 type Ending = Result<usize, ConductFault>;
+
+/// Whether an entry is the withdrawal of a stream that nobody has asked for, or a Seal.
+fn is_in_vain(entry: &Entry) -> bool {
+    match &entry.call {
+        Call::Admit(_) => false,
+        Call::Withdraw(_) => entry.reply == Reply::Refused(Refused::NotHeld),
+        Call::Seal => entry.reply == Reply::Sealed,
+    }
+}
+
+/// Whether a history has so many entries, all of them such.
+fn is_all_in_vain(entries: &[Entry], wanted: Ending) -> bool {
+    wanted == Ok(entries.len()) && entries.iter().all(|entry| is_in_vain(entry))
+}
 
 /// Whether a run of one cycle over a domain, in which nothing is offered and administrators have these commands, ends so.
 fn ends_over<R: Threads + Wait + Sync>(
@@ -21,7 +36,7 @@ fn ends_over<R: Threads + Wait + Sync>(
     wanted: Ending,
 ) -> bool {
     match outcome_of(rt, alloc, domain, &[], admins, 1, &[], &Free) {
-        Some(Ok(account)) => wanted == Ok(account.history.entries.len()),
+        Some(Ok(account)) => is_all_in_vain(account.history.entries.as_slice(), wanted),
         Some(Err(fault)) => wanted == Err(fault),
         None => false,
     }

@@ -2,9 +2,10 @@
 use crate::asking::Ask;
 use crate::running::{Scenario, account_of};
 use cqf_admission::{Call, Entry};
-use cqf_fixtures::{Begun, are_begun, offers_of};
-use cqf_model::{Book, Offer};
+use cqf_fixtures::{Asked, Begun, are_begun, is_request, offers_of};
+use cqf_model::{Book, Offer, Receipt, Reply};
 use cqf_topology::Domain;
+use cqf_units::Cycle;
 use cqf_worker::{Account, Free};
 use std::alloc::Global;
 use std::sync::Wait;
@@ -73,9 +74,12 @@ const LONGEST: &[&[&str]] = &[&[
     "b29", "b30", "b31", "s",
 ]];
 
+/// The stream that is admitted before.
+const X: Asked = ("x", 64, LONGEST);
+
 /// Eight administrators, each of whom admits and withdraws a stream of its own along it.
 const EIGHT: Scenario = Scenario {
-    streams: &[("x", 64, LONGEST)],
+    streams: &[X],
     admins: &[
         &[Ask::Admit(("n0", 64, LONGEST)), Ask::Withdraw("n0")],
         &[Ask::Admit(("n1", 64, LONGEST)), Ask::Withdraw("n1")],
@@ -118,6 +122,23 @@ fn seals_of(entries: &[Entry], seat: u16) -> usize {
         .count()
 }
 
+/// The opening entry's reply.
+const OPENING: Reply = Reply::Accepted(Receipt {
+    no: 0,
+    effect: Cycle(0),
+});
+
+/// Whether the first entry is that of the stream that was admitted before.
+fn is_opened(entries: &[Entry]) -> bool {
+    match entries.first() {
+        Some(entry) => {
+            let asks = matches!(&entry.call, Call::Admit(request) if is_request(request, &X));
+            asks && entry.seat == 0 && entry.reply == OPENING
+        }
+        None => false,
+    }
+}
+
 /// Whether a book has the starts of that frame alone.
 fn is_along_sixteen(book: &Book) -> bool {
     are_begun(book.starts.as_slice(), ALONG_SIXTEEN)
@@ -129,6 +150,7 @@ fn is_along_sixteen(book: &Book) -> bool {
 fn is_of_eight(account: &Account) -> bool {
     let entries = account.history.entries.as_slice();
     account.history.opening == 1
+        && is_opened(entries)
         && entries.len() == 35
         && seals_of(entries, 8) == 18
         && is_along_sixteen(&account.book)

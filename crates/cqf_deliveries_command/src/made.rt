@@ -1,12 +1,13 @@
 //! The deliveries of a scenario.
 ghost use Rattle.std.specs.Prelude.{◌≡◌, ◌≤◌, ◌<◌, IfOk, count_by, nat_le};
 ghost use Rattle.cqf_units.specs.Timing.{cycle_at};
+ghost use Rattle.cqf_model.specs.Book.{contents_of};
 ghost use Rattle.cqf_model.specs.Run.{AreOffers};
 ghost use Rattle.cqf_model.specs.Shift.{offer_cycle};
 ghost use Rattle.cqf_model.specs.Traffic.{numbered};
 ghost use Rattle.cqf_scenario.specs.Closing.{MayBeRun, scenario_given};
 ghost use Rattle.cqf_scenario.specs.Logged.{HasOrders};
-ghost use Rattle.cqf_scenario.specs.Ran.{IsRan};
+ghost use Rattle.cqf_scenario.specs.Ran.{IsRunOf};
 ghost use Rattle.cqf_deliveries_command.specs.Reading.{AreDeliveriesOf};
 
 use crate::reading::PlannedGiven;
@@ -14,7 +15,8 @@ use cqf_coverage::cover;
 use cqf_deliveries::{Deadlines, Delivery, Ended, deliveries_of};
 use cqf_granted::granted_of_log;
 use cqf_laws_report::offers_are_judged;
-use cqf_model::Offer;
+use cqf_ledger::Logged;
+use cqf_model::{Book, Offer};
 use cqf_scenario::{Ran, run_given};
 use cqf_topology::Domain;
 use cqf_units::{Memory, cycle_of};
@@ -25,11 +27,12 @@ fn deliveries_of_run(
     alloc: Global,
     cycles: u32,
     planned: &PlannedGiven,
-    ran: &Ran,
+    entries: &[Logged],
+    book: &Book,
 ) -> Result<Vec<Delivery>, Memory>
     requires short { cycles ≤ 100000 }
     requires may { MayBeRun cycles (scenario_given planned.now.given) }
-    requires ran { IsRan cycles planned.now.given ran.now }
+    requires ran { IsRunOf cycles planned.now.given entries.now (contents_of book.now) }
     ensures { IfOk result (λ deliveries. AreDeliveriesOf cycles planned.now deliveries.items) }
 {
     offers_are_judged();
@@ -40,14 +43,13 @@ fn deliveries_of_run(
     let requests = given.requests.as_slice();
     let script = given.script.as_slice();
     let offers = given.offers.as_slice();
-    let entries = ran.entries.as_slice();
     let rows = granted_of_log(alloc, domain, requests, script, entries)?;
     let rows = rows.as_slice();
     let judgements = cover(alloc, domain, rows, offers)?;
     let judgements = judgements.as_slice();
     let ends = planned.deadlines.as_slice();
     let deadlines = Deadlines::new(alloc, requests, ends)?;
-    let starts = ran.book.starts.as_slice();
+    let starts = book.starts.as_slice();
     let ended = Ended {
         domain,
         cycles,
@@ -71,7 +73,10 @@ pub(crate) fn deliveries_of_scenario(
     ensures { IfOk result (λ deliveries. AreDeliveriesOf cycles planned.now deliveries.items) }
 {
     let ran = run_given(alloc, cycles, &planned.given)?;
-    deliveries_of_run(alloc, cycles, planned, &ran)
+    let Ran { entries, book } = ran;
+    let gathered = book.gather(alloc)?;
+    let logged = entries.as_slice();
+    deliveries_of_run(alloc, cycles, planned, logged, &gathered)
 }
 
 /// Whether an offer is of a cycle that isn't run.

@@ -1,3 +1,4 @@
+mod Against
 mod Alike
 mod Borne
 mod Calls

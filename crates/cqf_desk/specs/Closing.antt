@@ -1,5 +1,5 @@
 -- What a closed desk's history is to its seats (profile).
-use Rattle.std.specs.Prelude.{ℕ, Bool, ◌≡◌, ◌+◌, ◌-◌, ◌<◌, ◌++◌, List, [], ◌∷◌, ◌==◌, ◌&&◌, if◌then◌else◌, true, Result, Ok, Err}
+use Rattle.std.specs.Prelude.{ℕ, Bool, ◌≡◌, ◌+◌, ◌-◌, ◌<◌, ◌≤◌, ◌⊎◌, ◌++◌, List, [], ◌∷◌, ◌==◌, ◌&&◌, if◌then◌else◌, true, Option, None, Some, Result, Ok, Err}
 use Rattle.std.specs.Prelude.{All, drop, filter, length, map, slice_get, take}
 use Rattle.std.specs.List.{list_any}
 use Rattle.std.specs.Option.{option_map_or}
@@ -53,6 +53,27 @@ pub record IsOfSeats (opening : List Recorded) (d : Domain) (count : ℕ) (seats
   pub known : All (λ (e : Recorded). e.seat < count) (drop (length opening) entries)
   pub own : All (IsBorneOut d entries (length opening)) seats
 
+-- what a comparison of the seats comes to: each is so; or one of them has the number, and those of lesser numbers are so
+abbrev pub ComesToLeast : (Sitting → Type 0) → List Sitting → Option ℕ → Type 0
+ComesToLeast IsSo seats None = All IsSo seats
+ComesToLeast IsSo seats (Some number) =
+    (list_any (λ (s : Sitting). s.number == number) seats ≡ true) × All (λ (s : Sitting). s.number < number → IsSo s) seats
+
+-- a seat by the history that the opening part makes with what stands behind it in this one
+abbrev pub IsBorneOutBy : List Recorded → Domain → List Recorded → Sitting → Type 0
+IsBorneOutBy opening d entries seat = IsBorneOut d (opening ++ drop (length opening) entries) (length opening) seat
+
+-- whom a disagreement names: one of the seats, where those of lesser numbers are borne out; or none of them, but how many there
+-- are, where all are borne out, unless the history is shorter than the opening part
+abbrev pub Disagrees : List Recorded → Domain → ℕ → List Recorded → List Sitting → ℕ → Type 0
+Disagrees opening d count entries seats number =
+    ComesToLeast (IsBorneOutBy opening d entries) seats (Some number)
+    ⊎ ((number ≡ count) × (length opening ≤ length entries → All (IsBorneOutBy opening d entries) seats))
+
+-- the number of one of the seats, or how many there are
+abbrev pub IsOneOrCount : ℕ → List Sitting → ℕ → Type 0
+IsOneOrCount count seats number = (list_any (λ (s : Sitting). s.number == number) seats ≡ true) ⊎ (number ≡ count)
+
 -- its parts: the opening part comes first, and the rest goes on legally by calls of so many seats
 pub record GoesOnBySeats (opening : Administration) (count : ℕ) (first rest : List Entry) : Type 0 where
   pub begins : map recorded_of first ≡ opening.entries
@@ -63,7 +84,7 @@ pub record GoesOnBySeats (opening : Administration) (count : ℕ) (first rest : 
 abbrev pub Settles : Administration → ℕ → List Recorded → List Sitting → Result (Unit {0}) CloseFault → Type 0
 Settles opening count entries seats (Ok done) = IsOfSeats opening.entries opening.domain count seats entries
 Settles opening count entries seats (Err SeatMissing) = ⊥
-Settles opening count entries seats (Err (SeatsDisagree seat)) = Unit {0}
+Settles opening count entries seats (Err (SeatsDisagree seat)) = Disagrees opening.entries opening.domain count entries seats seat
 Settles opening count entries seats (Err Memory) = Unit {0}
 
 -- what a desk is closed with, by its seats

@@ -4,7 +4,7 @@ use Rattle.cqf_model.specs.declared.history.Receipt.{Receipt}
 use Rattle.cqf_model.specs.declared.history.Refused.{Refused}
 use Rattle.cqf_model.specs.declared.history.Refused.TheVariants.{HistoryFull}
 use Rattle.cqf_model.specs.declared.history.Reply.TheVariants.{Sealed}
-use Rattle.cqf_model.specs.History.{Act, Recorded, Seals, reply_to}
+use Rattle.cqf_model.specs.History.{Act, IsLegalHistory, Recorded, Seals, reply_to}
 use Rattle.cqf_laws_history.specs.StateLaws.{with_entry}
 use Rattle.cqf_lists.specs.Lists.{each_below}
 use Rattle.cqf_admission.specs.declared.entries.SealFault.{SealFault}
@@ -61,3 +61,14 @@ abbrev pub IsSealed : Administration → Administration → Sitting → Sitting 
 IsSealed before after old new (Ok done) =
     (table own : CycleTable) × Closes before after old.number (Ok table) × (own.cycle ≡ table.cycle) × (new ≡ with_seal old own)
 IsSealed before after old new (Err fault) = Closes before after old.number (Err fault) × (new ≡ old)
+
+-- some administration with a legal history answers a call so, and does with it what it is to do. Which one it is no clause can say,
+-- since the desk's stands behind a lock: closing the desk tells which history it was
+abbrev pub IsAnsweredSomewhere : ℕ → Act → Result Receipt Refused → Type 0
+IsAnsweredSomewhere seat act result =
+    (old new : Administration) × IsLegalHistory old.domain old.entries × IsAnswered old new seat act result
+
+-- likewise of a Seal
+abbrev pub IsSealedSomewhere : Sitting → Sitting → Result (Unit {0}) SealFault → Type 0
+IsSealedSomewhere old new result =
+    (before after : Administration) × IsLegalHistory before.domain before.entries × IsSealed before after old new result

@@ -1,10 +1,10 @@
 //! The comparisons by which a desk is closed.
-ghost use Rattle.std.specs.Prelude.{◌≡◌, ◌↔◌, ◌++◌, ◌==◌, ◌<◌, true, false, None, length, map, min, All, IfOk, IsErrOf};
+ghost use Rattle.std.specs.Prelude.{ℕ, ◌≡◌, ◌↔◌, ◌++◌, ◌==◌, ◌<◌, true, false, None, length, map, min, All, IfOk, IsErrOf};
 ghost use Rattle.std.specs.List.{list_any};
 ghost use Rattle.std.specs.Option.{option_map_or};
 ghost use Rattle.cqf_model.specs.History.{IsLegalHistory};
 ghost use Rattle.cqf_admission.specs.Admission.{recorded_of};
-ghost use Rattle.cqf_desk.specs.Closing.{AreItsSeats, GoesOnBySeats, IsBorneOut, IsClosed, Settles, calls_by, tables_by};
+ghost use Rattle.cqf_desk.specs.Closing.{AreItsSeats, ComesToLeast, GoesOnBySeats, IsBorneOut, IsClosed, IsOneOrCount, Settles, calls_by, tables_by};
 
 use crate::again::{goes_on, has_tables};
 use crate::faults::CloseFault;
@@ -125,8 +125,8 @@ fn first_against(
     rest: &[Entry],
     seats: &[Seat],
 ) -> Result<Option<u16>, Memory>
-    ensures { IfOk result (λ least. least ≡ None →
-        All (IsBorneOut opening.now.domain (opening.now.entries ++ map recorded_of rest.now) (length opening.now.entries)) seats.now) }
+    ensures { IfOk result (ComesToLeast
+        (IsBorneOut opening.now.domain (opening.now.entries ++ map recorded_of rest.now) (length opening.now.entries)) seats.now) }
 {
     let mut least = None;
     for seat in seats {
@@ -213,6 +213,7 @@ pub(crate) fn settle(
 ) -> Result<History, CloseFault>
     requires { AreItsSeats count seats.now }
     ensures missing { IsErrOf result CloseFault.SeatMissing → ⊥ }
+    ensures named { (number : ℕ) → IsErrOf result (CloseFault.SeatsDisagree number) → IsOneOrCount count seats.now number }
     ensures closed { IfOk result (λ history. IsClosed (record { opening = opening.now; seats = count }) seats.now history) }
 {
     match check(alloc, opening, count, entries.as_slice(), seats) {

@@ -1,9 +1,9 @@
 //! The desk.
-ghost use Rattle.std.specs.Prelude.{◌≡◌, ◌↔◌, IfOk, IsErrOf};
+ghost use Rattle.std.specs.Prelude.{ℕ, ◌≡◌, ◌↔◌, IfOk, IsErrOf};
 ghost use Rattle.cqf_model.specs.History.{Admits, Withdraws};
 ghost use Rattle.cqf_admission.specs.Asking.{asked_of};
-ghost use Rattle.cqf_desk.specs.Closing.{AreItsSeats, IsClosed};
-ghost use Rattle.cqf_desk.specs.Desk.{Keeps, KeepsSeal, fresh_seats};
+ghost use Rattle.cqf_desk.specs.Closing.{AreItsSeats, IsClosed, IsOneOrCount};
+ghost use Rattle.cqf_desk.specs.Desk.{IsAnsweredSomewhere, IsSealedSomewhere, Keeps, KeepsSeal, fresh_seats};
 
 use crate::closing::{are_its_seats, settle};
 use crate::faults::CloseFault;
@@ -61,7 +61,8 @@ impl Desk {
         seat: &mut Seat,
         request: &Request,
     ) -> Result<Receipt, Refused>
-        ensures { Keeps seat.old seat.new (Admits (asked_of request.now)) result }
+        ensures keeps { Keeps seat.old seat.new (Admits (asked_of request.now)) result }
+        ensures answered { IsAnsweredSomewhere seat.old.number (Admits (asked_of request.now)) result }
     {
         let Ok(asked) = request.try_copy(self.alloc) else {
             return unasked(&self.admission.lock(rt));
@@ -71,7 +72,8 @@ impl Desk {
 
     /// Withdraws the stream of a name, likewise by [`Admission::withdraw`].
     pub fn withdraw<R: Wait>(&self, rt: &R, seat: &mut Seat, name: &str) -> Result<Receipt, Refused>
-        ensures { Keeps seat.old seat.new (Withdraws name.now) result }
+        ensures keeps { Keeps seat.old seat.new (Withdraws name.now) result }
+        ensures answered { IsAnsweredSomewhere seat.old.number (Withdraws name.now) result }
     {
         let Ok(asked) = String::from_str(self.alloc, name) else {
             return unasked(&self.admission.lock(rt));
@@ -84,7 +86,8 @@ impl Desk {
     /// as the desk is closed. With `CyclesSpent` and `Memory` neither the history nor the seat changes; `Memory` comes where any
     /// growth is refused, also of what follows the history, and only where `CyclesSpent` isn't due. It waits for the lock alone.
     pub fn seal<R: Wait>(&self, rt: &R, seat: &mut Seat) -> Result<(), SealFault>
-        ensures { KeepsSeal seat.old seat.new result }
+        ensures keeps { KeepsSeal seat.old seat.new result }
+        ensures sealed { IsSealedSomewhere seat.old seat.new result }
     {
         seat.seal(self.alloc, &self.opening, &mut self.admission.lock(rt))
     }
@@ -99,6 +102,7 @@ impl Desk {
     /// where a seat has disagreed already. The desk and the seats are gone then too.
     pub fn close(self, seats: Vec<Seat>) -> Result<History, CloseFault>
         ensures missing { IsErrOf result CloseFault.SeatMissing ↔ (AreItsSeats self.seats seats.items → ⊥) }
+        ensures named { (number : ℕ) → IsErrOf result (CloseFault.SeatsDisagree number) → IsOneOrCount self.seats seats.items number }
         ensures closed { IfOk result (λ history. IsClosed self seats.items history) }
     {
         if !are_its_seats(self.seats, seats.as_slice()) {
@@ -111,6 +115,7 @@ impl Desk {
     fn settled(self, seats: &[Seat]) -> Result<History, CloseFault>
         requires { AreItsSeats self.seats seats.now }
         ensures missing { IsErrOf result CloseFault.SeatMissing → ⊥ }
+        ensures named { (number : ℕ) → IsErrOf result (CloseFault.SeatsDisagree number) → IsOneOrCount self.seats seats.now number }
         ensures closed { IfOk result (λ history. IsClosed self seats.now history) }
     {
         let entries = self.admission.into_inner().into_history();

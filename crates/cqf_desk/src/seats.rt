@@ -1,6 +1,6 @@
 //! The seats of a desk.
 ghost use Rattle.std.specs.Prelude.{◌≡◌, ◌↔◌, ◌-◌, ◌≤◌, ◌<◌, ◌++◌, [], ◌∷◌, true, false, length, map, option_copied, slice_get, string_bytes, vec_len, vec_capacity, Err};
-ghost use Rattle.cqf_model.specs.History.{Admits, Withdraws};
+ghost use Rattle.cqf_model.specs.History.{Admits, IsLegalHistory, Withdraws};
 ghost use Rattle.cqf_admission.specs.Admission.{Closes, calls, is_entered, recorded_of, reply_of};
 ghost use Rattle.cqf_admission.specs.Asking.{asked_of};
 ghost use Rattle.cqf_desk.specs.Closing.{tables_by};
@@ -104,9 +104,12 @@ impl Seat {
         request: &Request,
     ) -> Result<Receipt, Refused>
         requires { asked_of asked ≡ asked_of request.now }
+        ensures legal { IsLegalHistory admission.old.domain admission.old.entries }
         ensures answered { IsAnswered admission.old admission.new self.old.number (Admits (asked_of request.now)) result }
         ensures keeps { Keeps self.old self.new (Admits (asked_of request.now)) result }
     {
+        // its history is legal
+        let _legal = admission.history();
         if self.calls.reserve(1).is_err() {
             return unasked(admission);
         }
@@ -123,9 +126,12 @@ impl Seat {
         name: &str,
     ) -> Result<Receipt, Refused>
         requires { string_bytes asked ≡ name.now }
+        ensures legal { IsLegalHistory admission.old.domain admission.old.entries }
         ensures answered { IsAnswered admission.old admission.new self.old.number (Withdraws name.now) result }
         ensures keeps { Keeps self.old self.new (Withdraws name.now) result }
     {
+        // its history is legal
+        let _legal = admission.history();
         if self.calls.reserve(1).is_err() {
             return unasked(admission);
         }
@@ -142,8 +148,11 @@ impl Seat {
         opening: &Admission,
         admission: &mut Admission,
     ) -> Result<(), SealFault>
-        ensures { IsSealed admission.old admission.new self.old self.new result }
+        ensures legal { IsLegalHistory admission.old.domain admission.old.entries }
+        ensures sealed { IsSealed admission.old admission.new self.old self.new result }
     {
+        // its history is legal
+        let _legal = admission.history();
         if admission.next_cycle().0 >= MOST_SEALS {
             return Err(unsealed(admission));
         }
@@ -189,6 +198,7 @@ impl Seat {
 
 /// The answer to a request or a withdrawal that there is no memory for.
 pub(crate) fn unasked(admission: &Admission) -> Result<Receipt, Refused>
+    ensures legal { IsLegalHistory admission.now.domain admission.now.entries }
     ensures full { (result ≡ Err Refused.HistoryFull) ↔ (100000 ≤ calls admission.now.entries) }
     ensures left { is_entered result ≡ false }
 {

@@ -1,5 +1,5 @@
 //! A desk that is closed with its own seats, and with others.
-use crate::words::{NONE, SEVEN, X, line_with};
+use crate::words::{NONE, SEVEN, X, is_admit, line_with};
 use cqf_admission::{Admission, Call, Entry, Receipt, Reply, Table};
 use cqf_desk::{CloseFault, Desk, History, Seat};
 use cqf_fixtures::{Asked, request};
@@ -35,7 +35,9 @@ fn is_same(ours: &Table, theirs: &Table, rows: usize) -> bool {
     }
     match (ours.row_of(0), theirs.row_of(0)) {
         (Some(our), Some(their)) => {
-            our.name == their.name
+            our.no == their.no
+                && our.name == their.name
+                && our.admitted == their.admitted
                 && our.octets == 1500
                 && their.octets == 1500
                 && our.withdrawn == their.withdrawn
@@ -120,9 +122,19 @@ fn works<R: Wait>(rt: &R, alloc: Global, desk: &Desk, seats: &mut [Seat]) -> boo
     }
 }
 
-/// Whether an entry is one of a seat, with that reply, and a Seal or not.
-fn is_entry(entry: &Entry, seat: u16, seals: bool, reply: Reply) -> bool {
-    entry.seat == seat && matches!(entry.call, Call::Seal) == seals && entry.reply == reply
+/// Whether an entry is the withdrawal of x by a seat, with that reply.
+fn is_withdrawal(entry: &Entry, seat: u16, reply: Reply) -> bool {
+    match &entry.call {
+        Call::Withdraw(name) => {
+            entry.seat == seat && name.as_str() == "x" && entry.reply == reply
+        }
+        _ => false,
+    }
+}
+
+/// Whether an entry is a Seal of the second seat.
+fn is_seal(entry: &Entry) -> bool {
+    entry.seat == 1 && matches!(entry.call, Call::Seal) && entry.reply == Reply::Sealed
 }
 
 /// The answer to a call for x with effect from this cycle on.
@@ -133,18 +145,17 @@ fn accepted(effect: u32) -> Reply {
     })
 }
 
-/// Whether the history is what the steps make: x is accepted with number 0 and effect 0, and withdrawn with effect 1.
+/// Whether the history is what the steps make: x, as it was asked for, is accepted with number 0 and effect 0, and withdrawn with effect
+/// 1.
 fn is_of_steps(history: &History) -> bool {
     let entries = history.entries.as_slice();
     if history.opening != 0 || entries.len() != 8 {
         return false;
     }
-    is_entry(&entries[0], 0, false, accepted(0))
-        && is_entry(&entries[1], 1, true, Reply::Sealed)
-        && is_entry(&entries[2], 0, false, accepted(1))
-        && entries[3..]
-            .iter()
-            .all(|entry| is_entry(entry, 1, true, Reply::Sealed))
+    is_admit(&entries[0], 0, &X, accepted(0))
+        && is_seal(&entries[1])
+        && is_withdrawal(&entries[2], 0, accepted(1))
+        && entries[3..].iter().all(|entry| is_seal(entry))
 }
 
 /// Whether a desk that is closed with these seats has the history of the steps, or is refused so.

@@ -1,6 +1,6 @@
 //! Two threads at one desk.
-use crate::words::{SEVEN, Y, Z, line_with};
-use cqf_admission::{Call, Entry, Receipt, Refused, Reply};
+use crate::words::{SEVEN, Y, Z, is_admit, line_with};
+use cqf_admission::{Entry, Receipt, Refused, Reply};
 use cqf_desk::{Desk, History, Seat};
 use cqf_fixtures::request;
 use cqf_topology::Request;
@@ -71,28 +71,45 @@ fn is_zero_first<R: Threads + Wait + Sync>(
     }
 }
 
-/// Whether an entry is the seat's request for the name, with that reply.
-fn is_entry(entry: &Entry, seat: u16, name: &str, reply: Reply) -> bool {
-    match &entry.call {
-        Call::Admit(request) => {
-            entry.seat == seat && request.name.as_str() == name && entry.reply == reply
-        }
-        _ => false,
+/// Whether an entry is what the line was asked before for one of the seven, which got this number.
+fn is_one_of_seven(number: u32, entry: &Entry) -> bool {
+    let receipt = Receipt {
+        no: number,
+        effect: Cycle(0),
+    };
+    match SEVEN.get(number as usize) {
+        Some(asked) => is_admit(entry, 9, asked, Reply::Accepted(receipt)),
+        None => false,
     }
 }
 
-/// Whether the last two of nine entries are those of seats 0 and 1 in the order in which their answers say that they came.
+/// Whether entries are those of the seven, in order.
+fn are_the_seven(entries: &[Entry]) -> bool {
+    let mut number = 0;
+    for entry in entries {
+        if number >= 7 || !is_one_of_seven(number, entry) {
+            return false;
+        }
+        number += 1;
+    }
+    number == 7
+}
+
+/// Whether of nine entries seven are the opening ones, and the last two those of seats 0 and 1 in the order in which their answers say
+/// that they came.
 fn is_in_order(history: &History, zero_came_first: bool) -> bool {
-    if history.opening != 7 || history.entries.len() != 9 {
+    let entries = history.entries.as_slice();
+    if history.opening != 7 || entries.len() != 9 {
         return false;
     }
-    let (first, second) = (&history.entries[7], &history.entries[8]);
+    let (first, second) = (&entries[7], &entries[8]);
     let (accepted, short) = (Reply::Accepted(RECEIPT), Reply::Refused(SHORT));
-    if zero_came_first {
-        is_entry(first, 0, "y", accepted) && is_entry(second, 1, "z", short)
+    let are_last = if zero_came_first {
+        is_admit(first, 0, &Y, accepted) && is_admit(second, 1, &Z, short)
     } else {
-        is_entry(first, 1, "z", accepted) && is_entry(second, 0, "y", short)
-    }
+        is_admit(first, 1, &Z, accepted) && is_admit(second, 0, &Y, short)
+    };
+    are_last && are_the_seven(&entries[..7])
 }
 
 /// Whether a desk that is closed has such a history.

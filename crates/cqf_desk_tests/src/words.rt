@@ -1,6 +1,6 @@
 //! Admissions and requests over the line of three bridges.
-use cqf_admission::Admission;
-use cqf_fixtures::{Asked, line, request};
+use cqf_admission::{Admission, Call, Entry, Reply};
+use cqf_fixtures::{Asked, is_request, line, request};
 use cqf_topology::Domain;
 use std::alloc::Global;
 
@@ -27,6 +27,16 @@ pub(crate) const SEVEN: &[Asked] = &[
     ("n5", 1500, PATH),
     ("n6", 1500, PATH),
 ];
+
+/// Whether an entry is a seat's request for a stream, with that reply.
+pub(crate) fn is_admit(entry: &Entry, seat: u16, asked: &Asked, reply: Reply) -> bool {
+    match &entry.call {
+        Call::Admit(request) => {
+            entry.seat == seat && is_request(request, asked) && entry.reply == reply
+        }
+        _ => false,
+    }
+}
 
 /// Whether a stream is granted.
 fn is_granted(alloc: Global, line: &mut Admission, asked: &Asked) -> bool {

@@ -9,7 +9,7 @@
 //! - [`Prepared`] is what an output is told from. All memory is had before its first byte is told.
 //!
 //! `specs/Edge.antt` says what a reader gave (`Reading`), and that of `cqf_press` what became of a writer (`Writing`, `HasTold`).
-//! `specs/Prepared.antt` has the text of an output (`text_of`). `specs/Run.antt` says what a run comes to (`IsDone`, `IsRefusedRun`, `IsMisuse`, `IsFailedRun`), and what the engine leaves, by its status
+//! `specs/Prepared.antt` says which text an output tells (`IsTextOf`). `specs/Run.antt` says what a run comes to (`IsDone`, `IsRefusedRun`, `IsMisuse`, `IsFailedRun`), and what the engine leaves, by its status
 //! (`Ends`).
 //!
 //! ```text

@@ -1,6 +1,6 @@
 //! An output, before it is told.
-ghost use Rattle.std.specs.Prelude.{◌≡◌};
-ghost use Rattle.cqf_engine.specs.Prepared.{text_of};
+ghost use Rattle.std.specs.Prelude.{ℕ, List};
+ghost use Rattle.cqf_engine.specs.Prepared.{IsTextOf};
 ghost use Rattle.cqf_press.specs.Edge.{HasTold, writing};
 
 use cqf_compile_command::ConfigOutput;
@@ -43,7 +43,7 @@ pub enum Prepared {
 impl Prepared {
     /// Tells the output: all of it, unless the writer refuses a part, and then a front of it. It asks for no memory.
     pub fn tell<W: Write>(self, told: &mut Told<W>)
-        ensures { HasTold (writing W.contents told.old told.new) (text_of self) }
+        ensures { (text : List ℕ) → IsTextOf self text → HasTold (writing W.contents told.old told.new) text }
     {
         match self {
             Prepared::Text(text) => write_out(told, text.as_slice()),

@@ -1,8 +1,8 @@
 //! A run of the program, from its words and its input to its output or its end.
-ghost use Rattle.std.specs.Prelude.{◌≡◌, ◌≢◌, ◌≤◌, [], false, IfOk, IfErr, MatchOption, map, length, string_bytes, true};
+ghost use Rattle.std.specs.Prelude.{ℕ, ◌≡◌, ◌≢◌, ◌≤◌, List, [], false, IfOk, IfErr, MatchOption, map, length, string_bytes, true};
 ghost use Rattle.std.specs.List.{slice_split};
 ghost use Rattle.cqf_engine.specs.Edge.{IsHeard, IsUnheard, reading};
-ghost use Rattle.cqf_engine.specs.Prepared.{text_of};
+ghost use Rattle.cqf_engine.specs.Prepared.{HasText, IsTextOf};
 ghost use Rattle.cqf_press.specs.Edge.{writing};
 ghost use Rattle.cqf_threads_command.specs.ThreadsOutput.{EndsThreads, IsThreadsOutput};
 ghost use Rattle.cqf_words.specs.Words.{EndsWords, Mean};
@@ -35,7 +35,7 @@ use std::thread::Threads;
 
 /// The output of `compile` in a format, ready to be told. `Err` as [`prepare`] has it.
 fn prepare_compiled(alloc: Global, format: Format, input: &[u8]) -> Result<Prepared, Stop>
-    ensures ok { IfOk result (λ output. IsOutput (Job.Compile format) input.now (text_of output)) }
+    ensures ok { IfOk result (HasText (IsOutput (Job.Compile format) input.now)) }
     ensures err { IfErr result (IsRefusal (Job.Compile format) input.now) }
 {
     match format {
@@ -54,7 +54,7 @@ fn prepare(
 ) -> Result<Prepared, Stop>
     requires within { IsWithin job.now }
     requires unthreaded { is_threaded job.now ≡ false }
-    ensures ok { IfOk result (λ output. IsOutput job.now input.now (text_of output)) }
+    ensures ok { IfOk result (HasText (IsOutput job.now input.now)) }
     ensures err { IfErr result (IsRefusal job.now input.now) }
 {
     match *job {
@@ -78,7 +78,7 @@ fn prepare(
 
 /// What an output tells, as one text. The error is want of memory.
 fn text_told(alloc: Global, output: Prepared) -> Result<Vec<u8>, Memory>
-    ensures { IfOk result (λ text. text.items ≡ text_of output) }
+    ensures { IfOk result (λ told. (text : List ℕ) → IsTextOf output text → told.items ≡ text) }
 {
     let mut told = Told::new(Vec::new(alloc));
     output.tell(&mut told);
@@ -130,7 +130,7 @@ fn prepare_threads(
     input: &[u8],
 ) -> Result<Prepared, Stop>
     requires { cycles ≤ 100000 }
-    ensures ok { IfOk result (λ output. IsThreadsOutput cycles input.now (text_of output)) }
+    ensures ok { IfOk result (HasText (IsThreadsOutput cycles input.now)) }
     ensures err { IfErr result (EndsThreads cycles input.now) }
 {
     match threads_output(rt, alloc, cycles, input) {
@@ -148,7 +148,7 @@ fn output_of(
     input: &[u8],
 ) -> Result<Prepared, Stop>
     requires { IsWithin job.now }
-    ensures ok { IfOk result (λ output. IsOutput job.now input.now (text_of output)) }
+    ensures ok { IfOk result (HasText (IsOutput job.now input.now)) }
     ensures err { IfErr result (IsEnd job.now input.now) }
 {
     match threaded_cycles(job) {
@@ -217,7 +217,7 @@ fn run_given<R: Read>(
     requires unheard { IsUnheard input.old }
     ensures heard { IsHeard (reading R.remaining input.old input.new) }
     ensures behind_words { IsBehindWords (map (λ word. word.now) words.now) (reading R.remaining input.old input.new) }
-    ensures ok { IfOk result (λ output. HasRun (map (λ word. word.now) words.now) (reading R.remaining input.old input.new) (text_of output)) }
+    ensures ok { IfOk result (HasText (HasRun (map (λ word. word.now) words.now) (reading R.remaining input.old input.new))) }
     ensures err { IfErr result (IsStopped (map (λ word. word.now) words.now) (reading R.remaining input.old input.new)) }
 {
     if ask_for_version(words) {
@@ -263,7 +263,7 @@ fn run_line(
     bytes: &[u8],
 ) -> Result<Prepared, Stop>
     requires { length bytes.now ≤ 67108864 }
-    ensures ok { IfOk result (λ output. IsDone [] bytes.now (text_of output)) }
+    ensures ok { IfOk result (HasText (IsDone [] bytes.now)) }
     ensures err { IfErr result (HasCause [] bytes.now) }
     ensures status { IfErr result (λ stop. stop.status ≤ 4) }
 {
@@ -289,7 +289,7 @@ fn run_taken<R: Read>(
 ) -> Result<Prepared, Stop>
     requires { IsUnheard input.old }
     ensures heard { IsHeard (reading R.remaining input.old input.new) }
-    ensures ok { IfOk result (λ output. HasRun [] (reading R.remaining input.old input.new) (text_of output)) }
+    ensures ok { IfOk result (HasText (HasRun [] (reading R.remaining input.old input.new))) }
     ensures err { IfErr result (IsStopped [] (reading R.remaining input.old input.new)) }
 {
     if let Err(stop) = read_input(alloc, input) {
@@ -308,7 +308,7 @@ fn run<R: Read>(
     requires { IsUnheard input.old }
     ensures heard { IsHeard (reading R.remaining input.old input.new) }
     ensures behind_words { IsBehindWords (map (λ word. word.now) words.now) (reading R.remaining input.old input.new) }
-    ensures ok { IfOk result (λ output. HasRun (map (λ word. word.now) words.now) (reading R.remaining input.old input.new) (text_of output)) }
+    ensures ok { IfOk result (HasText (HasRun (map (λ word. word.now) words.now) (reading R.remaining input.old input.new))) }
     ensures err { IfErr result (IsStopped (map (λ word. word.now) words.now) (reading R.remaining input.old input.new)) }
 {
     if words.is_empty() {
@@ -343,7 +343,8 @@ fn tell_output<O: Write, F: Write>(
     output: &mut Told<O>,
     faults: &mut Told<F>,
 ) -> u8
-    ensures { HandsOver (text_of prepared) (writing O.contents output.old output.new) (writing F.contents faults.old faults.new) result }
+    ensures { (text : List ℕ) → IsTextOf prepared text →
+        HandsOver text (writing O.contents output.old output.new) (writing F.contents faults.old faults.new) result }
 {
     prepared.tell(output);
     end_told(output, faults)

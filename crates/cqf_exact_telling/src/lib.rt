@@ -1,17 +1,17 @@
 //! The book of a run, told while its starts are found: no list of all starts is kept.
 //!
-//! - [`put_exact_book`] puts the text of a book on a press. The starts come of a pass, cycle by cycle; the background frames' starts and
-//!   the drops are at hand.
+//! - [`ExactBook`] is such a book, of a pass that tells the starts cycle by cycle, and of the background frames' starts and the drops,
+//!   which are at hand. It's put on a press, or gathered.
 //!
-//! The text is that of `cqf_report` (`text_of_book` of its `specs/Books.antt`), and no memory is asked for. `specs/ExactBooks.antt` says which
-//! book it is that has these parts.
+//! The text is that of `cqf_report` (`text_of_book` of its `specs/Books.antt`), and no memory is asked for while it's put.
+//! `specs/ExactBooks.antt` says which book it is that has these parts.
 //!
 //! ```text
-//! put_exact_book(&mut press, &domain, pass, background, drops);
+//! ExactBook::new(pass, background, drops).put(&mut press, &domain);
 //!     puts "what,cycle,where,frame,octets,detail\nstart,1,a>s,1,64,125000\n"
 //! ```
 #![tactic(auto)]
 
 mod books;
 
-pub use books::put_exact_book;
+pub use books::ExactBook;

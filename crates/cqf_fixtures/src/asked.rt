@@ -29,3 +29,25 @@ pub fn request(alloc: Global, asked: &Asked) -> Result<Request, Memory> {
         paths,
     })
 }
+
+/// Whether a path goes along these nodes.
+fn is_along(path: &[String], nodes: &[&str]) -> bool {
+    path.len() == nodes.len()
+        && path
+            .iter()
+            .zip(nodes)
+            .all(|(node, name)| node.as_str() == *name)
+}
+
+/// Whether a request is for a stream of these values.
+pub fn is_request(request: &Request, asked: &Asked) -> bool {
+    let (name, octets, branches) = *asked;
+    request.name.as_str() == name
+        && request.octets == octets
+        && request.paths.len() == branches.len()
+        && request
+            .paths
+            .iter()
+            .zip(branches)
+            .all(|(path, nodes)| is_along(path.as_slice(), nodes))
+}

@@ -4,8 +4,8 @@
 //!   and last bridge have links to each other too; [`fork`] is a line that branches.
 //! - A test makes changed forms of them with `replacen`.
 //! - [`are_offers`] and [`are_background`] tell what a run of a domain may be given.
-//! - [`request`], [`offers_of`] and [`background_of`] make what is asked for and offered of plain values, and [`are_begun`] and
-//!   [`are_dropped`] tell whether a book has such values.
+//! - [`request`], [`offers_of`] and [`background_of`] make what is asked for and offered of plain values, [`is_request`] tells
+//!   whether a request has such values, and [`are_begun`] and [`are_dropped`] whether a book has.
 //!
 //! All have a cycle time of 125,000 ns, and links of 1,000 Mb/s with a delay of 500 ns. The guard time is 5,000 ns.
 #![tactic(auto)]
@@ -15,7 +15,7 @@ mod given;
 mod offered;
 mod told;
 
-pub use asked::{Asked, request};
+pub use asked::{Asked, is_request, request};
 pub use given::{are_background, are_offers};
 pub use offered::{Backing, Offering, background_of, offers_of};
 pub use told::{Begun, Fell, are_begun, are_dropped};

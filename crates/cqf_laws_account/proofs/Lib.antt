@@ -1,7 +1,8 @@
 mod ThreeKeys
-mod Gathering
+pub mod Gathering
 mod Ordered
 mod Closed
 mod Together
 mod Sealed
 mod Seats
+mod Paged

@@ -29,6 +29,7 @@ use Rattle.cqf_laws_course.specs.Courses.{AreUnderWay, Course, HasWorked, IsGive
 use Rattle.cqf_laws_course.proofs.LinkNumbers.{link_into}
 use Rattle.cqf_laws_account.specs.Apart.{HavePosted, HaveWorkedApart, taken_at, together}
 use Rattle.cqf_laws_account.specs.Gathered.{ArePagesOf, GatheredPagesAreTheBook, contents_of_page}
+use Rattle.cqf_laws_account.specs.Paged.{HasThePages}
 use Rattle.cqf_laws_account.proofs.Gathering.{leaves_one}
 
 -- what was taken from a link that ends in a bridge is by the lists of the bridge
@@ -165,3 +166,8 @@ module _ (t : Traffic) (entries : List Recorded) (own : ℕ → Course) (apart :
     gathered_history pages gathered have is =
         subst (λ (b : Contents). IsBookOfHistory t.domain entries t.offers t.background cycles b)
         (sym (gathers t.domain cycles pages some_book.0 gathered given.accepted is_some (are_pages pages have) is)) of_history
+
+    -- that book has those pages
+    pub posted_history : (pages : ℕ → List Page) → HavePosted t cycles own pages →
+        (book : Contents) × HasThePages t.domain entries t.offers t.background cycles pages book
+    posted_history pages have = (some_book.0, record { of_history = of_history; some = is_some; pages_of = are_pages pages have })

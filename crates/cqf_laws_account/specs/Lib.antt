@@ -2,3 +2,4 @@ pub mod Gathered
 pub mod Apart
 pub mod Sealing
 pub mod Seated
+pub mod Paged

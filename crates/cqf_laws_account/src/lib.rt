@@ -7,6 +7,8 @@
 //! - The pages of a book, gathered bridge by bridge and put in the order of a book, are the book ([`gathered_pages_are_the_book`]).
 //! - Bridges of which each did its part by lists of its own, and that were fed in order, are under way together, and the book that
 //!   their pages are gathered to is the one-thread book ([`bridges_apart_give_the_book`]).
+//! - Such bridges' pages are those of the one-thread book ([`bridges_apart_post_the_pages`]); and the pages of a book tell it, cycle by cycle
+//!   and link by link, with nothing to be sorted ([`pages_tell_the_book`]).
 //! - Where one seat of a desk makes all Seals, the tables that it closes are those of the history ([`one_seat_closes_all_tables`]);
 //!   and the history of a desk has just what was asked of its seats ([`seats_give_the_history`]).
 //!
@@ -18,6 +20,7 @@
 
 ghost use Rattle.cqf_laws_account.specs.Apart.{BridgesApartAreUnderWay, BridgesApartGiveTheBook};
 ghost use Rattle.cqf_laws_account.specs.Gathered.{GatheredPagesAreTheBook};
+ghost use Rattle.cqf_laws_account.specs.Paged.{BridgesApartPostThePages, PagesTellTheBook};
 ghost use Rattle.cqf_laws_account.specs.Sealing.{OneSeatClosesAllTables};
 ghost use Rattle.cqf_laws_account.specs.Seated.{ConductorHasTheTables, SeatsGiveTheHistory};
 
@@ -55,4 +58,25 @@ pub fn seats_give_the_history()
     ensures tables { ConductorHasTheTables }
 {
     one_seat_closes_all_tables();
+}
+
+/// On each page of a book the starts of either kind stand link by link; and the book is what its pages tell: cycle by cycle the starts
+/// link by link, each from the page of the bridge that the link leaves, and the drops bridge by bridge (profile).
+pub fn pages_tell_the_book()
+    ensures { PagesTellTheBook }
+{
+    cqf_laws_pages::page_is_of_its_bridge();
+    cqf_laws_pages::book_is_its_pages();
+}
+
+/// Where each bridge did its part by lists of its own, the tables that it took are the first of one history's Seals, and what it took
+/// from a link is the beginning of what was put on it, the pages that the bridges have posted are those of the one-thread book of that
+/// history, however the bridges took turns (IEEE 802.1Q, Annex T, and the profile).
+pub fn bridges_apart_post_the_pages()
+    ensures { BridgesApartPostThePages }
+{
+    gathered_pages_are_the_book();
+    cqf_laws_course::pages_are_of_the_book();
+    cqf_laws_network::book_exists();
+    cqf_laws_history::tables_are_orderly();
 }

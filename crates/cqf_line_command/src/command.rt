@@ -1,11 +1,11 @@
 //! The command `line`: the book of one bridge with one stream.
-ghost use Rattle.std.specs.Prelude.{◌≡◌, ◌≤◌, Ok, IfOk, IfErr, length};
+ghost use Rattle.std.specs.Prelude.{ℕ, ◌≡◌, ◌≤◌, Ok, IfOk, IfErr, List, length};
 ghost use Rattle.cqf_laws_report.specs.Judged.{StandInOrder};
 ghost use Rattle.cqf_model.specs.Run.{AreOffers};
 ghost use Rattle.cqf_press.specs.Edge.{HasTold, writing};
 ghost use Rattle.cqf_stop.specs.Stops.{IsRefused};
 ghost use Rattle.cqf_line_command.specs.Line.{line_domain};
-ghost use Rattle.cqf_line_command.specs.LineTold.{text_of_line};
+ghost use Rattle.cqf_line_command.specs.LineTold.{IsLineTold};
 ghost use Rattle.cqf_line_command.specs.LineOutput.{line_input, offers_input, IsBookText, IsLineOutput};
 
 use crate::domain::domain_of_line;
@@ -19,7 +19,6 @@ use cqf_model::Offer;
 use cqf_press::{Press, Sheet, Told};
 use cqf_scenario::run_given;
 use cqf_stop::Stop;
-use cqf_telling::put_book;
 use cqf_topology::Domain;
 use cqf_units::Memory;
 use std::alloc::Global;
@@ -50,7 +49,7 @@ fn output_of_line(
     requires few { length offers.items ≤ 1000000 }
     requires order { StandInOrder offers.items }
     requires short { cycles ≤ 100000 }
-    ensures { IfOk result (λ output. IsBookText cycles offers.items (text_of_line output)) }
+    ensures { IfOk result (λ output. (text : List ℕ) × IsLineTold output text × IsBookText cycles offers.items text) }
 {
     state_follows_history();
     closed_tables_stay();
@@ -67,7 +66,7 @@ fn output_of_line(
 impl LineOutput {
     /// Tells the output: the book of the line (profile). It asks for no memory.
     pub fn tell<W: Write>(self, told: &mut Told<W>)
-        ensures { HasTold (writing W.contents told.old told.new) (text_of_line self) }
+        ensures { (text : List ℕ) → IsLineTold self text → HasTold (writing W.contents told.old told.new) text }
     {
         let LineOutput {
             domain,
@@ -75,7 +74,7 @@ impl LineOutput {
             sheet,
         } = self;
         let mut press = Press::new(told, sheet);
-        put_book(&mut press, &domain, &book);
+        book.put(&mut press, &domain);
         let _told = press.close();
     }
 }
@@ -84,7 +83,7 @@ impl LineOutput {
 /// the input: of its parts, of the offers; and with status 3 for want of memory.
 pub fn line_output(alloc: Global, cycles: u32, input: &[u8]) -> Result<LineOutput, Stop>
     requires { cycles ≤ 100000 }
-    ensures ok { IfOk result (λ output. IsLineOutput cycles input.now (text_of_line output)) }
+    ensures ok { IfOk result (λ output. (text : List ℕ) × IsLineTold output text × IsLineOutput cycles input.now text) }
     ensures err { IfErr result (IsRefused (line_input input.now)) }
 {
     let Ok(domain) = domain_of_line(alloc) else {

@@ -1,9 +1,9 @@
 -- A worker goes through its cycles.
 use Rattle.std.proofs.Common.{ℕ, zero, suc, ◌+◌, ◌≡◌, ◌<◌, ◌≤◌, ◌∷◌, ◌++◌, [], List, Some, All, AllPairs, length, map, refl, sym, ap, ◌∙◌, arith, inl, inr, subst, Contains, length-append}
-use Rattle.std.specs.Prelude.{◌==◌, slice_get, true}
+use Rattle.std.specs.Prelude.{◌==◌, false, slice_get, true}
 use Rattle.std.specs.List.{flat_map}
 use Rattle.std.specs.Option.{option_to_list}
-use Rattle.std.proofs.lemmas.Bool.{cases_Bool, cond-false, cond-true}
+use Rattle.std.proofs.lemmas.Bool.{cases_Bool, cond-false, cond-true, false≢true}
 use Rattle.std.proofs.lemmas.List.{length-map, map-append}
 use Rattle.std.proofs.lemmas.List.Elements.{All-head, All-tail}
 use Rattle.std.proofs.lemmas.Option.{same_Some}
@@ -20,6 +20,9 @@ use Rattle.cqf_agenda.specs.Agenda.{IsAgendaOf, background_at, offers_at}
 use Rattle.cqf_book.specs.Shares.{Own, Said}
 use Rattle.cqf_bridge.specs.Batch.{LinkBatch}
 use Rattle.cqf_bridge.specs.BridgeState.{AreBackedOf, BridgeState, SendsCycle, links_from, new_bridge}
+use Rattle.cqf_bridge.specs.declared.faults.BridgeFault.{BridgeFault}
+use Rattle.cqf_bridge.specs.declared.faults.BridgeFault.TheVariants as refusing
+use Rattle.cqf_bridge.specs.Faults.{IsSendFault}
 use Rattle.cqf_bridge.specs.PortRecord.{PortRecord, new_record}
 use Rattle.cqf_bridge.specs.Receiving.{IsRunOf, ReceivesCycle, links_into}
 use Rattle.cqf_bridge.proofs.OfferedRuns.{run_of_offers}
@@ -29,6 +32,9 @@ use Rattle.cqf_laws_course.proofs.LinkNumbers.{link_listed, links_ascend}
 use Rattle.cqf_loops.specs.declared.carried.Carried.{Carried}
 use Rattle.cqf_loops.specs.declared.carried.Carried.TheVariants.{Item}
 use Rattle.cqf_loops.specs.declared.worker.Worker.{Worker}
+use Rattle.cqf_loops.specs.declared.worker.WorkerFault.{WorkerFault}
+use Rattle.cqf_loops.specs.declared.worker.WorkerFault.TheVariants as working
+use Rattle.cqf_loops.specs.GivingUp.{IsCycleFault, StopsEarly, StopsFor}
 use Rattle.cqf_pipe.specs.PipeEnds.{End}
 use Rattle.cqf_loops.specs.Rows.{wires_of, with_each}
 use Rattle.cqf_loops.specs.Stepping.{GoesOn, HasPorts, MayGoOn, onward}
@@ -55,6 +61,8 @@ pub record StandsAt (t : Traffic) (number cycle : ℕ) (now : Worker) : Type 0 w
   pub behind : gone.worked.before cycle ≡ now.bridge
   pub of_domain : now.bridge.domain ≡ t.domain
   pub of_number : now.bridge.number ≡ number
+  pub received : now.bridge.received ≡ cycle
+  pub not_spent : now.bridge.spent ≡ false
   pub ports : HasPorts now.bridge
   pub is_agenda : IsAgendaOf t.domain t.offers t.background number now.agenda
   pub links_in : map link_of now.ins.items ≡ links_into t.domain number
@@ -108,6 +116,8 @@ begins t number w is =
       behind = sym is.is_bridge;
       of_domain = ap (λ (b : BridgeState). b.domain) is.is_bridge;
       of_number = ap (λ (b : BridgeState). b.number) is.is_bridge;
+      received = ap (λ (b : BridgeState). b.received) is.is_bridge;
+      not_spent = ap (λ (b : BridgeState). b.spent) is.is_bridge;
       ports = ap (λ (b : BridgeState). map (λ (r : PortRecord). r.link) b.ports) is.is_bridge
           ∙ new_links t.domain (new_record t.domain) (λ l. refl) (links_from t.domain number)
           ∙ ap (λ (b : BridgeState). links_from b.domain b.number) (sym is.is_bridge);
@@ -180,6 +190,12 @@ module _ (t : Traffic) (number n : ℕ) (before after : Worker) (at : StandsAt t
   sent_after =
       ap (λ (b : BridgeState). b.sent) received.bridge ∙ ap (λ (b : BridgeState). b.sent) step.sends.sends.bridge
       ∙ ap (λ (k : ℕ). k + 1) at.gone.has_sent
+
+  -- and has received one cycle more
+  received_after : after.bridge.received ≡ n + 1
+  received_after =
+      ap (λ (b : BridgeState). b.received) received.bridge
+      ∙ ap (λ (k : ℕ). k + 1) (ap (λ (b : BridgeState). b.received) step.sends.sends.bridge ∙ at.received)
 
   -- the batches that are put are of the ports' links
   links_put : map (λ (x : LinkBatch). x.link) (onward before.bridge.domain step.sends.batches) ≡ map link_of before.outs.items
@@ -314,6 +330,8 @@ module _ (t : Traffic) (number n : ℕ) (before after : Worker) (at : StandsAt t
     behind = stands_behind t number n (course_of before) (course_of after) step.halfway after.bridge at.gone.worked next;
     of_domain = domain_after;
     of_number = number_after;
+    received = received_after;
+    not_spent = ap (λ (b : BridgeState). b.spent) received.bridge;
     ports = ports_received some_run.0 step.halfway after.bridge n step.batches step.dropped received
         (ports_sent before.bridge step.halfway n (background_at before.agenda n) step.sends.batches step.sends.sends at.ports);
     is_agenda = subst (IsAgendaOf t.domain t.offers t.background number) (sym step.same_agenda) at.is_agenda;
@@ -375,3 +393,40 @@ pub batches_left : (t : Traffic) (number cycle : ℕ) (now after : Worker) (item
     after.outs.items ≡ with_each now.outs.items (map Item items) → All CarriesItems after.outs.items
 batches_left t number cycle now after items at more =
     subst (All CarriesItems) (sym more) (each_carries now.outs.items items (batches_then t number cycle now at))
+
+-- a bridge that has gone through the cycles before sends the next, unless memory is refused to it
+memory_alone : (t : Traffic) (number cycle : ℕ) (now : Worker) (after : BridgeState) (reason : BridgeFault) → StandsAt t number cycle now →
+    IsSendFault now.bridge after cycle reason → reason ≡ refusing.Memory
+memory_alone t number cycle now after refusing.Spent at fault = absurd (false≢true (sym at.not_spent ∙ fault.0))
+memory_alone t number cycle now after refusing.WrongCycle at fault = absurd (fault.1 (sym at.received, at.gone.has_sent ∙ sym at.received))
+memory_alone t number cycle now after refusing.StrangeBatch at fault = absurd fault
+memory_alone t number cycle now after (refusing.OverOctets frame) at fault = absurd fault
+memory_alone t number cycle now after refusing.Memory at fault = refl
+
+-- why it stops in a cycle
+stops_for : (t : Traffic) (number cycle : ℕ) (now : Worker) (fault : WorkerFault) → StandsAt t number cycle now → IsCycleFault cycle now fault →
+    StopsFor cycle now fault
+stops_for t number cycle now (working.Bridge reason) at fault =
+    elim fault [
+      | inl sends ↦ inl (memory_alone t number cycle now sends.0 reason at sends.1)
+      | inr receives ↦ inr receives
+    ]
+stops_for t number cycle now working.Memory at fault = fault
+stops_for t number cycle now (working.Book reason) at fault = fault
+stops_for t number cycle now working.Stopped at fault = fault
+
+-- and where it does, it went through those before
+pub stops_early : (t : Traffic) (number cycle cycles : ℕ) (worker now : Worker) (fault : WorkerFault) → IsWorkerOf t number worker → IsGoing cycle worker now →
+    cycle < cycles → IsCycleFault cycle now fault → StopsEarly cycles worker fault
+stops_early t number cycle cycles worker now fault is going below stops = record {
+  cycle = cycle;
+  below = below;
+  before = now;
+  works = all_gone cycle cycle worker now going refl;
+  stops = stops_for t number cycle now fault (going.part t number is) stops;
+}
+
+-- the wires at which it puts stay
+pub outs_left : (cycle : ℕ) (worker now after : Worker) (items : List (Carried LinkBatch)) → IsGoing cycle worker now →
+    after.outs.items ≡ with_each now.outs.items items → wires_of after.outs.items ≡ wires_of worker.outs.items
+outs_left cycle worker now after items going more = ap wires_of more ∙ wires_same now.outs.items items ∙ going.outs

@@ -1,7 +1,7 @@
 -- Ends of pipes at each of which items are put, in turn, passing over those whose other end is gone.
-use Rattle.std.proofs.Common.{ℕ, ◌≡◌, ◌<◌, ◌≤◌, ◌+◌, ◌∷◌, ◌++◌, [], Bool, List, length, get_or, set, refl, sym, ap, ◌∙◌, arith, inl, inr}
+use Rattle.std.proofs.Common.{ℕ, ◌≡◌, ◌<◌, ◌≤◌, ◌+◌, ◌⊎◌, ◌∷◌, ◌++◌, [], Bool, List, length, get_or, set, refl, sym, ap, ◌∙◌, arith, inl, inr}
 use Rattle.std.specs.Prelude.{All, true, false}
-use Rattle.std.proofs.lemmas.Bool.{cases_Bool, cases_eq}
+use Rattle.std.proofs.lemmas.Bool.{cases_Bool, cases_eq, false≢true}
 use Rattle.std.proofs.lemmas.List.{get_or_default, get_or-set_other, get_or-set_same, length-set}
 use Rattle.std.proofs.Math.Seq.{map-set_same}
 use Rattle.cqf_loops.specs.Handing.{GivesEach, GivesSome, pipes_of}
@@ -48,6 +48,10 @@ got_as {T} xs before after was now is_was is_now may =
       | inr more ↦ inr (is_now ∙ more ∙ ap (λ (e : End T). with_items e xs) is_was)
     ]
 
+-- where not all have it, one of the first ends is as it was
+abbrev pub MissesFirst : {T : Type 0} → List (End T) → List (End T) → ℕ → Bool → Type 0
+MissesFirst {T} before after count all = all ≡ false → (place : ℕ) × (place < count) × ((d : End T) → get_or after place d ≡ get_or before place d)
+
 -- whether all have it, by whether those before have and whether this one has
 abbrev pub HaveAll : Bool → Bool → Bool → Type 0
 HaveAll all given more = more ≡ true → (all ≡ true) × (given ≡ true)
@@ -62,6 +66,10 @@ module _ {T : Type 0} (xs : List T) where
     some = λ place d inside. inl refl;
     given = λ all place d h. absurd (omega (arith, h));
   }
+
+  -- and all have that
+  pub misses_none : (before : List (End T)) → MissesFirst before before 0 true
+  misses_none before is = absurd (false≢true (sym is))
 
   -- the same where it isn't asked whether all have it
   pub hands_some : (before : List (End T)) → HandsOn xs before before 0 false
@@ -117,6 +125,26 @@ module _ {T : Type 0} (xs : List T) where
       some = some_next;
       given = given_next;
     }
+
+  -- where the next one isn't handed them, or one before wasn't, one of those so far is as it was
+  pub misses_next : (before after : List (End T)) (count : ℕ) (all : Bool) (d end : End T) (given more : Bool) → HandsOn xs before after count all →
+      count < length before → MissesFirst before after count all → (given ≡ false → end ≡ get_or after count d) →
+      (more ≡ false → (all ≡ false) ⊎ (given ≡ false)) → MissesFirst before (set after count end) (count + 1) more
+  misses_next before after count all d end given more so_far below missed gone lack is =
+      elim (lack is) [
+        | inl was ↦
+            let m = missed was in (
+              m.0,
+              omega (arith, m.1),
+              λ e. get_or-set_other after count m.0 end e (λ same. omega (arith, same, m.1)) ∙ m.2 e,
+            )
+        | inr now ↦ (
+          count,
+          omega arith,
+          λ e. get_or-set_same after count end e (omega (arith, below, so_far.many)) ∙ gone now ∙ so_far.behind count d (omega arith)
+              ∙ get_or_default before count d e below,
+        )
+      ]
 
   -- in the end, so it is of all
   pub hands_all : (before after : List (End T)) (count : ℕ) (all : Bool) → HandsOn xs before after count all → length before ≤ count → all ≡ true →

@@ -6,3 +6,5 @@ mod Stopping
 mod Going
 mod HandedTables
 mod SealedCycles
+mod Passing
+mod Failing

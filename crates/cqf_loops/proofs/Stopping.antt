@@ -7,7 +7,7 @@ use Rattle.cqf_loops.specs.declared.carried.Carried.{Carried}
 use Rattle.cqf_loops.specs.declared.carried.Carried.TheVariants.{Item, Stop}
 use Rattle.cqf_loops.specs.declared.ports.Port.{Port}
 use Rattle.cqf_pipe.specs.PipeEnds.{End}
-use Rattle.cqf_loops.specs.Rows.{MayGet, MayHaveGot, with_each, with_item_at, with_items}
+use Rattle.cqf_loops.specs.Rows.{MayGet, MayHaveGot, wire_of, wires_of, with_each, with_item_at, with_items}
 use Rattle.cqf_loops.specs.Stops.{AreItems, AreItemsThenStop, AreStopped}
 use Rattle.cqf_loops.specs.Workers.{items_in}
 use Rattle.cqf_loops.proofs.Each.{written_back}
@@ -61,6 +61,31 @@ module _ {T : Type 0} where
         subst (AreStopped ports) (sym back) told,
         subst (All (λ (port : Port (End (Carried T))). AreItemsThenStop port.pipe.items)) (sym back) (ports_then_stop ports now all told items),
       )
+
+  -- a port at which a Stop was put, or nothing, has its wire still
+  wire_kept : (before after : Port (End (Carried T))) → MayHaveGot Stop before after → wire_of after ≡ wire_of before
+  wire_kept before after may =
+      elim may [
+        | inl same ↦ ap wire_of same
+        | inr more ↦ ap wire_of more
+      ]
+
+  -- and each of several
+  pub wires_kept : (before after : List (Port (End (Carried T)))) → length after ≡ length before → AreStopped before after → wires_of after ≡ wires_of before
+  wires_kept [] [] same stopped = refl
+  wires_kept [] (q ∷ after) same stopped = absurd (omega (arith, same))
+  wires_kept (p ∷ before) [] same stopped = absurd (omega (arith, same))
+  wires_kept (p ∷ before) (q ∷ after) same stopped =
+      let first : wire_of q ≡ wire_of p = wire_kept p q (stopped 0 p (omega arith)) in
+      let rest : wires_of after ≡ wires_of before = wires_kept before after (omega (arith, same)) (λ place d below. stopped (suc place) d (omega (arith, below))) in
+      λ i. first i ∷ rest i
+
+  -- the same of ports that are written back
+  pub wires_back : (ports first now : List (Port (End (Carried T)))) (n : ℕ) → n ≡ length ports → first ≡ ports → length now ≡ length first
+      → AreStopped first now → wires_of (take n (now ++ drop (length now) ports)) ≡ wires_of ports
+  wires_back ports first now n many is same stopped =
+      let all : length now ≡ length ports = same ∙ ap length is in
+      ap wires_of (written_back now ports n all many) ∙ wires_kept first now same stopped ∙ ap wires_of is
 
   -- an item more at each port, or at some
   pub each_carries : (ports : List (Port (End (Carried T)))) (items : List T) → All CarriesItems ports → All CarriesItems (with_each ports (map Item items))

@@ -4,3 +4,4 @@ pub mod Stepping
 pub mod Stops
 pub mod Commands
 pub mod Handing
+pub mod GivingUp

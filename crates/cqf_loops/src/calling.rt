@@ -1,9 +1,10 @@
 //! What an administrator does on a thread of its own.
-ghost use Rattle.std.specs.Prelude.{◌≡◌, ◌++◌, [], ◌∷◌, true, IfOk, OnOk};
+ghost use Rattle.std.specs.Prelude.{◌≡◌, ◌++◌, [], ◌∷◌, true, Err, IfErr, IfOk, OnOk};
 ghost use Rattle.cqf_admission.specs.Admission.{is_entered};
 ghost use Rattle.cqf_admission.specs.Commands.{act_of_command};
+ghost use Rattle.cqf_desk.specs.Desk.{Keeps};
 ghost use Rattle.cqf_laws_account.specs.Seated.{acts_of};
-ghost use Rattle.cqf_loops.specs.Commands.{HasCalled};
+ghost use Rattle.cqf_loops.specs.Commands.{HasCalled, HasLeftOff, answer_of};
 
 use crate::pace::Pace;
 use cqf_admission::{Command, Receipt, Refused};
@@ -19,9 +20,17 @@ pub enum CallFault {
     Memory,
 }
 
+/// What comes back of an administrator that gives up: why, and its seat with the calls before.
+#[derive(Drop)]
+pub struct Unmade {
+    pub fault: CallFault,
+    pub seat: Seat,
+}
+
 /// Whether the call has entered the history, whatever its answer; else why it hasn't.
 fn settled(answer: Result<Receipt, Refused>) -> Result<(), CallFault>
     ensures ok { OnOk result (is_entered answer ≡ true) }
+    ensures err { IfErr result (λ fault. answer ≡ Err (answer_of fault)) }
 {
     match answer {
         Err(Refused::HistoryFull) => Err(CallFault::HistoryFull),
@@ -40,6 +49,7 @@ fn make_call<R: Wait>(
 ) -> Result<(), CallFault>
     ensures number { seat.new.number ≡ seat.old.number }
     ensures ok { OnOk result (acts_of seat.new.calls ≡ acts_of seat.old.calls ++ act_of_command command.now ∷ []) }
+    ensures err { IfErr result (λ fault. Keeps seat.old seat.new (act_of_command command.now) (Err (answer_of fault))) }
 {
     match command {
         Command::Admit(request) => settled(desk.admit(rt, seat, request)),
@@ -49,8 +59,8 @@ fn make_call<R: Wait>(
 
 /// Makes an administrator's commands, in order, with its seat, which has no calls before, and gives the seat back with these calls.
 /// Before each it does what the pace asks, which alone is told `admin`, while it holds no lock. A call that is refused enters the
-/// history, and the next one is made. `HistoryFull` or `Memory` with the first that doesn't enter; then the seat is gone, and the
-/// calls before it stand in the history. It waits for the desk's lock.
+/// history, and the next one is made. `HistoryFull` or `Memory` with the first that doesn't enter; then the seat comes back with the
+/// calls before it, which stand in the history. It waits for the desk's lock.
 pub fn make_calls<R: Wait, P: Pace>(
     rt: &R,
     pace: &P,
@@ -58,14 +68,18 @@ pub fn make_calls<R: Wait, P: Pace>(
     admin: usize,
     seat: Seat,
     commands: Vec<Command>,
-) -> Result<Seat, CallFault>
+) -> Result<Seat, Unmade>
     requires fresh { seat.calls ≡ [] }
-    ensures { IfOk result (λ done. HasCalled commands.items seat done) }
+    ensures ok { IfOk result (λ done. HasCalled commands.items seat done) }
+    ensures err { IfErr result (HasLeftOff commands.items seat) }
 {
     let mut seat = seat;
     for place in 0..commands.as_slice().len() {
         pace.before_call(admin, place);
-        make_call(rt, desk, &mut seat, &commands[place])?;
+        match make_call(rt, desk, &mut seat, &commands[place]) {
+            Ok(()) => {}
+            Err(fault) => return Err(Unmade { fault, seat }),
+        }
     }
     Ok(seat)
 }

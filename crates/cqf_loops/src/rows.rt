@@ -1,7 +1,7 @@
 //! One item at each of several ports.
-ghost use Rattle.std.specs.Prelude.{◌≡◌, ◌<◌, All, List, IfOk, IfSome, IsTrue, length, map};
+ghost use Rattle.std.specs.Prelude.{◌≡◌, ◌<◌, All, List, IfNone, IfOk, IfSome, IsFalse, IsTrue, length, map};
 ghost use Rattle.cqf_loops.specs.Rows.{with_each};
-ghost use Rattle.cqf_loops.specs.Stops.{AreStopped};
+ghost use Rattle.cqf_loops.specs.Stops.{AreStopped, MissesItem, MissesPut};
 ghost use Rattle.cqf_loops.specs.declared.carried.Carried as carried;
 ghost use Rattle.cqf_loops.specs.declared.carried.Carried.TheVariants.{Item};
 
@@ -22,6 +22,7 @@ pub(crate) fn take_each<T: Drop, R: Wait>(
 ) -> Result<Option<Vec<T>>, Memory>
     ensures all { IfOk result (λ answer. IfSome answer (λ items. ports.new ≡ with_each ports.old (map Item items.items))) }
     ensures count { IfOk result (λ answer. IfSome answer (λ items. length items.items ≡ length ports.old)) }
+    ensures none { IfOk result (λ answer. IfNone answer (MissesItem ports.old ports.new)) }
     ensures some { (taken : List (carried.Carried T)) × (ports.new ≡ with_each ports.old taken) }
 {
     let mut items = Vec::with_capacity(alloc, ports.len())?;
@@ -45,6 +46,7 @@ pub(crate) fn put_each<T: Drop, R: Wait>(
     requires count { length items.items ≡ length ports.old }
     requires room { All (λ port. length port.pipe.items < 1000000) ports.old }
     ensures all { IsTrue result → ports.new ≡ with_each ports.old (map Item items.items) }
+    ensures missed { IsFalse result → MissesPut ports.old ports.new }
     ensures some { (put : List T) × (ports.new ≡ with_each ports.old (map Item put)) }
 {
     let mut place = 0;

@@ -1,6 +1,23 @@
 //! What the conductor of a run does: it closes the cycles to changes, one by one, and hands their tables on.
-ghost use Rattle.std.specs.Prelude.{◌≡◌, ◌+◌, ◌<◌, ◌≤◌, [], ◌∷◌, false, true, All, IfOk, length, map};
-ghost use Rattle.cqf_loops.specs.Handing.{GivesEach, GivesSome, GivesTables, HasSealed, SealsBlock, SealsMany, SealsOne, pipes_of, tables_of};
+ghost use Rattle.std.specs.Prelude.{◌≡◌, ◌+◌, ◌/◌, ◌<◌, ◌≤◌, [], ◌∷◌, false, true, All, IfErr, IfOk, length, map, min};
+ghost use Rattle.cqf_loops.specs.Handing.{
+  ClosesSome,
+  GivesEach,
+  GivesSome,
+  GivesTables,
+  HasBrokenOff,
+  HasClosed,
+  HasSealed,
+  LacksOne,
+  MissesOne,
+  SealsBlock,
+  SealsMany,
+  SealsOne,
+  SealsSome,
+  fault_of_seal,
+  pipes_of,
+  tables_of,
+};
 ghost use Rattle.cqf_loops.specs.Rows.{with_items};
 ghost use Rattle.cqf_loops.specs.Stops.{AreItemsThenStop};
 ghost use Rattle.cqf_loops.specs.declared.carried.Carried.TheVariants.{Item, Stop};
@@ -38,6 +55,13 @@ pub struct Sealed {
     pub tables: Vec<PipeIn<Carried<Table>>>,
 }
 
+/// What the conductor has where it doesn't close all cycles, or doesn't hand on all tables, and why.
+#[derive(Drop)]
+pub struct Unsealed {
+    pub fault: SealingFault,
+    pub conductor: Sealed,
+}
+
 /// The tables of cycles one behind the other, at least one, which are handed on together.
 #[derive(Drop)]
 pub(crate) struct Block {
@@ -50,7 +74,8 @@ pub(crate) struct Block {
 /// less often.
 fn tables_at_once(closed: u32) -> u32
     requires { closed ≤ 100000 }
-    ensures { 0 < result }
+    ensures some { 0 < result }
+    ensures count { result ≡ 1 + min (closed / 16) 15 }
 {
     1 + (closed / CLOSED_BY_ONE).min(MOST_AT_ONCE - 1)
 }
@@ -94,6 +119,7 @@ fn hand_on<R: Wait>(
     ensures pipes { pipes_of tables.new ≡ pipes_of tables.old }
     ensures some { GivesSome (map Item (tables_of block.now)) tables.old tables.new }
     ensures given { IfOk result (λ all. all ≡ true → GivesEach (map Item (tables_of block.now)) tables.old tables.new) }
+    ensures missed { IfOk result (λ all. all ≡ false → MissesOne tables.old tables.new) }
 {
     let mut all = true;
     for place in 0..tables.len() {
@@ -130,6 +156,16 @@ pub fn stop_tables<R: Wait>(rt: &R, tables: &mut [PipeIn<Carried<Table>>])
     }
 }
 
+/// Why the conductor gives up where a Seal is refused.
+fn fault_of(refused: SealFault) -> SealingFault
+    ensures { result ≡ fault_of_seal refused }
+{
+    match refused {
+        SealFault::CyclesSpent => SealingFault::CyclesSpent,
+        SealFault::Memory => SealingFault::Memory,
+    }
+}
+
 /// Closes the next cycle with the seat: its table.
 fn seal_one<R: Wait>(
     rt: &R,
@@ -137,12 +173,12 @@ fn seal_one<R: Wait>(
     desk: &Desk,
     seat: &mut Seat,
 ) -> Result<Table, SealingFault>
-    ensures { IfOk result (SealsOne seat.old seat.new) }
+    ensures ok { IfOk result (SealsOne seat.old seat.new) }
+    ensures err { IfErr result (SealsSome 1 seat.old seat.new) }
 {
     match desk.seal(rt, seat) {
         Ok(()) => {}
-        Err(SealFault::CyclesSpent) => return Err(SealingFault::CyclesSpent),
-        Err(SealFault::Memory) => return Err(SealingFault::Memory),
+        Err(refused) => return Err(fault_of(refused)),
     }
     let Some(table) = seat.last_table() else {
         unreachable!()
@@ -161,7 +197,8 @@ fn seal_many<R: Wait>(
     count: u32,
     seat: &mut Seat,
 ) -> Result<Vec<Table>, SealingFault>
-    ensures { IfOk result (λ tables. SealsMany count seat.old seat.new tables.items) }
+    ensures ok { IfOk result (λ tables. SealsMany count seat.old seat.new tables.items) }
+    ensures err { IfErr result (SealsSome count seat.old seat.new) }
 {
     let mut tables = Vec::new(alloc);
     for _ in 0..count {
@@ -182,7 +219,8 @@ fn seal_block<R: Wait>(
     seat: &mut Seat,
 ) -> Result<Block, SealingFault>
     requires some { 0 < count }
-    ensures { IfOk result (λ block. SealsMany count seat.old seat.new (tables_of block)) }
+    ensures ok { IfOk result (λ block. SealsMany count seat.old seat.new (tables_of block)) }
+    ensures err { IfErr result (SealsSome count seat.old seat.new) }
 {
     let first = seal_one(rt, alloc, desk, seat)?;
     let behind = seal_many(rt, alloc, desk, count - 1, seat)?;
@@ -203,6 +241,7 @@ fn seal_next<R: Wait>(
     ensures pipes { pipes_of tables.new ≡ pipes_of tables.old }
     ensures some { GivesTables count tables.old tables.new }
     ensures ok { IfOk result (λ all. SealsBlock count seat.old seat.new tables.old tables.new all) }
+    ensures err { IfErr result (SealsSome count seat.old seat.new) }
 {
     let block = seal_block(rt, alloc, desk, count, seat)?;
     match hand_on(rt, alloc, &block, tables) {
@@ -229,6 +268,9 @@ fn seal_cycles<R: Wait>(
     ensures put { All (λ end. AreItemsThenStop end.items) conductor.new.tables.items }
     ensures all { IfOk result (λ all. all ≡ true →
         HasSealed cycles conductor.old.seat conductor.new.seat conductor.old.tables.items conductor.new.tables.items) }
+    ensures closed { IfOk result (λ all. HasClosed cycles conductor.old.seat conductor.new.seat) }
+    ensures missed { IfOk result (λ all. all ≡ false → LacksOne conductor.new.tables.items cycles) }
+    ensures err { IfErr result (ClosesSome cycles conductor.old.seat conductor.new.seat) }
 {
     let mut all = true;
     let mut left = cycles;
@@ -249,8 +291,8 @@ fn seal_cycles<R: Wait>(
 
 /// Closes so many cycles to changes, at most 100,000, with a seat that has no calls yet, and hands the table of each to every worker,
 /// at ends where nothing was put: `CyclesSpent` or `Memory` where a Seal is refused, or memory, and then each worker that still takes is
-/// told by a Stop; `Lost` where a worker had ended before, and then the others have all tables. With a fault the seat and the ends are
-/// gone. It waits for the desk's lock and for room in the pipes.
+/// told by a Stop; `Lost` where a worker had ended before, and then all cycles are closed, and the others have all tables. With a fault
+/// the seat and the ends come back. It waits for the desk's lock and for room in the pipes.
 pub fn seal_all<R: Wait>(
     rt: &R,
     alloc: Global,
@@ -258,17 +300,21 @@ pub fn seal_all<R: Wait>(
     seat: Seat,
     tables: Vec<PipeIn<Carried<Table>>>,
     cycles: u32,
-) -> Result<Sealed, SealingFault>
+) -> Result<Sealed, Unsealed>
     requires few { cycles ≤ 100000 }
     requires no_calls { seat.calls ≡ [] }
     requires no_tables { seat.tables ≡ [] }
     requires nothing_put { All (λ end. end.items ≡ []) tables.items }
-    ensures { IfOk result (λ done. HasSealed cycles seat done.seat tables.items done.tables.items) }
+    ensures ok { IfOk result (λ done. HasSealed cycles seat done.seat tables.items done.tables.items) }
+    ensures err { IfErr result (HasBrokenOff cycles seat tables.items) }
 {
     let mut conductor = Sealed { seat, tables };
     match seal_cycles(rt, alloc, desk, cycles, &mut conductor) {
         Ok(true) => Ok(conductor),
-        Ok(false) => Err(SealingFault::Lost),
-        Err(fault) => Err(fault),
+        Ok(false) => Err(Unsealed {
+            fault: SealingFault::Lost,
+            conductor,
+        }),
+        Err(fault) => Err(Unsealed { fault, conductor }),
     }
 }

@@ -1,9 +1,10 @@
 //! One cycle of a bridge on its thread.
-ghost use Rattle.std.specs.Prelude.{◌≡◌, ◌<◌, All, IfOk, List, OnOk, length, map};
+ghost use Rattle.std.specs.Prelude.{◌≡◌, ◌<◌, All, IfErr, IfOk, List, OnOk, length, map};
 ghost use Rattle.cqf_agenda.specs.Agenda.{background_at};
 ghost use Rattle.cqf_book.specs.Shares.{with_own};
 ghost use Rattle.cqf_bridge.specs.Batch.{LinkBatch};
 ghost use Rattle.cqf_bridge.specs.BridgeState.{AreBackedOf};
+ghost use Rattle.cqf_loops.specs.GivingUp.{IsCycleFault, IsPostFault, IsReceiveOnFault, IsSendOnFault, IsTakeFault, NoTable};
 ghost use Rattle.cqf_loops.specs.Rows.{with_each, with_item};
 ghost use Rattle.cqf_loops.specs.Stepping.{GoesOn, HasPorts, IsOffered, MayGoOn, ReceivesOn, SendsOn, onward};
 ghost use Rattle.cqf_loops.specs.Workers.{ends_in_bridge, link_of, links_onward};
@@ -28,7 +29,8 @@ use std::sync::Wait;
 
 /// Takes the table of the next cycle.
 fn take_table<R: Wait>(rt: &R, tables: &mut PipeOut<Carried<Table>>) -> Result<Table, WorkerFault>
-    ensures { IfOk result (λ table. tables.new ≡ with_item tables.old (Item table)) }
+    ensures ok { IfOk result (λ table. tables.new ≡ with_item tables.old (Item table)) }
+    ensures err { IfErr result (NoTable tables.old tables.new) }
 {
     match tables.take(rt) {
         Some(Carried::Item(table)) => Ok(table),
@@ -73,6 +75,7 @@ fn send_on<R: Wait>(
     requires links { map link_of outs.old ≡ links_onward bridge.old.domain bridge.old.number }
     requires room { All (λ port. length port.pipe.items < 1000000) outs.old }
     ensures ok { IfOk result (λ starts. SendsOn cycle.0 agenda.now bridge.old bridge.new outs.old outs.new starts.items) }
+    ensures err { IfErr result (IsSendOnFault cycle.0 bridge.old bridge.new outs.old outs.new) }
     ensures put { (put : List LinkBatch) × (outs.new ≡ with_each outs.old (map Item put)) }
 {
     let mut batches = Vec::new(alloc);
@@ -99,6 +102,7 @@ fn take_batches<R: Wait>(
 ) -> Result<Vec<Batch>, WorkerFault>
     ensures all { IfOk result (λ batches. ins.new ≡ with_each ins.old (map Item batches.items)) }
     ensures count { IfOk result (λ batches. length batches.items ≡ length ins.old) }
+    ensures err { IfErr result (IsTakeFault ins.old ins.new) }
 {
     match take_each(rt, alloc, ins) {
         Ok(Some(batches)) => Ok(batches),
@@ -118,7 +122,8 @@ fn receive_on(
 ) -> Result<Vec<Dropped>, WorkerFault>
     requires early { cycle.0 < 100000 }
     requires offered { IsOffered bridge.old.domain bridge.old.number cycle.0 agenda.now }
-    ensures { IfOk result (λ drops. ReceivesOn cycle.0 agenda.now table.now batches.now bridge.old bridge.new drops.items) }
+    ensures ok { IfOk result (λ drops. ReceivesOn cycle.0 agenda.now table.now batches.now bridge.old bridge.new drops.items) }
+    ensures err { IfErr result (IsReceiveOnFault cycle.0 agenda.now table.now batches.now bridge.old bridge.new) }
 {
     match bridge.receive(alloc, cycle, table, batches, agenda.offers(cycle)) {
         Ok(drops) => Ok(drops),
@@ -133,7 +138,8 @@ fn post_page<R: Wait>(
     share: &mut Share,
     page: Page,
 ) -> Result<(), WorkerFault>
-    ensures { OnOk result (share.new ≡ with_own share.old page) }
+    ensures ok { OnOk result (share.new ≡ with_own share.old page) }
+    ensures err { IfErr result IsPostFault }
 {
     match book.post(rt, share, page) {
         Ok(()) => Ok(()),
@@ -155,6 +161,7 @@ pub(crate) fn work_cycle<R: Wait, P: Pace>(
 ) -> Result<(), WorkerFault>
     requires { MayGoOn cycle.0 worker.old }
     ensures ok { OnOk result (GoesOn cycle.0 worker.old worker.new) }
+    ensures err { IfErr result (IsCycleFault cycle.0 worker.old) }
     ensures put { (put : List LinkBatch) × (worker.new.outs.items ≡ with_each worker.old.outs.items (map Item put)) }
 {
     let table = take_table(rt, &mut worker.tables)?;

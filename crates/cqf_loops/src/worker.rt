@@ -1,6 +1,8 @@
 //! A bridge on a thread of its own.
-ghost use Rattle.std.specs.Prelude.{◌≡◌, ◌<◌, ◌≤◌, ℕ, All, IfOk, OnOk, length};
+ghost use Rattle.std.specs.Prelude.{◌≡◌, ◌<◌, ◌≤◌, ℕ, All, IfErr, IfOk, OnOk, length};
 ghost use Rattle.cqf_laws_course.specs.Courses.{Traffic};
+ghost use Rattle.cqf_loops.specs.GivingUp.{HasGivenUp, StopsEarly};
+ghost use Rattle.cqf_loops.specs.Rows.{wires_of};
 ghost use Rattle.cqf_loops.specs.Stops.{AreItems, AreItemsThenStop, AreStopped};
 ghost use Rattle.cqf_loops.specs.Workers.{IsWorkerOf, Works};
 
@@ -48,6 +50,15 @@ pub enum WorkerFault {
     Stopped,
 }
 
+/// What comes back of a worker that gives up: the number of its bridge, from 0, why, and the ends at which it put. What it put there is
+/// batches, and then at most one Stop.
+#[derive(Drop)]
+pub struct GaveUp {
+    pub bridge: u8,
+    pub fault: WorkerFault,
+    pub outs: Vec<Port<PipeIn<Carried<Batch>>>>,
+}
+
 /// Goes through the cycles, one after the other.
 fn work_cycles<R: Wait, P: Pace>(
     rt: &R,
@@ -60,6 +71,8 @@ fn work_cycles<R: Wait, P: Pace>(
     requires few { cycles ≤ 100000 }
     requires new { (t : Traffic) × (number : ℕ) × IsWorkerOf t number worker.old }
     ensures ok { OnOk result (Works cycles worker.old worker.new) }
+    ensures err { IfErr result (StopsEarly cycles worker.old) }
+    ensures outs { wires_of worker.new.outs.items ≡ wires_of worker.old.outs.items }
     ensures room { All (λ port. length port.pipe.items < 1000000) worker.new.outs.items }
     ensures batches { All (λ port. AreItems port.pipe.items) worker.new.outs.items }
 {
@@ -77,6 +90,7 @@ fn let_go<R: Wait>(rt: &R, worker: Worker) -> Vec<Port<PipeIn<Carried<Batch>>>>
     requires batches { All (λ port. AreItems port.pipe.items) worker.outs.items }
     ensures count { length result.items ≡ length worker.outs.items }
     ensures stopped { AreStopped worker.outs.items result.items }
+    ensures outs { wires_of result.items ≡ wires_of worker.outs.items }
     ensures carried { All (λ port. AreItemsThenStop port.pipe.items) result.items }
 {
     let Worker {
@@ -96,8 +110,10 @@ fn let_go<R: Wait>(rt: &R, worker: Worker) -> Vec<Port<PipeIn<Carried<Batch>>>>
 /// Goes through all cycles of a run with a bridge on its thread: the worker comes back with what went through its pipes and what it
 /// posted; it had done nothing before. The pace is asked in each cycle, once its table has come and while no lock is held. It waits for
 /// tables, for room in its pipes, for batches and for the book. Where it ends sooner it tells so first to those who put for it, and then
-/// to those who take from it, and the worker is gone with its share, without which the book can't be closed. That the cycles are at
-/// most 100,000 is for the caller to see to.
+/// to those who take from it; the ends at which they are told come back, and the rest is gone with its share, without which the book can't
+/// be closed. It may give up in each cycle for want of memory, in its bridge too, where it is stopped, and where the book refuses its page;
+/// for another cause of its bridge only where this, having sent the cycle, refuses to receive it. That the cycles are at most 100,000 is
+/// for the caller to see to.
 pub fn work<R: Wait, P: Pace>(
     rt: &R,
     alloc: Global,
@@ -105,16 +121,22 @@ pub fn work<R: Wait, P: Pace>(
     book: &CycleBook,
     cycles: u32,
     mut worker: Worker,
-) -> Result<Worker, WorkerFault>
+) -> Result<Worker, GaveUp>
     requires few { cycles ≤ 100000 }
     requires new { (t : Traffic) × (number : ℕ) × IsWorkerOf t number worker }
-    ensures { IfOk result (λ done. Works cycles worker done) }
+    ensures ok { IfOk result (λ done. Works cycles worker done) }
+    ensures err { IfErr result (HasGivenUp cycles worker) }
 {
+    let bridge = worker.bridge.number();
     match work_cycles(rt, alloc, pace, book, cycles, &mut worker) {
         Ok(()) => Ok(worker),
         Err(fault) => {
-            drop(let_go(rt, worker));
-            Err(fault)
+            let outs = let_go(rt, worker);
+            Err(GaveUp {
+                bridge,
+                fault,
+                outs,
+            })
         }
     }
 }

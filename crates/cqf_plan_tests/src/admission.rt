@@ -1,6 +1,6 @@
 //! Streams admitted and withdrawn.
-use cqf_admission::{Admission, Call, Receipt, Refused, Reply, SealFault, Table};
-use cqf_fixtures::{Asked, fork, line, request, ring};
+use cqf_admission::{Admission, Call, Entry, Receipt, Refused, Reply, SealFault, Table};
+use cqf_fixtures::{Asked, fork, line, one_link, request, ring};
 use cqf_topology::Domain;
 use cqf_units::{Cycle, Name};
 use std::alloc::Global;
@@ -12,9 +12,9 @@ type Answer = Result<(u32, u32), Refused>;
 enum Step {
     Admit(Asked, Answer),
     Withdraw(&'static str, Answer),
-    /// A name that isn't held is withdrawn so often.
+    /// A name that isn't held is withdrawn so often, and refused for that each time.
     WithdrawOften(u32),
-    /// So many cycles are closed.
+    /// So many cycles are closed, in turn.
     Seal(u32),
     /// No further cycle is.
     SealFails(SealFault),
@@ -24,6 +24,8 @@ enum Step {
     Held(&'static [u32]),
     /// How many entries the history has, the last reply, and the cycle that is closed next.
     History(usize, Reply, u32),
+    /// The history is full: of withdrawals of a name that isn't held, and then of Seals.
+    Full,
 }
 
 /// What is seen in a table.
@@ -117,18 +119,27 @@ const OVER_LINE: &[Case] = &[
             Step::History(5, Reply::Refused(Refused::NotHeld), 0),
         ],
     ),
-    // a history takes 100,000 calls, and as many Seals
-    (
-        &[
-            Step::WithdrawOften(99_999),
-            Step::Withdraw("q", Err(Refused::NotHeld)),
-            Step::Withdraw("q", Err(Refused::HistoryFull)),
-            Step::Seal(100_000),
-            Step::SealFails(SealFault::CyclesSpent),
-        ],
-        &[],
-    ),
 ];
+
+/// A history takes 100,000 calls, and as many Seals. What is called for behind these isn't entered: a withdrawal, and a request, whether it
+/// has the form of one or not.
+const OVER_THE_LIMIT: &[Case] = &[(
+    &[
+        Step::WithdrawOften(100_000),
+        Step::History(100_000, Reply::Refused(Refused::NotHeld), 0),
+        Step::Withdraw("q", Err(Refused::HistoryFull)),
+        Step::Admit(("x", 64, WHOLE), Err(Refused::HistoryFull)),
+        Step::Admit(("X!", 10, &[&[]]), Err(Refused::HistoryFull)),
+        Step::History(100_000, Reply::Refused(Refused::NotHeld), 0),
+        Step::Seal(100_000),
+        Step::SealFails(SealFault::CyclesSpent),
+        Step::Withdraw("q", Err(Refused::HistoryFull)),
+        Step::SealFails(SealFault::CyclesSpent),
+        Step::History(200_000, Reply::Sealed, 100_000),
+        Step::Full,
+    ],
+    &[],
+)];
 
 /// Seven streams leave room for one of 980 octets.
 const SHORT: Refused = Refused::BudgetShort {
@@ -269,17 +280,26 @@ fn admits(alloc: Global, asked: &mut Admission, stream: &Asked, wanted: Answer) 
 /// Withdraws a name that isn't held, so often.
 fn withdraw_often(asked: &mut Admission, count: u32) -> bool {
     for _time in 0..count {
-        if asked.withdraw(0, "q").is_ok() {
+        if !is_answer(asked.withdraw(0, "q"), Err(Refused::NotHeld)) {
             return false;
         }
     }
     true
 }
 
+/// Closes the next cycle, whose table is of it.
+fn seals_next(asked: &mut Admission) -> bool {
+    let next = asked.next_cycle();
+    match asked.seal(0) {
+        Ok(table) => table.cycle() == next,
+        Err(_) => false,
+    }
+}
+
 /// Closes so many cycles.
 fn seal_often(asked: &mut Admission, count: u32) -> bool {
     for _time in 0..count {
-        if asked.seal(0).is_err() {
+        if !seals_next(asked) {
             return false;
         }
     }
@@ -364,6 +384,28 @@ fn ends_in(asked: &Admission, entries: usize, reply: Reply) -> bool {
     }
 }
 
+/// Whether an entry stands at this place of a full history.
+fn is_of_full(place: usize, entry: &Entry) -> bool {
+    match &entry.call {
+        Call::Admit(_) => false,
+        Call::Withdraw(name) => {
+            let is_refused = entry.reply == Reply::Refused(Refused::NotHeld);
+            is_refused && place < 100_000 && name.as_str() == "q"
+        }
+        Call::Seal => entry.reply == Reply::Sealed && place >= 100_000,
+    }
+}
+
+/// Whether the history is full.
+fn is_full(asked: &Admission) -> bool {
+    let entries = asked.history();
+    entries.len() == 200_000
+        && entries
+            .iter()
+            .enumerate()
+            .all(|(place, entry)| is_of_full(place, entry))
+}
+
 /// Whether this comes of a step.
 fn goes_so(alloc: Global, asked: &mut Admission, step: &Step) -> bool {
     match *step {
@@ -377,6 +419,7 @@ fn goes_so(alloc: Global, asked: &mut Admission, step: &Step) -> bool {
         Step::History(entries, reply, next) => {
             asked.next_cycle() == Cycle(next) && ends_in(asked, entries, reply)
         }
+        Step::Full => is_full(asked),
     }
 }
 
@@ -427,6 +470,12 @@ fn streams_on_a_line_are_held_within_its_budget_until_they_have_left(rt: HostRun
 }
 
 #[test]
+fn a_history_takes_a_hundred_thousand_calls_and_as_many_seals(rt: HostRuntime) {
+    assert_eq!(rt; first_wrong(rt.alloc(), line(), OVER_THE_LIMIT), None);
+    assert_eq!(rt; first_wrong(rt.alloc(), one_link(), OVER_THE_LIMIT), None);
+}
+
+#[test]
 fn a_path_has_16_bridges_at_most(rt: HostRuntime) {
     assert_eq!(rt; first_wrong(rt.alloc(), CHAIN, OVER_CHAIN), None);
 }
@@ -439,4 +488,61 @@ fn branches_that_make_no_tree_are_refused(rt: HostRuntime) {
 #[test]
 fn a_shared_link_is_charged_once_until_the_deepest_branch_is_empty(rt: HostRuntime) {
     assert_eq!(rt; first_wrong(rt.alloc(), fork(), OVER_FORK), None);
+}
+
+/// What is seen in the table of cycle 0, in which x is held and not yet withdrawn.
+const BEFORE: &[Look] = &[
+    Look::Rows(1),
+    Look::Named("x", 0, true),
+    Look::Named("x", 1, true),
+    Look::Numbered(0, 1, true),
+];
+
+/// And in that of cycle 1, from which on it is withdrawn, and y is held.
+const BEHIND: &[Look] = &[
+    Look::Rows(2),
+    Look::Named("x", 0, true),
+    Look::Named("x", 1, false),
+    Look::Numbered(1, 1, true),
+];
+
+/// Whether a table and its copy stay as they are while the admission that gave the table goes on, and the copy when the table is let go
+/// of.
+fn stay(alloc: Global, asked: &mut Admission, table: Table) -> bool {
+    let Ok(copy) = table.try_copy(alloc) else {
+        return false;
+    };
+    let goes_on = is_answer(asked.withdraw(0, "x"), Ok((0, 1)))
+        && admits(alloc, asked, &("y", 64, WHOLE), Ok((1, 1)))
+        && seals(alloc, asked, 1, BEHIND);
+    let kept = is_table(&copy, 0, BEFORE) && is_table(&table, 0, BEFORE);
+    drop(table);
+    goes_on && kept && is_table(&copy, 0, BEFORE)
+}
+
+/// Whether they do of an admission over the domain.
+fn tables_stay(alloc: Global, domain: &Domain) -> bool {
+    let Ok(mut asked) = Admission::new(alloc, domain) else {
+        return false;
+    };
+    if !admits(alloc, &mut asked, &("x", 64, WHOLE), Ok((0, 0))) {
+        return false;
+    }
+    match asked.seal(9) {
+        Ok(table) => stay(alloc, &mut asked, table),
+        Err(_) => false,
+    }
+}
+
+/// Whether they do over the line.
+fn tables_stay_on_line(alloc: Global) -> bool {
+    match Domain::read(alloc, line().as_bytes()) {
+        Ok(domain) => tables_stay(alloc, &domain),
+        Err(_) => false,
+    }
+}
+
+#[test]
+fn a_table_and_its_copy_stay_as_they_are(rt: HostRuntime) {
+    assert!(rt; tables_stay_on_line(rt.alloc()));
 }

@@ -1,5 +1,6 @@
 //! Domains and streams read, or refused.
-use cqf_fixtures::{line, one_link, ring};
+use cqf_admission::Admission;
+use cqf_fixtures::{Asked, is_request, line, one_link, request, ring};
 use cqf_topology::{Domain, DomainFault, Link, Node, Request, StreamsFault, read_streams};
 use cqf_units::{Nanos, Rate};
 use std::alloc::Global;
@@ -177,10 +178,39 @@ fn is_line(domain: &Domain) -> bool {
         && NODES.iter().all(|(name, node)| domain.find(name) == *node)
 }
 
-/// Whether a domain and its copy are the line.
-fn are_line(alloc: Global, domain: &Domain) -> bool {
+/// A stream along the line.
+const X: Asked = ("x", 1500, &[&["a", "b", "c", "s"]]);
+
+/// Whether a stream of 1,500 octets is held on the last of three links.
+fn is_held(asked: &Admission) -> bool {
+    asked.domain().links() == 3 && asked.held_on(2).0 == 1960
+}
+
+/// Whether a domain serves as the line: an admission over it grants a stream along it.
+fn serves(alloc: Global, domain: &Domain) -> bool {
+    match (Admission::new(alloc, domain), request(alloc, &X)) {
+        (Ok(mut asked), Ok(x)) => asked.admit(0, &x).is_ok() && is_held(&asked),
+        _ => false,
+    }
+}
+
+/// Whether a copy serves as the line, and the domain from which it was made is still the line when it is let go of.
+fn is_copied(alloc: Global, domain: &Domain) -> bool {
+    let serves = match domain.try_copy(alloc) {
+        Ok(copy) => is_line(&copy) && serves(alloc, &copy) && is_line(domain),
+        Err(_) => false,
+    };
+    serves && is_line(domain)
+}
+
+/// Whether that holds of a domain, and a copy is still the line when the domain is let go of.
+fn are_line(alloc: Global, domain: Domain) -> bool {
+    let is_right = is_copied(alloc, &domain);
     match domain.try_copy(alloc) {
-        Ok(copy) => is_line(&copy) && is_line(domain),
+        Ok(copy) => {
+            drop(domain);
+            is_right && is_line(&copy) && serves(alloc, &copy)
+        }
         Err(_) => false,
     }
 }
@@ -203,7 +233,7 @@ fn is_ring(domain: &Domain) -> bool {
 /// Whether the line's text is read and copied, and the ring's read.
 fn are_read(alloc: Global) -> bool {
     let is_line = match Domain::read(alloc, line().as_bytes()) {
-        Ok(domain) => are_line(alloc, &domain),
+        Ok(domain) => are_line(alloc, domain),
         Err(_) => false,
     };
     let is_ring = match Domain::read(alloc, ring().as_bytes()) {
@@ -218,58 +248,65 @@ fn domains_are_read_and_copied_and_links_numbered_in_their_order(rt: HostRuntime
     assert!(rt; are_read(rt.alloc()));
 }
 
-/// Whether the request is for 1,500 octets of the stream x, in so many branches, of which the last has this length and ends
-/// in this node.
-fn is_request(request: &Request, branches: usize, nodes: usize, listener: &str) -> bool {
-    if request.name.as_str() != "x" || request.octets != 1500 || request.paths.len() != branches {
-        return false;
-    }
-    match request.paths.last() {
-        Some(path) => path.len() == nodes && ends_in(path.as_slice(), listener),
-        None => false,
-    }
-}
+/// The stream of a text of one branch, and of one of two.
+const BRANCHING_X: Asked = ("x", 1500, &[&["a", "b", "c", "s"], &["a", "b", "t"]]);
 
-/// Whether the last of the nodes is this one.
-fn ends_in(path: &[String], listener: &str) -> bool {
-    match path.last() {
-        Some(node) => node.as_str() == listener,
-        None => false,
-    }
-}
-
-/// Whether the text's only request, copied, is that.
-fn asks_for(alloc: Global, text: &str, branches: usize, nodes: usize, listener: &str) -> bool {
-    let Ok(requests) = read_streams(alloc, text.as_bytes()) else {
+/// Changes the name, the octets, and the first node of the first branch of a request, and lets go of its other branches.
+fn is_changed(alloc: Global, request: &mut Request) -> bool {
+    let (Ok(name), Ok(node)) = (String::from_str(alloc, "y"), String::from_str(alloc, "q")) else {
         return false;
     };
-    match requests.first() {
-        Some(request) => is_copied(alloc, request, branches, nodes, listener),
+    request.name = name;
+    request.octets = 64;
+    request.paths.truncate(1);
+    match request.paths.first_mut() {
+        Some(path) => match path.first_mut() {
+            Some(first) => {
+                *first = node;
+                true
+            }
+            None => false,
+        },
         None => false,
     }
 }
 
-/// Whether a copy of the request is that.
-fn is_copied(
-    alloc: Global,
-    request: &Request,
-    branches: usize,
-    nodes: usize,
-    listener: &str,
-) -> bool {
-    match request.try_copy(alloc) {
-        Ok(copy) => is_request(&copy, branches, nodes, listener),
-        Err(_) => false,
+/// What either stream is then.
+const CHANGED: Asked = ("y", 64, &[&["q", "b", "c", "s"]]);
+
+/// Whether a request and a copy are as asked for, the request still when the copy is changed, and another copy when the request is.
+fn is_asked(alloc: Global, asked: &Asked, own: &mut Request) -> bool {
+    let (Ok(mut copy), Ok(other)) = (own.try_copy(alloc), own.try_copy(alloc)) else {
+        return false;
+    };
+    is_request(own, asked)
+        && is_request(&copy, asked)
+        && is_changed(alloc, &mut copy)
+        && is_request(&copy, &CHANGED)
+        && is_request(own, asked)
+        && is_changed(alloc, own)
+        && is_request(own, &CHANGED)
+        && is_request(&other, asked)
+}
+
+/// Whether the text's only request is.
+fn asks_for(alloc: Global, text: &str, asked: &Asked) -> bool {
+    let Ok(mut requests) = read_streams(alloc, text.as_bytes()) else {
+        return false;
+    };
+    match requests.as_mut_slice() {
+        [own] => is_asked(alloc, asked, own),
+        _ => false,
     }
 }
 
 #[test]
 fn streams_have_one_branch_or_several(rt: HostRuntime) {
     let one = "[[streams]]\nname = \"x\"\noctets = 1500\npath = [\"a\", \"b\", \"c\", \"s\"]\n";
-    assert!(rt; asks_for(rt.alloc(), one, 1, 4, "s"));
+    assert!(rt; asks_for(rt.alloc(), one, &X));
     let two =
         "[[streams]]\nname = \"x\"\noctets = 1500\npaths = [[\"a\", \"b\", \"c\", \"s\"], [\"a\", \"b\", \"t\"]]\n";
-    assert!(rt; asks_for(rt.alloc(), two, 2, 3, "t"));
+    assert!(rt; asks_for(rt.alloc(), two, &BRANCHING_X));
 }
 
 /// Whether a fault of a streams text prints so.

@@ -1,74 +1,50 @@
 //! The command `run`: the history and the book of a scenario.
-ghost use Rattle.std.specs.Prelude.{◌≤◌, ◌++◌, IfErr, IfOk, codes, map};
-ghost use Rattle.cqf_admission.specs.Admission.{recorded_of};
-ghost use Rattle.cqf_model.specs.Book.{contents_of};
+ghost use Rattle.std.specs.Prelude.{ℕ, ◌≤◌, IfErr, IfOk, List, codes};
+ghost use Rattle.cqf_exact_telling.specs.ExactBooks.{AreExactParts};
+ghost use Rattle.cqf_model.specs.Book.{Contents};
 ghost use Rattle.cqf_press.specs.Edge.{HasTold, writing};
 ghost use Rattle.cqf_press.specs.Press.{Puts};
-ghost use Rattle.cqf_report.specs.Books.{text_of_book};
 ghost use Rattle.cqf_run_command.specs.RunOutput.{IsRunOutput, run_text};
-ghost use Rattle.cqf_run_command.specs.RunTold.{text_of_run};
+ghost use Rattle.cqf_run_command.specs.RunTold.{IsRunTold};
 ghost use Rattle.cqf_scenario.specs.Scenario.{scenario_input};
 ghost use Rattle.cqf_stop.specs.Stops.{IsRefused, line_of};
 
 use crate::output::RunOutput;
-use cqf_admission::Entry;
-use cqf_model::Book;
+use cqf_exact_telling::ExactBook;
 use cqf_press::{Press, Sheet, Told};
-use cqf_scenario::{Log, simulate};
+use cqf_scenario::{Log, Simulated, simulate};
 use cqf_stop::Stop;
-use cqf_telling::{put_book, put_history, put_log};
-use cqf_topology::Domain;
+use cqf_telling::put_log;
 use std::alloc::Global;
 use std::io::Write;
 
-/// Puts a line `%%`, and the text of a book behind it.
-fn put_rest<W: Write>(press: &mut Press<'_, W>, domain: &Domain, book: &Book)
-    ensures { Puts W.contents press.old press.new (line_of (codes "%%") ++ text_of_book domain.now (contents_of book.now)) }
+/// Puts the line `%%`.
+fn put_parting<W: Write>(press: &mut Press<'_, W>)
+    ensures { Puts W.contents press.old press.new (line_of (codes "%%")) }
 {
     press.put(b"%%\n");
-    put_book(press, domain, book);
 }
 
-/// Puts the text of a history and of a book, with a line `%%` between them.
-fn put_run<W: Write>(press: &mut Press<'_, W>, domain: &Domain, history: &[Entry], book: &Book)
-    ensures { Puts W.contents press.old press.new (run_text domain.now (map recorded_of history.now) (contents_of book.now)) }
-{
-    put_history(press, history);
-    put_rest(press, domain, book);
-}
-
-/// Puts the same of the history that a log stands for.
-fn put_logged<W: Write>(press: &mut Press<'_, W>, log: &Log, book: &Book)
-    ensures { Puts W.contents press.old press.new (run_text log.now.administration.domain log.now.administration.entries (contents_of book.now)) }
+/// Puts the text of the history that a log stands for and of a book that is ready to be told, with a line `%%` between them.
+fn put_logged<W: Write>(press: &mut Press<'_, W>, log: &Log, book: ExactBook)
+    ensures { (of_parts : Contents) → AreExactParts book of_parts →
+        Puts W.contents press.old press.new (run_text log.now.administration.domain log.now.administration.entries of_parts) }
 {
     put_log(press, log.requests(), log.script(), log.entries());
-    put_rest(press, log.domain(), book);
-}
-
-/// Tells the text of a history and of a book of the domain, with a line `%%` between them. It asks for no memory.
-pub fn tell_run<W: Write>(
-    told: &mut Told<W>,
-    sheet: Sheet,
-    domain: &Domain,
-    history: &[Entry],
-    book: &Book,
-)
-    ensures { HasTold (writing W.contents told.old told.new) (run_text domain.now (map recorded_of history.now) (contents_of book.now)) }
-{
-    let mut press = Press::new(told, sheet);
-    put_run(&mut press, domain, history, book);
-    let _told = press.close();
+    put_parting(press);
+    book.put(press, log.domain());
 }
 
 impl RunOutput {
     /// Tells the output: the history of the input's scenario, a line `%%`, and the one-thread book of that history (profile). It asks
     /// for no memory.
     pub fn tell<W: Write>(self, told: &mut Told<W>)
-        ensures { HasTold (writing W.contents told.old told.new) (text_of_run self) }
+        ensures { (text : List ℕ) → IsRunTold self text → HasTold (writing W.contents told.old told.new) text }
     {
         let RunOutput { made, sheet } = self;
+        let Simulated { log, book } = made;
         let mut press = Press::new(told, sheet);
-        put_logged(&mut press, &made.log, &made.book);
+        put_logged(&mut press, &log, book);
         let _told = press.close();
     }
 }
@@ -80,7 +56,7 @@ impl RunOutput {
 /// offers, or the background frames; and with status 3 for want of memory.
 pub fn run_output(alloc: Global, cycles: u32, input: &[u8]) -> Result<RunOutput, Stop>
     requires { cycles ≤ 100000 }
-    ensures ok { IfOk result (λ output. IsRunOutput cycles input.now (text_of_run output)) }
+    ensures ok { IfOk result (λ output. (text : List ℕ) × IsRunTold output text × IsRunOutput cycles input.now text) }
     ensures err { IfErr result (IsRefused (scenario_input cycles input.now)) }
 {
     let made = simulate(alloc, cycles, input)?;

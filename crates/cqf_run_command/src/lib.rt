@@ -2,7 +2,6 @@
 //!
 //! - [`run_output`] is the command's output for its input, the history and the book of the input's scenario, or the end of
 //!   the run with the line of the input's first fault. [`RunOutput::tell`] tells it, and asks for no memory.
-//! - [`tell_run`] tells the text of any history and its book.
 //!
 //! `specs/RunOutput.antt` says what it is that a text `IsRunOutput`.
 //!
@@ -15,5 +14,5 @@
 mod command;
 mod output;
 
-pub use command::{run_output, tell_run};
+pub use command::run_output;
 pub use output::RunOutput;

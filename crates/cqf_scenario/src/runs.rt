@@ -1,6 +1,6 @@
 //! A scenario, run on one thread.
 ghost use Rattle.std.specs.Prelude.{◌≡◌, ◌≤◌, IfErr, IfOk};
-ghost use Rattle.cqf_model.specs.Book.{contents_of};
+ghost use Rattle.cqf_exact_telling.specs.ExactBooks.{TellsBook};
 ghost use Rattle.cqf_model.specs.History.{IsLegalHistory, seals};
 ghost use Rattle.cqf_scenario.specs.Books.{IsBookOfScenario, IsSimulated};
 ghost use Rattle.cqf_scenario.specs.Calls.{history_of};
@@ -14,25 +14,25 @@ use crate::administering::log_of;
 use crate::exact::exact_book;
 use crate::given::{Given, read_given};
 use crate::logs::Log;
+use cqf_exact_telling::ExactBook;
 use cqf_ledger::Logged;
-use cqf_model::Book;
 use cqf_stop::Stop;
 use cqf_units::Memory;
 use std::alloc::Global;
 
-/// What comes of a scenario that is run.
+/// What comes of a scenario that is run. Its book is ready to be told, and told or gathered by who asked for it.
 #[derive(Debug, Drop)]
 pub struct Ran {
     /// The log of its history, over its own requests and script.
     pub entries: Vec<Logged>,
-    pub book: Book,
+    pub book: ExactBook,
 }
 
 /// What comes of the scenario of an input: the log of its history, and the book.
 #[derive(Debug, Drop)]
 pub struct Simulated {
     pub log: Log,
-    pub book: Book,
+    pub book: ExactBook,
 }
 
 /// The book of a scenario that has this log, by the exact instants at which its frames start.
@@ -41,12 +41,12 @@ fn book_by_log(
     cycles: u32,
     given: &Given,
     entries: &[Logged],
-) -> Result<Book, Memory>
+) -> Result<ExactBook, Memory>
     requires may { MayBeRun cycles (scenario_given given.now) }
     requires entries { entries_in given.now entries.now ≡ history_of cycles (scenario_given given.now) }
     requires legal { IsLegalHistory given.now.domain (entries_in given.now entries.now) }
     requires closed { seals (entries_in given.now entries.now) ≡ cycles }
-    ensures { IfOk result (λ book. IsBookOfScenario cycles (scenario_given given.now) (contents_of book)) }
+    ensures { IfOk result (λ parts. TellsBook parts (IsBookOfScenario cycles (scenario_given given.now))) }
 {
     exact_book(alloc, cycles, given, entries)
 }
@@ -76,7 +76,7 @@ fn simulate_given(alloc: Global, cycles: u32, given: Given) -> Result<Simulated,
     requires stand { HasOrders given }
     ensures domain { IfOk result (λ made. made.log.administration.domain ≡ given.domain) }
     ensures entries { IfOk result (λ made. made.log.administration.entries ≡ history_of cycles (scenario_given given)) }
-    ensures book { IfOk result (λ made. IsBookOfScenario cycles (scenario_given given) (contents_of made.book)) }
+    ensures book { IfOk result (λ made. TellsBook made.book (IsBookOfScenario cycles (scenario_given given))) }
 {
     let Ran { entries, book } = run_given(alloc, cycles, &given)?;
     let Given {
@@ -98,7 +98,7 @@ fn simulate_given(alloc: Global, cycles: u32, given: Given) -> Result<Simulated,
 /// offers, or the background frames; and with status 3 for want of memory.
 pub fn simulate(alloc: Global, cycles: u32, input: &[u8]) -> Result<Simulated, Stop>
     requires { cycles ≤ 100000 }
-    ensures ok { IfOk result (λ made. IsSimulated cycles input.now made.log.administration (contents_of made.book)) }
+    ensures ok { IfOk result (λ made. TellsBook made.book (IsSimulated cycles input.now made.log.administration)) }
     ensures err { IfErr result (IsRefused (scenario_input cycles input.now)) }
 {
     let given = read_given(alloc, cycles, input)?;

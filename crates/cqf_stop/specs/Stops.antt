@@ -8,6 +8,11 @@ pub record EndsWith (status : ℕ) (line : List ℕ) (stop : Stop) : Type 0 wher
   pub line_is : stop.status ≡ status → stop.text.items ≡ line
   pub memory : stop.status ≡ 3 → stop.text.items ≡ []
 
+-- an end with just this text
+pub record EndsJustWith (status : ℕ) (text : List ℕ) (stop : Stop) : Type 0 where
+  pub status_is : stop.status ≡ status
+  pub text_is : stop.text.items ≡ text
+
 -- a line of the program, with its line feed
 abbrev pub line_of : List ℕ → List ℕ
 line_of text = text ++ 10 ∷ []

@@ -1,6 +1,6 @@
 //! Ends of the program before its work is done.
 ghost use Rattle.std.specs.Prelude.{◌≡◌, ◌≢◌, [], IfOk, IfSome, MatchResult, codes, string_bytes};
-ghost use Rattle.cqf_stop.specs.Stops.{EndsWith, fault_line, line_of};
+ghost use Rattle.cqf_stop.specs.Stops.{EndsWith, EndsJustWith, fault_line, line_of};
 
 use std::alloc::{AllocError, Global};
 use std::fmt::Display;
@@ -68,9 +68,10 @@ impl Stop {
         }
     }
 
-    /// The end with a text that was made, or for want of memory for it.
+    /// The end with a text that was made, or, only where there was no memory for it, for want of memory.
     pub fn with_text(alloc: Global, status: u8, text: Result<String, AllocError>) -> Stop
         requires { status ≢ 3 }
+        ensures told { IfOk text (λ line. EndsJustWith status (string_bytes line) result) }
         ensures text { MatchResult text (λ line. EndsWith status (string_bytes line) result) (λ _. result.status ≡ 3) }
         ensures memory { result.status ≡ 3 → result.text.items ≡ [] }
     {

@@ -1,6 +1,6 @@
 //! Cycle books, their shares, and the books that they close to, with values by hand.
-use cqf_book::{BookClose, CycleBook, Page, PageFault, Pages, Share, Totals};
-use cqf_model::{Dropped, Reason, Started};
+use cqf_book::{BookClose, CycleBook, Page, PageFault, Pages, Share, Totals, book_of};
+use cqf_model::{Book, Dropped, Reason, Started};
 use cqf_units::{Cycle, Memory, Nanos};
 use std::alloc::Global;
 use std::mem::swap;
@@ -138,10 +138,30 @@ type Lines = (
     &'static [(u32, u8)],
 );
 
+/// How a book is closed.
+#[derive(Clone, Copy)]
+enum By {
+    /// At once.
+    Close,
+    /// To its pages, and then to the book of these.
+    Pages,
+}
+
+/// What a cycle book of three bridges closes to.
+fn closed(alloc: Global, book: CycleBook, shares: Vec<Share>, by: By) -> Result<Book, BookClose> {
+    match by {
+        By::Close => book.close(shares),
+        By::Pages => match book.close_pages(shares) {
+            Ok(pages) => book_of(alloc, &pages, 3).map_err(|_| BookClose::Memory),
+            Err(fault) => Err(fault),
+        },
+    }
+}
+
 /// Whether the book closes to a book with these lines.
-fn closes_to(book: CycleBook, shares: Vec<Share>, lines: &Lines) -> bool {
+fn closes_to(alloc: Global, book: CycleBook, shares: Vec<Share>, lines: &Lines, by: By) -> bool {
     let (starts, background, drops) = *lines;
-    match book.close(shares) {
+    match closed(alloc, book, shares, by) {
         Ok(book) => {
             are_starts(&book.starts, 64, starts)
                 && are_starts(&book.background, 1522, background)
@@ -152,8 +172,14 @@ fn closes_to(book: CycleBook, shares: Vec<Share>, lines: &Lines) -> bool {
 }
 
 /// Whether the book doesn't close, for this reason.
-fn is_refused(book: CycleBook, shares: Vec<Share>, expected: BookClose) -> bool {
-    match book.close(shares) {
+fn is_refused(
+    alloc: Global,
+    book: CycleBook,
+    shares: Vec<Share>,
+    expected: BookClose,
+    by: By,
+) -> bool {
+    match closed(alloc, book, shares, by) {
         Ok(_) => false,
         Err(fault) => fault == expected,
     }
@@ -238,10 +264,10 @@ enum Closing {
 }
 
 /// Whether the book closes so.
-fn closes(book: CycleBook, shares: Vec<Share>, closing: &Closing) -> bool {
+fn closes(alloc: Global, book: CycleBook, shares: Vec<Share>, closing: &Closing, by: By) -> bool {
     match *closing {
-        Closing::To(lines) => closes_to(book, shares, &lines),
-        Closing::Refused(fault) => is_refused(book, shares, fault),
+        Closing::To(lines) => closes_to(alloc, book, shares, &lines, by),
+        Closing::Refused(fault) => is_refused(alloc, book, shares, fault, by),
     }
 }
 
@@ -270,14 +296,14 @@ fn takes_posts<R: Wait>(
 }
 
 /// Whether a book does so.
-fn is_so<R: Wait>(rt: &R, alloc: Global, case: &Case) -> bool {
+fn is_so<R: Wait>(rt: &R, alloc: Global, case: &Case, by: By) -> bool {
     match three_by_five(alloc) {
         Ok((book, mut shares)) => {
             let takes = takes_posts(rt, alloc, &book, shares.as_mut_slice(), case);
             if let Some(wrong) = case.wrong {
                 make_wrong_by_another(rt, alloc, &mut shares, wrong);
             }
-            takes && closes(book, shares, &case.closing)
+            takes && closes(alloc, book, shares, &case.closing, by)
         }
         Err(_) => false,
     }
@@ -346,7 +372,11 @@ const CASES: &[Case] = &[
 #[test]
 fn a_book_closes_with_its_own_shares_alone(rt: HostRuntime) {
     for (place, case) in CASES.iter().enumerate() {
-        assert!(rt; is_so(&rt, rt.alloc(), case), "case {place}");
+        assert!(rt; is_so(&rt, rt.alloc(), case, By::Close), "case {place}");
+        assert!(rt;
+            is_so(&rt, rt.alloc(), case, By::Pages),
+            "case {place} by pages"
+        );
     }
 }
 
@@ -465,13 +495,13 @@ fn takes_first(alloc: Global, pages: &mut Pages) -> bool {
 }
 
 /// Whether three threads fill a book that begins with these pages, and it closes to the book of all pages.
-fn fills_in_threads<R: Threads + Wait + Sync>(rt: &R, alloc: Global, pages: Pages) -> bool {
+fn fills_in_threads<R: Threads + Wait + Sync>(rt: &R, alloc: Global, pages: Pages, by: By) -> bool {
     match CycleBook::new(alloc, pages) {
         Ok((book, mut shares)) => {
             let fills = fills_three(rt, alloc, &book, shares.as_mut_slice());
             let whole = book.whole_cycles(rt);
             shares.reverse();
-            let closes = closes_to(book, shares, &NINE_PAGES);
+            let closes = closes_to(alloc, book, shares, &NINE_PAGES, by);
             fills && whole == 3 && closes
         }
         Err(_) => false,
@@ -479,11 +509,11 @@ fn fills_in_threads<R: Threads + Wait + Sync>(rt: &R, alloc: Global, pages: Page
 }
 
 /// Whether they do so where the book begins with the page of bridge 1 and cycle 0.
-fn fills_behind_one_page<R: Threads + Wait + Sync>(rt: &R, alloc: Global) -> bool {
+fn fills_behind_one_page<R: Threads + Wait + Sync>(rt: &R, alloc: Global, by: By) -> bool {
     match Pages::new(alloc, 3, 3) {
         Ok(mut pages) => {
             let begins = takes_first(alloc, &mut pages);
-            let fills = fills_in_threads(rt, alloc, pages);
+            let fills = fills_in_threads(rt, alloc, pages, by);
             begins && fills
         }
         Err(_) => false,
@@ -492,7 +522,8 @@ fn fills_behind_one_page<R: Threads + Wait + Sync>(rt: &R, alloc: Global) -> boo
 
 #[test]
 fn three_threads_write_one_book(rt: HostRuntime) {
-    assert!(rt; fills_behind_one_page(&rt, rt.alloc()));
+    assert!(rt; fills_behind_one_page(&rt, rt.alloc(), By::Close));
+    assert!(rt; fills_behind_one_page(&rt, rt.alloc(), By::Pages));
 }
 
 /// Faults, and how they print.

@@ -1,15 +1,23 @@
 -- Threads that have ended: what each promised is what the run has in the end.
-use Rattle.std.proofs.Common.{ℕ, ◌≡◌, List, All, IfOk, Ok, Result, map, subst, sym}
+use Rattle.std.proofs.Common.{ℕ, ◌≡◌, [], List, All, IfErr, IfOk, Ok, Result, Some, map, subst, sym}
 use Rattle.std.specs.List.{AllZip}
 use Rattle.cqf_loops.specs.declared.sealing.Sealed.{Sealed}
 use Rattle.cqf_loops.specs.declared.sealing.SealingFault.{SealingFault}
+use Rattle.cqf_loops.specs.declared.calling.Unmade.{Unmade}
+use Rattle.cqf_loops.specs.declared.worker.GaveUp.{GaveUp}
+use Rattle.cqf_threads.specs.declared.faults.ConductFault.{ConductFault}
+use Rattle.cqf_threads.specs.declared.faults.Faults.{Faults}
 use Rattle.cqf_threads.specs.declared.threads.Administrator.{Administrator}
 use Rattle.cqf_threads.specs.declared.threads.Ended.{Ended}
 use Rattle.cqf_threads.specs.declared.threads.Ready.{Ready}
 use Rattle.cqf_loops.specs.declared.worker.Worker.{Worker}
 use Rattle.cqf_desk.specs.Desk.{Sitting}
 use Rattle.cqf_loops.specs.Handing.{HasSealed}
-use Rattle.cqf_threads.specs.Running.{CallsOf, IsEnded}
+use Rattle.cqf_threads.specs.Faults.{IsClean, is_noted}
+use Rattle.cqf_threads.specs.Noting.{NotesAll, fault_of_caller, fault_of_worker, noted_with}
+use Rattle.cqf_threads.specs.Running.{Answers, BreaksOff, CallAnswers, CallsOf, IsEnded}
+use Rattle.cqf_threads.specs.Telling.{MayBeTold}
+use Rattle.cqf_threads.proofs.Notings.{AreTold, all_told, callers_told, is_told, told_clean, told_with, workers_told}
 use Rattle.cqf_loops.specs.Workers.{Works}
 use Rattle.cqf_threads.proofs.Zipped.{zipped_same, zipped_values}
 
@@ -34,3 +42,24 @@ all_joined cycles_in worker_in administrator_in working calling workers seats cy
       (zipped_values administrator_in CallsOf calling r.administrators.items seats seated called);
   sealed = sealed;
 }
+
+-- what is noted of all threads may be told of the run
+pub joined_told : {H K : Type 0} (cycles_in : H → ℕ) (worker_in : H → Worker) (administrator_in : K → Administrator) (working : List H) (calling : List K)
+    (cycles : ℕ) (r : Ready) (clean called worked : Faults) (seats : List Sitting) (workers : List Worker) → IsClean clean
+    → map worker_in working ≡ r.workers.items → All (λ h. cycles_in h ≡ cycles) working → map administrator_in calling ≡ r.administrators.items
+    → ((answers : List (Result Sitting Unmade)) × AllZip (λ h answer. CallAnswers (administrator_in h) answer) calling answers
+    × NotesAll fault_of_caller clean called [] seats answers)
+    → ((answers : List (Result Worker GaveUp)) × AllZip (λ h answer. Answers (cycles_in h) (worker_in h) answer) working answers
+    × NotesAll fault_of_worker called worked [] workers answers) → AreTold cycles r worked
+joined_told cycles_in worker_in administrator_in working calling cycles r clean called worked seats workers is_clean begun same seated calls works =
+    let after_calls : AreTold cycles r called = all_told cycles r fault_of_caller CallAnswers r.administrators.items calls.0 clean called [] seats
+    (callers_told cycles r) (zipped_values administrator_in CallAnswers calling r.administrators.items calls.0 seated calls.1) calls.2
+    (told_clean cycles r clean is_clean) in
+    all_told cycles r fault_of_worker (Answers cycles) r.workers.items works.0 called worked [] workers (workers_told cycles r)
+    (zipped_values worker_in (Answers cycles) working r.workers.items works.0 begun
+    (zipped_same cycles_in (λ c h answer. Answers c (worker_in h) answer) cycles working works.0 same works.1)) works.2 after_calls
+
+-- and what is told of them and the conductor
+pub run_told : (cycles : ℕ) (r : Ready) (faults : Faults) (sealed : Result Sealed SealingFault) (fault : ConductFault) → AreTold cycles r faults
+    → IfErr sealed (BreaksOff cycles r.conductor r.tables.items) → is_noted (noted_with faults sealed) ≡ Some fault → MayBeTold cycles r fault
+run_told cycles r faults sealed fault told why is = is_told cycles r (noted_with faults sealed) fault (told_with cycles r faults sealed told why) is

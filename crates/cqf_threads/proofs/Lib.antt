@@ -1,2 +1,3 @@
 mod Zipped
 mod Joining
+mod Notings

@@ -1,3 +1,4 @@
 pub mod Faults
 pub mod Noting
 pub mod Running
+pub mod Telling

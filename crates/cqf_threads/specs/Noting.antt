@@ -1,14 +1,15 @@
 -- Which fault of a thread is told as which of the run's (profile).
-use Rattle.std.specs.Prelude.{ℕ, Err, None, Ok, Option, Result, Some, true}
+use Rattle.std.specs.Prelude.{ℕ, ◌≡◌, ◌⊎◌, ◌++◌, [], ◌∷◌, Err, List, None, Ok, Option, Result, Some, true}
 use Rattle.cqf_loops.specs.declared.calling.CallFault.{CallFault}
 use Rattle.cqf_loops.specs.declared.calling.CallFault.TheVariants as call
+use Rattle.cqf_loops.specs.declared.calling.Unmade.{Unmade}
 use Rattle.cqf_threads.specs.declared.faults.ConductFault.{ConductFault}
 use Rattle.cqf_threads.specs.declared.faults.ConductFault.TheVariants as conduct
 use Rattle.cqf_threads.specs.declared.faults.Faults.{Faults}
 use Rattle.cqf_loops.specs.declared.sealing.Sealed.{Sealed}
 use Rattle.cqf_loops.specs.declared.sealing.SealingFault.{SealingFault}
 use Rattle.cqf_loops.specs.declared.sealing.SealingFault.TheVariants as sealing
-use Rattle.cqf_threads.specs.declared.threads.GaveUp.{GaveUp}
+use Rattle.cqf_loops.specs.declared.worker.GaveUp.{GaveUp}
 use Rattle.cqf_loops.specs.declared.worker.WorkerFault.{WorkerFault}
 use Rattle.cqf_loops.specs.declared.worker.WorkerFault.TheVariants as working
 use Rattle.cqf_threads.specs.Faults.{first_of}
@@ -29,9 +30,12 @@ abbrev pub fault_of_worker : GaveUp → Option ConductFault
 fault_of_worker why = fault_in_bridge why.bridge why.fault
 
 -- an administrator's
-abbrev pub fault_of_caller : CallFault → Option ConductFault
-fault_of_caller call.HistoryFull = Some conduct.DeskDisagrees
-fault_of_caller call.Memory = Some conduct.Memory
+abbrev pub fault_in_call : CallFault → Option ConductFault
+fault_in_call call.HistoryFull = Some conduct.DeskDisagrees
+fault_in_call call.Memory = Some conduct.Memory
+
+abbrev pub fault_of_caller : Unmade → Option ConductFault
+fault_of_caller why = fault_in_call why.fault
 
 -- the conductor's
 abbrev pub fault_of_conductor : SealingFault → Option ConductFault
@@ -43,3 +47,15 @@ fault_of_conductor sealing.Lost = None
 abbrev pub noted_with : Faults → Result Sealed SealingFault → Faults
 noted_with faults (Ok sealed) = faults
 noted_with faults (Err fault) = noted faults (fault_of_conductor fault)
+
+-- what a thread's answer changes: what it gives stands behind what others gave, or memory is refused to keep it; else its cause is noted
+abbrev pub Notes : {X Y : Type 0} → (Y → Option ConductFault) → Faults → Faults → List X → List X → Result X Y → Type 0
+Notes cause before after kept more (Ok given) =
+    ((more ≡ kept ++ given ∷ []) × (after ≡ before)) ⊎ ((more ≡ kept) × (after ≡ noted before (Some conduct.Memory)))
+Notes cause before after kept more (Err why) = (more ≡ kept) × (after ≡ noted before (cause why))
+
+-- and what the answers of several do, one after the other
+abbrev pub NotesAll : {X Y : Type 0} → (Y → Option ConductFault) → Faults → Faults → List X → List X → List (Result X Y) → Type 0
+NotesAll cause before after kept more [] = (after ≡ before) × (more ≡ kept)
+NotesAll {X} {Y} cause before after kept more (answer ∷ answers) =
+    (between : Faults) × (some : List X) × Notes cause before between kept some answer × NotesAll cause between after some more answers

@@ -9,8 +9,8 @@
 mod faults;
 mod threads;
 
+pub use cqf_loops::GaveUp;
 pub use faults::{ConductFault, Faults};
 pub use threads::{
-    Administrator, Ended, GaveUp, OfWorker, Ready, Working, join_workers, run_threads,
-    start_workers,
+    Administrator, Ended, OfWorker, Ready, Working, join_workers, run_threads, start_workers,
 };

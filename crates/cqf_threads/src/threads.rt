@@ -1,18 +1,24 @@
 //! The threads of a run: one a bridge, one an administrator, and the conductor's own.
-ghost use Rattle.std.specs.Prelude.{◌≡◌, ◌≤◌, [], All, IfErr, IfOk, Ok, Some, map};
+ghost use Rattle.std.specs.Prelude.{◌≡◌, ◌≤◌, [], All, IfErr, IfOk, List, Ok, Result, Some, map};
 ghost use Rattle.std.specs.List.{AllZip};
+ghost use Rattle.cqf_desk.specs.Desk.{Sitting};
+ghost use Rattle.cqf_loops.specs.Handing.{HasSealed};
 ghost use Rattle.cqf_loops.specs.Workers.{MayWork, Works};
+ghost use Rattle.cqf_loops.specs.declared.calling.Unmade.{Unmade};
+ghost use Rattle.cqf_loops.specs.declared.worker.GaveUp.{GaveUp};
+ghost use Rattle.cqf_loops.specs.declared.worker.Worker.{Worker};
 ghost use Rattle.cqf_threads.specs.Faults.{IsClean, is_noted};
-ghost use Rattle.cqf_threads.specs.Noting.{fault_of_caller, fault_of_conductor, fault_of_worker, noted, noted_with};
-ghost use Rattle.cqf_threads.specs.Running.{Answers, CallsOf, HasOneMore, IsEnded, IsReady};
+ghost use Rattle.cqf_threads.specs.Noting.{Notes, NotesAll, fault_of_caller, fault_of_conductor, fault_of_worker, noted, noted_with};
+ghost use Rattle.cqf_threads.specs.Running.{Answers, BreaksOff, CallAnswers, CallsOf, HasOneMore, IsEnded, IsReady, RunAnswers};
+ghost use Rattle.cqf_threads.specs.Telling.{IsStartFault, MayBeTold};
 
 use crate::faults::{ConductFault, Faults};
 use cqf_admission::{Command, Table};
 use cqf_book::CycleBook;
 use cqf_desk::{Desk, Seat};
 use cqf_loops::{
-    CallFault, Carried, Pace, Sealed, SealingFault, Worker, WorkerFault, make_calls, seal_all,
-    stop_tables, work,
+    CallFault, Carried, GaveUp, Pace, Sealed, SealingFault, Unmade, Worker, WorkerFault,
+    make_calls, seal_all, stop_tables, work,
 };
 use cqf_pipe::PipeIn;
 use std::alloc::Global;
@@ -46,14 +52,7 @@ pub struct Ended {
     pub sealed: Sealed,
 }
 
-/// Why a worker gave up, with the number of its bridge, from 0.
-#[derive(Clone, Copy, Debug, Drop)]
-pub struct GaveUp {
-    pub bridge: u8,
-    pub fault: WorkerFault,
-}
-
-/// That a worker's thread gives what its work promises, and names its own bridge where it gives up.
+/// That a worker's thread gives what its work promises, also where it gives up.
 #[derive(Drop)]
 pub struct OfWorker {
     /// How many cycles it goes through.
@@ -74,38 +73,17 @@ struct OfAdministrator {
     administrator: Snapshot<Administrator>,
 }
 
-impl Promise<Result<Seat, CallFault>> for OfAdministrator {
-    ghost use Rattle.std.specs.Prelude.{IfOk};
-    ghost use Rattle.cqf_threads.specs.Running.{CallsOf};
+impl Promise<Result<Seat, Unmade>> for OfAdministrator {
+    ghost use Rattle.cqf_threads.specs.Running.{CallAnswers};
 
-    ghost kept_by = { λ p r. IfOk r (CallsOf p.administrator.value) };
+    ghost kept_by = { λ p r. CallAnswers p.administrator.value r };
 }
 
 /// A worker's thread.
 pub type Working = PromisedHandle<Result<Worker, GaveUp>, OfWorker>;
 
 /// An administrator's thread.
-type Calling = PromisedHandle<Result<Seat, CallFault>, OfAdministrator>;
-
-/// Goes through all cycles with a worker. Where it gives up it names its bridge.
-fn work_all<R: Wait, P: Pace>(
-    rt: &R,
-    alloc: Global,
-    pace: &P,
-    book: &CycleBook,
-    cycles: u32,
-    worker: Worker,
-) -> Result<Worker, GaveUp>
-    requires few { cycles ≤ 100000 }
-    requires new { MayWork worker }
-    ensures { Answers cycles worker result }
-{
-    let bridge = worker.bridge.number();
-    match work(rt, alloc, pace, book, cycles, worker) {
-        Ok(done) => Ok(done),
-        Err(fault) => Err(GaveUp { bridge, fault }),
-    }
-}
+type Calling = PromisedHandle<Result<Seat, Unmade>, OfAdministrator>;
 
 /// Starts a thread for each worker, for at most 100,000 cycles; the handles stand in the workers' order. `Spawn` where one can't be
 /// started, `Memory` where its handle can't be kept: the workers that aren't started are let go of. Those that were started go on,
@@ -123,6 +101,7 @@ pub fn start_workers<'s, E, R: Threads + Wait + Sync, P: Pace>(
     requires new { All MayWork workers.items }
     ensures of { IfOk result (λ handles. map (λ h. h.promise.worker.value) handles.items ≡ workers.items) }
     ensures cycles { IfOk result (λ handles. All (λ h. h.promise.cycles ≡ cycles) handles.items) }
+    ensures err { IfErr result IsStartFault }
 {
     let mut handles = Vec::new(alloc);
     for worker in workers {
@@ -135,7 +114,7 @@ pub fn start_workers<'s, E, R: Threads + Wait + Sync, P: Pace>(
             move || -> Result<Worker, GaveUp>
                 requires { (cycles ≤ 100000) × MayWork worker }
                 ensures { Answers cycles worker result }
-            { work_all(rt, alloc, pace, book, cycles, worker) },
+            { work(rt, alloc, pace, book, cycles, worker) },
         ) else {
             return Err(ConductFault::Spawn);
         };
@@ -152,9 +131,9 @@ fn call_all<R: Wait, P: Pace>(
     pace: &P,
     desk: &Desk,
     administrator: Administrator,
-) -> Result<Seat, CallFault>
+) -> Result<Seat, Unmade>
     requires { administrator.seat.calls ≡ [] }
-    ensures { IfOk result (CallsOf administrator) }
+    ensures { CallAnswers administrator result }
 {
     let Administrator { seat, commands } = administrator;
     let number = usize::from(seat.number());
@@ -172,6 +151,7 @@ fn start_administrators<'s, E, R: Threads + Wait + Sync, P: Pace>(
 ) -> Result<Vec<Calling>, ConductFault>
     requires fresh { All (λ a. a.seat.calls ≡ []) administrators.items }
     ensures of { IfOk result (λ handles. map (λ h. h.promise.administrator.value) handles.items ≡ administrators.items) }
+    ensures err { IfErr result IsStartFault }
 {
     let mut handles = Vec::new(alloc);
     for administrator in administrators {
@@ -180,9 +160,9 @@ fn start_administrators<'s, E, R: Threads + Wait + Sync, P: Pace>(
         };
         let Ok(handle) = scope.spawn_with(
             promise,
-            move || -> Result<Seat, CallFault>
+            move || -> Result<Seat, Unmade>
                 requires { administrator.seat.calls ≡ [] }
-                ensures { IfOk result (CallsOf administrator) }
+                ensures { CallAnswers administrator result }
             { call_all(rt, pace, desk, administrator) },
         ) else {
             return Err(ConductFault::Spawn);
@@ -208,11 +188,11 @@ fn note_worker(faults: &mut Faults, why: GaveUp)
 }
 
 /// Notes why an administrator gave up.
-fn note_caller(faults: &mut Faults, fault: CallFault)
+fn note_caller(faults: &mut Faults, why: Unmade)
     ensures some { IsClean faults.new → ⊥ }
-    ensures told { faults.new ≡ noted faults.old (fault_of_caller fault) }
+    ensures told { faults.new ≡ noted faults.old (fault_of_caller why) }
 {
-    match fault {
+    match why.fault {
         CallFault::HistoryFull => faults.note(ConductFault::DeskDisagrees),
         CallFault::Memory => faults.note(ConductFault::Memory),
     }
@@ -230,17 +210,12 @@ fn note_conductor(faults: &mut Faults, fault: SealingFault)
     }
 }
 
-/// Waits for a worker's thread. Where it notes no fault, the worker stands behind the others.
-fn join_worker<R: Threads + Wait>(
-    rt: &R,
-    handle: Working,
-    workers: &mut Vec<Worker>,
-    faults: &mut Faults,
-)
-    ensures before { IsClean faults.new → IsClean faults.old }
-    ensures done { IsClean faults.new → HasOneMore (Works handle.promise.cycles handle.promise.worker.value) workers.old.items workers.new.items }
+/// Notes what a worker's thread gives: the worker stands behind the others, or `Memory` is noted where it can't be kept; else why it
+/// gave up is.
+fn note_worked(answer: Result<Worker, GaveUp>, workers: &mut Vec<Worker>, faults: &mut Faults)
+    ensures { Notes fault_of_worker faults.old faults.new workers.old.items workers.new.items answer }
 {
-    match handle.join(rt) {
+    match answer {
         Ok(worker) => {
             let Ok(()) = workers.push(worker) else {
                 return faults.note(ConductFault::Memory);
@@ -250,9 +225,23 @@ fn join_worker<R: Threads + Wait>(
     }
 }
 
+/// Waits for a worker's thread. Where it notes no fault, the worker stands behind the others.
+fn join_worker<R: Threads + Wait>(
+    rt: &R,
+    handle: Working,
+    workers: &mut Vec<Worker>,
+    faults: &mut Faults,
+)
+    ensures { (answer : Result Worker GaveUp) × Answers handle.promise.cycles handle.promise.worker.value answer
+        × Notes fault_of_worker faults.old faults.new workers.old.items workers.new.items answer }
+{
+    let answer = handle.join(rt);
+    note_worked(answer, workers, faults);
+}
+
 /// Waits for all workers' threads, and gives the workers that come back, in the handles' order. It notes the fault of each that gave
-/// up, with its bridge's number, or that it was stopped, where it has none of its own, and `Memory` where a worker can't be kept.
-/// Where nothing has gone wrong in the end, nor before, all are there, and each has done its part.
+/// up, in that order, with its bridge's number, or that it was stopped, where it has none of its own, and `Memory` where a worker can't be
+/// kept. Where nothing has gone wrong in the end, nor before, all are there, and each has done its part.
 pub fn join_workers<R: Threads + Wait>(
     rt: &R,
     alloc: Global,
@@ -261,12 +250,29 @@ pub fn join_workers<R: Threads + Wait>(
 ) -> Vec<Worker>
     ensures before { IsClean faults.new → IsClean faults.old }
     ensures done { IsClean faults.new → AllZip (λ h done. Works h.promise.cycles h.promise.worker.value done) handles.items result.items }
+    ensures noted { (answers : List (Result Worker GaveUp))
+        × AllZip (λ h answer. Answers h.promise.cycles h.promise.worker.value answer) handles.items answers
+        × NotesAll fault_of_worker faults.old faults.new [] result.items answers }
 {
     let mut workers = Vec::new(alloc);
     for handle in handles {
         join_worker(rt, handle, &mut workers, faults);
     }
     workers
+}
+
+/// Notes what an administrator's thread gives, in the same way.
+fn note_called(answer: Result<Seat, Unmade>, seats: &mut Vec<Seat>, faults: &mut Faults)
+    ensures { Notes fault_of_caller faults.old faults.new seats.old.items seats.new.items answer }
+{
+    match answer {
+        Ok(seat) => {
+            let Ok(()) = seats.push(seat) else {
+                return faults.note(ConductFault::Memory);
+            };
+        }
+        Err(why) => note_caller(faults, why),
+    }
 }
 
 /// Waits for an administrator's thread, in the same way.
@@ -276,17 +282,11 @@ fn join_administrator<R: Threads + Wait>(
     seats: &mut Vec<Seat>,
     faults: &mut Faults,
 )
-    ensures before { IsClean faults.new → IsClean faults.old }
-    ensures done { IsClean faults.new → HasOneMore (CallsOf handle.promise.administrator.value) seats.old.items seats.new.items }
+    ensures { (answer : Result Sitting Unmade) × CallAnswers handle.promise.administrator.value answer
+        × Notes fault_of_caller faults.old faults.new seats.old.items seats.new.items answer }
 {
-    match handle.join(rt) {
-        Ok(seat) => {
-            let Ok(()) = seats.push(seat) else {
-                return faults.note(ConductFault::Memory);
-            };
-        }
-        Err(fault) => note_caller(faults, fault),
-    }
+    let answer = handle.join(rt);
+    note_called(answer, seats, faults);
 }
 
 /// Waits for all administrators' threads.
@@ -298,6 +298,9 @@ fn join_administrators<R: Threads + Wait>(
 ) -> Vec<Seat>
     ensures before { IsClean faults.new → IsClean faults.old }
     ensures done { IsClean faults.new → AllZip (λ h done. CallsOf h.promise.administrator.value done) handles.items result.items }
+    ensures noted { (answers : List (Result Sitting Unmade))
+        × AllZip (λ h answer. CallAnswers h.promise.administrator.value answer) handles.items answers
+        × NotesAll fault_of_caller faults.old faults.new [] result.items answers }
 {
     let mut seats = Vec::new(alloc);
     for handle in handles {
@@ -324,10 +327,33 @@ fn start_all<'s, E, R: Threads + Wait + Sync, P: Pace>(
     ensures workers { IfOk result (λ handles. map (λ h. h.promise.worker.value) handles.0.items ≡ workers.items) }
     ensures cycles { IfOk result (λ handles. All (λ h. h.promise.cycles ≡ cycles) handles.0.items) }
     ensures administrators { IfOk result (λ handles. map (λ h. h.promise.administrator.value) handles.1.items ≡ administrators.items) }
+    ensures err { IfErr result IsStartFault }
 {
     let working = start_workers(alloc, scope, rt, pace, book, cycles, workers)?;
     let calling = start_administrators(alloc, scope, rt, pace, desk, administrators)?;
     Ok((working, calling))
+}
+
+/// Closes the cycles, and hands their tables on. Where this isn't done, the conductor's seat and ends are let go of.
+fn seal_each<R: Wait>(
+    rt: &R,
+    alloc: Global,
+    desk: &Desk,
+    conductor: Seat,
+    tables: Vec<PipeIn<Carried<Table>>>,
+    cycles: u32,
+) -> Result<Sealed, SealingFault>
+    requires few { cycles ≤ 100000 }
+    requires no_calls { conductor.calls ≡ [] }
+    requires no_tables { conductor.tables ≡ [] }
+    requires nothing_put { All (λ end. end.items ≡ []) tables.items }
+    ensures ok { IfOk result (λ done. HasSealed cycles conductor done.seat tables.items done.tables.items) }
+    ensures err { IfErr result (BreaksOff cycles conductor tables.items) }
+{
+    match seal_all(rt, alloc, desk, conductor, tables, cycles) {
+        Ok(sealed) => Ok(sealed),
+        Err(left) => Err(left.fault),
+    }
 }
 
 /// Starts all threads, closes the cycles while they run, and waits for them. Where one can't be started, or memory is refused, it
@@ -343,7 +369,8 @@ fn run_in<'s, E, R: Threads + Wait + Sync, P: Pace>(
     ready: Ready,
 ) -> Result<Ended, ConductFault>
     requires { IsReady cycles ready }
-    ensures { IfOk result (IsEnded cycles ready) }
+    ensures ok { IfOk result (IsEnded cycles ready) }
+    ensures err { IfErr result (MayBeTold cycles ready) }
 {
     let Ready {
         workers,
@@ -370,11 +397,13 @@ fn run_in<'s, E, R: Threads + Wait + Sync, P: Pace>(
         }
     };
     let mut faults = Faults::none();
-    let sealed = seal_all(rt, alloc, desk, conductor, tables, cycles);
+    let sealed = seal_each(rt, alloc, desk, conductor, tables, cycles);
     let seats = join_administrators(rt, alloc, calling, &mut faults);
     let workers = join_workers(rt, alloc, working, &mut faults);
-    let ended = all_ended(faults, workers, seats, sealed)?;
-    Ok(ended)
+    match all_ended(faults, workers, seats, sealed) {
+        Ok(ended) => Ok(ended),
+        Err(fault) => Err(fault),
+    }
 }
 
 /// What the threads have in the end, if nothing has gone wrong; else the first fault of those that were noted and the conductor's.
@@ -409,8 +438,8 @@ fn all_ended(
 /// Runs the threads: each worker goes through all cycles and each administrator makes its commands on a thread of its own, while
 /// this one closes the cycles and hands their tables on. `cycles` is at most 100,000, and nothing is done yet: no seat has calls, and
 /// nothing was put. It returns when all threads have ended: `Spawn` where a thread couldn't be started, `Memory` where its handle
-/// couldn't be kept, and else the first fault in the order of [`ConductFault`], if there is one. Then all that was ready is gone.
-/// It waits for threads, pipes and locks.
+/// couldn't be kept, and else the first fault in the order of [`ConductFault`], if there is one. `Bridge` comes with the number of a
+/// worker's bridge, and why it may give up (`work`). Then all that was ready is gone. It waits for threads, pipes and locks.
 pub fn run_threads<R: Threads + Wait + Sync, P: Pace>(
     rt: &R,
     alloc: Global,
@@ -421,14 +450,15 @@ pub fn run_threads<R: Threads + Wait + Sync, P: Pace>(
     ready: Ready,
 ) -> Result<Ended, ConductFault>
     requires { IsReady cycles ready }
-    ensures { IfOk result (IsEnded cycles ready) }
+    ensures ok { IfOk result (IsEnded cycles ready) }
+    ensures err { IfErr result (MayBeTold cycles ready) }
 {
     thread::scope(
         thread::scope_env(),
         rt,
         move |scope| -> Result<Ended, ConductFault>
             requires { IsReady cycles ready }
-            ensures { IfOk result (IsEnded cycles ready) }
+            ensures { RunAnswers cycles ready result }
         { run_in(alloc, scope, rt, pace, desk, book, cycles, ready) },
     )
 }

@@ -1,27 +1,28 @@
 -- The account of a scenario that was opened.
-use Rattle.std.proofs.Common.{◌≡◌, ◌≢◌, ◌⊎◌, ◌∙◌, ℕ, List, [], Ok, arith, ap, codes, inl, inr, map, subst, subst₂, sym, refl}
+use Rattle.std.proofs.Common.{◌≡◌, ◌≢◌, ◌⊎◌, ◌∙◌, ℕ, List, [], Ok, arith, ap, codes, inl, inr, length, map, subst, subst₂, sym, refl}
 use Rattle.std.specs.Global.{Global}
 use Rattle.std.specs.declared.vec.Vec.{Vec}
 use Rattle.std.proofs.lemmas.Simd.{map-map}
 use Rattle.cqf_model.specs.declared.frames.Background.{Background}
 use Rattle.cqf_model.specs.declared.frames.Offer.{Offer}
-use Rattle.cqf_model.specs.Book.{contents_of}
-use Rattle.cqf_model.specs.Domain.{Domain}
+use Rattle.cqf_model.specs.Domain.{Domain, IsAccepted}
 use Rattle.cqf_model.specs.History.{Act, Recorded}
 use Rattle.cqf_admission.specs.declared.entries.Command.{Command}
+use Rattle.cqf_book.specs.Pages.{pages_of}
+use Rattle.cqf_laws_account.specs.Paged.{ArePagesByLink, PagesTellTheBook, TellTheBook, told_from}
 use Rattle.cqf_run_command.specs.RunOutput.{run_text}
-use Rattle.cqf_scenario.specs.Opening.{IsOpened, IsOpenedInput, opening_history}
+use Rattle.cqf_scenario.specs.Opening.{IsOpenedInput, opening_history}
 use Rattle.cqf_scenario.specs.Parted.{acts_of_each}
 use Rattle.cqf_scenario.specs.Parting.{AreCommandsBehind}
 use Rattle.cqf_scenario.specs.Scenario.{Scenario, scenario_input}
 use Rattle.cqf_scenario.specs.declared.opening.Opened.{Opened}
 use Rattle.cqf_stop.specs.Stops.{EndsWith, IsRefused, fault_line}
 use Rattle.cqf_stop.specs.declared.stops.Stop.{Stop}
-use Rattle.cqf_threads_command.specs.ThreadsOutput.{EndsThreads, IsAccountOfInput, IsAccountOfScenario, IsThreadsOutput}
-use Rattle.cqf_worker.specs.Account.{IsAccount, all_asked, entries_in}
+use Rattle.cqf_threads_command.specs.ThreadsOutput.{EndsThreads, IsAccountOfInput, IsThreadsOutput}
+use Rattle.cqf_worker.specs.Account.{IsAccountOf, IsPagedAccount, all_asked, entries_of}
 use Rattle.cqf_loops.specs.Commands.{acts_asked}
 use Rattle.cqf_threads.specs.Faults.{conduct_fault_text}
-use Rattle.cqf_worker.specs.declared.account.Account.{Account}
+use Rattle.cqf_worker.specs.declared.account.PagedAccount.{PagedAccount}
 use Rattle.cqf_threads.specs.declared.faults.ConductFault.{ConductFault}
 use Rattle.cqf_threads.specs.declared.faults.ConductFault.TheVariants.{Memory, Bridge, DeskDisagrees, BookDisagrees, ChannelLost, Spawn}
 
@@ -33,45 +34,56 @@ commands_in lists = map (λ (commands : Vec Command Global). commands.items) lis
 asked_of : (lists : List (Vec Command Global)) → acts_of_each lists ≡ all_asked (commands_in lists)
 asked_of lists = sym (map-map acts_asked (λ (commands : Vec Command Global). commands.items) lists)
 
--- an account of what was opened is one of its scenario
-IsAccountOfScenario-opened : (cycles : ℕ) (s : Scenario) (made : Opened) (account : Account) (offers : List Offer) (frames : List Background) → IsOpened cycles s made
-    → offers ≡ made.offers.items → frames ≡ made.background.items
-    → IsAccount made.domain made.admission.entries offers frames cycles (commands_in made.commands.items) account → IsAccountOfScenario cycles s account
-IsAccountOfScenario-opened cycles s made account offers frames o same_offers same_frames is =
+-- an account by pages of what was opened of an input is one of the input's scenario
+pub IsAccountOfInput-opened : (cycles : ℕ) (input : List ℕ) (made : Opened) (account : PagedAccount) (offers : List Offer) (frames : List Background)
+    → IsOpenedInput cycles input made → offers ≡ made.offers.items → frames ≡ made.background.items
+    → IsPagedAccount made.domain made.admission.entries offers frames cycles (commands_in made.commands.items) account
+    → IsAccountOfInput cycles input made.domain account
+IsAccountOfInput-opened cycles input made account offers frames opened same_offers same_frames is =
+    let s = opened.scenario in
+    let o = opened.opened in
     let admins = commands_in made.commands.items in
-    let of_domain : IsAccount s.domain made.admission.entries offers frames cycles admins account =
-    subst (λ (d : Domain). IsAccount d made.admission.entries offers frames cycles admins account) o.domain is in
-    let of_opening : IsAccount s.domain (opening_history s) offers frames cycles admins account =
-    subst (λ (entries : List Recorded). IsAccount s.domain entries offers frames cycles admins account) o.entries of_domain in
+    let of_opening : IsPagedAccount made.domain (opening_history s) offers frames cycles admins account =
+    subst (λ (entries : List Recorded). IsPagedAccount made.domain entries offers frames cycles admins account) o.entries is in
     record {
+      scenario = s;
+      holds = opened.holds;
+      domain = o.domain;
       commands = admins;
       asked = subst (λ (lists : List (List Act)). AreCommandsBehind s.calls s.sealer lists) (asked_of made.commands.items) o.commands;
-      is_account = subst₂ (λ (offers : List Offer) (frames : List Background). IsAccount s.domain (opening_history s) offers frames cycles admins account)
+      is_account = subst₂ (λ (offers : List Offer) (frames : List Background). IsPagedAccount made.domain (opening_history s) offers frames cycles admins account)
           (same_offers ∙ o.offers) (same_frames ∙ o.background) of_opening;
     }
 
--- an account of what was opened of an input is one of the input's scenario
-pub IsAccountOfInput-opened : (cycles : ℕ) (input : List ℕ) (made : Opened) (account : Account) (offers : List Offer) (frames : List Background)
-    → IsOpenedInput cycles input made → offers ≡ made.offers.items → frames ≡ made.background.items
-    → IsAccount made.domain made.admission.entries offers frames cycles (commands_in made.commands.items) account
-    → IsAccountOfInput cycles input made.domain account
-IsAccountOfInput-opened cycles input made account offers frames o same_offers same_frames is = record {
-  scenario = o.scenario;
-  holds = o.holds;
-  domain = o.opened.domain;
-  of_scenario = IsAccountOfScenario-opened cycles o.scenario made account offers frames o.opened same_offers same_frames is;
-}
+-- the pages of such an account tell its book
+module _ (cycles : ℕ) (input : List ℕ) (d : Domain) (account : PagedAccount) (of : IsAccountOfInput cycles input d account) (law : PagesTellTheBook)
+    (accepted : IsAccepted d) where
+  tells : TellTheBook d cycles (pages_of account.pages) of.is_account.book
+  tells = law d cycles (pages_of account.pages) of.is_account.book accepted of.is_account.some of.is_account.its_pages
 
--- the text of an account of the input's scenario is the output
-pub IsThreadsOutput-written : (cycles : ℕ) (input text : List ℕ) (d : Domain) (account : Account) → IsAccountOfInput cycles input d account
-    → text ≡ run_text d (entries_in account) (contents_of account.book) → IsThreadsOutput cycles input text
-IsThreadsOutput-written cycles input text d account of written = record {
-  scenario = of.scenario;
-  holds = of.holds;
-  account = account;
-  of_scenario = of.of_scenario;
-  written = written ∙ ap (λ (d : Domain). run_text d (entries_in account) (contents_of account.book)) of.domain;
-}
+  -- on them the transmissions stand link by link
+  pub pages_by_link : ArePagesByLink d (pages_of account.pages)
+  pages_by_link = tells.by_link
+
+  -- the text of its history and of the book that they tell is the output
+  pub IsThreadsOutput-written : (text : List ℕ) → text ≡ run_text d (entries_of account.history) (told_from d cycles (pages_of account.pages)) →
+      IsThreadsOutput cycles input text
+  IsThreadsOutput-written text written =
+      let s = of.scenario in
+      let entries = entries_of account.history in
+      let book = of.is_account.book in
+      let its = of.is_account.is_account in
+      let same : IsAccountOf s.domain (opening_history s) s.offers s.background cycles of.commands (length (opening_history s)) entries book =
+      subst₂ (λ (e : Domain) (before : ℕ). IsAccountOf e (opening_history s) s.offers s.background cycles of.commands before entries book) of.domain its.opens
+      its in
+      record {
+        scenario = s;
+        holds = of.holds;
+        entries = entries;
+        book = book;
+        of_scenario = record { commands = of.commands; asked = of.asked; is_account = same };
+        written = written ∙ ap (run_text d entries) (sym tells.told) ∙ ap (λ (e : Domain). run_text e entries book) of.domain;
+      }
 
 -- an input that is refused ends it
 pub EndsThreads-refused : (cycles : ℕ) (input : List ℕ) (stop : Stop) → IsRefused (scenario_input cycles input) stop → EndsThreads cycles input stop

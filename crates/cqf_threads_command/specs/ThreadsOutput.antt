@@ -1,7 +1,8 @@
 -- What the command `run` with `--threads` gives for its input (profile): the history and the book of an account of a scenario.
-use Rattle.std.specs.Prelude.{ℕ, ◌≡◌, ◌≢◌, ◌⊎◌, List, [], Result, Ok, Err, codes}
-use Rattle.cqf_model.specs.Book.{contents_of}
+use Rattle.std.specs.Prelude.{ℕ, ◌≡◌, ◌≢◌, ◌⊎◌, List, [], Result, Ok, Err, codes, length}
+use Rattle.cqf_model.specs.Book.{Contents}
 use Rattle.cqf_model.specs.Domain.{Domain}
+use Rattle.cqf_model.specs.History.{Recorded}
 use Rattle.cqf_admission.specs.declared.entries.Command.{Command}
 use Rattle.cqf_run_command.specs.RunOutput.{run_text}
 use Rattle.cqf_scenario.specs.Opening.{opening_history}
@@ -9,33 +10,36 @@ use Rattle.cqf_scenario.specs.Parting.{AreCommandsBehind}
 use Rattle.cqf_scenario.specs.Scenario.{Scenario, scenario_input}
 use Rattle.cqf_stop.specs.Stops.{fault_line}
 use Rattle.cqf_stop.specs.declared.stops.Stop.{Stop}
-use Rattle.cqf_worker.specs.Account.{IsAccount, all_asked, entries_in}
+use Rattle.cqf_worker.specs.Account.{IsAccountOf, IsPagedAccount, all_asked}
 use Rattle.cqf_threads.specs.Faults.{conduct_fault_text}
-use Rattle.cqf_worker.specs.declared.account.Account.{Account}
+use Rattle.cqf_worker.specs.declared.account.PagedAccount.{PagedAccount}
 use Rattle.cqf_threads.specs.declared.faults.ConductFault.{ConductFault}
 use Rattle.cqf_threads.specs.declared.faults.ConductFault.TheVariants.{Memory}
 
--- an account of a scenario over so many cycles: of a run that begins with the history of the calls before the first Seal, and in which
--- each administrator makes what it calls for behind that Seal
-pub record IsAccountOfScenario (cycles : ℕ) (s : Scenario) (account : Account) : Type 0 where
+-- the entries and the book of an account of a scenario over so many cycles: of a run that begins with the history of the calls before the
+-- first Seal, and in which each administrator makes what it calls for behind that Seal
+pub record IsAccountOfScenario (cycles : ℕ) (s : Scenario) (entries : List Recorded) (book : Contents) : Type 0 where
   pub commands : List (List Command)
   pub asked : AreCommandsBehind s.calls s.sealer (all_asked commands)
-  pub is_account : IsAccount s.domain (opening_history s) s.offers s.background cycles commands account
+  pub is_account : IsAccountOf s.domain (opening_history s) s.offers s.background cycles commands (length (opening_history s)) entries book
 
--- an account of an input's scenario, and the domain of that
-pub record IsAccountOfInput (cycles : ℕ) (input : List ℕ) (d : Domain) (account : Account) : Type 0 where
+-- an account by pages of an input's scenario, and the domain of that
+pub record IsAccountOfInput (cycles : ℕ) (input : List ℕ) (d : Domain) (account : PagedAccount) : Type 0 where
   pub scenario : Scenario
   pub holds : scenario_input cycles input ≡ Ok scenario
   pub domain : d ≡ scenario.domain
-  pub of_scenario : IsAccountOfScenario cycles scenario account
+  pub commands : List (List Command)
+  pub asked : AreCommandsBehind scenario.calls scenario.sealer (all_asked commands)
+  pub is_account : IsPagedAccount d (opening_history scenario) scenario.offers scenario.background cycles commands account
 
 -- the output is the text of the history of an account of the input's scenario, and of its book
 pub record IsThreadsOutput (cycles : ℕ) (input output : List ℕ) : Type 0 where
   pub scenario : Scenario
   pub holds : scenario_input cycles input ≡ Ok scenario
-  pub account : Account
-  pub of_scenario : IsAccountOfScenario cycles scenario account
-  pub written : output ≡ run_text scenario.domain (entries_in account) (contents_of account.book)
+  pub entries : List Recorded
+  pub book : Contents
+  pub of_scenario : IsAccountOfScenario cycles scenario entries book
+  pub written : output ≡ run_text scenario.domain entries book
 
 -- the line tells the fault of a run, which began, since the input has a scenario; want of memory outside a bridge isn't told so
 pub record TellsFault (found : Result Scenario (List ℕ)) (line : List ℕ) : Type 0 where

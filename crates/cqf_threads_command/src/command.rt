@@ -1,19 +1,27 @@
 //! The command `run` with `--threads`: the history and the book of an account.
-ghost use Rattle.std.specs.Prelude.{◌≡◌, ◌≢◌, ◌≤◌, [], IfErr, IfOk, codes, string_bytes};
+ghost use Rattle.std.specs.Prelude.{◌≡◌, ◌≢◌, ◌≤◌, ◌++◌, [], IfErr, IfOk, codes, map, string_bytes};
+ghost use Rattle.cqf_admission.specs.Admission.{recorded_of};
 ghost use Rattle.cqf_press.specs.Edge.{HasTold, writing};
+ghost use Rattle.cqf_press.specs.Press.{Puts};
+ghost use Rattle.cqf_report.specs.Books.{text_of_book};
+ghost use Rattle.cqf_run_command.specs.RunOutput.{run_text};
 ghost use Rattle.cqf_scenario.specs.Opening.{IsOpenedInput};
-ghost use Rattle.cqf_stop.specs.Stops.{EndsWith, fault_line};
+ghost use Rattle.cqf_stop.specs.Stops.{EndsWith, fault_line, line_of};
 ghost use Rattle.cqf_threads.specs.Faults.{conduct_fault_text};
 ghost use Rattle.cqf_threads_command.specs.AccountTold.{text_of_account};
+ghost use Rattle.cqf_paged_telling.specs.PagedBooks.{contents_told};
 ghost use Rattle.cqf_threads_command.specs.ThreadsOutput.{EndsThreads, IsAccountOfInput, IsThreadsOutput};
 
 use crate::output::ThreadsOutput;
-use cqf_press::{Sheet, Told};
-use cqf_run_command::tell_run;
+use cqf_admission::Entry;
+use cqf_laws_account::pages_tell_the_book;
+use cqf_paged_telling::{PagedBook, put_paged_book};
+use cqf_press::{Press, Sheet, Told};
 use cqf_scenario::{Opened, read_opened};
 use cqf_stop::{FAULT, Stop};
+use cqf_telling::put_history;
 use cqf_topology::Domain;
-use cqf_worker::{Account, ConductFault, Free, conduct};
+use cqf_worker::{ConductFault, Free, PagedAccount, conduct_pages};
 use std::alloc::{AllocError, Global};
 use std::io::Write;
 use std::sync::Wait;
@@ -39,14 +47,14 @@ fn fault_stop(alloc: Global, fault: ConductFault) -> Stop
     }
 }
 
-/// The domain of what was opened of the input, and the account of its run.
+/// The domain of what was opened of the input, and the account of its run, by pages.
 fn conduct_opened(
     rt: &(impl Threads + Wait + Sync),
     alloc: Global,
     cycles: u32,
     input: &[u8],
     opened: Opened,
-) -> Result<(Domain, Account), ConductFault>
+) -> Result<(Domain, PagedAccount), ConductFault>
     requires short { cycles ≤ 100000 }
     requires opened { IsOpenedInput cycles input.now opened }
     ensures { IfOk result (λ ran. IsAccountOfInput cycles input.now ran.0 ran.1) }
@@ -58,7 +66,7 @@ fn conduct_opened(
         offers,
         background,
     } = opened;
-    let account = conduct(
+    let account = conduct_pages(
         rt,
         alloc,
         &domain,
@@ -72,19 +80,37 @@ fn conduct_opened(
     Ok((domain, account))
 }
 
+/// Puts a line `%%`, and the text of the book that pages tell behind it.
+fn put_rest<W: Write>(press: &mut Press<'_, W>, book: &PagedBook)
+    ensures { Puts W.contents press.old press.new (line_of (codes "%%") ++ text_of_book book.now.domain (contents_told book.now)) }
+{
+    press.put(b"%%\n");
+    put_paged_book(press, book);
+}
+
+/// Puts the text of a history, and of the book that pages tell, with a line `%%` between them.
+fn put_account<W: Write>(press: &mut Press<'_, W>, history: &[Entry], book: &PagedBook)
+    ensures { Puts W.contents press.old press.new (run_text book.now.domain (map recorded_of history.now) (contents_told book.now)) }
+{
+    put_history(press, history);
+    put_rest(press, book);
+}
+
 impl ThreadsOutput {
     /// Tells the output: a history of the input's scenario, a line `%%`, and the one-thread book of that history (profile). It
-    /// asks for no memory.
+    /// asks for no memory, and sorts nothing.
     pub fn tell<W: Write>(self, told: &mut Told<W>)
         ensures { HasTold (writing W.contents told.old told.new) (text_of_account self) }
     {
         let ThreadsOutput {
-            domain,
-            account,
+            history,
+            book,
             sheet,
         } = self;
-        let history = account.history.entries.as_slice();
-        tell_run(told, sheet, &domain, history, &account.book);
+        let mut press = Press::new(told, sheet);
+        let history = history.entries.as_slice();
+        put_account(&mut press, history, &book);
+        let _told = press.close();
     }
 }
 
@@ -111,14 +137,18 @@ pub fn threads_output(
         Ok(opened) => opened,
         Err(stop) => return Err(stop),
     };
+    pages_tell_the_book();
     let (domain, account) = match conduct_opened(rt, alloc, cycles, input, opened) {
         Ok(ran) => ran,
         Err(fault) => return Err(fault_stop(alloc, fault)),
     };
+    let _accepted = domain.cycle_time();
+    let PagedAccount { history, pages } = account;
+    let book = PagedBook::new(domain, cycles, pages);
     match Sheet::new(alloc) {
         Ok(sheet) => Ok(ThreadsOutput {
-            domain,
-            account,
+            history,
+            book,
             sheet,
         }),
         Err(_) => Err(Stop::memory(alloc)),

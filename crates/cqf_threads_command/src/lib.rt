@@ -2,7 +2,7 @@
 //!
 //! - [`threads_output`] is the command's output for its input, the history and the book of an account of the input's
 //!   scenario, or the end of the run with the line of the input's first fault or of the run's. [`ThreadsOutput::tell`] tells
-//!   it, and asks for no memory.
+//!   it, the book from the pages that the bridges posted, and asks for no memory.
 //!
 //! `specs/ThreadsOutput.antt` says what it is that a text `IsThreadsOutput`, and how the command `EndsThreads`.
 //!

@@ -1,13 +1,13 @@
 //! The output of `run --threads`, before it is told.
 
+use cqf_desk::History;
+use cqf_paged_telling::PagedBook;
 use cqf_press::Sheet;
-use cqf_topology::Domain;
-use cqf_worker::Account;
 
-/// What the output of `run --threads` is told from: a domain, the account of a run over it, and a sheet.
+/// What the output of `run --threads` is told from: the history of a run, its book by the pages that the bridges posted, and a sheet.
 #[derive(Drop)]
 pub struct ThreadsOutput {
-    pub(crate) domain: Domain,
-    pub(crate) account: Account,
+    pub(crate) history: History,
+    pub(crate) book: PagedBook,
     pub(crate) sheet: Sheet,
 }

@@ -1,38 +1,40 @@
 -- The account of a run, from what its parts promise.
-use Rattle.std.proofs.Common.{ℕ, ◌≡◌, ◌+◌, ◌≤◌, ◌<◌, [], List, length, get_or, map, sym, ap, subst, ◌∙◌, arith}
+use Rattle.std.proofs.Common.{ℕ, ◌≡◌, ◌+◌, ◌≤◌, ◌<◌, [], List, length, get_or, map, sym, ap, subst, subst₂, ◌∙◌, arith}
 use Rattle.std.specs.Prelude.{All, slice_index_or}
 use Rattle.std.proofs.lemmas.List.{get_or-map, length-map}
 use Rattle.cqf_lists.proofs.EachBelow.{get_or-singles}
 use Rattle.cqf_model.specs.declared.frames.Background.{Background}
 use Rattle.cqf_model.specs.declared.frames.Offer.{Offer}
-use Rattle.cqf_model.specs.Book.{contents_of}
+use Rattle.cqf_model.specs.Book.{Contents, contents_of}
 use Rattle.cqf_model.specs.Domain.{Domain, IsAccepted}
 use Rattle.cqf_model.specs.History.{Recorded, seals}
-use Rattle.cqf_model.specs.HistoryBook.{IsBookOfHistory}
 use Rattle.cqf_model.specs.Run.{AreBackground, AreOffers}
 use Rattle.cqf_admission.specs.declared.entries.Command.{Command}
-use Rattle.cqf_book.specs.Pages.{Posted}
-use Rattle.cqf_book.specs.Shares.{IsBookOfShares}
+use Rattle.cqf_book.specs.Pages.{Posted, pages_of}
+use Rattle.cqf_book.specs.Shares.{Agree, IsBookOfPages}
 use Rattle.cqf_desk.specs.Closing.{IsOfSeats}
 use Rattle.cqf_desk.specs.Desk.{Counter, Sitting, fresh_seats}
-use Rattle.cqf_laws_account.specs.Apart.{BridgesApartGiveTheBook}
+use Rattle.cqf_desk.specs.declared.history.History.{History}
+use Rattle.cqf_laws_account.specs.Gathered.{GatheredPagesAreTheBook}
+use Rattle.cqf_laws_account.specs.Paged.{BridgesApartPostThePages, HasThePages}
 use Rattle.cqf_laws_account.specs.Sealing.{cycle_tables}
 use Rattle.cqf_laws_account.specs.Seated.{AreSeated, ClosesItsCycles, ConductorHasTheTables, IsHistoryOf, SeatsGiveTheHistory}
 use Rattle.cqf_laws_book.specs.BookOfHistory.{BookOfHistorySaysTheShift}
 use Rattle.cqf_laws_bridge.specs.NoFaults.{RunOfHistoryLosesNothing}
 use Rattle.cqf_worker.specs.declared.account.Account.{Account}
+use Rattle.cqf_worker.specs.declared.account.PagedAccount.{PagedAccount}
 use Rattle.cqf_loops.specs.declared.carried.Carried.TheVariants.{Item}
 use Rattle.cqf_worker.specs.declared.conducting.Prepared.{Prepared}
 use Rattle.cqf_threads.specs.declared.threads.Administrator.{Administrator}
 use Rattle.cqf_threads.specs.declared.threads.Ended.{Ended}
-use Rattle.cqf_worker.specs.Account.{IsAccount, all_asked, entries_in}
+use Rattle.cqf_worker.specs.Account.{IsAccount, IsAccountOf, IsPagedAccount, all_asked, entries_of}
 use Rattle.cqf_wires.specs.Closing.{share_at}
 use Rattle.cqf_worker.specs.Conducting.{IsPrepared, IsSettled, all_seats, seat_of}
 use Rattle.cqf_loops.specs.Handing.{TableEnd}
 use Rattle.cqf_wires.specs.Laying.{traffic_of}
 use Rattle.cqf_threads.specs.Running.{IsEnded, IsReady}
 use Rattle.cqf_wires.specs.Wires.{AreWired, Wiring, pipe_of_tables, tables_pipe}
-use Rattle.cqf_worker.proofs.Apart.{book_is, no_pages, still_tables, still_wired}
+use Rattle.cqf_worker.proofs.Apart.{no_pages, pages_are, still_tables, still_wired}
 use Rattle.cqf_worker.proofs.Seating.{are_seated, asked_count, asks_no_seal, fresh_seat, seats_count}
 
 -- with a fresh seat nobody has called
@@ -74,56 +76,69 @@ module _ (d : Domain) (opening : List Recorded) (offers : List Offer) (backgroun
         are_seated admins p.ready.administrators.items p.ready.conductor e.seats.items e.sealed.seat cycles p.ready.tables.items e.sealed.tables.items
         is.seated ended.called ended.sealed
 
-    module _ (account : Account) (settled : IsSettled p.desk p.book e account) where
+    module _ (account : PagedAccount) (settled : IsSettled p.desk p.book e account) where
       -- the history is of the seats, as many as were asked and one more
-      of_seats : IsOfSeats opening d (length (all_asked admins) + 1) (all_seats e) (entries_in account)
+      of_seats : IsOfSeats opening d (length (all_asked admins) + 1) (all_seats e) (entries_of account.history)
       of_seats =
-          subst (λ (count : ℕ). IsOfSeats opening d (count + 1) (all_seats e) (entries_in account)) (sym (asked_count admins))
-          (subst (λ (desk : Counter). IsOfSeats desk.opening.entries desk.opening.domain desk.seats (all_seats e) (entries_in account)) is.desk
+          subst (λ (count : ℕ). IsOfSeats opening d (count + 1) (all_seats e) (entries_of account.history)) (sym (asked_count admins))
+          (subst (λ (desk : Counter). IsOfSeats desk.opening.entries desk.opening.domain desk.seats (all_seats e) (entries_of account.history)) is.desk
           settled.history.entries)
 
       -- so it is of what was asked
-      history_is : SeatsGiveTheHistory → IsHistoryOf d opening (all_asked admins) cycles (entries_in account)
-      history_is law = law d opening (all_asked admins) cycles (all_seats e) (entries_in account) of_seats seated_so.0
+      history_is : SeatsGiveTheHistory → IsHistoryOf d opening (all_asked admins) cycles (entries_of account.history)
+      history_is law = law d opening (all_asked admins) cycles (all_seats e) (entries_of account.history) of_seats seated_so.0
 
       -- and the conductor has its tables
-      closes_so : ConductorHasTheTables → seals opening ≡ 0 → ClosesItsCycles d (entries_in account) cycles e.sealed.seat
+      closes_so : ConductorHasTheTables → seals opening ≡ 0 → ClosesItsCycles d (entries_of account.history) cycles e.sealed.seat
       closes_so law unsealed =
-          subst (ClosesItsCycles d (entries_in account) cycles) seated_so.1
-          (law d opening (all_asked admins) cycles (all_seats e) (entries_in account) of_seats seated_so.0 (asks_no_seal admins) unsealed)
+          subst (ClosesItsCycles d (entries_of account.history) cycles) seated_so.1
+          (law d opening (all_asked admins) cycles (all_seats e) (entries_of account.history) of_seats seated_so.0 (asks_no_seal admins) unsealed)
 
-      -- the book is that of the workers' shares, over an empty one
-      of_shares : IsBookOfShares (no_pages (length d.bridges) cycles) (map share_at e.workers.items) (contents_of account.book)
-      of_shares = subst (λ (book : Posted). IsBookOfShares book (map share_at e.workers.items) (contents_of account.book)) is.book settled.book_of
+      -- the pages say what the workers' shares do, over an empty book
+      of_shares : Agree (no_pages (length d.bridges) cycles) (map share_at e.workers.items) account.pages (length d.bridges)
+      of_shares = subst (λ (book : Posted). Agree book (map share_at e.workers.items) account.pages book.bridges) is.book settled.agree
 
       -- at the ends of the workers' pipes stand the tables of the history's cycles
-      given_so : ClosesItsCycles d (entries_in account) cycles e.sealed.seat → (place : ℕ) (end : TableEnd) → place < length e.sealed.tables.items →
-          (slice_index_or e.sealed.tables.items place end).items ≡ map Item (cycle_tables d (entries_in account) cycles)
+      given_so : ClosesItsCycles d (entries_of account.history) cycles e.sealed.seat → (place : ℕ) (end : TableEnd) →
+          place < length e.sealed.tables.items →
+          (slice_index_or e.sealed.tables.items place end).items ≡ map Item (cycle_tables d (entries_of account.history) cycles)
       given_so closes place end inside = ended.sealed.given place end inside ∙ ap (map Item) closes.tables
 
       module _ (accepted : IsAccepted d) (unsealed : seals opening ≡ 0) (good_offers : AreOffers d offers) (good_background : AreBackground d background) where
-        -- so it is the one-thread book of the history
-        book_is_of_history : IsHistoryOf d opening (all_asked admins) cycles (entries_in account) →
-            ClosesItsCycles d (entries_in account) cycles e.sealed.seat → BridgesApartGiveTheBook →
-            IsBookOfHistory d (entries_in account) offers background cycles (contents_of account.book)
-        book_is_of_history history closes law =
-            book_is (traffic_of d offers background) (entries_in account) cycles p.ready.workers.items e.workers.items e.sealed.tables.items
-            (contents_of account.book) law
+        -- so they are those of the one-thread book of the history
+        pages_of_history : IsHistoryOf d opening (all_asked admins) cycles (entries_of account.history) →
+            ClosesItsCycles d (entries_of account.history) cycles e.sealed.seat → BridgesApartPostThePages →
+            (book : Contents) × HasThePages d (entries_of account.history) offers background cycles (pages_of account.pages) book
+        pages_of_history history closes law =
+            pages_are (traffic_of d offers background) (entries_of account.history) cycles p.ready.workers.items e.workers.items e.sealed.tables.items
+            account.pages law
             (record { accepted = accepted; legal = history.legal; offers = good_offers; background = good_background }) is.laid.workers is.laid.many
             ended.worked settled.fed tables_in_the_end settled.given (given_so closes) closes.sealed of_shares
 
         -- and the account is that of the run
-        pub account_is : SeatsGiveTheHistory → ConductorHasTheTables → BridgesApartGiveTheBook → BookOfHistorySaysTheShift → RunOfHistoryLosesNothing →
-            IsAccount d opening offers background cycles admins account
+        pub account_is : SeatsGiveTheHistory → ConductorHasTheTables → BridgesApartPostThePages → BookOfHistorySaysTheShift → RunOfHistoryLosesNothing →
+            IsPagedAccount d opening offers background cycles admins account
         account_is seats tables apart shift loses =
-            let history : IsHistoryOf d opening (all_asked admins) cycles (entries_in account) = history_is seats in
-            let closes : ClosesItsCycles d (entries_in account) cycles e.sealed.seat = closes_so tables unsealed in
-            let book : IsBookOfHistory d (entries_in account) offers background cycles (contents_of account.book) =
-            book_is_of_history history closes apart in record {
+            let entries = entries_of account.history in
+            let history : IsHistoryOf d opening (all_asked admins) cycles entries = history_is seats in
+            let closes : ClosesItsCycles d entries cycles e.sealed.seat = closes_so tables unsealed in
+            let has = pages_of_history history closes apart in
+            let is_account : IsAccountOf d opening offers background cycles admins account.history.opening entries has.0 = record {
               opens = settled.history.opening ∙ ap (λ (desk : Counter). length desk.opening.entries) is.desk;
               history = history;
-              book = book;
-              shift = shift d (entries_in account) offers background cycles (contents_of account.book) accepted history.legal good_offers good_background book;
+              book = has.1.of_history;
+              shift = shift d entries offers background cycles has.0 accepted history.legal good_offers good_background has.1.of_history;
               none_lost = λ net compiled.
-                  loses d (entries_in account) offers background cycles net history.legal book.sealed good_offers good_background compiled;
-            }
+                  loses d entries offers background cycles net history.legal has.1.of_history.sealed good_offers good_background compiled;
+            } in
+            record { book = has.0; is_account = is_account; some = has.1.some; its_pages = has.1.pages_of }
+
+-- an account by pages, and the book that these are gathered to, are an account
+pub gathered_account : (d : Domain) (opening : List Recorded) (offers : List Offer) (background : List Background) (cycles : ℕ)
+    (admins : List (List Command)) (paged : PagedAccount) (account : Account) → GatheredPagesAreTheBook → IsAccepted d →
+    IsPagedAccount d opening offers background cycles admins paged → account.history ≡ paged.history →
+    IsBookOfPages (pages_of paged.pages) (length d.bridges) (contents_of account.book) → IsAccount d opening offers background cycles admins account
+gathered_account d opening offers background cycles admins paged account law accepted is same gathered =
+    subst₂ (λ (history : History) (book : Contents).
+    IsAccountOf d opening offers background cycles admins history.opening (entries_of history) book) (sym same)
+    (sym (law d cycles (pages_of paged.pages) is.book (contents_of account.book) accepted is.some is.its_pages gathered)) is.is_account

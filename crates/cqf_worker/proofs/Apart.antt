@@ -1,7 +1,7 @@
 -- From what workers have done, each by its own lists, to the one-thread book.
 use Rattle.std.proofs.Common.{ℕ, ◌≡◌, ◌<◌, ◌==◌, ◌∷◌, ◌++◌, [], List, AllPairs, Contains, length, map, refl, sym, ap, ◌∙◌, arith, inl, inr, subst, get_or}
 use Rattle.std.proofs.Common.{eq-eqb, eqb-true, ne_eqb}
-use Rattle.std.specs.Prelude.{Option, Some, false, replicate, slice_get, slice_index_or, true}
+use Rattle.std.specs.Prelude.{Option, Some, replicate, slice_get, slice_index_or, true}
 use Rattle.std.specs.List.{AllZip}
 use Rattle.std.specs.Option.{option_map_or}
 use Rattle.std.proofs.lemmas.Bool.{cond-false, cond-true}
@@ -16,23 +16,23 @@ use Rattle.cqf_lists.proofs.Members.{contains_at, contains_cases, contains_from_
 use Rattle.cqf_lists.proofs.Numbers.{kept_number, numbers_ascend}
 use Rattle.cqf_lists.proofs.Pairs.{pairs_head, pairs_tail}
 use Rattle.cqf_model.specs.declared.frames.Page.{Page}
-use Rattle.cqf_model.specs.declared.topology.Link.{Link}
 use Rattle.cqf_model.specs.declared.topology.Row.{Row}
 use Rattle.cqf_model.specs.Book.{Contents}
 use Rattle.cqf_model.specs.Domain.{Domain, bridge_of, enters, leaves}
 use Rattle.cqf_model.specs.History.{Recorded, seals, table_at, tables_of}
-use Rattle.cqf_model.specs.HistoryBook.{IsBookOfHistory}
 use Rattle.cqf_admission.specs.Tables.{CycleTable}
-use Rattle.cqf_book.specs.Pages.{Posted}
-use Rattle.cqf_book.specs.Shares.{IsBookOfShares, Own, all_pages_of, is_of, pages_by, pages_in}
+use Rattle.cqf_book.specs.Pages.{Posted, pages_of}
+use Rattle.cqf_book.specs.Shares.{Agree, Own, Said, all_pages_of, is_of, pages_by, pages_in, said}
 use Rattle.cqf_bridge.specs.Batch.{LinkBatch}
 use Rattle.cqf_bridge.specs.BridgeState.{links_from}
 use Rattle.cqf_bridge.specs.Receiving.{links_into}
 use Rattle.cqf_laws_course.specs.Courses.{Course, HasWorked, IsGiven, Traffic}
 use Rattle.cqf_laws_course.proofs.LinkNumbers.{link_listed, links_ascend}
-use Rattle.cqf_laws_account.specs.Apart.{BridgesApartGiveTheBook, HavePosted, HaveWorkedApart}
+use Rattle.cqf_laws_account.specs.Apart.{HavePosted, HaveWorkedApart}
 use Rattle.cqf_laws_account.specs.Gathered.{contents_of_page}
+use Rattle.cqf_laws_account.specs.Paged.{BridgesApartPostThePages, HasThePages}
 use Rattle.cqf_laws_account.specs.Sealing.{cycle_tables}
+use Rattle.cqf_laws_account.proofs.Gathering.{leaves_one}
 use Rattle.cqf_loops.specs.declared.carried.Carried.{Carried}
 use Rattle.cqf_loops.specs.declared.carried.Carried.TheVariants.{Item}
 use Rattle.cqf_loops.specs.declared.worker.Worker.{Worker}
@@ -110,18 +110,6 @@ batches_there (port ∷ ports) p ascend held =
     apart : Contains ports p → port.link ≡ p.link → ⊥
     apart later same =
         omega (arith, same, pairs_head (λ (a b : ℕ). a < b) port.link (map link_of ports) p.link ascend (contains_map link_of ports p later))
-
--- a link leaves one bridge
-leaves_one : (d : Domain) (l bridge : ℕ) → leaves d l bridge ≡ true → bridge_of d l ≡ bridge
-leaves_one d l bridge here =
-    elim (slice_get_cases d.links l).1 [
-      | inl w ↦
-          ap (λ (o : Option Link). option_map_or (λ (link : Link). link.from) o 0) w.2
-          ∙ eqb-true w.0.from bridge (sym (ap (λ (o : Option Link). option_map_or (λ (link : Link). link.from == bridge) o false) w.2) ∙ here)
-      | inr w ↦
-          let none : leaves d l bridge ≡ false = ap (λ (o : Option Link). option_map_or (λ (link : Link). link.from == bridge) o false) w.1 in
-          absurd (cc (none, here))
-    ]
 
 -- the rows of a history's tables
 rows_of_tables : (d : Domain) (entries : List Recorded) (cycles : ℕ) → map rows_in (cycle_tables d entries cycles) ≡ tables_of d entries cycles
@@ -309,18 +297,32 @@ module _ (t : Traffic) (entries : List Recorded) (cycles : ℕ) (workers dones :
         ∙ ap (λ (c : Course). c.pages bridge) (sym (own_is dones bridge done.0 done.1)));
   }
 
--- so the book of the workers' shares is the one-thread book of the history
-pub book_is : (t : Traffic) (entries : List Recorded) (cycles : ℕ) (workers dones : List Worker) (ends : List TableEnd) (gathered : Contents) →
-    BridgesApartGiveTheBook → IsGiven t entries → AreWorkersOf t workers → length workers ≡ length t.domain.bridges → AllZip (Works cycles) workers dones →
+-- pages that say what posted ones do were posted too
+posted_too : (t : Traffic) (cycles : ℕ) (own : ℕ → Course) (pages others : ℕ → List Page) → HavePosted t cycles own others →
+    ((bridge : ℕ) → bridge < length t.domain.bridges → map said (pages bridge) ≡ map said (others bridge)) → HavePosted t cycles own pages
+posted_too t cycles own pages others have same = record {
+  many = λ bridge inside. sym (length-map (pages bridge) said) ∙ ap length (same bridge inside) ∙ length-map (others bridge) said ∙ have.many bridge inside;
+  same = λ bridge inside.
+      sym (map-map contents said (pages bridge)) ∙ ap (map contents) (same bridge inside) ∙ map-map contents said (others bridge) ∙ have.same bridge inside;
+}
+  where
+    -- what a page says stands on it
+    contents : Said → Contents
+    contents s = s.contents
+
+-- so pages that say what the workers' shares do are those of the one-thread book of the history
+pub pages_are : (t : Traffic) (entries : List Recorded) (cycles : ℕ) (workers dones : List Worker) (ends : List TableEnd) (closed : Posted) →
+    BridgesApartPostThePages → IsGiven t entries → AreWorkersOf t workers → length workers ≡ length t.domain.bridges → AllZip (Works cycles) workers dones →
     AreFed dones → map pipe_of_tables ends ≡ map tables_pipe dones → AreGiven ends dones →
     ((place : ℕ) (d : TableEnd) → place < length ends → (slice_index_or ends place d).items ≡ map Item (cycle_tables t.domain entries cycles)) →
-    seals entries ≡ cycles → IsBookOfShares (no_pages (length t.domain.bridges) cycles) (map share_at dones) gathered →
-    IsBookOfHistory t.domain entries t.offers t.background cycles gathered
-book_is t entries cycles workers dones ends gathered law may_run of_bridges many worked fed pipes given put sealed of_shares =
+    seals entries ≡ cycles → Agree (no_pages (length t.domain.bridges) cycles) (map share_at dones) closed (length t.domain.bridges) →
+    (book : Contents) × HasThePages t.domain entries t.offers t.background cycles (pages_of closed) book
+pages_are t entries cycles workers dones ends closed law may_run of_bridges many worked fed pipes given put sealed agree =
     let run : HaveRun t entries cycles workers dones ends =
     record { of_bridges = of_bridges; many = many; worked = worked; fed = fed; pipes = pipes; given = given; put = put; sealed = sealed } in
-    law t entries (own_courses dones) cycles (all_pages_of (no_pages (length t.domain.bridges) cycles) (map share_at dones)) gathered may_run
-    (worked_apart t entries cycles workers dones ends run) (omega (arith, sealed)) (posted_all t entries cycles workers dones ends run) of_shares
+    law t entries (own_courses dones) cycles (pages_of closed) may_run (worked_apart t entries cycles workers dones ends run) (omega (arith, sealed))
+    (posted_too t cycles (own_courses dones) (pages_of closed) (all_pages_of (no_pages (length t.domain.bridges) cycles) (map share_at dones))
+    (posted_all t entries cycles workers dones ends run) (λ bridge inside. (agree bridge inside).same))
 
 -- ports that keep their wires are of the pipes on their links still
 still_on : (wiring : Wiring) (before after : List BatchPort) → wires_of after ≡ wires_of before → AreOn wiring before → AreOn wiring after

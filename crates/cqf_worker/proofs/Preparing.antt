@@ -2,17 +2,15 @@
 use Rattle.std.proofs.Common.{ℕ, ◌≡◌, ◌+◌, List, map, ap, subst, ◌∙◌}
 use Rattle.std.specs.Prelude.{IfOk, Ok, Result}
 use Rattle.cqf_model.specs.declared.frames.Background.{Background}
-use Rattle.cqf_model.specs.declared.frames.Book.{Book}
 use Rattle.cqf_model.specs.declared.frames.Offer.{Offer}
-use Rattle.cqf_model.specs.Book.{contents_of}
 use Rattle.cqf_model.specs.Domain.{Domain}
 use Rattle.cqf_admission.specs.Admission.{Administration}
 use Rattle.cqf_book.specs.Pages.{Posted}
-use Rattle.cqf_book.specs.Shares.{IsBookOfShares, Own}
+use Rattle.cqf_book.specs.Shares.{Agree, Own}
 use Rattle.cqf_desk.specs.declared.history.History.{History}
 use Rattle.cqf_desk.specs.Closing.{IsClosed}
 use Rattle.cqf_desk.specs.Desk.{Counter, Sitting}
-use Rattle.cqf_worker.specs.declared.account.Account.{Account}
+use Rattle.cqf_worker.specs.declared.account.PagedAccount.{PagedAccount}
 use Rattle.cqf_threads.specs.declared.faults.ConductFault.{ConductFault}
 use Rattle.cqf_threads.specs.declared.threads.Ended.{Ended}
 use Rattle.cqf_loops.specs.declared.worker.Worker.{Worker}
@@ -40,15 +38,15 @@ desk_is desk opening d many count is domain same =
 
 -- what the closed desk and book give is the account of the run's seats and shares
 pub settled_so : (desk : Counter) (book : Posted) (e : Ended) (seats : List Sitting) (shares : List Own) (history : Result History ConductFault)
-    (closed : Result Book ConductFault) (account : Account) → AreFed e.workers.items → AreGiven e.sealed.tables.items e.workers.items → seats ≡ all_seats e →
-    shares ≡ map share_at e.workers.items → IfOk history (IsClosed desk seats) →
-    IfOk closed (λ (b : Book). IsBookOfShares book shares (contents_of b)) → history ≡ Ok account.history → closed ≡ Ok account.book →
+    (closed : Result Posted ConductFault) (account : PagedAccount) → AreFed e.workers.items → AreGiven e.sealed.tables.items e.workers.items →
+    seats ≡ all_seats e → shares ≡ map share_at e.workers.items → IfOk history (IsClosed desk seats) →
+    IfOk closed (λ (pages : Posted). Agree book shares pages book.bridges) → history ≡ Ok account.history → closed ≡ Ok account.pages →
     IsSettled desk book e account
 settled_so desk book e seats shares history closed account fed given all own of_seats of_shares is_history is_closed = record {
   fed = fed;
   given = given;
   history = subst (λ (ss : List Sitting). IsClosed desk ss account.history) all
       (subst (λ (r : Result History ConductFault). IfOk r (IsClosed desk seats)) is_history of_seats);
-  book_of = subst (λ (os : List Own). IsBookOfShares book os (contents_of account.book)) own
-      (subst (λ (r : Result Book ConductFault). IfOk r (λ (b : Book). IsBookOfShares book shares (contents_of b))) is_closed of_shares);
+  agree = subst (λ (os : List Own). Agree book os account.pages book.bridges) own
+      (subst (λ (r : Result Posted ConductFault). IfOk r (λ (pages : Posted). Agree book shares pages book.bridges)) is_closed of_shares);
 }

@@ -2,15 +2,14 @@
 use Rattle.std.specs.Prelude.{ℕ, ◌≡◌, ◌+◌, ◌++◌, List, [], ◌∷◌, All, length, map, replicate}
 use Rattle.cqf_model.specs.declared.frames.Background.{Background}
 use Rattle.cqf_model.specs.declared.frames.Offer.{Offer}
-use Rattle.cqf_model.specs.Book.{contents_of}
 use Rattle.cqf_model.specs.Domain.{Domain}
 use Rattle.cqf_model.specs.History.{Recorded}
 use Rattle.cqf_admission.specs.declared.entries.Command.{Command}
 use Rattle.cqf_book.specs.Pages.{Posted}
-use Rattle.cqf_book.specs.Shares.{IsBookOfShares, Own, new_shares}
+use Rattle.cqf_book.specs.Shares.{Agree, Own, new_shares}
 use Rattle.cqf_desk.specs.Closing.{IsClosed}
 use Rattle.cqf_desk.specs.Desk.{Counter, Sitting, fresh_seats}
-use Rattle.cqf_worker.specs.declared.account.Account.{Account}
+use Rattle.cqf_worker.specs.declared.account.PagedAccount.{PagedAccount}
 use Rattle.cqf_worker.specs.declared.conducting.Prepared.{Prepared}
 use Rattle.cqf_threads.specs.declared.threads.Administrator.{Administrator}
 use Rattle.cqf_threads.specs.declared.threads.Ended.{Ended}
@@ -67,9 +66,9 @@ pub record AreShut (ends : List TableEnd) (those : List Worker) (shares : List O
   pub own : shares ≡ map share_at those
 
 -- its pipes, its desk and its book are closed: what was taken from each pipe is the beginning of what was put there, the history is that
--- of the seats, and the book that of the shares
-pub record IsSettled (desk : Counter) (book : Posted) (e : Ended) (account : Account) : Type 0 where
+-- of the seats, and the pages say what those of the shares do
+pub record IsSettled (desk : Counter) (book : Posted) (e : Ended) (account : PagedAccount) : Type 0 where
   pub fed : AreFed e.workers.items
   pub given : AreGiven e.sealed.tables.items e.workers.items
   pub history : IsClosed desk (all_seats e) account.history
-  pub book_of : IsBookOfShares book (map share_at e.workers.items) (contents_of account.book)
+  pub agree : Agree book (map share_at e.workers.items) account.pages book.bridges

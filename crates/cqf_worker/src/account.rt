@@ -1,5 +1,6 @@
 //! What a run on threads gives.
 
+use cqf_book::Pages;
 use cqf_desk::History;
 use cqf_model::Book;
 
@@ -8,4 +9,11 @@ use cqf_model::Book;
 pub struct Account {
     pub history: History,
     pub book: Book,
+}
+
+/// The same with the pages of the book, as the bridges posted them.
+#[derive(Debug, Drop)]
+pub struct PagedAccount {
+    pub history: History,
+    pub pages: Pages,
 }

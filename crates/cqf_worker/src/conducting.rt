@@ -1,25 +1,26 @@
 //! The conductor: a whole run on threads.
 ghost use Rattle.std.specs.Prelude.{◌≡◌, ◌≤◌, ◌+◌, IfOk, Ok, length, map};
-ghost use Rattle.cqf_book.specs.Shares.{IsBookOfShares, new_shares};
+ghost use Rattle.cqf_book.specs.Shares.{Agree, new_shares};
 ghost use Rattle.cqf_desk.specs.Closing.{IsClosed};
 ghost use Rattle.cqf_desk.specs.Desk.{fresh_seats};
-ghost use Rattle.cqf_model.specs.Book.{contents_of};
 ghost use Rattle.cqf_model.specs.History.{seals};
 ghost use Rattle.cqf_model.specs.Run.{AreBackground, AreOffers};
 ghost use Rattle.cqf_wires.specs.Wires.{AreWired, Wiring, pipe_of_tables, tables_pipe};
-ghost use Rattle.cqf_worker.specs.Account.{IsAccount};
+ghost use Rattle.cqf_worker.specs.Account.{IsAccount, IsPagedAccount};
 ghost use Rattle.cqf_worker.specs.Conducting.{AreBooked, AreLaidFor, AreSeatedFor, AreShut, IsPrepared, IsSettled};
 
-use crate::account::Account;
+use crate::account::{Account, PagedAccount};
 use cqf_admission::{Admission, Command, Table};
-use cqf_book::{BookClose, CycleBook, Pages, Share};
+use cqf_book::{CycleBook, Pages, Share, book_of};
 use cqf_compile::compile;
 use cqf_desk::{CloseFault, Desk, History, Seat};
-use cqf_laws_account::{bridges_apart_give_the_book, seats_give_the_history};
+use cqf_laws_account::{
+    bridges_apart_post_the_pages, gathered_pages_are_the_book, seats_give_the_history,
+};
 use cqf_laws_book::book_of_history_says_the_shift;
 use cqf_laws_bridge::history_loses_nothing;
 use cqf_loops::{Carried, Pace, Sealed, Worker};
-use cqf_model::{Background, Book, Offer};
+use cqf_model::{Background, Offer};
 use cqf_pipe::PipeIn;
 use cqf_threads::{Administrator, ConductFault, Ended, Faults, Ready, run_threads};
 use cqf_topology::Domain;
@@ -169,25 +170,24 @@ fn close_desk(desk: Desk, seats: Vec<Seat>) -> Result<History, ConductFault>
 }
 
 /// Closes a book.
-fn close_book(book: CycleBook, shares: Vec<Share>) -> Result<Book, ConductFault>
-    ensures { IfOk result (λ closed. IsBookOfShares book shares.items (contents_of closed)) }
+fn close_book(book: CycleBook, shares: Vec<Share>) -> Result<Pages, ConductFault>
+    ensures { IfOk result (λ pages. Agree book shares.items pages book.bridges) }
 {
-    match book.close(shares) {
-        Ok(book) => Ok(book),
-        Err(BookClose::Memory) => Err(ConductFault::Memory),
+    match book.close_pages(shares) {
+        Ok(pages) => Ok(pages),
         Err(_) => Err(ConductFault::BookDisagrees),
     }
 }
 
-/// An account of a history and a book, or the fault that is told first.
+/// An account of a history and pages, or the fault that is told first.
 fn account_of(
     history: Result<History, ConductFault>,
-    book: Result<Book, ConductFault>,
-) -> Result<Account, ConductFault>
-    ensures { IfOk result (λ account. (history ≡ Ok account.history) × (book ≡ Ok account.book)) }
+    pages: Result<Pages, ConductFault>,
+) -> Result<PagedAccount, ConductFault>
+    ensures { IfOk result (λ account. (history ≡ Ok account.history) × (pages ≡ Ok account.pages)) }
 {
-    match (history, book) {
-        (Ok(history), Ok(book)) => Ok(Account { history, book }),
+    match (history, pages) {
+        (Ok(history), Ok(pages)) => Ok(PagedAccount { history, pages }),
         (Err(one), Err(other)) => {
             let mut faults = Faults::none();
             faults.note(one);
@@ -217,7 +217,12 @@ fn shut_pipes(
 }
 
 /// The account of a run whose threads have ended: it closes its pipes, its desk and its book.
-fn settle(alloc: Global, desk: Desk, book: CycleBook, ended: Ended) -> Result<Account, ConductFault>
+fn settle(
+    alloc: Global,
+    desk: Desk,
+    book: CycleBook,
+    ended: Ended,
+) -> Result<PagedAccount, ConductFault>
     requires wired { (wiring : Wiring) × AreWired wiring ended.workers.items }
     requires tables { map pipe_of_tables ended.sealed.tables.items ≡ map tables_pipe ended.workers.items }
     ensures { IfOk result (IsSettled desk book ended) }
@@ -235,6 +240,50 @@ fn settle(alloc: Global, desk: Desk, book: CycleBook, ended: Ended) -> Result<Ac
     let history = close_desk(desk, seats);
     let closed = close_book(book, shares);
     let account = account_of(history, closed)?;
+    Ok(account)
+}
+
+/// Runs a network under administration: a thread for each bridge of the domain, one for each administrator, and the calling one,
+/// which closes the cycles. Administrator i makes its commands in order with seat i, while the bridges run; the cycles are closed
+/// with the next seat. What comes of it is one history and the pages of one book, and the book is the one that the compiled gate lists
+/// demand for that history, whatever turns the threads took (IEEE 802.1Q, Annex T; history and book: profile). The pages tell it with
+/// nothing to be sorted.
+///
+/// The admission is for that domain and has no Seal yet. `cycles` is at most 100,000; there are at most 1,000,000 offers, each at a
+/// bridge of the domain, and 1,000,000 background frames, each on a link of it. Before each command and before each step of a bridge
+/// the pace is asked, while no lock is held. It waits until all threads have ended.
+///
+/// Refused with the first fault in the order that [`ConductFault`] tells; then the history and the pages are gone.
+pub fn conduct_pages<R: Threads + Wait + Sync, P: Pace>(
+    rt: &R,
+    alloc: Global,
+    domain: &Domain,
+    admission: Admission,
+    offers: &[Offer],
+    background: &[Background],
+    cycles: u32,
+    admins: Vec<Vec<Command>>,
+    pace: &P,
+) -> Result<PagedAccount, ConductFault>
+    requires domain { admission.domain ≡ domain.now }
+    requires unsealed { seals admission.entries ≡ 0 }
+    requires short { cycles ≤ 100000 }
+    requires offers { AreOffers domain.now offers.now }
+    requires few_offers { length offers.now ≤ 1000000 }
+    requires background { AreBackground domain.now background.now }
+    requires few_background { length background.now ≤ 1000000 }
+    ensures { IfOk result (IsPagedAccount domain.now admission.entries offers.now background.now cycles (map (λ c. c.items) admins.items)) }
+{
+    seats_give_the_history();
+    bridges_apart_post_the_pages();
+    book_of_history_says_the_shift();
+    history_loses_nothing();
+    let _accepted = domain.cycle_time();
+    let Prepared { desk, book, ready } = prepare(
+        alloc, domain, admission, offers, background, cycles, admins,
+    )?;
+    let ended = run_threads(rt, alloc, pace, &desk, &book, cycles, ready)?;
+    let account = settle(alloc, desk, book, ended)?;
     Ok(account)
 }
 
@@ -268,15 +317,13 @@ pub fn conduct<R: Threads + Wait + Sync, P: Pace>(
     requires few_background { length background.now ≤ 1000000 }
     ensures { IfOk result (IsAccount domain.now admission.entries offers.now background.now cycles (map (λ c. c.items) admins.items)) }
 {
-    seats_give_the_history();
-    bridges_apart_give_the_book();
-    book_of_history_says_the_shift();
-    history_loses_nothing();
+    gathered_pages_are_the_book();
     let _accepted = domain.cycle_time();
-    let Prepared { desk, book, ready } = prepare(
-        alloc, domain, admission, offers, background, cycles, admins,
+    let PagedAccount { history, pages } = conduct_pages(
+        rt, alloc, domain, admission, offers, background, cycles, admins, pace,
     )?;
-    let ended = run_threads(rt, alloc, pace, &desk, &book, cycles, ready)?;
-    let account = settle(alloc, desk, book, ended)?;
-    Ok(account)
+    let Ok(book) = book_of(alloc, &pages, domain.bridges()) else {
+        return Err(ConductFault::Memory);
+    };
+    Ok(Account { history, book })
 }

@@ -41,17 +41,17 @@ pub deliveries_of-requires-clause-judged : goal.deliveries_of-requires-clause-ju
 deliveries_of-requires-clause-judged c =
     let given = c.args.planned.now.given in
     let d = given.domain in
-    let entries = entries_in given c.args.ran.now.entries.items in
+    let entries = entries_in given c.args.entries.now in
     let rows = c.as_slice-rows.result.now in
     let streams : streams_of d entries ≡ rows =
     sym (c.as_slice-rows.ensures.value ∙ c.in_ok-rows.ensures
-    ∙ (λ i. streams_of d (map (recorded_in (map asked_of (c.as_slice-requests.ensures.value i)) (c.as_slice-script.ensures.value i)) (c.as_slice-entries.ensures.value i)))) in
+    ∙ (λ i. streams_of d (map (recorded_in (map asked_of (c.as_slice-requests.ensures.value i)) (c.as_slice-script.ensures.value i)) c.args.entries.now))) in
     ap (λ (js : List Judgement). length js) c.as_slice-judgements.ensures.value ∙ (c.in_ok-judgements.ensures entries c.requires.ran.legal streams).count
 
 pub deliveries_of-requires-clause-in_time : goal.deliveries_of-requires-clause-in_time
 deliveries_of-requires-clause-in_time c =
     let s = scenario_given c.args.planned.now.given in
-    let book = contents_of c.args.ran.now.book in
+    let book = contents_of c.args.book.now in
     let short : length (run_of_scenario c.args.cycles s).tables ≤ 100000 =
     omega (arith, length-singles (table_at s.domain (history_of c.args.cycles s)) c.args.cycles, c.requires.short) in
     subst (λ (ss : List Started). All (IsInTime s.domain) ss) (sym c.as_slice-starts.ensures.value)
@@ -61,11 +61,11 @@ pub returns : goal.returns
 returns c =
     let given = c.args.planned.now.given in
     let d = given.domain in
-    let entries = entries_in given c.args.ran.now.entries.items in
+    let entries = entries_in given c.args.entries.now in
     let rows = c.as_slice-rows.result.now in
     let streams : streams_of d entries ≡ rows =
     sym (c.as_slice-rows.ensures.value ∙ c.in_ok-rows.ensures
-    ∙ (λ i. streams_of d (map (recorded_in (map asked_of (c.as_slice-requests.ensures.value i)) (c.as_slice-script.ensures.value i)) (c.as_slice-entries.ensures.value i)))) in
+    ∙ (λ i. streams_of d (map (recorded_in (map asked_of (c.as_slice-requests.ensures.value i)) (c.as_slice-script.ensures.value i)) c.args.entries.now))) in
     let s = scenario_given given in
     let offers = c.as_slice-offers.result.now in
     let judged : AreJudged d entries rows offers (length offers) c.as_slice-judgements.result.now =
@@ -76,7 +76,7 @@ returns c =
     c.in_ok-deadlines.ensures ∙ (λ i. record { requests = c.as_slice-requests.ensures.value i; deadlines = c.as_slice-ends.ensures.value i }) in
     IfOk-weaker c.deliveries_of.result _ _
     (λ deliveries are texts planned.
-    AreDeliveries-run c.offers_are_judged.ensures c.args.cycles s texts (contents_of c.args.ran.now.book) d entries offers c.as_slice-starts.result.now rows
+    AreDeliveries-run c.offers_are_judged.ensures c.args.cycles s texts (contents_of c.args.book.now) d entries offers c.as_slice-starts.result.now rows
     c.as_slice-judgements.result.now (deadline_in due) deliveries.items c.requires.ran.is_book refl
     c.requires.ran.entries c.as_slice-offers.ensures.value c.as_slice-starts.ensures.value judged c.requires.may.in_order
     (λ name. ap (λ (x : Due). deadline_in x name) due_read ∙ due_is texts given.requests.items c.args.planned.now.deadlines.items planned name)

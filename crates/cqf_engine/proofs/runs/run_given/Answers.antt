@@ -1,7 +1,6 @@
 use Rattle.std.proofs.Common.{List, ℕ, map, subst}
 use Rattle.std.proofs.lemmas.Result.{IfErr-weaker, IfOk-weaker}
 use Rattle.cqf_engine.specs.Edge.{reading}
-use Rattle.cqf_engine.specs.Prepared.{text_of}
 use Rattle.cqf_engine.specs.Run.{IsEnd, IsOutput}
 use Rattle.cqf_engine.proofs.RunLemmas.{HasRun-given, IsStopped-by_given, IsStopped-by_words, IsWithin-means}
 use Rattle.cqf_engine.proofs.runs.run_given.Goals as goal
@@ -12,10 +11,14 @@ returns-in-Err-clause-err g c = IsStopped-by_words (map (λ word. word.now) c.ar
 
 pub returns-clause-ok : goal.returns-clause-ok
 returns-clause-ok g c = IfOk-weaker c.output_of.result _ _
-    (λ output h. HasRun-given (map (λ word. word.now) c.args.words.now)
-    (reading g.R.Read.remaining c.args.input.now c.read_input.new.input) (text_of output) c.in-Ok.job
-    c.requires.given c.in_default.ensures.sound c.in_default.ensures.end c.in_default.ensures.short c.in-Ok.ensures.ok
-    (subst (λ (input : List ℕ). IsOutput c.in-Ok.job input (text_of output)) c.bytes.ensures h))
+    (λ output told. (
+      told.0,
+      told.1,
+      HasRun-given (map (λ word. word.now) c.args.words.now)
+          (reading g.R.Read.remaining c.args.input.now c.read_input.new.input) told.0 c.in-Ok.job
+          c.requires.given c.in_default.ensures.sound c.in_default.ensures.end c.in_default.ensures.short c.in-Ok.ensures.ok
+          (subst (λ (input : List ℕ). IsOutput c.in-Ok.job input told.0) c.bytes.ensures told.2),
+    ))
     c.output_of.ensures.ok
 
 pub output_of-requires-after_bounds : goal.output_of-requires-after_bounds

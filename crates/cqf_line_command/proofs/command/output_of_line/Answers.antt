@@ -1,5 +1,4 @@
-use Rattle.std.proofs.Common.{ap, subst}
-use Rattle.cqf_model.specs.Book.{contents_of}
+use Rattle.std.proofs.Common.{ap, refl, subst}
 use Rattle.cqf_model.specs.Domain.{Domain}
 use Rattle.cqf_report.specs.Books.{text_of_book}
 use Rattle.cqf_scenario.specs.Books.{IsBookOfScenario}
@@ -16,17 +15,22 @@ run_given-requires-clause-may c =
 -- and its book is the line's
 pub returns : goal.returns
 returns c =
-    let book = contents_of c.in_ok-ran.ran.book in
-    record {
-      book = book;
-      is_book = subst (λ (s : Scenario). IsBookOfScenario c.args.cycles s book) c.in_ok-given.ensures.given c.in_ok-ran.ensures.is_book;
-      live = line_tables-are (record {
-        goes_on = c.state_follows_history.ensures.goes_on;
-        counted = c.state_follows_history.ensures.counted;
-        granted = c.state_follows_history.ensures.granted;
-        lets_go = c.state_follows_history.ensures.lets_go;
-        closes = c.state_follows_history.ensures.closes;
-        stays = c.closed_tables_stay.ensures;
-      }) c.args.cycles c.args.offers.items c.requires.short;
-      written = ap (λ (d : Domain). text_of_book d book) (ap (λ (s : Scenario). s.domain) c.in_ok-given.ensures.given);
-    }
+    let told = c.in_ok-ran.ensures in
+    let d = c.in_ok-given.given.domain in
+    let text = text_of_book d told.0 in (
+      text,
+      (told.0, told.1, refl),
+      record {
+        book = told.0;
+        is_book = subst (λ (s : Scenario). IsBookOfScenario c.args.cycles s told.0) c.in_ok-given.ensures.given told.2.is_book;
+        live = line_tables-are (record {
+          goes_on = c.state_follows_history.ensures.goes_on;
+          counted = c.state_follows_history.ensures.counted;
+          granted = c.state_follows_history.ensures.granted;
+          lets_go = c.state_follows_history.ensures.lets_go;
+          closes = c.state_follows_history.ensures.closes;
+          stays = c.closed_tables_stay.ensures;
+        }) c.args.cycles c.args.offers.items c.requires.short;
+        written = ap (λ (d : Domain). text_of_book d told.0) (ap (λ (s : Scenario). s.domain) c.in_ok-given.ensures.given);
+      },
+    )

@@ -1,4 +1,4 @@
-use Rattle.std.proofs.Common.{◌≡◌, ◌∙◌, ◌∷◌, [], ◌++◌, length, map, refl, sym, ap, arith}
+use Rattle.std.proofs.Common.{◌≡◌, ◌∙◌, ◌∷◌, [], ◌++◌, length, map, refl, sym, ap, arith, inl, inr}
 use Rattle.std.proofs.lemmas.List.{length-append, length-map, map-append}
 use Rattle.cqf_loops.specs.declared.carried.Carried.TheVariants.{Item}
 use Rattle.cqf_loops.specs.Rows.{with_each}
@@ -51,4 +51,24 @@ returns-in-None-clause-some g c = (
   map Item c.loop-place.items.items,
   none_more c.loop-place.ports c.loop-place.place c.index-ports-place.result c.take.new.self c.in-None.ensures.pipe c.in-None.ensures.none
       ∙ c.loop-place.invariant.0,
+)
+
+-- so no item was taken there
+pub returns-in-Some-Stop-clause-none : goal.returns-in-Some-Stop-clause-none
+returns-in-Some-Stop-clause-none g c =
+    let items = c.loop-place.items.items in (
+      items,
+      omega (arith, c.loop-place.invariant.1),
+      inr (one_more c.args.ports.now c.loop-place.ports (map Item items) c.loop-place.place c.index-ports-place.result c.take.new.self c.in-Some-Stop.field-0
+          c.loop-place.invariant.0 (length-map items Item ∙ c.loop-place.invariant.1) (omega arith) c.in-Some-Stop.ensures.pipe c.in-Some-Stop.ensures.some
+          ∙ ap (λ x. with_each c.args.ports.now (map Item items ++ x ∷ [])) c.in-Some-Stop.field-0-is),
+    )
+
+-- nor where there is none
+pub returns-in-None-clause-none : goal.returns-in-None-clause-none
+returns-in-None-clause-none g c = (
+  c.loop-place.items.items,
+  omega (arith, c.loop-place.invariant.1),
+  inl (none_more c.loop-place.ports c.loop-place.place c.index-ports-place.result c.take.new.self c.in-None.ensures.pipe c.in-None.ensures.none
+      ∙ c.loop-place.invariant.0),
 )

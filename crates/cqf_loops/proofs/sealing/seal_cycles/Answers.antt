@@ -1,6 +1,8 @@
 use Rattle.std.proofs.Common.{◌-◌, ◌+◌, ◌++◌, ◌≡◌, ◌≤◌, arith, drop, length, rules, subst, take, ℕ}
 use Rattle.std.specs.Prelude.{◌&&◌}
-use Rattle.cqf_loops.proofs.SealedCycles.{IsSealing, none_stopped, seals_back, told_stop}
+use Rattle.std.proofs.lemmas.Bool.{and_cases}
+use Rattle.cqf_loops.specs.Handing.{HasClosed, LacksOne}
+use Rattle.cqf_loops.proofs.SealedCycles.{IsSealing, closes_some, none_left, none_stopped, seals_back, seals_closed, told_stop}
 use Rattle.cqf_loops.proofs.sealing.seal_cycles.Goals as goal
 
 -- so many more are closed
@@ -15,7 +17,8 @@ loop-left-preserved g c =
           (seals_back c.args.conductor.now.seat c.args.conductor.now.tables.items closed more c.loop-left.conductor.seat c.seal_next.new.seat
           c.loop-left.conductor.tables.items c.as_mut_slice-tables.result.now c.seal_next.new.tables c.loop-left.conductor.tables.len c.loop-left.all
           c.in-Ok.given (c.loop-left.all && c.in-Ok.given) c.loop-left.invariant.0 c.loop-left.conductor.tables.ok.0 c.as_mut_slice-tables.ensures.value c.seal_next.ensures.pipes
-          c.seal_next.ensures.some c.in-Ok.ensures.ok (λ is. (search rules, search rules))),
+          c.seal_next.ensures.some c.in-Ok.ensures.ok (omega (arith, c.tables_at_once.ensures.some, c.loop-left-test.true, c.min-count.ensures))
+          (record { had = λ is. (search rules, search rules); lack = and_cases c.loop-left.all c.in-Ok.given })),
       omega (arith, c.loop-left.invariant.1),
     )
 
@@ -32,3 +35,22 @@ pub returns-clause-put : goal.returns-clause-put
 returns-clause-put g c =
     none_stopped c.args.conductor.now.seat c.args.conductor.now.tables.items (c.args.cycles - c.loop-left.left) c.loop-left.conductor.seat
     c.loop-left.conductor.tables.items c.loop-left.all c.loop-left.invariant.0
+
+pub returns-clause-closed : goal.returns-clause-closed
+returns-clause-closed g c =
+    subst (λ (count : ℕ). HasClosed count c.args.conductor.now.seat c.loop-left.conductor.seat) (none_left c.args.cycles c.loop-left.left (omega (arith, c.loop-left-test.false)))
+    (seals_closed c.args.conductor.now.seat c.args.conductor.now.tables.items (c.args.cycles - c.loop-left.left) c.loop-left.conductor.seat
+    c.loop-left.conductor.tables.items c.loop-left.all c.loop-left.invariant.0)
+
+-- and where a worker had ended, it lacks tables
+pub returns-clause-missed : goal.returns-clause-missed
+returns-clause-missed g c is =
+    subst (LacksOne c.loop-left.conductor.tables.items) (none_left c.args.cycles c.loop-left.left (omega (arith, c.loop-left-test.false)))
+    (c.loop-left.invariant.0.lacks is)
+
+-- some are closed
+pub returns-in-Err-clause-err : goal.returns-in-Err-clause-err
+returns-in-Err-clause-err g c =
+    closes_some c.args.conductor.now.seat c.args.conductor.now.tables.items (c.args.cycles - c.loop-left.left) c.min-count.result c.args.cycles
+    c.loop-left.conductor.seat c.seal_next.new.seat c.loop-left.conductor.tables.items c.loop-left.all c.in-Err.fault c.loop-left.invariant.0
+    c.in-Err.ensures.err (omega (arith, c.loop-left.invariant.1, c.min-count.ensures))

@@ -1,6 +1,9 @@
 use Rattle.std.proofs.Common.{[], length, map, ap, refl, sym, subst, ◌∙◌}
 use Rattle.cqf_loops.specs.declared.carried.Carried.TheVariants.{Item}
 use Rattle.cqf_loops.specs.Rows.{with_each}
+use Rattle.cqf_loops.specs.GivingUp.{IsCycleFault}
+use Rattle.cqf_loops.proofs.Failing.{not_received}
+use Rattle.cqf_loops.proofs.Passing.{passed_on}
 use Rattle.cqf_loops.proofs.Each.{with_count, with_none, written_back}
 use Rattle.cqf_loops.proofs.Onward.{offered_half}
 use Rattle.cqf_loops.specs.Stepping.{ReceivesOn, SendsOn, onward}
@@ -35,7 +38,7 @@ returns-clause-ok g c =
       batches = c.in_ok-batches.batches.items;
       dropped = c.in_ok-drops.drops.items;
       page = c.in-Ok.page;
-      is_given = c.in_ok-table.ensures;
+      is_given = c.in_ok-table.ensures.ok;
       sends = subst
           (λ after. SendsOn c.args.cycle.0 c.args.worker.now.agenda c.args.worker.now.bridge c.send_on.new.bridge outs.items after c.in_ok-starts.starts.items)
           (sym outs_back) sent;
@@ -43,8 +46,17 @@ returns-clause-ok g c =
       one_each = c.in_ok-batches.ensures.count ∙ ap length c.as_mut_slice-2.ensures.value;
       receives = subst
           (λ batches. ReceivesOn c.args.cycle.0 c.args.worker.now.agenda c.in_ok-table.table batches c.send_on.new.bridge c.receive_on.new.bridge c.in_ok-drops.drops.items)
-          c.as_slice.ensures.value c.in_ok-drops.ensures;
+          c.as_slice.ensures.value c.in_ok-drops.ensures.ok;
       page_is = c.in-Ok.ensures;
-      posts = c.in_ok-post_page.ensures;
+      posts = c.in_ok-post_page.ensures.ok;
       same_agenda = refl;
     }
+
+-- it isn't received
+pub returns-in_err-drops-clause-err : goal.returns-in_err-drops-clause-err
+returns-in_err-drops-clause-err g c =
+    passed_on c.from_residual-in_err-drops.result c.in_err-drops.field-0.0 (IsCycleFault c.args.cycle.0 c.args.worker.now) c.from_residual-in_err-drops.ensures.1
+    (not_received c.args.cycle.0 c.args.worker.now c.in_ok-table.table c.as_slice.result.now c.send_on.new.bridge c.receive_on.new.bridge c.as_mut_slice.result.now
+    c.send_on.new.outs c.in_ok-starts.starts.items c.in_err-drops.field-0.0
+    (ap length c.as_slice.ensures.value ∙ c.in_ok-batches.ensures.count ∙ ap length c.as_mut_slice-2.ensures.value) c.in_ok-starts.ensures.ok
+    c.in_err-drops.ensures.err)

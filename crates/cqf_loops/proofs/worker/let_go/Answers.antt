@@ -1,4 +1,4 @@
-use Rattle.cqf_loops.proofs.Stopping.{told_at_each}
+use Rattle.cqf_loops.proofs.Stopping.{told_at_each, wires_back}
 use Rattle.cqf_loops.proofs.worker.let_go.Goals as goal
 
 -- a Stop was put at each end, or nothing
@@ -14,3 +14,10 @@ returns-clause-carried g c =
     let outs = c.args.worker.outs in
     (told_at_each outs.items c.as_mut_slice.result.now c.stop_each.new.ports outs.len outs.ok.0 c.as_mut_slice.ensures.value c.stop_each.ensures.count
     c.stop_each.ensures.stopped c.requires.batches).1
+
+-- and the wires stay
+pub returns-clause-outs : goal.returns-clause-outs
+returns-clause-outs g c =
+    let outs = c.args.worker.outs in
+    wires_back outs.items c.as_mut_slice.result.now c.stop_each.new.ports outs.len outs.ok.0 c.as_mut_slice.ensures.value c.stop_each.ensures.count
+    c.stop_each.ensures.stopped

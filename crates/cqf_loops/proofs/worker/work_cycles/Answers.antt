@@ -1,6 +1,8 @@
 use Rattle.std.proofs.Common.{arith, map}
 use Rattle.cqf_loops.specs.declared.carried.Carried.TheVariants.{Item}
-use Rattle.cqf_loops.proofs.Going.{all_gone, batches_left, batches_then, may_go_on, none_gone, one_gone, room_left, room_then}
+use Rattle.cqf_loops.specs.GivingUp.{StopsEarly}
+use Rattle.cqf_loops.proofs.Passing.{passed_on}
+use Rattle.cqf_loops.proofs.Going.{all_gone, batches_left, batches_then, may_go_on, none_gone, one_gone, outs_left, room_left, room_then, stops_early}
 use Rattle.cqf_loops.proofs.worker.work_cycles.Goals as goal
 
 -- no cycle is over yet
@@ -54,3 +56,21 @@ pub returns-clause-batches : goal.returns-clause-batches
 returns-clause-batches g c =
     let new = c.requires.new in
     batches_then new.0 new.1 c.loop-cycle.cycle c.loop-cycle.worker (c.loop-cycle.invariant.0.part new.0 new.1 new.2)
+
+-- and has its ports
+pub returns-clause-outs : goal.returns-clause-outs
+returns-clause-outs g c = c.loop-cycle.invariant.0.outs
+
+-- it stops in a cycle, behind those before
+pub returns-in_err-work_cycle-clause-err : goal.returns-in_err-work_cycle-clause-err
+returns-in_err-work_cycle-clause-err g c =
+    let new = c.requires.new in
+    passed_on c.from_residual.result c.in_err-work_cycle.field-0.0 (StopsEarly c.args.cycles c.args.worker.now) c.from_residual.ensures.1
+    (stops_early new.0 new.1 c.loop-cycle.cycle c.args.cycles c.args.worker.now c.loop-cycle.worker c.in_err-work_cycle.field-0.0 new.2
+    c.loop-cycle.invariant.0 (omega (arith, c.loop-cycle-test.true)) c.in_err-work_cycle.ensures.err)
+
+-- and has its ports
+pub returns-in_err-work_cycle-clause-outs : goal.returns-in_err-work_cycle-clause-outs
+returns-in_err-work_cycle-clause-outs g c =
+    let put = c.in_err-work_cycle.ensures.put in
+    outs_left c.loop-cycle.cycle c.args.worker.now c.loop-cycle.worker c.work_cycle.new.worker (map Item put.0) c.loop-cycle.invariant.0 put.1

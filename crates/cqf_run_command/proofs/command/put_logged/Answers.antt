@@ -1,5 +1,4 @@
 use Rattle.std.proofs.Common.{◌≡◌, ◌∙◌, ◌++◌, List, ℕ, ap, codes, map, subst, sym}
-use Rattle.cqf_model.specs.Book.{contents_of}
 use Rattle.cqf_model.specs.Domain.{Domain}
 use Rattle.cqf_model.specs.History.{Asked}
 use Rattle.cqf_admission.specs.Asking.{asked_of}
@@ -18,12 +17,12 @@ put_log-requires g c =
     (subst (λ (text : List ℕ). AreThere c.args.log.now.requests text c.entries.result.now) (sym c.script.ensures) c.entries.ensures.there)
 
 pub returns : goal.returns
-returns g c =
+returns g c book parts =
     let a = c.args.log.now.administration in
     let history : List ℕ = history_text a.entries in
     let same : history_text (map (recorded_in (map asked_of c.requests.result.now) c.script.result.now) c.entries.result.now) ≡ history =
     (λ i. history_text (map (recorded_in (c.requests.ensures i) (c.script.ensures i)) c.entries.result.now)) ∙ ap history_text c.entries.ensures.entries in
-    let book = contents_of c.args.book.now in
     Puts-then history (line_of (codes "%%") ++ text_of_book a.domain book) (Puts-as _ history same c.put_log.ensures)
-    (subst (λ (d : Domain). Puts g.W.Write.contents c.put_log.new.press c.put_rest.new.press (line_of (codes "%%") ++ text_of_book d book)) c.domain.ensures
-    c.put_rest.ensures)
+    (Puts-then (line_of (codes "%%")) (text_of_book a.domain book) c.put_parting.ensures
+    (subst (λ (d : Domain). Puts g.W.Write.contents c.put_parting.new.press c.put.new.press (text_of_book d book)) c.domain.ensures
+    (c.put.ensures book parts)))

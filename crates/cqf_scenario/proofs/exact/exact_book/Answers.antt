@@ -1,49 +1,35 @@
--- The book is that of the history.
-use Rattle.std.proofs.Common.{◌≡◌, ◌∙◌, List, arith, map, subst, sym}
-use Rattle.cqf_model.specs.declared.frames.Background.{Background}
+-- The parts are those of the history's book.
+use Rattle.std.proofs.Common.{◌≡◌, List, refl, subst, sym}
 use Rattle.cqf_model.specs.declared.frames.Offer.{Offer}
-use Rattle.cqf_model.specs.declared.frames.Started.{Started}
-use Rattle.cqf_model.specs.Book.{contents_of}
-use Rattle.cqf_model.specs.History.{streams_of}
-use Rattle.cqf_model.specs.Run.{AreBackground, AreOffers}
-use Rattle.cqf_admission.specs.Asking.{asked_of}
-use Rattle.cqf_ledger.specs.Ledger.{recorded_in}
-use Rattle.cqf_edge_drops.specs.Parts.{AreStartsOfHistory}
+use Rattle.cqf_model.specs.Run.{AreOffers}
+use Rattle.cqf_edge_drops.specs.Parts.{AreBackgroundOfHistory}
+use Rattle.cqf_exact_telling.specs.ExactBooks.{ExactParts, TellsBook}
 use Rattle.cqf_laws_report.specs.Told.{IsThere}
 use Rattle.cqf_layout.specs.History.{IsHistoryOf}
 use Rattle.cqf_scenario.specs.Logged.{entries_in}
-use Rattle.cqf_scenario.proofs.ExactParts.{IsHistoryOf-judged}
+use Rattle.cqf_scenario.proofs.ExactParts.{IsHistoryOf-as, parts_are_told}
 use Rattle.cqf_scenario.proofs.exact.exact_book.Goals as goal
 
-pub background_of_history-requires-clause-starts : goal.background_of_history-requires-clause-starts
-background_of_history-requires-clause-starts c =
+pub backed_of-requires-clause-history : goal.backed_of-requires-clause-history
+backed_of-requires-clause-history c =
     let given = c.args.given.now in
-    let d = given.domain in
     let entries = entries_in given c.args.entries.now in
-    let rows = c.as_slice-rows.result.now in
-    let offers = c.as_slice-offers.result.now in
-    let judgements = c.as_slice-judgements.result.now in
-    let background = c.as_slice-background.result.now in
-    let offered : AreOffers d offers = subst (λ (os : List Offer). AreOffers d os) (sym c.as_slice-offers.ensures.value) c.requires.offers in
-    let behind : AreBackground d background =
-    subst (λ (bs : List Background). AreBackground d bs) (sym c.as_slice-background.ensures.value) c.requires.background in
-    let streams : streams_of d entries ≡ rows =
-    sym (c.as_slice-rows.ensures.value ∙ c.in_ok-granted.ensures
-    ∙ (λ i. streams_of d (map (recorded_in (map asked_of (c.as_slice-requests.ensures.value i)) (c.as_slice-script.ensures.value i)) c.args.entries.now))) in
-    let history : IsHistoryOf d c.args.cycles rows offers judgements entries =
-    IsHistoryOf-judged d c.args.cycles rows offers c.in_ok-covered.covered.items judgements entries c.requires.legal c.requires.closed streams
-    c.in_ok-covered.ensures c.as_slice-judgements.ensures.value in
-    let starts : AreStartsOfHistory d entries offers background c.args.cycles c.in_ok-starts.starts.items =
-    λ net run. c.in_ok-starts.ensures entries background net history run in
-    record {
+    let judged = c.in_ok-judged.judged in record {
       entries = entries;
-      offers = offers;
-      background = background;
-      legal = c.requires.legal;
-      sealed = omega (arith, c.requires.closed);
-      offered = offered;
-      behind = behind;
-      are = subst (λ (ss : List Started). AreStartsOfHistory d entries offers background c.args.cycles ss) (sym c.as_slice-starting.ensures.value) starts;
+      is = IsHistoryOf-as given.domain c.args.cycles judged.rows.items c.as_slice-rows.result.now given.offers.items given.offers.items
+          judged.judgements.items c.as_slice-judgements.result.now entries c.as_slice-rows.ensures.value refl c.as_slice-judgements.ensures.value
+          c.in_ok-judged.ensures;
+    }
+
+pub pass_of_history-requires-clause-history : goal.pass_of_history-requires-clause-history
+pass_of_history-requires-clause-history c =
+    let given = c.args.given.now in
+    let entries = entries_in given c.args.entries.now in
+    let judged = c.in_ok-judged.judged in record {
+      entries = entries;
+      is = IsHistoryOf-as given.domain c.args.cycles judged.rows.items c.as_slice-rows.result.now given.offers.items c.as_slice-offers.result.now
+          judged.judgements.items c.as_slice-judgements.result.now entries c.as_slice-rows.ensures.value c.as_slice-offers.ensures.value
+          c.as_slice-judgements.ensures.value c.in_ok-judged.ensures;
     }
 
 pub returns : goal.returns
@@ -54,22 +40,18 @@ returns c =
     let rows = c.as_slice-rows.result.now in
     let offers = c.as_slice-offers.result.now in
     let judgements = c.as_slice-judgements.result.now in
-    let background = c.as_slice-background.result.now in
+    let parts = c.new.result in
     let offered : AreOffers d offers = subst (λ (os : List Offer). AreOffers d os) (sym c.as_slice-offers.ensures.value) c.requires.offers in
-    let behind : AreBackground d background =
-    subst (λ (bs : List Background). AreBackground d bs) (sym c.as_slice-background.ensures.value) c.requires.background in
-    let streams : streams_of d entries ≡ rows =
-    sym (c.as_slice-rows.ensures.value ∙ c.in_ok-granted.ensures
-    ∙ (λ i. streams_of d (map (recorded_in (map asked_of (c.as_slice-requests.ensures.value i)) (c.as_slice-script.ensures.value i)) c.args.entries.now))) in
-    let history : IsHistoryOf d c.args.cycles rows offers judgements entries =
-    IsHistoryOf-judged d c.args.cycles rows offers c.in_ok-covered.covered.items judgements entries c.requires.legal c.requires.closed streams
-    c.in_ok-covered.ensures c.as_slice-judgements.ensures.value in
-    let starts : AreStartsOfHistory d entries offers background c.args.cycles c.in_ok-starts.starts.items =
-    λ net run. c.in_ok-starts.ensures entries background net history run in
-    let book = contents_of c.book_of_parts.result in
-    let backed = c.in_ok-backed.ensures entries offers
-    (subst (λ (ss : List Started). AreStartsOfHistory d entries offers background c.args.cycles ss) (sym c.as_slice-starting.ensures.value) starts) in
-    subst (λ (bs : List Background). IsThere d entries given.offers.items bs c.args.cycles book) c.as_slice-background.ensures.value
-    (subst (λ (os : List Offer). IsThere d entries os background c.args.cycles book) c.as_slice-offers.ensures.value
-    (c.book_of_parts.ensures.book d entries offers background c.args.cycles c.cycle_time-accepted.ensures.accepted c.requires.legal offered behind
-    (omega (arith, c.requires.closed)) starts backed (c.in_ok-drops.ensures entries rows c.requires.legal history.judged)))
+    let judged = c.in_ok-judged.judged in
+    let history : IsHistoryOf d c.args.cycles rows given.offers.items judgements entries =
+    IsHistoryOf-as d c.args.cycles judged.rows.items rows given.offers.items given.offers.items judged.judgements.items judgements entries
+    c.as_slice-rows.ensures.value refl c.as_slice-judgements.ensures.value c.in_ok-judged.ensures in
+    let sliced : IsHistoryOf d c.args.cycles rows offers judgements entries =
+    IsHistoryOf-as d c.args.cycles rows rows given.offers.items offers judgements judgements entries refl c.as_slice-offers.ensures.value refl history in
+    let backed = subst (λ (os : List Offer). AreBackgroundOfHistory d entries os given.background.items c.args.cycles c.in_ok-backed.backed.items)
+    (sym c.as_slice-offers.ensures.value) (c.in_ok-backed.ensures entries history) in
+    let dropped = c.in_ok-drops.ensures entries rows c.requires.legal sliced.judged in
+    subst (λ (os : List Offer). TellsBook parts (IsThere d entries os given.background.items c.args.cycles)) c.as_slice-offers.ensures.value
+    (subst (λ (ps : ExactParts). TellsBook ps (IsThere d entries offers given.background.items c.args.cycles)) (sym c.new.ensures)
+    (parts_are_told c.tables_are_orderly.ensures.orderly c.book_of_history_is_there.ensures d c.args.cycles rows offers judgements entries given.background.items _
+    c.cycle_time-accepted.ensures.accepted offered c.requires.background sliced c.in_ok-pass.ensures backed dropped))

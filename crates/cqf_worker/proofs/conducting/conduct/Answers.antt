@@ -1,30 +1,18 @@
-use Rattle.std.proofs.Common.{Global, Vec, map}
+use Rattle.std.proofs.Common.{ℕ, Global, Vec, map, refl, subst}
+use Rattle.cqf_model.specs.Book.{contents_of}
 use Rattle.cqf_admission.specs.declared.entries.Command.{Command}
-use Rattle.cqf_worker.proofs.Accounts.{account_is, is_ready, tables_in_the_end, wired_in_the_end}
+use Rattle.cqf_book.specs.Pages.{pages_of}
+use Rattle.cqf_book.specs.Shares.{IsBookOfPages}
+use Rattle.cqf_worker.specs.declared.account.Account.{Account}
+use Rattle.cqf_worker.proofs.Accounts.{gathered_account}
 use Rattle.cqf_worker.proofs.conducting.conduct.Goals as goal
 
--- what is prepared is ready
-pub run_threads-requires-after_bounds : goal.run_threads-requires-after_bounds
-run_threads-requires-after_bounds g c κs within =
-    is_ready c.args.domain.now c.args.admission.entries c.args.offers.now c.args.background.now c.args.cycles
-    (map (λ (v : Vec Command Global). v.items) c.args.admins.items) c.in_ok-desk.field-0 c.in_ok-desk.ensures c.requires.short
-
--- the pipes are those that were laid
-pub settle-requires-clause-wired : goal.settle-requires-clause-wired
-settle-requires-clause-wired g c =
-    wired_in_the_end c.args.domain.now c.args.admission.entries c.args.offers.now c.args.background.now c.args.cycles
-    (map (λ (v : Vec Command Global). v.items) c.args.admins.items) c.in_ok-desk.field-0 c.in_ok-desk.ensures c.in_ok-ended.ended c.in_ok-ended.ensures
-
-pub settle-requires-clause-tables : goal.settle-requires-clause-tables
-settle-requires-clause-tables g c =
-    tables_in_the_end c.args.domain.now c.args.admission.entries c.args.offers.now c.args.background.now c.args.cycles
-    (map (λ (v : Vec Command Global). v.items) c.args.admins.items) c.in_ok-desk.field-0 c.in_ok-desk.ensures c.in_ok-ended.ended c.in_ok-ended.ensures
-
--- the account is that of the run
+-- the book that its pages are gathered to is that of the run
 pub returns : goal.returns
 returns g c =
-    account_is c.args.domain.now c.args.admission.entries c.args.offers.now c.args.background.now c.args.cycles
-    (map (λ (v : Vec Command Global). v.items) c.args.admins.items) c.in_ok-desk.field-0 c.in_ok-desk.ensures c.in_ok-ended.ended c.in_ok-ended.ensures
-    c.in_ok-account.account c.in_ok-account.ensures c.cycle_time-accepted.ensures.accepted c.requires.unsealed c.requires.offers c.requires.background
-    c.seats_give_the_history.ensures.history c.seats_give_the_history.ensures.tables c.bridges_apart_give_the_book.ensures.book
-    c.book_of_history_says_the_shift.ensures c.history_loses_nothing.ensures.history
+    let paged = c.in_ok-history.field-0 in
+    let account : Account = record { history = paged.history; book = c.in-Ok.book } in
+    gathered_account c.args.domain.now c.args.admission.entries c.args.offers.now c.args.background.now c.args.cycles
+    (map (λ (v : Vec Command Global). v.items) c.args.admins.items) paged account c.gathered_pages_are_the_book.ensures
+    c.cycle_time-accepted.ensures.accepted c.in_ok-history.ensures refl
+    (subst (λ (n : ℕ). IsBookOfPages (pages_of paged.pages) n (contents_of c.in-Ok.book)) c.bridges.ensures c.in-Ok.ensures)

@@ -16,8 +16,8 @@ sealed old number had calls kept tables own is longer more =
     let entered = ap (map recorded_of) longer ∙ map-append recorded_of had (record { seat = number; call = Seal; reply = Sealed } ∷ []) in
     (λ i. record { number = number; calls = entered i; tables = more i }) ∙ ap (λ s. with_seal s own) (sym is)
 
-pub returns-in-Ok-seal : goal.returns-in-Ok-seal
-returns-in-Ok-seal c = (
+pub returns-in-Ok-seal-clause-sealed : goal.returns-in-Ok-seal-clause-sealed
+returns-in-Ok-seal-clause-sealed c = (
   c.in-Ok-seal.table,
   c.kept-own.result,
   search rules,

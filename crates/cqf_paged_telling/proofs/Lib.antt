@@ -1,0 +1,3 @@
+mod Stretches
+mod Places
+mod Lines
