@@ -1,11 +1,10 @@
 //! The files that the words name.
 
 use crate::terminal::hint;
-use cqf_composing::composed;
-use cqf_engine::{Heard, read_input, stop_of_file};
-use cqf_press::Told;
-use cqf_stop::{FAULT, REFUSED, Stop, USAGE};
-use cqf_words::{Operands, read_words};
+use cqf_program_engine::{Heard, read_input, stop_of_file};
+use cqf_program_press::Told;
+use cqf_program_stop::{FAULT, REFUSED, Stop, USAGE};
+use cqf_program_words::{Operands, composed, read_words};
 use std::alloc::Global;
 use std::fs::File;
 use std::io::{ErrorKind, Read, Write};

@@ -43,9 +43,9 @@
 mod files;
 mod terminal;
 
-use cqf_engine::{Heard, Told, engine, tell};
-use cqf_stop::Stop;
-use cqf_words::{Operands, split_operands};
+use cqf_program_engine::{Heard, Told, engine, tell};
+use cqf_program_stop::Stop;
+use cqf_program_words::{Operands, split_operands};
 use files::input_of_files;
 use std::alloc::{AllocError, Global};
 use std::env::{Env, FillError};

@@ -1,7 +1,7 @@
 //! What is said at a terminal.
 
-use cqf_press::{Told, write_out};
-use cqf_words::read_words;
+use cqf_program_press::{Told, write_out};
+use cqf_program_words::read_words;
 use std::alloc::Global;
 use std::io::{IsTerminal, Write};
 

@@ -15,7 +15,7 @@ use Rattle.cqf_model.specs.declared.topology.Row.{Row}
 use Rattle.cqf_model.specs.Domain.{is_text}
 use Rattle.cqf_model.specs.Table.{is_held, residence}
 use Rattle.cqf_units.specs.declared.reservations.Cycle.{Cycle}
-use Rattle.cqf_admission.specs.Rows.{AreEnding, end_of, ended, ended_at}
+use Rattle.cqf_admission.specs.Rows.{AreEnding, end_of_row, ended, ended_at}
 
 -- ---- lists with an element less, or one more
 
@@ -98,7 +98,7 @@ until admitted cycle residence (Some w) begun either = elim either [
   | inr below ↦ (λ i. le-leb admitted cycle begun i && lt-ltb cycle (w.0 + residence) below i)
 ]
 
-held_until : (row : Row) (cycle : ℕ) → row.admitted.0 ≤ cycle → (row.withdrawn ≡ None) ⊎ (cycle < end_of row) → is_held row cycle ≡ true
+held_until : (row : Row) (cycle : ℕ) → row.admitted.0 ≤ cycle → (row.withdrawn ≡ None) ⊎ (cycle < end_of_row row) → is_held row cycle ≡ true
 held_until row cycle begun either = until row.admitted.0 cycle (residence row) row.withdrawn begun either
 
 -- and no longer
@@ -108,43 +108,43 @@ over first cycle residence None ends held = refl
 over false cycle residence (Some w) ends held = absurd (both_ways false refl held)
 over true cycle residence (Some w) ends held = absurd (omega (arith, ends, ltb-true cycle (w.0 + residence) held))
 
-not_held_after : (row : Row) (cycle : ℕ) → end_of row ≤ cycle → is_held row cycle ≡ true → row.withdrawn ≡ None
+not_held_after : (row : Row) (cycle : ℕ) → end_of_row row ≤ cycle → is_held row cycle ≡ true → row.withdrawn ≡ None
 not_held_after row cycle ends held = over (nat_le row.admitted.0 cycle) cycle (residence row) row.withdrawn ends held
 
 -- ---- a place among those that end
 
 -- up to one that ends no sooner than a cycle none does
-pub up_to_it : (rows : List Row) (place next end : ℕ) (row : Row) → AllPairs (λ (a b : Row). end_of b ≤ end_of a) rows → place < length rows →
-    row ≡ get_or rows place row → end ≤ end_of row → next ≡ suc place → All (λ (r : Row). end ≤ end_of r) (take next rows)
+pub up_to_it : (rows : List Row) (place next end : ℕ) (row : Row) → AllPairs (λ (a b : Row). end_of_row b ≤ end_of_row a) rows → place < length rows →
+    row ≡ get_or rows place row → end ≤ end_of_row row → next ≡ suc place → All (λ (r : Row). end ≤ end_of_row r) (take next rows)
 up_to_it rows place next end row order inside is later one_more =
-    subst (λ (n : ℕ). All (λ (r : Row). end ≤ end_of r) (take n rows)) (sym one_more) (go rows place order inside is)
+    subst (λ (n : ℕ). All (λ (r : Row). end ≤ end_of_row r) (take n rows)) (sym one_more) (go rows place order inside is)
   where
     -- the first ends no sooner than it, so each does
-    go : (rs : List Row) (k : ℕ) → AllPairs (λ (a b : Row). end_of b ≤ end_of a) rs → k < length rs → row ≡ get_or rs k row →
-        All (λ (r : Row). end ≤ end_of r) (take (suc k) rs)
+    go : (rs : List Row) (k : ℕ) → AllPairs (λ (a b : Row). end_of_row b ≤ end_of_row a) rs → k < length rs → row ≡ get_or rs k row →
+        All (λ (r : Row). end ≤ end_of_row r) (take (suc k) rs)
     go [] k order inside is = absurd (omega (arith, inside))
-    go (x ∷ rs) zero order inside is = All-cons (λ (r : Row). end ≤ end_of r) x [] (omega (arith, later, ap (λ (r : Row). end_of r) is)) (All-nil (λ (r : Row). end ≤ end_of r))
+    go (x ∷ rs) zero order inside is = All-cons (λ (r : Row). end ≤ end_of_row r) x [] (omega (arith, later, ap (λ (r : Row). end_of_row r) is)) (All-nil (λ (r : Row). end ≤ end_of_row r))
     go (x ∷ rs) (suc k) order inside is =
         let inner : k < length rs = omega (arith, inside) in
         let there : Contains rs row = subst (Contains rs) (sym is) (Contains-get_or rs k row inner) in
-        All-cons (λ (r : Row). end ≤ end_of r) x (take (suc k) rs)
-        (omega (arith, later, pairs_head (λ (a b : Row). end_of b ≤ end_of a) x rs row order there))
-        (go rs k (pairs_tail (λ (a b : Row). end_of b ≤ end_of a) x rs order) inner is)
+        All-cons (λ (r : Row). end ≤ end_of_row r) x (take (suc k) rs)
+        (omega (arith, later, pairs_head (λ (a b : Row). end_of_row b ≤ end_of_row a) x rs row order there))
+        (go rs k (pairs_tail (λ (a b : Row). end_of_row b ≤ end_of_row a) x rs order) inner is)
 
 -- behind one that ends no later than a cycle none does
-pub behind_it : (rows : List Row) (place end : ℕ) (row : Row) → AllPairs (λ (a b : Row). end_of b ≤ end_of a) rows → place < length rows →
-    row ≡ get_or rows place row → end_of row ≤ end → All (λ (r : Row). end_of r ≤ end) (drop place rows)
+pub behind_it : (rows : List Row) (place end : ℕ) (row : Row) → AllPairs (λ (a b : Row). end_of_row b ≤ end_of_row a) rows → place < length rows →
+    row ≡ get_or rows place row → end_of_row row ≤ end → All (λ (r : Row). end_of_row r ≤ end) (drop place rows)
 behind_it [] place end row order inside is ends = absurd (omega (arith, inside))
-behind_it (x ∷ rows) zero end row order inside is ends = all_from_members (λ (r : Row). end_of r ≤ end) (x ∷ rows) no_later
+behind_it (x ∷ rows) zero end row order inside is ends = all_from_members (λ (r : Row). end_of_row r ≤ end) (x ∷ rows) no_later
   where
     -- the first ends no later, so none does
-    no_later : (r : Row) → Contains (x ∷ rows) r → end_of r ≤ end
+    no_later : (r : Row) → Contains (x ∷ rows) r → end_of_row r ≤ end
     no_later r c = elim (contains_cases x rows r c) [
-      | inl e ↦ omega (arith, ap (λ (z : Row). end_of z) (is ∙ e), ends)
-      | inr k ↦ omega (arith, pairs_head (λ (a b : Row). end_of b ≤ end_of a) x rows r order k, ap (λ (z : Row). end_of z) is, ends)
+      | inl e ↦ omega (arith, ap (λ (z : Row). end_of_row z) (is ∙ e), ends)
+      | inr k ↦ omega (arith, pairs_head (λ (a b : Row). end_of_row b ≤ end_of_row a) x rows r order k, ap (λ (z : Row). end_of_row z) is, ends)
     ]
 behind_it (x ∷ rows) (suc place) end row order inside is ends =
-    behind_it rows place end row (pairs_tail (λ (a b : Row). end_of b ≤ end_of a) x rows order) (omega (arith, inside)) is ends
+    behind_it rows place end row (pairs_tail (λ (a b : Row). end_of_row b ≤ end_of_row a) x rows order) (omega (arith, inside)) is ends
 
 -- ---- what pushes, ends and lets go
 
@@ -175,7 +175,7 @@ ended_cases (x ∷ rows) (suc place) cycle d r c = elim (contains_cases x (ended
 -- a row that is ended stands among those that end
 pub ending_more : (rows after ending grown : List Row) (place among : ℕ) (cycle : Cycle) (d row : Row) → AreEnding rows ending →
     after ≡ ended_at rows place cycle → row ≡ ended (get_or rows place d) cycle → grown ≡ insert ending among row →
-    All (λ (r : Row). end_of row ≤ end_of r) (take among ending) → All (λ (r : Row). end_of r ≤ end_of row) (drop among ending) →
+    All (λ (r : Row). end_of_row row ≤ end_of_row r) (take among ending) → All (λ (r : Row). end_of_row r ≤ end_of_row row) (drop among ending) →
     AreEnding after grown
 ending_more rows after ending grown place among cycle d row ends is own insertion before behind =
     subst (AreEnding after) (sym insertion) (record {
@@ -186,9 +186,9 @@ ending_more rows after ending grown place among cycle d row ends is own insertio
         ]
         | inr new ↦ inr (subst (Contains (insert ending among row)) (own ∙ new) (contains_it ending among row))
       ];
-      ordered = pairs_among (λ (a b : Row). end_of b ≤ end_of a) ending among row ends.ordered
-          (λ z c. All-contains (λ (r : Row). end_of row ≤ end_of r) (take among ending) z before c)
-          (λ z c. All-contains (λ (r : Row). end_of r ≤ end_of row) (drop among ending) z behind c);
+      ordered = pairs_among (λ (a b : Row). end_of_row b ≤ end_of_row a) ending among row ends.ordered
+          (λ z c. All-contains (λ (r : Row). end_of_row row ≤ end_of_row r) (take among ending) z before c)
+          (λ z c. All-contains (λ (r : Row). end_of_row r ≤ end_of_row row) (drop among ending) z behind c);
     })
 
 -- what stands among mapped ones
@@ -261,11 +261,11 @@ ends_before rows after ending before last ends is fewer gone = record {
       | inr own ↦ (let e : last ≡ r = contains_one last r own in inl (ap (λ (x : Row). x.withdrawn) (sym e) ∙ gone (subst (Contains after) (sym e) c)))
     ]
   ];
-  ordered = pairs_first (λ (a b : Row). end_of b ≤ end_of a) before (last ∷ []) (subst (AllPairs (λ (a b : Row). end_of b ≤ end_of a)) is ends.ordered);
+  ordered = pairs_first (λ (a b : Row). end_of_row b ≤ end_of_row a) before (last ∷ []) (subst (AllPairs (λ (a b : Row). end_of_row b ≤ end_of_row a)) is ends.ordered);
 }
 
 module _ (cycle : ℕ) (all rows ending before : List Row) (last : Row) (g : IsLetGo cycle all rows ending)
-    (apart : AllPairs (λ (a b : Row). a.name ≢ b.name) rows) (is : ending ≡ before ++ last ∷ []) (due : end_of last ≤ cycle) where
+    (apart : AllPairs (λ (a b : Row). a.name ≢ b.name) rows) (is : ending ≡ before ++ last ∷ []) (due : end_of_row last ≤ cycle) where
   -- where no row has its name it isn't there
   pub not_there : position (λ (r : Row). is_text r.name last.name) rows ≡ None → IsLetGo cycle all rows before
   not_there none = record {
@@ -317,7 +317,7 @@ none_ends cycle all rows g =
     sym (all_held cycle rows (λ r c. held_until r cycle (g.begun r c) (elim (g.ends.listed r c) [ inl none ↦ inl none | inr k ↦ absurd (contains_none r k) ]))) ∙ g.kept
 
 pub none_ends_yet : (cycle : ℕ) (all rows ending before : List Row) (last : Row) → IsLetGo cycle all rows ending → ending ≡ before ++ last ∷ [] →
-    cycle < end_of last → rows ≡ filter (λ (row : Row). is_held row cycle) all
+    cycle < end_of_row last → rows ≡ filter (λ (row : Row). is_held row cycle) all
 none_ends_yet cycle all rows ending before last g is later =
     sym (all_held cycle rows (λ r c. held_until r cycle (g.begun r c) (elim (g.ends.listed r c) [
       | inl none ↦ inl none
@@ -325,15 +325,15 @@ none_ends_yet cycle all rows ending before last g is later =
     ]))) ∙ g.kept
   where
     -- none ends sooner than the last
-    no_sooner : (r : Row) → Contains (before ++ last ∷ []) r → cycle < end_of r
+    no_sooner : (r : Row) → Contains (before ++ last ∷ []) r → cycle < end_of_row r
     no_sooner r c = elim (Contains-append_cases before (last ∷ []) r c) [
       | inl earlier ↦ omega (
         arith,
         later,
-        pairs_across (λ (a b : Row). end_of b ≤ end_of a) before (last ∷ []) r last
-            (subst (AllPairs (λ (a b : Row). end_of b ≤ end_of a)) is g.ends.ordered) earlier (contains_here last []),
+        pairs_across (λ (a b : Row). end_of_row b ≤ end_of_row a) before (last ∷ []) r last
+            (subst (AllPairs (λ (a b : Row). end_of_row b ≤ end_of_row a)) is g.ends.ordered) earlier (contains_here last []),
       )
-      | inr own ↦ omega (arith, later, ap (λ (x : Row). end_of x) (contains_one last r own))
+      | inr own ↦ omega (arith, later, ap (λ (x : Row). end_of_row x) (contains_one last r own))
     ]
 
 -- the last of some rows, as those before it and it

@@ -24,7 +24,7 @@ use Rattle.cqf_model.specs.Table.{row_named}
 use Rattle.cqf_laws_history.specs.StateLaws.{granted_row}
 use Rattle.cqf_admission.specs.Grants.{HaveNames}
 use Rattle.cqf_admission.specs.Judging.{form_refusal, short_refusal, state_refusal}
-use Rattle.cqf_trees.specs.Branches.{tree_refusal}
+use Rattle.cqf_admission_trees.specs.Branches.{tree_refusal}
 
 -- the first of seven refusals, in two groups
 or_else_assoc : (a b c e f g rest : Option Refused) → or_else a (or_else b (or_else c (or_else e (or_else f (or_else g rest)))))

@@ -7,12 +7,12 @@ use Rattle.cqf_lanes.specs.Kernels.{has_bit, masked_total}
 use Rattle.cqf_units.specs.Timing.{cost_of}
 use Rattle.cqf_model.specs.declared.topology.Row.{Row}
 use Rattle.cqf_model.specs.Table.{cost_on, crosses, link_cost}
-use Rattle.cqf_admission.specs.Rows.{AreLessBy, AreMoreBy, AreSums, AreTotals, AreWithin, HaveColumns, mask_of, part_on}
+use Rattle.cqf_admission.specs.Rows.{AreLessBy, AreMoreBy, AreSums, AreHeldTotals, AreWithin, HaveColumns, mask_of, part_on}
 use Rattle.cqf_admission.proofs.ColumnLemmas.{cost_by_columns, mask_tells}
 
 -- what the columns say is what the rows cost
 pub sums_from_totals : (names : List (List ℕ)) (rows : List Row) (costs masks sums : List ℕ) → HaveColumns names rows costs masks →
-    AreTotals costs masks sums → AreSums rows sums
+    AreHeldTotals costs masks sums → AreSums rows sums
 sums_from_totals names rows costs masks sums h t =
     record { sixty_four = t.sixty_four; each = λ l low. t.each l low ∙ cost_by_columns names rows costs masks l h low }
 

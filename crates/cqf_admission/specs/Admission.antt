@@ -18,6 +18,7 @@ use Rattle.cqf_admission.specs.declared.entries.SealFault.{SealFault}
 use Rattle.cqf_admission.specs.declared.entries.SealFault.TheVariants as fault
 use Rattle.cqf_admission.specs.Asking.{asked_of}
 use Rattle.cqf_admission.specs.Tables.{AreAlongLinks, AreTrees, CycleTable}
+use Rattle.cqf_model.specs.Limits.{most_calls, most_cycles}
 
 -- an administration: its domain, and the entries of its history
 pub record Administration : Type 0 where
@@ -66,7 +67,7 @@ is_entered (Err AlreadyWithdrawn) = true
 -- what a call does: where the history is full it is refused for that, before all else; what isn't entered changes
 -- nothing; and what is entered has the answer that is due, in the entry and to the caller
 pub record Answers (old new : Administration) (seat : ℕ) (act : Act) (result : Result Receipt Refused) : Type 0 where
-  pub full : (result ≡ Err HistoryFull) ↔ (100000 ≤ calls old.entries)
+  pub full : (result ≡ Err HistoryFull) ↔ (most_calls ≤ calls old.entries)
   pub unchanged : is_entered result ≡ false → new ≡ old
   pub domain : new.domain ≡ old.domain
   pub due : is_entered result ≡ true → reply_of result ≡ reply_to old.domain old.entries act
@@ -93,10 +94,10 @@ pub record LetsGo (old new : Administration) (table : CycleTable) : Type 0 where
 -- what a Seal does: it enters itself, and gives the table of the cycle that it closes; a refused one changes nothing
 abbrev pub Closes : Administration → Administration → ℕ → Result CycleTable SealFault → Type 0
 Closes old new seat (Ok table) =
-    (seals old.entries < 100000) × (new.domain ≡ old.domain) × (new.entries ≡ with_entry old.entries seat Seals Sealed) ×
+    (seals old.entries < most_cycles) × (new.domain ≡ old.domain) × (new.entries ≡ with_entry old.entries seat Seals Sealed) ×
     (table.cycle ≡ seals old.entries) × (table.rows ≡ table_at old.domain new.entries (seals old.entries))
-Closes old new seat (Err fault.CyclesSpent) = (100000 ≤ seals old.entries) × (new ≡ old)
-Closes old new seat (Err fault.Memory) = (seals old.entries < 100000) × (new ≡ old)
+Closes old new seat (Err fault.CyclesSpent) = (most_cycles ≤ seals old.entries) × (new ≡ old)
+Closes old new seat (Err fault.Memory) = (seals old.entries < most_cycles) × (new ≡ old)
 
 -- what an administration runs on instead of its history: the held streams, the number of the next one, and the Seals
 pub record IsRunning (d : Domain) (entries : List Recorded) (rows : List Row) (next sealed : ℕ) : Type 0 where

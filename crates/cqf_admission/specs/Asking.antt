@@ -3,7 +3,7 @@ use Rattle.std.specs.Prelude.{string_bytes}
 use Rattle.cqf_topology.specs.declared.streams.Request.{Request}
 use Rattle.cqf_topology.specs.StreamsText.{RequestText}
 use Rattle.cqf_model.specs.History.{Asked}
-use Rattle.cqf_trees.specs.Branches.{branches_of}
+use Rattle.cqf_admission_trees.specs.Branches.{branches_of}
 
 -- what a request asks for
 abbrev pub asked_of : Request → Asked

@@ -10,7 +10,7 @@ use Rattle.cqf_model.specs.declared.topology.Hop.{Hop}
 use Rattle.cqf_model.specs.declared.topology.Row.{Row}
 use Rattle.cqf_model.specs.Domain.{Domain, is_text}
 use Rattle.cqf_model.specs.History.{Asked, left_on, refused_at, refused_if, short_link, tree_of}
-use Rattle.cqf_trees.specs.Branches.{tree_refusal}
+use Rattle.cqf_admission_trees.specs.Branches.{tree_refusal}
 use Rattle.cqf_admission.specs.declared.judged.Judged.{Judged}
 
 -- why a request is refused whatever is held: for its form

@@ -1,8 +1,9 @@
 pub mod Admission
 pub mod Rows
 pub mod Judging
-pub mod Grants
 pub mod Tables
 pub mod Asking
 pub mod Commands
 pub mod Numbers
+-- what the inner functions say
+pub mod Grants

@@ -43,7 +43,7 @@ pub record AreSums (rows : List Row) (sums : List ℕ) : Type 0 where
   pub each : (l : ℕ) → l < 64 → slice_index_or sums l 0 ≡ link_cost rows l
 
 -- and what the columns say
-pub record AreTotals (costs masks sums : List ℕ) : Type 0 where
+pub record AreHeldTotals (costs masks sums : List ℕ) : Type 0 where
   pub sixty_four : length sums ≡ 64
   pub each : (l : ℕ) → l < 64 → slice_index_or sums l 0 ≡ masked_total l costs masks
 
@@ -66,10 +66,10 @@ pub record AreLessBy (sums : List ℕ) (mask octets : ℕ) (after : List ℕ) : 
   pub each : (l : ℕ) → l < 64 → slice_index_or after l 0 ≡ slice_index_or sums l 0 - part_on mask octets l
 
 -- the first cycle in which a withdrawn row isn't held any more: 0 for one that isn't withdrawn
-abbrev pub end_of : Row → ℕ
-end_of row = option_map_or (λ (w : Cycle). w.0 + residence row) row.withdrawn 0
+abbrev pub end_of_row : Row → ℕ
+end_of_row row = option_map_or (λ (w : Cycle). w.0 + residence row) row.withdrawn 0
 
 -- those of the rows that are withdrawn stand in a list, of which the last ends first
 pub record AreEnding (rows ending : List Row) : Type 0 where
   pub listed : (row : Row) → Contains rows row → (row.withdrawn ≡ None) ⊎ Contains ending row
-  pub ordered : AllPairs (λ (a b : Row). end_of b ≤ end_of a) ending
+  pub ordered : AllPairs (λ (a b : Row). end_of_row b ≤ end_of_row a) ending

@@ -5,7 +5,7 @@ ghost use Rattle.std.specs.Arc.{arc_value};
 ghost use Rattle.std.specs.List.{list_any};
 ghost use Rattle.cqf_model.specs.Domain.{is_text};
 ghost use Rattle.cqf_model.specs.Table.{is_held, link_cost};
-ghost use Rattle.cqf_admission.specs.Rows.{AreLessBy, AreMoreBy, AreTotals, AreWithin, end_of, ended_at, part_on};
+ghost use Rattle.cqf_admission.specs.Rows.{AreLessBy, AreMoreBy, AreHeldTotals, AreWithin, end_of_row, ended_at, part_on};
 ghost use Rattle.cqf_lanes.specs.Kernels.{has_bit, masked_total};
 
 use crate::listed::Listed;
@@ -108,7 +108,7 @@ fn sums_with(sums: &[u64; 64], mask: u64, octets: u32, costs: &[u32], masks: &[u
     requires side_by_side { length costs.now ≡ length masks.now }
     requires few { length costs.now < 2 ^ 32 }
     requires more { AreMoreBy sums.now mask octets costs.now masks.now }
-    ensures { AreTotals costs.now masks.now result }
+    ensures { AreHeldTotals costs.now masks.now result }
 {
     let mut after = [0; 64];
     for link in 0..64u32 {
@@ -147,7 +147,7 @@ fn sums_without(sums: &[u64; 64], mask: u64, octets: u32) -> [u64; 64]
 fn sums_of(costs: &[u32], masks: &[u64]) -> [u64; 64]
     requires side_by_side { length costs.now ≡ length masks.now }
     requires few { length costs.now < 2 ^ 32 }
-    ensures { AreTotals costs.now masks.now result }
+    ensures { AreHeldTotals costs.now masks.now result }
 {
     let mut sums = [0; 64];
     for link in 0..64u32 {
@@ -176,7 +176,7 @@ fn cycle_behind(cycle: u32, cycles: u8) -> u64
 
 /// The first cycle in which the stream of a withdrawn row isn't held any more: 0 for one that isn't withdrawn.
 fn end_of(row: &Row) -> u64
-    ensures { result ≡ end_of row.now }
+    ensures { result ≡ end_of_row row.now }
 {
     match row.withdrawn {
         Some(cycle) => cycle_behind(cycle.0, row.residence()),
@@ -187,10 +187,10 @@ fn end_of(row: &Row) -> u64
 /// The place among rows, of which the last ends first, for one that ends in a cycle: behind those that end no sooner. So of
 /// streams that end in one cycle that which was withdrawn last goes first: mostly the one that stands last in the columns.
 fn place_among(ending: &[Arc<Row>], end: u64) -> usize
-    requires { AllPairs (λ (a b : Row). end_of b ≤ end_of a) (map (λ row. arc_value row) ending.now) }
+    requires { AllPairs (λ (a b : Row). end_of_row b ≤ end_of_row a) (map (λ row. arc_value row) ending.now) }
     ensures within { result ≤ length ending.now }
-    ensures before { All (λ (row : Row). end ≤ end_of row) (take result (map (λ row. arc_value row) ending.now)) }
-    ensures behind { All (λ (row : Row). end_of row ≤ end) (drop result (map (λ row. arc_value row) ending.now)) }
+    ensures before { All (λ (row : Row). end ≤ end_of_row row) (take result (map (λ row. arc_value row) ending.now)) }
+    ensures behind { All (λ (row : Row). end_of_row row ≤ end) (drop result (map (λ row. arc_value row) ending.now)) }
 {
     let mut low = 0;
     let mut high = ending.len();

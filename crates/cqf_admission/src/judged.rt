@@ -1,13 +1,13 @@
 //! What a request is by itself, whatever is held.
 ghost use Rattle.std.specs.Prelude.{◌≡◌, ◌<◌, ◌^◌};
-ghost use Rattle.cqf_trees.specs.Branches.{branches_of, places_of};
+ghost use Rattle.cqf_admission_trees.specs.Branches.{branches_of, places_of};
 ghost use Rattle.cqf_admission.specs.Asking.{asked_of};
 ghost use Rattle.cqf_admission.specs.Judging.{Judges};
 
 use arrayvec::ArrayVec;
+use cqf_admission_trees::find_tree;
 use cqf_model::{Hop, Refused};
 use cqf_topology::{Domain, Request};
-use cqf_trees::find_tree;
 use cqf_units::{Name, Octets, cost};
 
 /// The octets that a stream may reserve in a cycle (profile).

@@ -9,7 +9,7 @@ use Rattle.cqf_model.specs.OnLinks.{frames_on, octets_on}
 use Rattle.cqf_lists.proofs.Sums.{sum_map}
 use Rattle.cqf_book.specs.Pages.{Posted, ArePosted, over_pages, page_at, page_count, pages_of}
 use Rattle.cqf_book.specs.Shares.{Said, said}
-use Rattle.cqf_book.specs.Totals.{AreKept, count_of_pages}
+use Rattle.cqf_book.specs.Totals.{AreKeptTotals, count_of_pages}
 
 -- what each bridge's pages say
 abbrev rows_said : List (List Page) → List (List Said)
@@ -72,7 +72,7 @@ module _ (posted other : Posted) (same : rows_said other.pages ≡ rows_said pos
 
   -- and the same totals
   pub copy_kept : (frames octets frames_again octets_again : List ℕ) → other.bridges ≡ posted.bridges → other.cycles ≡ posted.cycles
-      → frames_again ≡ frames → octets_again ≡ octets → AreKept posted frames octets → AreKept other frames_again octets_again
+      → frames_again ≡ frames → octets_again ≡ octets → AreKeptTotals posted frames octets → AreKeptTotals other frames_again octets_again
   copy_kept frames octets frames_again octets_again bridges cycles is_frames is_octets kept =
       let few : count_of_pages other.pages ≡ count_of_pages posted.pages =
       sym (counted other.pages) ∙ ap (λ (rows : List (List Said)). sum_by (λ (row : List Said). length row) rows) same ∙ counted posted.pages in

@@ -3,3 +3,4 @@ pub mod Posting
 pub mod Whole
 pub mod Copying
 pub mod Agreeing
+pub mod Alike

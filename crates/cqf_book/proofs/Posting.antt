@@ -10,8 +10,8 @@ use Rattle.std.proofs.lemmas.List.Sums.{sum_by-le, sum_by-set, sum_by_push}
 use Rattle.std.proofs.lemmas.Option.{none-some, same_Some}
 use Rattle.cqf_model.specs.declared.frames.Page.{Page}
 use Rattle.cqf_model.specs.OnLinks.{frames_on, octets_on}
-use Rattle.cqf_book.specs.Pages.{Posted, ArePosted, IsNext, over_pages, pages_of, with_page}
-use Rattle.cqf_book.specs.Totals.{AreAdded, AreFew, AreKept, AreTotals, HaveRoom, count_of_pages}
+use Rattle.cqf_book.specs.Pages.{Posted, ArePosted, IsNextPage, over_pages, pages_of, with_page}
+use Rattle.cqf_book.specs.Totals.{AreAdded, AreFewTotals, AreKeptTotals, AreTotals, HaveTotalsRoom, count_of_pages}
 
 -- no bridge has a page
 none_at : (bridges bridge : ℕ) → pages_of (record { bridges = bridges; cycles = 0; pages = replicate bridges [] }) bridge ≡ []
@@ -55,11 +55,11 @@ none_posted bridges cycles few_bridges few_cycles = record {
 -- and with the first totals
 pub none_kept : (bridges cycles : ℕ) (pages : List (List Page)) (frames octets : List ℕ) → bridges ≤ 32 → cycles ≤ 100000
     → pages ≡ replicate bridges [] → frames ≡ replicate 256 0 → octets ≡ replicate 256 0
-    → AreKept (record { bridges = bridges; cycles = cycles; pages = pages }) frames octets
+    → AreKeptTotals (record { bridges = bridges; cycles = cycles; pages = pages }) frames octets
 none_kept bridges cycles pages frames octets few_bridges few_cycles is_pages is_frames is_octets =
-    subst (λ (rows : List (List Page)). AreKept (record { bridges = bridges; cycles = cycles; pages = rows }) frames octets) (sym is_pages)
-    (subst (λ (fs : List ℕ). AreKept (record { bridges = bridges; cycles = cycles; pages = replicate bridges [] }) fs octets) (sym is_frames)
-    (subst (λ (os : List ℕ). AreKept (record { bridges = bridges; cycles = cycles; pages = replicate bridges [] }) (replicate 256 0) os) (sym is_octets)
+    subst (λ (rows : List (List Page)). AreKeptTotals (record { bridges = bridges; cycles = cycles; pages = rows }) frames octets) (sym is_pages)
+    (subst (λ (fs : List ℕ). AreKeptTotals (record { bridges = bridges; cycles = cycles; pages = replicate bridges [] }) fs octets) (sym is_frames)
+    (subst (λ (os : List ℕ). AreKeptTotals (record { bridges = bridges; cycles = cycles; pages = replicate bridges [] }) (replicate 256 0) os) (sym is_octets)
     (record { posted_so = none_posted bridges cycles few_bridges few_cycles; totals = none_totals bridges })))
 
 -- rows of pages, of which a bridge's has one more page
@@ -82,7 +82,7 @@ count_with rows bridge page inside =
 
 -- the totals, once a page's starts are added
 totals_with : (rows : List (List Page)) (bridge : ℕ) (page : Page) (frames octets frames_after octets_after : List ℕ) → bridge < length rows
-    → AreTotals rows frames octets → AreAdded page.starts.items frames octets frames_after octets_after → AreFew page.starts.items
+    → AreTotals rows frames octets → AreAdded page.starts.items frames octets frames_after octets_after → AreFewTotals page.starts.items
     → AreTotals (rows_with rows bridge page) frames_after octets_after
 totals_with rows bridge page frames octets frames_after octets_after inside before added few = record {
   all_frames = added.all_frames;
@@ -120,7 +120,7 @@ row_with posted page bridge inside =
     ]
 
 -- the next page keeps what pages keep
-pub next_posted : (posted : Posted) (page : Page) → ArePosted posted → IsNext posted page → ArePosted (with_page posted page)
+pub next_posted : (posted : Posted) (page : Page) → ArePosted posted → IsNextPage posted page → ArePosted (with_page posted page)
 next_posted posted page before next =
     let inside : page.bridge < length posted.pages = omega (arith, before.each_bridge, next.0) in
     record {
@@ -142,9 +142,9 @@ next_posted posted page before next =
 
 -- so do they with their totals, where the bridge's row is written anew
 pub next_kept : (posted : Posted) (page : Page) (frames octets frames_after octets_after : List ℕ) (bridge : ℕ) (own row : List Page)
-    → AreKept posted frames octets → bridge ≡ page.bridge → IsNext posted page → own ≡ get_or posted.pages bridge own
-    → row ≡ own ++ page ∷ [] → AreAdded page.starts.items frames octets frames_after octets_after → AreFew page.starts.items
-    → AreKept (record { bridges = posted.bridges; cycles = posted.cycles; pages = set posted.pages bridge row }) frames_after octets_after
+    → AreKeptTotals posted frames octets → bridge ≡ page.bridge → IsNextPage posted page → own ≡ get_or posted.pages bridge own
+    → row ≡ own ++ page ∷ [] → AreAdded page.starts.items frames octets frames_after octets_after → AreFewTotals page.starts.items
+    → AreKeptTotals (record { bridges = posted.bridges; cycles = posted.cycles; pages = set posted.pages bridge row }) frames_after octets_after
 next_kept posted page frames octets frames_after octets_after bridge own row before at next is_own is_row added few =
     let inside : page.bridge < length posted.pages = omega (arith, before.posted_so.each_bridge, next.0) in
     let own_pages : own ≡ pages_of posted page.bridge =
@@ -152,7 +152,7 @@ next_kept posted page frames octets frames_after octets_after bridge own row bef
     let pages : set posted.pages bridge row ≡ set posted.pages page.bridge (pages_of posted page.bridge ++ page ∷ []) =
     ap (λ (k : ℕ). set posted.pages k row) at
     ∙ ap (λ (r : List Page). set posted.pages page.bridge r) (is_row ∙ ap (λ (r : List Page). r ++ page ∷ []) own_pages) in
-    subst (λ (rows : List (List Page)). AreKept (record posted { pages = rows }) frames_after octets_after) (sym pages)
+    subst (λ (rows : List (List Page)). AreKeptTotals (record posted { pages = rows }) frames_after octets_after) (sym pages)
     (record {
       posted_so = next_posted posted page before.posted_so next;
       totals = totals_with posted.pages page.bridge page frames octets frames_after octets_after inside before.totals added few;
@@ -160,19 +160,19 @@ next_kept posted page frames octets frames_after octets_after bridge own row bef
 
 -- a row that is written as it was changes nothing
 pub same_kept : (posted : Posted) (frames octets frames_after octets_after : List ℕ) (bridge : ℕ) (own row : List Page)
-    → AreKept posted frames octets → bridge < posted.bridges → own ≡ get_or posted.pages bridge own
+    → AreKeptTotals posted frames octets → bridge < posted.bridges → own ≡ get_or posted.pages bridge own
     → row ≡ own → frames_after ≡ frames → octets_after ≡ octets
-    → AreKept (record { bridges = posted.bridges; cycles = posted.cycles; pages = set posted.pages bridge row }) frames_after octets_after
+    → AreKeptTotals (record { bridges = posted.bridges; cycles = posted.cycles; pages = set posted.pages bridge row }) frames_after octets_after
 same_kept posted frames octets frames_after octets_after bridge own row before of_bridge is_own is_row is_frames is_octets =
     let pages : set posted.pages bridge row ≡ posted.pages =
     ap (λ (r : List Page). set posted.pages bridge r) (is_row ∙ is_own) ∙ set-get_or posted.pages bridge own in
-    let at : List (List Page) → List ℕ → List ℕ → Type 0 = λ rows fs os. AreKept (record posted { pages = rows }) fs os in
+    let at : List (List Page) → List ℕ → List ℕ → Type 0 = λ rows fs os. AreKeptTotals (record posted { pages = rows }) fs os in
     subst (λ (rows : List (List Page)). at rows frames_after octets_after) (sym pages)
     (subst (λ (fs : List ℕ). at posted.pages fs octets_after) (sym is_frames)
     (subst (λ (os : List ℕ). at posted.pages frames os) (sym is_octets) before))
 
 -- the totals of as many pages as there may be have room for one more
-pub room_for_next : (posted : Posted) (frames octets : List ℕ) → AreKept posted frames octets → HaveRoom frames octets
+pub room_for_next : (posted : Posted) (frames octets : List ℕ) → AreKeptTotals posted frames octets → HaveTotalsRoom frames octets
 room_for_next posted frames octets kept =
     let rows = posted.pages in
     let facts = kept.posted_so in

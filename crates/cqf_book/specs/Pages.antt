@@ -3,6 +3,7 @@ use Rattle.std.specs.Prelude.{ℕ, ◌≡◌, ◌<◌, ◌≤◌, ◌++◌, List
 use Rattle.std.specs.Prelude.{Option, Some, slice_get, slice_index_or, slice_set}
 use Rattle.cqf_model.specs.declared.frames.Page.{Page}
 use Rattle.cqf_model.specs.OnLinks.{frames_on, octets_on}
+use Rattle.cqf_model.specs.Limits.{most_cycles}
 
 -- pages that were posted: of how many bridges and cycles they may be, and by bridge its pages, in order of cycle
 pub record Posted : Type 0 where
@@ -26,7 +27,7 @@ page_at posted bridge cycle = slice_get (pages_of posted bridge) cycle
 -- cycle at whose place it stands
 pub record ArePosted (posted : Posted) : Type 0 where
   pub few_bridges : posted.bridges ≤ 32
-  pub few_cycles : posted.cycles ≤ 100000
+  pub few_cycles : posted.cycles ≤ most_cycles
   pub each_bridge : length posted.pages ≡ posted.bridges
   pub in_cycles : (bridge : ℕ) → page_count posted bridge ≤ posted.cycles
   pub in_place : (bridge cycle : ℕ) (page : Page) → page_at posted bridge cycle ≡ Some page → (page.bridge ≡ bridge) × (page.cycle.0 ≡ cycle)
@@ -48,8 +49,12 @@ abbrev pub SkipsCycle : Posted → Page → Type 0
 SkipsCycle posted page = (page.bridge < posted.bridges) × (page.cycle.0 < posted.cycles) × (page_count posted page.bridge < page.cycle.0)
 
 -- both are, and the bridge has posted its pages of just the cycles before
-abbrev pub IsNext : Posted → Page → Type 0
-IsNext posted page = (page.bridge < posted.bridges) × (page.cycle.0 < posted.cycles) × (page.cycle.0 ≡ page_count posted page.bridge)
+abbrev pub IsNextPage : Posted → Page → Type 0
+IsNextPage posted page = (page.bridge < posted.bridges) × (page.cycle.0 < posted.cycles) × (page.cycle.0 ≡ page_count posted page.bridge)
+
+-- both are, and the bridge hasn't posted its page of the cycle yet: it may be the next page, once those before it are posted
+abbrev pub MayBeNext : Posted → Page → Type 0
+MayBeNext posted page = (page.bridge < posted.bridges) × (page.cycle.0 < posted.cycles) × (page_count posted page.bridge ≤ page.cycle.0)
 
 -- the pages with one more of its bridge
 abbrev pub with_page : Posted → Page → Posted
@@ -74,11 +79,12 @@ frames_posted link pages = over_pages (λ (page : Page). frames_on link page.sta
 abbrev pub octets_posted : ℕ → List (List Page) → ℕ
 octets_posted link pages = over_pages (λ (page : Page). octets_on link page.starts.items) pages
 
--- some pages that were posted have so many whole cycles
-abbrev pub AreWholeOfSome : ℕ → Type 0
-AreWholeOfSome cycles = (posted : Posted) × ArePosted posted × AreWhole posted cycles
+-- pages that begin with these may have so many whole cycles: no fewer than these have, and no more than there are; with no
+-- bridge these are the same
+abbrev pub MayBeWhole : Posted → ℕ → Type 0
+MayBeWhole opening cycles = (before : ℕ) × AreWhole opening before × (before ≤ cycles) × (cycles ≤ opening.cycles)
 
--- or so many frames and octets on the link
+-- some pages that were posted have so many frames and octets on the link
 abbrev pub AreTotalsOfSome : ℕ → ℕ → ℕ → Type 0
 AreTotalsOfSome link frames octets =
     (posted : Posted) × ArePosted posted × (frames ≡ frames_posted link posted.pages) × (octets ≡ octets_posted link posted.pages)

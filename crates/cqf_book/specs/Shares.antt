@@ -6,7 +6,7 @@ use Rattle.cqf_model.specs.declared.frames.Dropped.{Dropped}
 use Rattle.cqf_model.specs.declared.frames.Page.{Page}
 use Rattle.cqf_model.specs.declared.frames.Started.{Started}
 use Rattle.cqf_model.specs.Book.{Contents}
-use Rattle.cqf_order.specs.BookOrder.{IsDropBelow, IsStartBelow, in_book_order, starts_in_book_order}
+use Rattle.cqf_book_order.specs.BookOrder.{IsDropBelow, IsStartBelow, in_book_order, starts_in_book_order}
 use Rattle.cqf_book.specs.Pages.{Posted, page_count, pages_of}
 
 -- what a page says: whose it is, of which cycle, and what stands on it
@@ -73,6 +73,12 @@ pub record Agrees (opening : Posted) (shares : List Own) (posted : Posted) (brid
 -- and so do those of each of so many bridges
 abbrev pub Agree : Posted → List Own → Posted → ℕ → Type 0
 Agree opening shares posted bridges = (bridge : ℕ) → bridge < bridges → Agrees opening shares posted bridge
+
+-- the bridge is the least of which they don't
+pub record IsLeastToDisagree (opening : Posted) (shares : List Own) (posted : Posted) (bridge : ℕ) : Type 0 where
+  pub inside : bridge < opening.bridges
+  pub disagrees : ¬ Agrees opening shares posted bridge
+  pub before : Agree opening shares posted bridge
 
 -- what stands on the pages of so many bridges, bridge by bridge and page by page
 abbrev pub on_pages : {A : Type 0} → (Page → List A) → (ℕ → List Page) → ℕ → List A

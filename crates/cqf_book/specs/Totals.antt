@@ -13,12 +13,12 @@ pub record AreAdded (starts : List Started) (frames octets frames_after octets_a
   pub octets_add : (link : ℕ) → link < 256 → slice_index octets_after link ≡ slice_index octets link + octets_on link starts
 
 -- of a page's starts, each link has at most 2^64, and these have at most 2^96 octets
-pub record AreFew (starts : List Started) : Type 0 where
+pub record AreFewTotals (starts : List Started) : Type 0 where
   pub few_frames : (link : ℕ) → frames_on link starts ≤ 2 ^ 64
   pub few_octets : (link : ℕ) → octets_on link starts ≤ 2 ^ 96
 
 -- there is room for the starts of one more page
-pub record HaveRoom (frames octets : List ℕ) : Type 0 where
+pub record HaveTotalsRoom (frames octets : List ℕ) : Type 0 where
   pub all_frames : length frames ≡ 256
   pub all_octets : length octets ≡ 256
   pub frames_room : (link : ℕ) → link < 256 → slice_index frames link + 2 ^ 64 < 2 ^ 128
@@ -38,6 +38,6 @@ pub record AreTotals (pages : List (List Page)) (frames octets : List ℕ) : Typ
   pub few_octets : (link : ℕ) → link < 256 → slice_index octets link ≤ count_of_pages pages * 2 ^ 96
 
 -- what is kept: pages that stand in order, and their totals
-pub record AreKept (posted : Posted) (frames octets : List ℕ) : Type 0 where
+pub record AreKeptTotals (posted : Posted) (frames octets : List ℕ) : Type 0 where
   pub posted_so : ArePosted posted
   pub totals : AreTotals posted.pages frames octets

@@ -1,7 +1,7 @@
 //! The pages of one bridge.
 ghost use Rattle.std.specs.Prelude.{◌≡◌, ◌++◌, [], ◌∷◌, IfErr, IfOk, OnErr, OnOk, length, map, option_copied, slice_get};
 ghost use Rattle.cqf_book.specs.Shares.{said};
-ghost use Rattle.cqf_book.specs.Totals.{AreAdded, AreFew, HaveRoom};
+ghost use Rattle.cqf_book.specs.Totals.{AreAdded, AreFewTotals, HaveTotalsRoom};
 
 use crate::same_pages::copied_pages;
 use crate::totals::LinkTotals;
@@ -68,11 +68,11 @@ impl BridgePages {
     /// Puts the page behind the others, and adds its starts to the totals. Where a growth is refused, the pages and the
     /// totals are as they were, and the page comes back.
     pub(crate) fn push(&mut self, page: Page, totals: &mut LinkTotals) -> Result<(), Page>
-        requires { HaveRoom totals.old.frames.items totals.old.octets.items }
+        requires { HaveTotalsRoom totals.old.frames.items totals.old.octets.items }
         ensures ok { OnOk result (self.new ≡ self.old ++ page ∷ []) }
         ensures added { OnOk result (AreAdded page.starts.items totals.old.frames.items totals.old.octets.items
             totals.new.frames.items totals.new.octets.items) }
-        ensures few { OnOk result (AreFew page.starts.items) }
+        ensures few { OnOk result (AreFewTotals page.starts.items) }
         ensures err { OnErr result (self.new ≡ self.old) }
         ensures same { OnErr result (totals.new ≡ totals.old) }
         ensures back { IfErr result (λ refused. refused ≡ page) }

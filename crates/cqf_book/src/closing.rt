@@ -1,16 +1,17 @@
 //! The book of the pages that were posted, where the shares agree with them.
-ghost use Rattle.std.specs.Prelude.{◌≡◌, ◌<◌, ◌↔◌, ◌++◌, IfNone, IfOk, IfSome, IsErrOf, IsTrue, OnOk, count_by, find, length, map, option_copied, true};
+ghost use Rattle.std.specs.Prelude.{◌≡◌, ◌<◌, ◌↔◌, ◌++◌, IfErr, IfNone, IfOk, IfSome, IsErrOf, OnOk, count_by, find, length, map, option_copied, true};
 ghost use Rattle.std.specs.List.{flat_map};
 ghost use Rattle.cqf_model.specs.Book.{contents_of};
+ghost use Rattle.cqf_book.specs.Faults.{IsBookCloseFault, IsFaultOver};
 ghost use Rattle.cqf_book.specs.Pages.{ArePosted, pages_of};
-ghost use Rattle.cqf_book.specs.Shares.{Agree, AreOneEach, IsBookOfPages, IsBookOfShares, all_pages_of, is_of, on_pages, pages_by, said, with_shares};
+ghost use Rattle.cqf_book.specs.Shares.{Agree, AreOneEach, IsBookOfPages, IsBookOfShares, IsLeastToDisagree, all_pages_of, is_of, on_pages, pages_by, said, with_shares};
 
 use crate::cycle_book::Share;
 use crate::faults::BookClose;
 use crate::pages::Pages;
 use crate::same_pages::are_same;
+use cqf_book_order::{sort_drops, sort_starts};
 use cqf_model::{Book, Page};
-use cqf_order::{sort_drops, sort_starts};
 use cqf_units::Memory;
 use std::alloc::Global;
 
@@ -58,7 +59,7 @@ fn share_pages(shares: &[Share], bridge: u8) -> &[Page]
 
 /// Whether pages say what the earlier and the later ones say, one behind the other.
 fn continues(pages: &[Page], earlier: &[Page], later: &[Page]) -> bool
-    ensures { IsTrue result → map said pages.now ≡ map said (earlier.now ++ later.now) }
+    ensures { (result ≡ true) ↔ (map said pages.now ≡ map said (earlier.now ++ later.now)) }
 {
     if pages.len() < earlier.len() {
         return false;
@@ -70,9 +71,10 @@ fn continues(pages: &[Page], earlier: &[Page], later: &[Page]) -> bool
     are_same(behind, later)
 }
 
-/// The least bridge whose pages aren't those from before and its share's behind them.
+/// The least bridge whose pages aren't those from before and its share's behind them, where there is one.
 fn first_to_disagree(opening: &Pages, posted: &Pages, shares: &[Share]) -> Option<u8>
-    ensures { IfNone result (Agree opening.now shares.now posted.now opening.now.bridges) }
+    ensures none { IfNone result (Agree opening.now shares.now posted.now opening.now.bridges) }
+    ensures least { IfSome result (λ bridge. IsLeastToDisagree opening.now shares.now posted.now bridge) }
 {
     for bridge in 0..opening.bridges() {
         let pages = posted.of_bridge(bridge);
@@ -144,16 +146,19 @@ pub(crate) fn check_shares(
     ensures memory { IsErrOf result BookClose.Memory → ⊥ }
     ensures ok { OnOk result (Agree opening.now shares.now posted.now opening.now.bridges) }
     ensures once { OnOk result (ArePosted (with_shares opening.now shares.now)) }
+    ensures each { OnOk result (AreOneEach opening.now.bridges shares.now) }
+    ensures fault { IfErr result (λ fault. IsFaultOver opening.now shares.now posted.now fault) }
+    ensures facts { ArePosted posted.now }
 {
+    // the pages of both stand in order: a fact for those that are closed
+    let _before = opening.cycles();
+    let _in_order = posted.cycles();
     if !are_one_each(shares, opening.bridges()) {
         return Err(BookClose::ShareMissing);
     }
     if let Some(bridge) = first_to_disagree(opening, posted, shares) {
         return Err(BookClose::SharesDisagree(bridge));
     }
-    // the pages of both stand in order: a fact for those that are closed
-    let _before = opening.cycles();
-    let _in_order = posted.cycles();
     Ok(())
 }
 
@@ -167,6 +172,7 @@ pub(crate) fn closed(
     ensures missing { IsErrOf result BookClose.ShareMissing ↔ (AreOneEach opening.now.bridges shares.now → ⊥) }
     ensures ok { IfOk result (λ book. IsBookOfShares opening.now shares.now (contents_of book)) }
     ensures once { IfOk result (λ book. ArePosted (with_shares opening.now shares.now)) }
+    ensures fault { IfErr result (λ fault. IsBookCloseFault opening.now shares.now fault) }
 {
     match check_shares(opening, posted, shares) {
         Ok(()) => {}

@@ -1,7 +1,8 @@
 //! A book that bridges write in threads of their own, each by its share.
-ghost use Rattle.std.specs.Prelude.{◌≡◌, ◌≢◌, ◌↔◌, ◌≤◌, ◌+◌, [], IfErr, IfOk, IsErrOf, OnErr, OnOk, vec_len, vec_capacity};
+ghost use Rattle.std.specs.Prelude.{◌≡◌, ◌≢◌, ◌↔◌, ◌≤◌, ◌+◌, ◌⊎◌, [], IfErr, IfNone, IfOk, IsErrOf, OnErr, OnOk, Some, vec_len, vec_capacity};
 ghost use Rattle.cqf_model.specs.Book.{contents_of};
-ghost use Rattle.cqf_book.specs.Pages.{ArePosted, AreWholeOfSome, AreTotalsOfSome};
+ghost use Rattle.cqf_book.specs.Faults.{IsBookCloseFault, IsPostFault};
+ghost use Rattle.cqf_book.specs.Pages.{ArePosted, AreTotalsOfSome, IsDouble, IsOfStrangeBridge, IsOfStrangeCycle, MayBeNext, MayBeWhole, SkipsCycle, frames_posted, octets_posted};
 ghost use Rattle.cqf_book.specs.Shares.{Agree, AreOneEach, IsBookOfShares, new_shares, said, with_own, with_shares};
 
 use crate::closing::{check_shares, closed};
@@ -71,6 +72,19 @@ fn copy_with_room(pages: &mut Vec<Page>, page: &Page) -> Result<Page, Memory>
     Ok(copy)
 }
 
+/// The totals of now, unless they are fewer than those of before.
+fn no_fewer(before: Totals, now: Totals) -> Totals
+    ensures one { (result ≡ before) ⊎ (result ≡ now) }
+    ensures frames { before.frames ≤ result.frames }
+    ensures octets { before.octets ≤ result.octets }
+{
+    if now.frames < before.frames || now.octets < before.octets {
+        before
+    } else {
+        now
+    }
+}
+
 /// A book that several threads write, each for a bridge of its own: [`Pages`] under a lock. Contracts see it as the pages
 /// that it was made of; what was posted since is known once the book is closed.
 #[derive(Drop)]
@@ -109,7 +123,10 @@ impl CycleBook {
 
     /// Takes the next page of the share's bridge, and keeps it in the share too. The answers are those of [`Pages::post`]
     /// while the lock is held, and for a page of another bridge than the share's it's [`PageFault::StrangeBridge`]. A page
-    /// that isn't taken comes back with the reason, and the book and the share stay as they are. It may wait for the lock.
+    /// that isn't taken comes back with the reason, and the book and the share stay as they are. Of the pages behind those
+    /// that the book was made of no clause can speak: a page that is one of these is a `DoublePage`, one whose cycle isn't
+    /// behind the next of these is no `CycleSkipped`, and `StrangeBridge` and `StrangeCycle` come exactly where these have
+    /// no such bridge and no such cycle. It may wait for the lock.
     pub fn post<R: Wait>(
         &self,
         rt: &R,
@@ -120,19 +137,58 @@ impl CycleBook {
         ensures err { OnErr result (share.new ≡ share.old) }
         ensures back { IfErr result (λ refused. refused.1 ≡ page) }
         ensures another { page.bridge ≢ share.old.bridge → IsErrOf result (PageFault.StrangeBridge, page) }
+        ensures strange_bridge { IsErrOf result (PageFault.StrangeBridge, page) ↔ ((page.bridge ≢ share.old.bridge) ⊎ IsOfStrangeBridge self.now page) }
+        ensures strange_cycle { IsErrOf result (PageFault.StrangeCycle, page) ↔ ((page.bridge ≡ share.old.bridge) × IsOfStrangeCycle self.now page) }
+        ensures fault { IfErr result (λ refused. IsPostFault self.now share.old.bridge page refused.0) }
+        ensures next { OnOk result ((page.bridge ≡ share.old.bridge) × MayBeNext self.now page) }
     {
         if page.bridge != share.bridge {
             return Err((PageFault::StrangeBridge, page));
         }
+        if let Some(fault) = self.never_next(&page) {
+            return Err((fault, page));
+        }
         let Ok(copy) = copy_with_room(&mut share.pages, &page) else {
-            return Err((self.refusal(rt, &page), page));
+            let fault = self.refusal(rt, &page);
+            return Err((self.told(&page, fault), page));
         };
         match self.take(rt, copy) {
             Ok(()) => {
                 share.pages.push(page).unwrap();
                 Ok(())
             }
-            Err(fault) => Err((fault, page)),
+            Err(fault) => Err((self.told(&page, fault), page)),
+        }
+    }
+
+    /// Why the page can't be the next one, by the pages that the book was made of, whatever stands behind these.
+    fn never_next(&self, page: &Page) -> Option<PageFault>
+        ensures strange_bridge { (result ≡ Some PageFault.StrangeBridge) ↔ IsOfStrangeBridge self.now page.now }
+        ensures strange_cycle { (result ≡ Some PageFault.StrangeCycle) ↔ IsOfStrangeCycle self.now page.now }
+        ensures double_page { (result ≡ Some PageFault.DoublePage) ↔ IsDouble self.now page.now }
+        ensures cycle_skipped { (result ≡ Some PageFault.CycleSkipped) → ⊥ }
+        ensures memory { (result ≡ Some PageFault.Memory) → ⊥ }
+        ensures may { IfNone result (MayBeNext self.now page.now) }
+    {
+        match self.opening.refusal(page) {
+            Some(PageFault::CycleSkipped) => None,
+            refusal => refusal,
+        }
+    }
+
+    /// Why a page that may be the next one isn't taken, where the pages under the lock gave this reason: for one, a page
+    /// that is behind none that is missing isn't skipped.
+    fn told(&self, page: &Page, fault: PageFault) -> PageFault
+        requires may { MayBeNext self.now page.now }
+        ensures strange_bridge { result ≡ PageFault.StrangeBridge → ⊥ }
+        ensures strange_cycle { result ≡ PageFault.StrangeCycle → ⊥ }
+        ensures cycle_skipped { result ≡ PageFault.CycleSkipped → SkipsCycle self.now page.now }
+    {
+        let skips = self.opening.refusal(page).is_some();
+        match fault {
+            PageFault::DoublePage => PageFault::DoublePage,
+            PageFault::CycleSkipped if skips => PageFault::CycleSkipped,
+            _ => PageFault::Memory,
         }
     }
 
@@ -153,19 +209,27 @@ impl CycleBook {
     }
 
     /// Of how many first cycles each bridge has posted its page: what [`Pages::whole_cycles`] answers of the pages at one
-    /// time. It may wait for the lock, and takes no memory.
+    /// time; no fewer than those of the pages that it was made of, and no more than there are cycles. It may wait for the
+    /// lock, and takes no memory.
     pub fn whole_cycles<R: Wait>(&self, rt: &R) -> u32
-        ensures { AreWholeOfSome result }
+        ensures value { MayBeWhole self.now result }
+        ensures facts { ArePosted self.now }
     {
-        self.posted.lock(rt).whole_cycles()
+        let before = self.opening.whole_cycles();
+        let now = self.posted.lock(rt).whole_cycles();
+        now.max(before).min(self.opening.cycles())
     }
 
     /// How many streams' frames the pages have on the link, and their octets: what [`Pages::totals`] answers of the pages at
-    /// one time. It may wait for the lock, and takes no memory.
+    /// one time; no fewer than on those that it was made of. It may wait for the lock, and takes no memory.
     pub fn totals<R: Wait>(&self, rt: &R, link: u8) -> Totals
-        ensures { AreTotalsOfSome link result.frames result.octets }
+        ensures some { AreTotalsOfSome link result.frames result.octets }
+        ensures frames { frames_posted link self.now.pages ≤ result.frames }
+        ensures octets { octets_posted link self.now.pages ≤ result.octets }
     {
-        self.posted.lock(rt).totals(link)
+        let before = self.opening.totals(link);
+        let now = self.posted.lock(rt).totals(link);
+        no_fewer(before, now)
     }
 
     /// The pages of the book: those that it was made of and, bridge by bridge, those of the bridge's share behind them. It is
@@ -175,6 +239,7 @@ impl CycleBook {
         ensures memory { IsErrOf result BookClose.Memory → ⊥ }
         ensures ok { IfOk result (λ pages. Agree self shares.items pages self.bridges) }
         ensures once { IfOk result (λ pages. ArePosted (with_shares self shares.items)) }
+        ensures fault { IfErr result (λ fault. IsBookCloseFault self shares.items fault) }
     {
         let CycleBook {
             opening,
@@ -199,6 +264,7 @@ impl CycleBook {
         ensures missing { IsErrOf result BookClose.ShareMissing ↔ (AreOneEach self.bridges shares.items → ⊥) }
         ensures ok { IfOk result (λ book. IsBookOfShares self shares.items (contents_of book)) }
         ensures once { IfOk result (λ book. ArePosted (with_shares self shares.items)) }
+        ensures fault { IfErr result (λ fault. IsBookCloseFault self shares.items fault) }
     {
         let CycleBook {
             alloc,

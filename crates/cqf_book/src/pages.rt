@@ -1,9 +1,10 @@
 //! The pages of all bridges.
 ghost use Rattle.std.specs.Prelude.{◌≡◌, ◌<◌, ◌≤◌, ◌↔◌, [], Some, IfErr, IfNone, IfOk, IsErrOf, OnErr, OnOk, length, map, option_copied, replicate};
-ghost use Rattle.cqf_book.specs.Pages.{ArePosted, AreWhole, IsDouble, IsNext, IsOfStrangeBridge, IsOfStrangeCycle, SkipsCycle};
+ghost use Rattle.cqf_book.specs.Pages.{ArePosted, AreWhole, IsDouble, IsNextPage, IsOfStrangeBridge, IsOfStrangeCycle, SkipsCycle};
 ghost use Rattle.cqf_book.specs.Pages.{frames_posted, octets_posted, page_at, pages_of, with_page};
 ghost use Rattle.cqf_book.specs.Shares.{said};
 ghost use Rattle.cqf_book.specs.Whole.{IsLeastBelow};
+ghost use Rattle.cqf_model.specs.Limits.{most_cycles};
 
 use crate::bridge_pages::BridgePages;
 use crate::faults::PageFault;
@@ -25,20 +26,20 @@ pub struct Pages {
 
 impl Model for Pages {
     ghost use Rattle.cqf_book.specs.Pages.{Posted};
-    ghost use Rattle.cqf_book.specs.Totals.{AreKept};
+    ghost use Rattle.cqf_book.specs.Totals.{AreKeptTotals};
 
     ghost Value = { Posted };
 
     ghost view = { λ p. record { bridges = p.bridges; cycles = p.cycles; pages = p.posted.items } };
 
-    ghost invariant = { λ p. AreKept (record { bridges = p.bridges; cycles = p.cycles; pages = p.posted.items }) p.totals.frames.items p.totals.octets.items };
+    ghost invariant = { λ p. AreKeptTotals (record { bridges = p.bridges; cycles = p.cycles; pages = p.posted.items }) p.totals.frames.items p.totals.octets.items };
 }
 
 impl Pages {
     /// No page yet, of so many bridges and cycles: up to 32 bridges and 100,000 cycles.
     pub fn new(alloc: Global, bridges: u8, cycles: u32) -> Result<Pages, Memory>
         requires few_bridges { bridges ≤ 32 }
-        requires few_cycles { cycles ≤ 100000 }
+        requires few_cycles { cycles ≤ most_cycles }
         ensures { IfOk result (λ pages. pages ≡ record { bridges = bridges; cycles = cycles; pages = replicate bridges [] }) }
     {
         Ok(Pages {
@@ -57,8 +58,8 @@ impl Pages {
         ensures strange_cycle { IsErrOf result (PageFault.StrangeCycle, page) ↔ IsOfStrangeCycle self.old page }
         ensures double_page { IsErrOf result (PageFault.DoublePage, page) ↔ IsDouble self.old page }
         ensures cycle_skipped { IsErrOf result (PageFault.CycleSkipped, page) ↔ SkipsCycle self.old page }
-        ensures memory { IsErrOf result (PageFault.Memory, page) → IsNext self.old page }
-        ensures next { OnOk result (IsNext self.old page) }
+        ensures memory { IsErrOf result (PageFault.Memory, page) → IsNextPage self.old page }
+        ensures next { OnOk result (IsNextPage self.old page) }
         ensures ok { OnOk result (self.new ≡ with_page self.old page) }
         ensures err { OnErr result (self.new ≡ self.old) }
         ensures back { IfErr result (λ refused. refused.1 ≡ page) }
@@ -80,7 +81,7 @@ impl Pages {
         ensures double_page { (result ≡ Some PageFault.DoublePage) ↔ IsDouble self.now page.now }
         ensures cycle_skipped { (result ≡ Some PageFault.CycleSkipped) ↔ SkipsCycle self.now page.now }
         ensures memory { (result ≡ Some PageFault.Memory) → ⊥ }
-        ensures next { IfNone result (IsNext self.now page.now) }
+        ensures next { IfNone result (IsNextPage self.now page.now) }
     {
         if page.bridge >= self.bridges {
             return Some(PageFault::StrangeBridge);

@@ -1,5 +1,5 @@
 //! Pages that say the same.
-ghost use Rattle.std.specs.Prelude.{◌≡◌, ◌++◌, IfOk, IsTrue, map};
+ghost use Rattle.std.specs.Prelude.{◌≡◌, ◌↔◌, ◌++◌, IfOk, map, true};
 ghost use Rattle.cqf_book.specs.Shares.{said};
 
 use cqf_model::{Dropped, Page, Started};
@@ -32,21 +32,21 @@ pub(crate) fn copied_pages(alloc: Global, pages: &[Page]) -> Result<Vec<Page>, M
 
 /// Whether the starts are the same.
 fn are_same_starts(starts: &[Started], others: &[Started]) -> bool
-    ensures { IsTrue result → starts.now ≡ others.now }
+    ensures { (result ≡ true) ↔ (starts.now ≡ others.now) }
 {
     starts == others
 }
 
 /// Whether the drops are the same.
 fn are_same_drops(drops: &[Dropped], others: &[Dropped]) -> bool
-    ensures { IsTrue result → drops.now ≡ others.now }
+    ensures { (result ≡ true) ↔ (drops.now ≡ others.now) }
 {
     drops == others
 }
 
 /// Whether two pages say the same.
 fn is_same(page: &Page, other: &Page) -> bool
-    ensures { IsTrue result → said page.now ≡ said other.now }
+    ensures { (result ≡ true) ↔ (said page.now ≡ said other.now) }
 {
     if page.bridge != other.bridge || page.cycle.0 != other.cycle.0 {
         return false;
@@ -62,7 +62,7 @@ fn is_same(page: &Page, other: &Page) -> bool
 
 /// Whether pages say the same one by one.
 pub(crate) fn are_same(pages: &[Page], others: &[Page]) -> bool
-    ensures { IsTrue result → map said pages.now ≡ map said others.now }
+    ensures { (result ≡ true) ↔ (map said pages.now ≡ map said others.now) }
 {
     if pages.len() != others.len() {
         return false;

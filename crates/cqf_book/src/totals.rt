@@ -1,6 +1,6 @@
 //! The sums of streams' frames and octets by link.
 ghost use Rattle.std.specs.Prelude.{◌≡◌, ◌+◌, ◌^◌, ◌<◌, IfOk, length, replicate, slice_index, slice_set, vec_len};
-ghost use Rattle.cqf_book.specs.Totals.{AreAdded, AreFew, HaveRoom};
+ghost use Rattle.cqf_book.specs.Totals.{AreAdded, AreFewTotals, HaveTotalsRoom};
 
 use cqf_model::Started;
 use cqf_units::Memory;
@@ -74,9 +74,9 @@ impl LinkTotals {
 
     /// Adds the frames of a page's starts.
     pub(crate) fn add(&mut self, starts: &[Started])
-        requires { HaveRoom self.old.frames.items self.old.octets.items }
+        requires { HaveTotalsRoom self.old.frames.items self.old.octets.items }
         ensures added { AreAdded starts.now self.old.frames.items self.old.octets.items self.new.frames.items self.new.octets.items }
-        ensures few { AreFew starts.now }
+        ensures few { AreFewTotals starts.now }
     {
         for start in starts {
             self.add_frame(start.link, start.octets);

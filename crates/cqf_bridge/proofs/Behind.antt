@@ -15,10 +15,10 @@ use Rattle.cqf_model.specs.StreamGate.{Call, octets_in, place_at, same_interval,
 use Rattle.cqf_model.specs.Table.{begins_at, goes_on, is_live, row_named, row_of, table_of}
 use Rattle.cqf_model.specs.Traffic.{AtEdge, DroppedFor, ExceedsGate, LacksRow, Policed, Queued, Received, Relayed, Verdict, Way, calls_of, edge_verdict, inside_verdict, is_queued_of, police, verdict_by, within_gate}
 use Rattle.cqf_laws_cycle.specs.Compiled.{GateCountsCycles}
-use Rattle.cqf_stream_gates.specs.declared.gates.KeptGate.{KeptGate}
+use Rattle.cqf_bridge_gates.specs.declared.gates.KeptGate.{KeptGate}
 use Rattle.cqf_bridge.specs.declared.policing.Outcome.{Outcome}
-use Rattle.cqf_stream_gates.specs.Gates.{AreKept, HaveCounted}
-use Rattle.cqf_bridge.specs.Taking.{IsPolicedBehind, Polices, passes_by, taken_in, verdict_of}
+use Rattle.cqf_bridge_gates.specs.Gates.{AreKept, HaveCounted}
+use Rattle.cqf_bridge.specs.Taking.{IsPolicedBehind, Polices, passes_by, taken_in_cycle, verdict_taken}
 use Rattle.cqf_bridge.proofs.Verdicts.{gate_entries}
 
 -- tests that agree on the table's rows give one verdict
@@ -77,7 +77,7 @@ module _ (d : Domain) (tables : List (List Row)) (rows : List Row) (bridge cycle
       (place_at (gate_entries d.cycle_time (x.at + 1) gates row.no row.octets kept i) x.at)) false
 
   -- so the verdict is the one of the definitions
-  pub verdict_behind : verdict_of d rows bridge cycle gates x ≡ (police d tables bridge policed x).verdict
+  pub verdict_behind : verdict_taken d rows bridge cycle gates x ≡ (police d tables bridge policed x).verdict
   verdict_behind =
       verdict_agrees d rows bridge cycle (passes_by d.cycle_time gates x) (λ row. within_gate d policed row x) gates_agree x.way
       ∙ ap (λ (rs : List Row). verdict_by d rs bridge cycle (λ row. within_gate d policed row x) x.way) (sym table)
@@ -85,8 +85,8 @@ module _ (d : Domain) (tables : List (List Row)) (rows : List Row) (bridge cycle
 
   -- and where the gates count the frame they have counted it behind the others
   pub counted_behind : (gates_after : List KeptGate) →
-      ((row : Row) (t : ℕ) → Contains rows row → cycle_of d t ≡ cycle → taken_in d.cycle_time gates_after row t
-      ≡ taken_in d.cycle_time gates row t + (if is_queued_of row.no (verdict_of d rows bridge cycle gates x) then x.octets else 0)) →
+      ((row : Row) (t : ℕ) → Contains rows row → cycle_of d t ≡ cycle → taken_in_cycle d.cycle_time gates_after row t
+      ≡ taken_in_cycle d.cycle_time gates row t + (if is_queued_of row.no (verdict_taken d rows bridge cycle gates x) then x.octets else 0)) →
       HaveCounted d.cycle_time cycle rows (policed ++ police d tables bridge policed x ∷ []) gates_after
   counted_behind gates_after more row held t in_cycle =
       more row t held in_cycle

@@ -16,7 +16,7 @@ use Rattle.cqf_model.specs.declared.ports.Arrival.{Arrival}
 use Rattle.cqf_model.specs.Domain.{Domain, IsAccepted, leaves}
 use Rattle.cqf_model.specs.Network.{QueuedFrame, arrivals_of, backed_frame}
 use Rattle.cqf_model.specs.Port.{Transmission}
-use Rattle.cqf_laws_pages.specs.Gathered.{is_for_link}
+use Rattle.cqf_laws_cycle.specs.Gathered.{is_for_link}
 use Rattle.cqf_bridge.specs.Batch.{LinkBatch}
 use Rattle.cqf_bridge.specs.PortRecord.{PortRecord, new_record}
 use Rattle.cqf_bridge.specs.BridgeState.{AreBackedOf, BridgeState, IsBridge, IsInStep, IsNextToSend, SendsCycle, backed_on, links_from, new_bridge, port_behind}
@@ -54,6 +54,7 @@ bridge_begins d own number ports background accepted inside is_own are_ports =
       accepted = accepted;
       inside = inside;
       turn = inl refl;
+      few = omega arith;
       links = λ _. map-map (λ (r : PortRecord). r.link) (new_record d) (links_from d number) ∙ same_links (links_from d number);
       in_step = λ _ r held.
           let f = contains_from_map (new_record d) (links_from d number) r held in
@@ -129,11 +130,12 @@ module _ (b : BridgeState) (is : IsBridge b) (fresh : b.spent ≡ false) (cycle 
     }
 
     -- it is a bridge again
-    pub bridge_behind : IsBridge behind
-    bridge_behind = record {
+    pub bridge_behind : cycle < 100000 → IsBridge behind
+    bridge_behind early = record {
       accepted = is.accepted;
       inside = is.inside;
       turn = inr (ap (λ (n : ℕ). n + 1) next.1);
+      few = omega (arith, early, next.0, next.1);
       links = λ _.
           ap (map (λ (r : PortRecord). r.link)) all_ports
           ∙ map-map (λ (r : PortRecord). r.link) (port_behind b.domain cycle backed) (zip b.ports h.made)
@@ -169,6 +171,7 @@ bridge_spent b ports is = record {
   accepted = is.accepted;
   inside = is.inside;
   turn = is.turn;
+  few = is.few;
   links = λ never. absurd (true≢false never);
   in_step = λ never. absurd (true≢false never);
 }

@@ -8,7 +8,7 @@ use Rattle.cqf_lists.proofs.Sorted.{stable_at}
 use Rattle.cqf_model.specs.declared.frames.Dropped.{Dropped}
 use Rattle.cqf_model.specs.declared.frames.Reason.TheVariants.{Unknown}
 use Rattle.cqf_model.specs.Traffic.{Received}
-use Rattle.cqf_laws_pages.specs.Gathered.{IsInOrderOf}
+use Rattle.cqf_laws_cycle.specs.Gathered.{IsInOrderOf}
 use Rattle.cqf_bridge.specs.declared.gathering.Came.TheVariants.{ByLink}
 use Rattle.cqf_bridge.specs.declared.gathering.Incoming.{Incoming}
 use Rattle.cqf_bridge.specs.Taking.{received_as}

@@ -10,7 +10,7 @@ use Rattle.cqf_model.specs.declared.frames.Offer.{Offer}
 use Rattle.cqf_model.specs.declared.frames.Offered.{Offered}
 use Rattle.cqf_model.specs.Domain.{Domain}
 use Rattle.cqf_model.specs.Traffic.{numbered}
-use Rattle.cqf_laws_pages.specs.Gathered.{is_offered_in}
+use Rattle.cqf_laws_cycle.specs.Gathered.{is_offered_in}
 
 -- the offer at a place, with its number
 abbrev at_place : List Offer → ℕ → Offer → Offered

@@ -15,15 +15,15 @@ use Rattle.cqf_model.specs.Run.{Run}
 use Rattle.cqf_model.specs.Traffic.{Policed, received_at}
 use Rattle.cqf_model.proofs.Coming.{queued_when, received_when}
 use Rattle.cqf_model.proofs.Policing.{police_member}
-use Rattle.cqf_laws_pages.specs.BridgeCycle.{received_in}
+use Rattle.cqf_laws_cycle.specs.BridgeCycle.{received_in}
 use Rattle.cqf_bridge.specs.declared.faults.BridgeFault.{BridgeFault}
 use Rattle.cqf_bridge.specs.declared.faults.BridgeFault.TheVariants as fault
-use Rattle.cqf_stream_gates.specs.declared.gates.KeptGate.{KeptGate}
+use Rattle.cqf_bridge_gates.specs.declared.gates.KeptGate.{KeptGate}
 use Rattle.cqf_bridge.specs.Batch.{LinkBatch}
 use Rattle.cqf_bridge.specs.BridgeState.{BridgeState, IsBridge, IsInStep, IsSpentBy}
-use Rattle.cqf_stream_gates.specs.Gates.{AreKept}
+use Rattle.cqf_bridge_gates.specs.Gates.{AreKept}
 use Rattle.cqf_bridge.specs.PortRecord.{PortRecord}
-use Rattle.cqf_bridge.specs.Receiving.{CanReceive, Handed, IsNextToReceive, IsReceiveFault, IsRunOf, ReceivesCycle, carried_by, port_queued, verdicts_in}
+use Rattle.cqf_bridge.specs.Receiving.{CanReceive, Handed, IsNextToReceive, IsReceiveFault, IsRunOfBridge, ReceivesCycle, carried_by, port_queued, verdicts_in}
 use Rattle.cqf_bridge.specs.Taking.{AreReady, HasGates, TakesCycle, stop_of_run}
 use Rattle.cqf_bridge.proofs.Bridges.{bridge_spent}
 
@@ -53,6 +53,10 @@ next_to_receive b cycle table_cycle is first sent_more same =
 
 module _ (b : BridgeState) (gates : List KeptGate) (is : HasGates b gates) (fresh : b.spent ≡ false) (cycle table_cycle : ℕ)
     (next : IsNextToReceive b cycle table_cycle) where
+  -- it is one of the first 100,000
+  pub early_to_receive : cycle < 100000
+  early_to_receive = omega (arith, is.bridge.few, next.0, next.1)
+
   -- it is ready to receive the cycle
   pub ready_to_receive : AreReady b.domain cycle (cycle * b.domain.cycle_time) gates b.ports
   ready_to_receive = record {
@@ -79,7 +83,7 @@ module _ (b : BridgeState) (gates : List KeptGate) (is : HasGates b gates) (fres
       background = b.background;
     }
 
-    module _ (run : Run) (of_run : IsRunOf b.domain b.number cycle rows offers run) (takes : TakesCycle run b.number cycle batches b.ports ports drops) where
+    module _ (run : Run) (of_run : IsRunOfBridge b.domain b.number cycle rows offers run) (takes : TakesCycle run b.number cycle batches b.ports ports drops) where
       -- a port with what was queued to it is in step
       port_in_step : (r : PortRecord) → Contains b.ports r → IsInStep b.domain b.sent (b.received + 1) (port_queued run (verdicts_in run b.number cycle batches) r)
       port_in_step r held =
@@ -112,6 +116,7 @@ module _ (b : BridgeState) (gates : List KeptGate) (is : HasGates b gates) (fres
           accepted = is.bridge.accepted;
           inside = is.bridge.inside;
           turn = inl next.1;
+          few = is.bridge.few;
           links = λ _.
               ap (map (λ (r : PortRecord). r.link)) takes.queued
               ∙ map-map (λ (r : PortRecord). r.link) (port_queued run (verdicts_in run b.number cycle batches)) b.ports

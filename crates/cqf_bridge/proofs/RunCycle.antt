@@ -24,13 +24,13 @@ use Rattle.cqf_model.specs.Table.{goes_on, row_of, table_of}
 use Rattle.cqf_model.specs.Traffic.{AtEdge, Policed, Received, Relayed, is_offered_at, numbered, offer_received, police_all, sent_received, whole_at}
 use Rattle.cqf_model.proofs.LinkEnds.{enters_inside}
 use Rattle.cqf_model.proofs.Policing.{police_same}
-use Rattle.cqf_laws_pages.specs.BridgeCycle.{received_in}
-use Rattle.cqf_laws_pages.specs.Gathered.{AreWholeIn, DropsAreByFrame, FramesAreTakenInOrder, IsInOrderOf, dropped_of, gathered_in, offered_for}
+use Rattle.cqf_laws_cycle.specs.BridgeCycle.{received_in}
+use Rattle.cqf_laws_cycle.specs.Gathered.{AreWholeIn, DropsAreByFrame, FramesAreTakenInOrder, IsInOrderOf, dropped_of, gathered_in, offered_for}
 use Rattle.cqf_bridge.specs.Batch.{LinkBatch}
 use Rattle.cqf_bridge.specs.PortRecord.{PortRecord, with_frames}
 use Rattle.cqf_bridge.specs.Receiving.{AreBatchesOf, carried_by, verdicts_in}
 use Rattle.cqf_bridge.specs.Taking.{CanGather, HasPoliced, MayBeTaken, TakesCycle, gathered_by, policed_by}
-use Rattle.cqf_stream_gates.specs.declared.gates.KeptGate.{KeptGate}
+use Rattle.cqf_bridge_gates.specs.declared.gates.KeptGate.{KeptGate}
 use Rattle.cqf_bridge.proofs.Coming.{batch_enters}
 use Rattle.cqf_bridge.proofs.TakenCycle.{table_held}
 

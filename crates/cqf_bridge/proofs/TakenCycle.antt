@@ -26,13 +26,13 @@ use Rattle.cqf_model.proofs.Coming.{queued_when}
 use Rattle.cqf_model.proofs.Policing.{police_more}
 use Rattle.cqf_gates.specs.StreamGate.{fresh, taken_at}
 use Rattle.cqf_laws_cycle.specs.Compiled.{GateCountsCycles}
-use Rattle.cqf_laws_pages.specs.Gathered.{dropped_of}
+use Rattle.cqf_laws_cycle.specs.Gathered.{dropped_of}
 use Rattle.cqf_bridge.specs.declared.faults.BridgeFault.{BridgeFault}
 use Rattle.cqf_bridge.specs.declared.faults.BridgeFault.TheVariants as fault
-use Rattle.cqf_stream_gates.specs.declared.gates.KeptGate.{KeptGate}
-use Rattle.cqf_stream_gates.specs.Gates.{AreKept, IsKept, gate_or}
+use Rattle.cqf_bridge_gates.specs.declared.gates.KeptGate.{KeptGate}
+use Rattle.cqf_bridge_gates.specs.Gates.{AreKept, IsKeptGate, gate_or}
 use Rattle.cqf_bridge.specs.PortRecord.{PortRecord, with_frames}
-use Rattle.cqf_bridge.specs.Taking.{AreReady, HasPoliced, IsStopBy, IsStopOf, IsWaiting, MayBeTaken, TakesFrame, policed_by, taken_in, verdict_of, with_verdict}
+use Rattle.cqf_bridge.specs.Taking.{AreReady, HasPoliced, IsStopBy, IsStopOf, IsWaiting, MayBeTaken, TakesFrame, policed_by, taken_in_cycle, verdict_taken, with_verdict}
 use Rattle.cqf_bridge.proofs.Behind.{counted_behind, verdict_behind}
 use Rattle.cqf_bridge.proofs.Taking.{frames_more, frames_none}
 
@@ -47,7 +47,7 @@ fresh_takes_none false taken none = refl
 
 -- a gate that was called before the cycle has taken nothing of it
 none_of : (d : Domain) (cycle : ℕ) → GateCountsCycles → 0 < d.cycle_time → (reserved t : ℕ) → cycle_of d t ≡ cycle → (o : Option KeptGate) →
-    ((k : KeptGate) → o ≡ Some k → IsKept d.cycle_time (cycle * d.cycle_time) k) → taken_at (gate_or d.cycle_time reserved o) t ≡ 0
+    ((k : KeptGate) → o ≡ Some k → IsKeptGate d.cycle_time (cycle * d.cycle_time) k) → taken_at (gate_or d.cycle_time reserved o) t ≡ 0
 none_of d cycle counts some reserved t in_cycle None each = fresh_takes_none (same_interval (stream_list d.cycle_time reserved) 0 t) 0 refl
 none_of d cycle counts some reserved t in_cycle (Some k) each =
     let is = each k refl in
@@ -63,7 +63,7 @@ none_of d cycle counts some reserved t in_cycle (Some k) each =
 
 -- nor has the gate that a stream goes by
 none_taken_yet : (d : Domain) (cycle : ℕ) → GateCountsCycles → 0 < d.cycle_time → (gs : List KeptGate) → AreKept d.cycle_time (cycle * d.cycle_time) gs →
-    (row : Row) (t : ℕ) → cycle_of d t ≡ cycle → taken_in d.cycle_time gs row t ≡ 0
+    (row : Row) (t : ℕ) → cycle_of d t ≡ cycle → taken_in_cycle d.cycle_time gs row t ≡ 0
 none_taken_yet d cycle counts some gs held row t in_cycle =
     none_of d cycle counts some row.octets t in_cycle (find (λ (k : KeptGate). k.number == row.no) gs)
     (λ k e. held k (find_member (λ (g : KeptGate). g.number == row.no) gs k e).0)
@@ -77,7 +77,7 @@ module _ (d : Domain) (rows : List Row) (bridge cycle : ℕ) (ports_before : Lis
       (may : MayBeTaken d bridge cycle rows x) (kept : AreKept d.cycle_time (x.at + 1) gates)
       (h : HasPoliced d rows bridge cycle ports_before drops_before policed gates ports drops) where
     -- so the verdict is the one of the definitions
-    pub same_verdict : verdict_of d rows bridge cycle gates x ≡ (policed_next policed x).verdict
+    pub same_verdict : verdict_taken d rows bridge cycle gates x ≡ (policed_next policed x).verdict
     same_verdict =
         verdict_behind d (replicate (cycle + 1) rows) rows bridge cycle counts some (table_held cycle rows) policed x gates may.in_cycle kept h.counted
 
@@ -86,7 +86,7 @@ module _ (d : Domain) (rows : List Row) (bridge cycle : ℕ) (ports_before : Lis
       -- a frame more is policed
       pub policed_more : HasPoliced d rows bridge cycle ports_before drops_before (policed ++ policed_next policed x ∷ []) gates_after ports_after drops_after
       policed_more =
-          let v = verdict_of d rows bridge cycle gates x in
+          let v = verdict_taken d rows bridge cycle gates x in
           let p = policed_next policed x in
           record {
             counted = counted_behind d (replicate (cycle + 1) rows) rows bridge cycle counts some (table_held cycle rows) policed x gates may.in_cycle kept h.counted
@@ -145,7 +145,7 @@ pub ready_again : (d : Domain) (rows : List Row) (bridge cycle : ℕ) (x : Recei
 ready_again d rows bridge cycle x gates gates_after ports ports_after drops drops_after h takes = record {
   gates_before = takes.kept;
   ports_before = λ r held.
-      let v = verdict_of d rows bridge cycle gates x in
+      let v = verdict_taken d rows bridge cycle gates x in
       let f = contains_from_map (with_verdict d x v) ports r (subst (λ (rs : List PortRecord). Contains rs r) takes.queued held) in
       let is = h.ports_before f.0 f.1 in
       subst (IsWaiting d cycle (x.at + 1)) f.2
@@ -216,7 +216,7 @@ module _ (d : Domain) (rows : List Row) (bridge cycle : ℕ) (ports_before : Lis
       }
 
       -- or nothing more is
-      pub taking_stops : (why : BridgeFault) → IsStopBy (verdict_of d rows bridge cycle gates x) x.frame why → IsStopOf (policed_by d rows bridge cycle frames) why
+      pub taking_stops : (why : BridgeFault) → IsStopBy (verdict_taken d rows bridge cycle gates x) x.frame why → IsStopOf (policed_by d rows bridge cycle frames) why
       taking_stops fault.Spent stops = stops
       taking_stops fault.WrongCycle stops = stops
       taking_stops fault.StrangeBatch stops = stops

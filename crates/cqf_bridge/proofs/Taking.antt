@@ -10,7 +10,7 @@ use Rattle.cqf_model.specs.declared.frames.Backed.{Backed}
 use Rattle.cqf_model.specs.declared.ports.Arrival.{Arrival}
 use Rattle.cqf_model.specs.Network.{QueuedFrame, arrivals_of, backed_frame}
 use Rattle.cqf_model.specs.Port.{no_arrival}
-use Rattle.cqf_laws_pages.specs.Gathered.{is_for_link}
+use Rattle.cqf_laws_cycle.specs.Gathered.{is_for_link}
 use Rattle.cqf_port.specs.PortState.{IsLate, IsOutOfOrder, PortState}
 use Rattle.cqf_bridge.specs.PortRecord.{PortRecord, with_frames}
 use Rattle.cqf_bridge.specs.BridgeState.{backed_on, port_with}

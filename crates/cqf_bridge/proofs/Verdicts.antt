@@ -26,13 +26,13 @@ use Rattle.cqf_units.specs.Timing.{cycle_at}
 use Rattle.cqf_gates.specs.StreamGate.{Gate, gate_after, lets_pass, octet_max_at, taken_at, taken_behind}
 use Rattle.cqf_gates.specs.declared.streams.Passed.TheVariants.{Class, OverOctets}
 use Rattle.cqf_laws_cycle.specs.Compiled.{GateCountsCycles, GateGivesClass}
-use Rattle.cqf_laws_pages.specs.PortCycle.{QueuedFramesWait}
+use Rattle.cqf_laws_cycle.specs.PortCycle.{QueuedFramesWait}
 use Rattle.cqf_admission.specs.Tables.{AreInOrder}
-use Rattle.cqf_stream_gates.specs.declared.gates.KeptGate.{KeptGate}
-use Rattle.cqf_stream_gates.specs.Gates.{AreKept, IsKept, gate_in, gate_or, with_gate}
+use Rattle.cqf_bridge_gates.specs.declared.gates.KeptGate.{KeptGate}
+use Rattle.cqf_bridge_gates.specs.Gates.{AreKept, IsKeptGate, gate_in, gate_or, with_gate}
 use Rattle.cqf_bridge.specs.PortRecord.{PortRecord}
 use Rattle.cqf_bridge.specs.declared.policing.Outcome.{Outcome}
-use Rattle.cqf_bridge.specs.Taking.{CanRecord, HasClass, IsWaiting, MayBeTaken, PassesGate, Polices, TakesFrame, class_in, passes_by, queue_on, taken_in, verdict_as, verdict_if, verdict_of, with_verdict}
+use Rattle.cqf_bridge.specs.Taking.{CanRecord, HasClass, IsWaiting, MayBeTaken, PassesGate, Polices, TakesFrame, class_in, passes_by, queue_on, taken_in_cycle, verdict_as, verdict_if, verdict_taken, with_verdict}
 use Rattle.cqf_bridge.proofs.PutGates.{gate_beside, gate_put, kept_cases}
 use Rattle.cqf_model.proofs.Reservations.{max_of_reservation, within_reservation}
 use Rattle.cqf_bridge.proofs.Taking.{frames_none, not_out_of_order}
@@ -48,7 +48,7 @@ word_over true m said = absurd cc
 word_over false m said = refl
 
 -- a gate of kept ones goes by its reservation's list
-kept_entries : (time until reserved : ℕ) (o : Option KeptGate) → ((k : KeptGate) → o ≡ Some k → IsKept time until k) →
+kept_entries : (time until reserved : ℕ) (o : Option KeptGate) → ((k : KeptGate) → o ≡ Some k → IsKeptGate time until k) →
     (gate_or time reserved o).entries ≡ stream_list time reserved
 kept_entries time until reserved None each = refl
 kept_entries time until reserved (Some k) each = elim (cases_eq k.reserved reserved) [
@@ -59,7 +59,7 @@ kept_entries time until reserved (Some k) each = elim (cases_eq k.reserved reser
 ]
 
 -- and was called before the instant
-kept_last : (time until reserved : ℕ) (o : Option KeptGate) → 0 < until → ((k : KeptGate) → o ≡ Some k → IsKept time until k) →
+kept_last : (time until reserved : ℕ) (o : Option KeptGate) → 0 < until → ((k : KeptGate) → o ≡ Some k → IsKeptGate time until k) →
     (gate_or time reserved o).last < until
 kept_last time until reserved None some each = some
 kept_last time until reserved (Some k) some each = elim (cases_eq k.reserved reserved) [
@@ -130,7 +130,7 @@ module _ (d : Domain) (cycle : ℕ) (x : Received) (row : Row) (gates gates_afte
   kept_again k held = elim (kept_cases gates put k (subst (λ (gs : List KeptGate). Contains gs k) after held)) [
     | inl old ↦ kept k old
     | inr e ↦
-        subst (IsKept time (x.at + 1)) e
+        subst (IsKeptGate time (x.at + 1)) e
         (record { entries = gate_entries time (x.at + 1) gates row.no row.octets kept; sooner = omega arith })
   ]
 
@@ -160,12 +160,12 @@ module _ (d : Domain) (cycle : ℕ) (x : Received) (row : Row) (gates gates_afte
 
     -- and that of another number
     other_counted : (other : Row) (t : ℕ) → row.no ≢ other.no →
-        taken_in time gates_after other t ≡ taken_in time gates other t + (if is_queued_of other.no (verdict_if went row) then x.octets else 0)
+        taken_in_cycle time gates_after other t ≡ taken_in_cycle time gates other t + (if is_queued_of other.no (verdict_if went row) then x.octets else 0)
     other_counted other t apart =
-        ap (λ (gs : List KeptGate). taken_in time gs other t) after
+        ap (λ (gs : List KeptGate). taken_in_cycle time gs other t) after
         ∙ ap (λ o. taken_at (gate_or time other.octets o) t) (gate_beside gates put other.no apart)
-        ∙ plus_none (taken_in time gates other t)
-        ∙ ap (λ (b : Bool). taken_in time gates other t + (if b then x.octets else 0)) (sym (none went))
+        ∙ plus_none (taken_in_cycle time gates other t)
+        ∙ ap (λ (b : Bool). taken_in_cycle time gates other t + (if b then x.octets else 0)) (sym (none went))
       where
         plus_none : (n : ℕ) → n ≡ n + 0
         plus_none n = omega arith
@@ -245,17 +245,17 @@ queued_as d x row class way ports after gives came is =
 
 module _ (d : Domain) (rows : List Row) (bridge cycle : ℕ) (x : Received) (gates gates_after : List KeptGate) where
   -- a frame that goes on by no gate
-  pub polices_none : (made : Outcome) → verdict_as made ≡ verdict_of d rows bridge cycle gates x → HasClass d x made →
+  pub polices_none : (made : Outcome) → verdict_as made ≡ verdict_taken d rows bridge cycle gates x → HasClass d x made →
       ((number : ℕ) → is_queued_of number (verdict_as made) ≡ false) → AreKept d.cycle_time (x.at + 1) gates → gates_after ≡ gates →
       Polices d rows bridge cycle x gates gates_after made
   polices_none made is class none kept same = record {
     verdict = is;
     class = class;
     counted = λ row t held in_cycle.
-        ap (λ (gs : List KeptGate). taken_in d.cycle_time gs row t) same
-        ∙ plus_none (taken_in d.cycle_time gates row t)
-        ∙ ap (λ (b : Bool). taken_in d.cycle_time gates row t + (if b then x.octets else 0)) (sym (none row.no))
-        ∙ ap (λ (v : Verdict). taken_in d.cycle_time gates row t + (if is_queued_of row.no v then x.octets else 0)) is;
+        ap (λ (gs : List KeptGate). taken_in_cycle d.cycle_time gs row t) same
+        ∙ plus_none (taken_in_cycle d.cycle_time gates row t)
+        ∙ ap (λ (b : Bool). taken_in_cycle d.cycle_time gates row t + (if b then x.octets else 0)) (sym (none row.no))
+        ∙ ap (λ (v : Verdict). taken_in_cycle d.cycle_time gates row t + (if is_queued_of row.no v then x.octets else 0)) is;
     kept = subst (AreKept d.cycle_time (x.at + 1)) (sym same) kept;
   }
     where
@@ -264,7 +264,7 @@ module _ (d : Domain) (rows : List Row) (bridge cycle : ℕ) (x : Received) (gat
 
   -- one that goes by the gate of its row
   pub polices_row : (row : Row) → AreInOrder rows → Contains rows row → (class : Option ℕ) → PassesGate d cycle x row gates gates_after class → (made : Outcome) →
-      verdict_as made ≡ verdict_of d rows bridge cycle gates x → HasClass d x made →
+      verdict_as made ≡ verdict_taken d rows bridge cycle gates x → HasClass d x made →
       ((number : ℕ) → is_queued_of number (verdict_if (passes_by d.cycle_time gates x row) row) ≡ is_queued_of number (verdict_as made)) →
       Polices d rows bridge cycle x gates gates_after made
   polices_row row order of_table class p made is gives same = record {
@@ -272,8 +272,8 @@ module _ (d : Domain) (rows : List Row) (bridge cycle : ℕ) (x : Received) (gat
     class = gives;
     counted = λ other t held in_cycle.
         p.counted other t (λ e. ap (λ (r : Row). r.octets) (one_row rows row other order of_table held e)) in_cycle
-        ∙ ap (λ (b : Bool). taken_in d.cycle_time gates other t + (if b then x.octets else 0)) (same other.no)
-        ∙ ap (λ (v : Verdict). taken_in d.cycle_time gates other t + (if is_queued_of other.no v then x.octets else 0)) is;
+        ∙ ap (λ (b : Bool). taken_in_cycle d.cycle_time gates other t + (if b then x.octets else 0)) (same other.no)
+        ∙ ap (λ (v : Verdict). taken_in_cycle d.cycle_time gates other t + (if is_queued_of other.no v then x.octets else 0)) is;
     kept = p.kept;
   }
 
@@ -308,7 +308,7 @@ module _ (d : Domain) (rows : List Row) (bridge cycle : ℕ) (x : Received) (gat
 -- the verdict on an offer, by the row of its name
 pub verdict_at_edge : (d : Domain) (rows : List Row) (bridge cycle : ℕ) (gates : List KeptGate) (x : Received) (name : List ℕ) (found : Option Row) →
     x.way ≡ Offering name → found ≡ row_named rows name →
-    verdict_of d rows bridge cycle gates x ≡ edge_verdict d bridge cycle (passes_by d.cycle_time gates x) found
+    verdict_taken d rows bridge cycle gates x ≡ edge_verdict d bridge cycle (passes_by d.cycle_time gates x) found
 verdict_at_edge d rows bridge cycle gates x name found came is =
     ap (verdict_by d rows bridge cycle (passes_by d.cycle_time gates x)) came
     ∙ ap (edge_verdict d bridge cycle (passes_by d.cycle_time gates x)) (sym is)
@@ -316,7 +316,7 @@ verdict_at_edge d rows bridge cycle gates x name found came is =
 -- and on a frame that came by a link, of a row that leads on
 pub verdict_inside : (d : Domain) (rows : List Row) (bridge cycle : ℕ) (gates : List KeptGate) (x : Received) (link stream : ℕ) (row : Row) →
     x.way ≡ Relayed link stream → Some row ≡ row_of rows stream → goes_on d row (Some link) bridge ≡ true →
-    verdict_of d rows bridge cycle gates x ≡ verdict_if (passes_by d.cycle_time gates x row) row
+    verdict_taken d rows bridge cycle gates x ≡ verdict_if (passes_by d.cycle_time gates x row) row
 verdict_inside d rows bridge cycle gates x link stream row came is goes =
     let passes = passes_by d.cycle_time gates x in
     let rest : Verdict = if not (passes row) then ExceedsGate else Queued row in
@@ -331,7 +331,7 @@ verdict_inside d rows bridge cycle gates x link stream row came is goes =
 
 -- or of no row, or one that doesn't lead on
 pub verdict_lacking : (d : Domain) (rows : List Row) (bridge cycle : ℕ) (gates : List KeptGate) (x : Received) (link stream : ℕ) →
-    x.way ≡ Relayed link stream → None ≡ row_of rows stream → verdict_of d rows bridge cycle gates x ≡ LacksRow
+    x.way ≡ Relayed link stream → None ≡ row_of rows stream → verdict_taken d rows bridge cycle gates x ≡ LacksRow
 verdict_lacking d rows bridge cycle gates x link stream came is =
     ap (verdict_by d rows bridge cycle (passes_by d.cycle_time gates x)) came
     ∙ ap (inside_verdict d bridge link (passes_by d.cycle_time gates x)) (sym is)
@@ -339,7 +339,7 @@ verdict_lacking d rows bridge cycle gates x link stream came is =
 -- a frame whose row leads on by no link of the bridge is lost there
 pub verdict_not_leading : (d : Domain) (rows : List Row) (bridge cycle : ℕ) (gates : List KeptGate) (x : Received) (link stream : ℕ) (row : Row) →
     x.way ≡ Relayed link stream → Some row ≡ row_of rows stream → goes_on d row (Some link) bridge ≡ false →
-    verdict_of d rows bridge cycle gates x ≡ LacksRow
+    verdict_taken d rows bridge cycle gates x ≡ LacksRow
 verdict_not_leading d rows bridge cycle gates x link stream row came is goes =
     let passes = passes_by d.cycle_time gates x in
     let rest : Verdict = if not (passes row) then ExceedsGate else Queued row in
@@ -371,7 +371,7 @@ edge_lacks_none d bridge cycle passes (Some row) lacks = reasons (not (is_live r
 
 -- nor does a frame that may be taken
 pub lacks_none : (d : Domain) (rows : List Row) (bridge cycle : ℕ) (gates : List KeptGate) (x : Received) → MayBeTaken d bridge cycle rows x →
-    verdict_of d rows bridge cycle gates x ≡ LacksRow → ⊥
+    verdict_taken d rows bridge cycle gates x ≡ LacksRow → ⊥
 lacks_none d rows bridge cycle gates x may lacks = by_way x.way refl
   where
     -- one that passes its gate or not

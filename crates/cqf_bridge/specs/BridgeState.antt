@@ -9,9 +9,10 @@ use Rattle.cqf_model.specs.Domain.{Domain, IsAccepted, cycle_of, leaves}
 use Rattle.cqf_model.specs.Network.{QueuedFrame, backed_frame}
 use Rattle.cqf_model.specs.Port.{Transmission}
 use Rattle.cqf_model.specs.Run.{IsBackground}
-use Rattle.cqf_laws_pages.specs.Gathered.{is_for_link}
+use Rattle.cqf_laws_cycle.specs.Gathered.{is_for_link}
 use Rattle.cqf_bridge.specs.Batch.{LinkBatch}
 use Rattle.cqf_bridge.specs.PortRecord.{AreDemanded, PortRecord, background_by, batch_by, new_record, rules_on, with_frames, with_starts}
+use Rattle.cqf_model.specs.Limits.{most_cycles}
 
 -- a bridge: its domain and number, how many cycles it has sent and received, whether it is spent, what was recorded at the
 -- port of each link that leaves it, by number of link, and the background frames that it started in the cycle last sent
@@ -41,12 +42,13 @@ pub record IsInStep (d : Domain) (sent received : ℕ) (r : PortRecord) : Type 0
   pub background : (a : Arrival) → Contains r.port.arrivals a → a.class < 6 → a.at.0 < sent * d.cycle_time
   pub of_streams : (a : Arrival) → Contains r.port.arrivals a → 6 ≤ a.class → a.at.0 < received * d.cycle_time
 
--- what each bridge is: it has received the cycles that it has sent, or all but the last; and where it isn't spent it has a
--- port for each link that leaves it, in step
+-- what each bridge is: it has received the cycles that it has sent, or all but the last, and these are 100,000 at most; and
+-- where it isn't spent it has a port for each link that leaves it, in step
 pub record IsBridge (b : BridgeState) : Type 0 where
   pub accepted : IsAccepted b.domain
   pub inside : b.number < length b.domain.bridges
   pub turn : (b.sent ≡ b.received) ⊎ (b.sent ≡ b.received + 1)
+  pub few : b.sent ≤ most_cycles
   pub links : b.spent ≡ false → map (λ (r : PortRecord). r.link) b.ports ≡ links_from b.domain b.number
   pub in_step : b.spent ≡ false → (r : PortRecord) → Contains b.ports r → IsInStep b.domain b.sent b.received r
 

@@ -12,8 +12,8 @@ use Rattle.cqf_model.specs.Network.{IsLoss, queued_to}
 use Rattle.cqf_model.specs.Run.{AreOffers, Run}
 use Rattle.cqf_model.specs.Table.{goes_on, row_of, table_of}
 use Rattle.cqf_model.specs.Traffic.{Carried, ExceedsGate, Policed, whole_at}
-use Rattle.cqf_laws_pages.specs.BridgeCycle.{policed_in}
-use Rattle.cqf_laws_pages.specs.Gathered.{offered_for}
+use Rattle.cqf_laws_cycle.specs.BridgeCycle.{policed_in}
+use Rattle.cqf_laws_cycle.specs.Gathered.{offered_for}
 use Rattle.cqf_bridge.specs.declared.faults.BridgeFault.{BridgeFault}
 use Rattle.cqf_bridge.specs.declared.faults.BridgeFault.TheVariants.{Spent, WrongCycle, StrangeBatch, OverOctets, Memory}
 use Rattle.cqf_bridge.specs.Batch.{LinkBatch}
@@ -44,7 +44,7 @@ pub record AreBatchesOf (d : Domain) (bridge cycle : ℕ) (rows : List Row) (bat
 
 -- a run of which the call is a part: of the bridge's domain, with the call's table in the cycle, and with offers of which the
 -- call's are those at the bridge in the cycle
-pub record IsRunOf (d : Domain) (bridge cycle : ℕ) (rows : List Row) (offers : List Offered) (run : Run) : Type 0 where
+pub record IsRunOfBridge (d : Domain) (bridge cycle : ℕ) (rows : List Row) (offers : List Offered) (run : Run) : Type 0 where
   pub domain : run.domain ≡ d
   pub table : table_of run.tables cycle ≡ rows
   pub good : AreOffers d run.offers

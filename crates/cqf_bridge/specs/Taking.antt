@@ -15,12 +15,12 @@ use Rattle.cqf_model.specs.Run.{Run}
 use Rattle.cqf_model.specs.StreamGate.{gate_class, stream_list}
 use Rattle.cqf_model.specs.Table.{goes_on, goes_to, row_of}
 use Rattle.cqf_model.specs.Traffic.{AtEdge as Offering, DroppedFor, ExceedsGate, LacksRow, Policed, Queued, Received, Relayed, Verdict, Way, is_queued_of, offer_received, police, police_all, sent_received, verdict_by}
-use Rattle.cqf_laws_pages.specs.Gathered.{dropped_of}
+use Rattle.cqf_laws_cycle.specs.Gathered.{dropped_of}
 use Rattle.cqf_gates.specs.StreamGate.{lets_pass, taken_at}
 use Rattle.cqf_port.specs.PortState.{IsLate, IsOutOfOrder, PortState}
 use Rattle.cqf_bridge.specs.declared.faults.BridgeFault.{BridgeFault}
 use Rattle.cqf_bridge.specs.declared.faults.BridgeFault.TheVariants.{Spent, WrongCycle, StrangeBatch, OverOctets, Memory}
-use Rattle.cqf_stream_gates.specs.declared.gates.KeptGate.{KeptGate}
+use Rattle.cqf_bridge_gates.specs.declared.gates.KeptGate.{KeptGate}
 use Rattle.cqf_bridge.specs.declared.gathering.Came.{Came}
 use Rattle.cqf_bridge.specs.declared.gathering.Came.TheVariants.{AtEdge, ByLink}
 use Rattle.cqf_bridge.specs.declared.gathering.Incoming.{Incoming}
@@ -28,9 +28,10 @@ use Rattle.cqf_bridge.specs.declared.policing.Outcome.{Outcome}
 use Rattle.cqf_bridge.specs.declared.policing.Outcome.TheVariants as outcome
 use Rattle.cqf_bridge.specs.Batch.{LinkBatch}
 use Rattle.cqf_bridge.specs.BridgeState.{BridgeState, IsBridge, end_of_cycle}
-use Rattle.cqf_stream_gates.specs.Gates.{AreKept, HaveCounted, gate_in}
+use Rattle.cqf_bridge_gates.specs.Gates.{AreKept, HaveCounted, gate_in}
 use Rattle.cqf_bridge.specs.PortRecord.{PortRecord, rules_on, with_frames}
 use Rattle.cqf_bridge.specs.Receiving.{IsFirstOver, MayCome, port_queued, verdicts_in}
+use Rattle.cqf_model.specs.Limits.{end_of_starts}
 
 -- a batch is of the cycle, and each of its frames may come by its link
 pub record IsBatchOf (d : Domain) (bridge cycle : ℕ) (rows : List Row) (batch : LinkBatch) : Type 0 where
@@ -38,17 +39,17 @@ pub record IsBatchOf (d : Domain) (bridge cycle : ℕ) (rows : List Row) (batch 
   pub frames : (sent : Sent) → Contains batch.frames sent → MayCome d bridge cycle rows batch.link sent
 
 -- a frame that comes to a bridge, as the definitions have it
-abbrev pub way_of : Came → Way
-way_of (ByLink link stream) = Relayed link stream
-way_of (AtEdge name) = Offering name
+abbrev pub way_taken : Came → Way
+way_taken (ByLink link stream) = Relayed link stream
+way_taken (AtEdge name) = Offering name
 
 abbrev pub received_as : Incoming → Received
-received_as x = record { at = x.at.0; octets = x.octets; frame = x.frame; way = way_of x.came }
+received_as x = record { at = x.at.0; octets = x.octets; frame = x.frame; way = way_taken x.came }
 
 -- a batch is of a link of the domain, and its frames start early enough for sums with their instants
 pub record CanGather (d : Domain) (b : LinkBatch) : Type 0 where
   pub inside : b.link < length d.links
-  pub early : (sent : Sent) → Contains b.frames sent → sent.start.0 < 1000001 * 10000000
+  pub early : (sent : Sent) → Contains b.frames sent → sent.start.0 < end_of_starts
 
 -- the frames of batches, batch by batch, and then the offers
 abbrev pub gathered_by : Domain → List LinkBatch → List Offered → List Received
@@ -79,16 +80,16 @@ abbrev pub passes_by : ℕ → List KeptGate → Received → Row → Bool
 passes_by cycle_time gates x row = lets_pass (gate_in cycle_time gates row.no row.octets) x.at x.octets
 
 -- the verdict on a frame by the gates
-abbrev pub verdict_of : Domain → List Row → ℕ → ℕ → List KeptGate → Received → Verdict
-verdict_of d rows bridge cycle gates x = verdict_by d rows bridge cycle (passes_by d.cycle_time gates x) x.way
+abbrev pub verdict_taken : Domain → List Row → ℕ → ℕ → List KeptGate → Received → Verdict
+verdict_taken d rows bridge cycle gates x = verdict_by d rows bridge cycle (passes_by d.cycle_time gates x) x.way
 
 -- a port with what is queued to it by a verdict
 abbrev pub with_verdict : Domain → Received → Verdict → PortRecord → PortRecord
 with_verdict d x verdict r = with_frames r (queued_by d r.link x verdict)
 
 -- what the gate of a row's stream has counted in the cycle
-abbrev pub taken_in : ℕ → List KeptGate → Row → ℕ → ℕ
-taken_in cycle_time gates row t = taken_at (gate_in cycle_time gates row.no row.octets) t
+abbrev pub taken_in_cycle : ℕ → List KeptGate → Row → ℕ → ℕ
+taken_in_cycle cycle_time gates row t = taken_at (gate_in cycle_time gates row.no row.octets) t
 
 -- the verdict on a frame that a row's gate has let pass, or not, where it came by a link
 abbrev pub verdict_if : Bool → Row → Verdict
@@ -102,8 +103,8 @@ class_in d x row = gate_class (stream_list d.cycle_time row.octets) x.at
 pub record PassesGate (d : Domain) (cycle : ℕ) (x : Received) (row : Row) (gates gates_after : List KeptGate) (class : Option ℕ) : Type 0 where
   pub decided : class ≡ (if passes_by d.cycle_time gates x row then Some (class_in d x row) else None)
   pub counted : (other : Row) (t : ℕ) → (row.no ≡ other.no → row.octets ≡ other.octets) → cycle_of d t ≡ cycle →
-      taken_in d.cycle_time gates_after other t
-      ≡ taken_in d.cycle_time gates other t + (if is_queued_of other.no (verdict_if (passes_by d.cycle_time gates x row) row) then x.octets else 0)
+      taken_in_cycle d.cycle_time gates_after other t
+      ≡ taken_in_cycle d.cycle_time gates other t + (if is_queued_of other.no (verdict_if (passes_by d.cycle_time gates x row) row) then x.octets else 0)
   pub kept : AreKept d.cycle_time (x.at + 1) gates_after
 
 -- the verdict on an offer that names a row's stream, by a reason that doesn't hang on its gate
@@ -127,11 +128,11 @@ HasClass d x outcome.ExceedsGate = Unit {0}
 
 -- a frame is policed by the gates: the verdict on it is this outcome, and where it goes on its stream's gate has counted it
 pub record Polices (d : Domain) (rows : List Row) (bridge cycle : ℕ) (x : Received) (gates gates_after : List KeptGate) (made : Outcome) : Type 0 where
-  pub verdict : verdict_as made ≡ verdict_of d rows bridge cycle gates x
+  pub verdict : verdict_as made ≡ verdict_taken d rows bridge cycle gates x
   pub class : HasClass d x made
   pub counted : (row : Row) (t : ℕ) → Contains rows row → cycle_of d t ≡ cycle →
-      taken_in d.cycle_time gates_after row t
-      ≡ taken_in d.cycle_time gates row t + (if is_queued_of row.no (verdict_of d rows bridge cycle gates x) then x.octets else 0)
+      taken_in_cycle d.cycle_time gates_after row t
+      ≡ taken_in_cycle d.cycle_time gates row t + (if is_queued_of row.no (verdict_taken d rows bridge cycle gates x) then x.octets else 0)
   pub kept : AreKept d.cycle_time (x.at + 1) gates_after
 
 -- so behind frames of the cycle that the gates have counted it is what becomes of it in a run with such a table in the cycle, and
@@ -151,12 +152,12 @@ pub record MayBeTaken (d : Domain) (bridge cycle : ℕ) (rows : List Row) (x : R
 pub record TakesFrame (d : Domain) (rows : List Row) (bridge cycle : ℕ) (x : Received) (gates gates_after : List KeptGate)
     (ports ports_after : List PortRecord) (drops drops_after : List Dropped) : Type 0 where
   pub counted : (row : Row) (t : ℕ) → Contains rows row → cycle_of d t ≡ cycle →
-      taken_in d.cycle_time gates_after row t
-      ≡ taken_in d.cycle_time gates row t + (if is_queued_of row.no (verdict_of d rows bridge cycle gates x) then x.octets else 0)
+      taken_in_cycle d.cycle_time gates_after row t
+      ≡ taken_in_cycle d.cycle_time gates row t + (if is_queued_of row.no (verdict_taken d rows bridge cycle gates x) then x.octets else 0)
   pub kept : AreKept d.cycle_time (x.at + 1) gates_after
-  pub queued : ports_after ≡ map (with_verdict d x (verdict_of d rows bridge cycle gates x)) ports
-  pub dropped : drops_after ≡ drops ++ drop_by cycle bridge x (verdict_of d rows bridge cycle gates x)
-  pub not_lost : ¬ IsLoss (verdict_of d rows bridge cycle gates x)
+  pub queued : ports_after ≡ map (with_verdict d x (verdict_taken d rows bridge cycle gates x)) ports
+  pub dropped : drops_after ≡ drops ++ drop_by cycle bridge x (verdict_taken d rows bridge cycle gates x)
+  pub not_lost : ¬ IsLoss (verdict_taken d rows bridge cycle gates x)
 
 -- why frames aren't taken any more: the verdict on one is that it exceeds its gate, or a growth was refused
 abbrev pub IsStopBy : Verdict → ℕ → BridgeFault → Type 0

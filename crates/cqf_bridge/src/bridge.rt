@@ -1,9 +1,10 @@
 //! A bridge, which goes on cycle by cycle.
 ghost use Rattle.std.specs.Prelude.{◌≡◌, ◌+◌, ◌<◌, IfErr, IfOk, OnErr, OnOk, false, length};
 ghost use Rattle.cqf_model.specs.Run.{Run};
-ghost use Rattle.cqf_bridge.specs.BridgeState.{AreBackedOf, IsNextToSend, SendsCycle, new_bridge};
+ghost use Rattle.cqf_bridge.specs.BridgeState.{AreBackedOf, IsBridge, IsNextToSend, SendsCycle, new_bridge};
 ghost use Rattle.cqf_bridge.specs.Faults.{IsSendFault};
-ghost use Rattle.cqf_bridge.specs.Receiving.{CanReceive, IsReceiveFault, IsRunOf, ReceivesCycle};
+ghost use Rattle.cqf_bridge.specs.Receiving.{CanReceive, IsReceiveFault, IsRunOfBridge, ReceivesCycle};
+ghost use Rattle.cqf_model.specs.Limits.{most_cycles};
 
 use crate::checking::are_batches;
 use crate::outgoing::Outgoing;
@@ -11,9 +12,9 @@ use crate::receiving::receive_frames;
 use crate::sending::send_ports;
 use crate::{Batch, BridgeFault};
 use cqf_admission::Table;
+use cqf_bridge_gates::StreamGates;
 use cqf_compile::Plan;
 use cqf_model::{Backed, Dropped, Offered, Started};
-use cqf_stream_gates::StreamGates;
 use cqf_topology::Domain;
 use cqf_units::{Cycle, Memory};
 use std::alloc::Global;
@@ -97,7 +98,8 @@ impl Bridge {
 
     /// The domain of the bridge.
     pub fn domain(&self) -> &Domain
-        ensures { result.now ≡ self.now.domain }
+        ensures value { result.now ≡ self.now.domain }
+        ensures facts { IsBridge self.now }
     {
         &self.domain
     }
@@ -112,7 +114,7 @@ impl Bridge {
     /// Sends a cycle, the next after those that were received: the ports run to the end of the cycle, and one batch for each
     /// link that leaves the bridge is appended, by number of link, empty ones too. Before they run they get the bridge's
     /// background frames of the cycle, in order of instant, then place; that these are they, and that the cycle is below
-    /// 100,000, is for the caller to see to.
+    /// 100,000 where it is the next, is for the caller to see to.
     ///
     /// `Spent` on a spent bridge, else `WrongCycle` for a cycle that isn't the next, or that was sent; then nothing is changed.
     /// Where a growth is refused, `Memory`: the bridge is spent, and the batches are as they were.
@@ -123,7 +125,7 @@ impl Bridge {
         background: &[Backed],
         batches: &mut Vec<Batch>,
     ) -> Result<(), BridgeFault>
-        requires early { cycle.0 < 100000 }
+        requires early { self.old.spent ≡ false → IsNextToSend self.old cycle.0 → cycle.0 < most_cycles }
         requires frames { AreBackedOf self.old.domain self.old.number cycle.0 background.now }
         ensures next { OnOk result ((self.old.spent ≡ false) × IsNextToSend self.old cycle.0) }
         ensures sends { OnOk result (SendsCycle self.old self.new cycle.0 background.now batches.old.items batches.new.items) }
@@ -165,7 +167,7 @@ impl Bridge {
     /// the links' frames first, by number of link, then the offers. What goes on waits at the ports by whose links its stream
     /// goes on, with the class that the stream's gate gives it (IEEE 802.1Q, Annex T). The drops come by frame. The batches are
     /// one for each link that ends in the bridge, by number of link, and the table is the cycle's. That the offers are those at
-    /// the bridge in the cycle, by instant, then place, and that the cycle is below 100,000, is for the caller to see to.
+    /// the bridge in the cycle, by instant, then place, is for the caller to see to.
     ///
     /// `Spent` on a spent bridge, else `WrongCycle` for a cycle that isn't the one sent and not yet received, or a table of
     /// another cycle, else `StrangeBatch` for other batches, or for a frame that the table and its link exclude or that isn't
@@ -179,12 +181,11 @@ impl Bridge {
         batches: &[Batch],
         offers: &[Offered],
     ) -> Result<Vec<Dropped>, BridgeFault>
-        requires early { cycle.0 < 100000 }
-        requires offers { (run : Run) × IsRunOf self.old.domain self.old.number cycle.0 table.now.rows offers.now run }
+        requires offers { (run : Run) × IsRunOfBridge self.old.domain self.old.number cycle.0 table.now.rows offers.now run }
         ensures next { OnOk result (CanReceive self.old cycle.0 (record { table_cycle = table.now.cycle; rows = table.now.rows; batches = batches.now })) }
-        ensures receives { IfOk result (λ drops. (run : Run) → IsRunOf self.old.domain self.old.number cycle.0 table.now.rows offers.now run →
+        ensures receives { IfOk result (λ drops. (run : Run) → IsRunOfBridge self.old.domain self.old.number cycle.0 table.now.rows offers.now run →
             ReceivesCycle run self.old self.new cycle.0 batches.now drops.items) }
-        ensures fault { IfErr result (λ fault. (run : Run) → IsRunOf self.old.domain self.old.number cycle.0 table.now.rows offers.now run →
+        ensures fault { IfErr result (λ fault. (run : Run) → IsRunOfBridge self.old.domain self.old.number cycle.0 table.now.rows offers.now run →
             IsReceiveFault run self.old self.new cycle.0 (record { table_cycle = table.now.cycle; rows = table.now.rows; batches = batches.now }) fault) }
     {
         if self.spent {

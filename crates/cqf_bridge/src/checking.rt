@@ -7,6 +7,7 @@ ghost use Rattle.cqf_model.specs.Traffic.{whole_at};
 ghost use Rattle.cqf_bridge.specs.Batch.{LinkBatch};
 ghost use Rattle.cqf_bridge.specs.Receiving.{AreBatchesOf, MayCome, links_into};
 ghost use Rattle.cqf_bridge.specs.Taking.{IsBatchOf};
+ghost use Rattle.cqf_model.specs.Limits.{end_of_starts, most_cycles};
 
 use crate::Batch;
 use crate::sending::end_of;
@@ -45,7 +46,7 @@ pub(crate) fn leads_on(domain: &Domain, row: &Row, way: Option<u8>, bridge: u8) 
 /// The instant at which a frame that a link sent is whole in the next node.
 pub(crate) fn whole_in(domain: &Domain, link: u8, sent: Sent) -> Nanos
     requires inside { link < length domain.now.links }
-    requires early { sent.start.0 < 1000001 * 10000000 }
+    requires early { sent.start.0 < end_of_starts }
     ensures { result.0 ≡ whole_at domain.now link sent }
 {
     let by = domain.link(link);
@@ -56,7 +57,7 @@ pub(crate) fn whole_in(domain: &Domain, link: u8, sent: Sent) -> Nanos
 /// Whether a frame that a link sent is whole in the next node within the cycle.
 fn is_whole_within(domain: &Domain, cycle: Cycle, link: u8, sent: Sent) -> bool
     requires inside { link < length domain.now.links }
-    requires early { cycle.0 < 100000 }
+    requires early { cycle.0 < most_cycles }
     ensures { result ≡ (cycle_of domain.now (whole_at domain.now link sent) == cycle.0) }
 {
     if sent.start.0 >= end_of(domain, cycle).0 {
@@ -68,7 +69,7 @@ fn is_whole_within(domain: &Domain, cycle: Cycle, link: u8, sent: Sent) -> bool
 /// Whether a frame may come to a bridge by a link in a cycle.
 fn may_come(domain: &Domain, number: u8, cycle: Cycle, table: &Table, link: u8, sent: Sent) -> bool
     requires inside { link < length domain.now.links }
-    requires early { cycle.0 < 100000 }
+    requires early { cycle.0 < most_cycles }
     ensures yes { result ≡ true → MayCome domain.now number cycle.0 table.now.rows link sent }
     ensures no { result ≡ false → ¬ MayCome domain.now number cycle.0 table.now.rows link sent }
 {
@@ -84,7 +85,7 @@ fn may_come(domain: &Domain, number: u8, cycle: Cycle, table: &Table, link: u8, 
 /// Whether a batch is of the cycle, and each of its frames may come by its link.
 fn is_batch_of(domain: &Domain, number: u8, cycle: Cycle, table: &Table, batch: &Batch) -> bool
     requires inside { batch.now.link < length domain.now.links }
-    requires early { cycle.0 < 100000 }
+    requires early { cycle.0 < most_cycles }
     ensures yes { result ≡ true → IsBatchOf domain.now number cycle.0 table.now.rows batch.now }
     ensures no { result ≡ false → ¬ IsBatchOf domain.now number cycle.0 table.now.rows batch.now }
 {
@@ -149,7 +150,7 @@ pub(crate) fn are_batches(
     table: &Table,
     batches: &[Batch],
 ) -> bool
-    requires early { cycle.0 < 100000 }
+    requires early { cycle.0 < most_cycles }
     ensures yes { result ≡ true → AreBatchesOf domain.now number cycle.0 table.now.rows batches.now }
     ensures no { result ≡ false → ¬ AreBatchesOf domain.now number cycle.0 table.now.rows batches.now }
 {

@@ -1,10 +1,11 @@
 //! What comes to a bridge in a cycle, in the order in which it is taken.
-ghost use Rattle.std.specs.Prelude.{◌≡◌, ◌*◌, ◌<◌, ◌++◌, IfOk, OnOk, Contains, length, map};
+ghost use Rattle.std.specs.Prelude.{◌≡◌, ◌*◌, ◌<◌, ◌++◌, IfOk, IsPermutation, OnErr, OnOk, Contains, length, map};
 ghost use Rattle.cqf_model.specs.declared.frames.Sent.{Sent as ASent};
 ghost use Rattle.cqf_model.specs.Traffic.{Received, came_by, offer_received, sent_received};
-ghost use Rattle.cqf_laws_pages.specs.Gathered.{IsInOrderOf};
+ghost use Rattle.cqf_laws_cycle.specs.Gathered.{IsInOrderOf};
 ghost use Rattle.cqf_bridge.specs.Batch.{LinkBatch};
-ghost use Rattle.cqf_bridge.specs.Taking.{CanGather, gathered_by, received_as, way_of};
+ghost use Rattle.cqf_bridge.specs.Taking.{CanGather, gathered_by, received_as, way_taken};
+ghost use Rattle.cqf_model.specs.Limits.{end_of_starts};
 
 use crate::Batch;
 use crate::checking::whole_in;
@@ -25,7 +26,7 @@ pub enum Came {
 impl Came {
     /// The link by which it came, none at the edge.
     pub fn link(&self) -> Option<u8>
-        ensures { result ≡ came_by (way_of self.now) }
+        ensures { result ≡ came_by (way_taken self.now) }
     {
         match self {
             Came::ByLink(link, _) => Some(*link),
@@ -48,7 +49,7 @@ impl Incoming {
     /// come, after the link's delay (profile). Its start is within the 1,000,000 longest cycles.
     pub fn by_link(domain: &Domain, link: u8, sent: Sent) -> Incoming
         requires inside { link < length domain.now.links }
-        requires early { sent.start.0 < 1000001 * 10000000 }
+        requires early { sent.start.0 < end_of_starts }
         ensures { received_as result ≡ sent_received domain.now link sent }
     {
         Incoming {
@@ -84,12 +85,14 @@ fn gather_batch(domain: &Domain, batch: &Batch, frames: &mut Vec<Incoming>) -> R
     Ok(())
 }
 
-/// Puts offers behind other frames, as they are listed. `Memory` where a growth is refused.
+/// Puts offers behind other frames, as they are listed. `Memory` where a growth is refused; then the frames are as they were.
 pub fn gather_offers(offers: &[Offered], frames: &mut Vec<Incoming>) -> Result<(), Memory>
-    ensures { OnOk result (map received_as frames.new.items ≡ map received_as frames.old.items ++ map offer_received offers.now) }
+    ensures ok { OnOk result (map received_as frames.new.items ≡ map received_as frames.old.items ++ map offer_received offers.now) }
+    ensures err { OnErr result (frames.new.items ≡ frames.old.items) }
 {
+    frames.reserve(offers.len())?;
     for offered in offers {
-        frames.push(Incoming::at_edge(offered))?;
+        frames.push(Incoming::at_edge(offered)).unwrap();
     }
     Ok(())
 }
@@ -113,9 +116,12 @@ fn gathered(
 }
 
 /// Brings frames into the order in which a bridge takes them: by instant, those of one instant as they stand. Before, they stand
-/// by link, each link's as it sent them, and then the offers by instant and place. `Memory` where a growth is refused.
+/// by link, each link's as it sent them, and then the offers by instant and place. Where memory is refused the frames stand as
+/// they did.
 pub fn bring_in_order(frames: &mut Vec<Incoming>) -> Result<(), Memory>
-    ensures { OnOk result (IsInOrderOf (λ (x : Received). x.at) (map received_as frames.old.items) (map received_as frames.new.items)) }
+    ensures ok { OnOk result (IsInOrderOf (λ (x : Received). x.at) (map received_as frames.old.items) (map received_as frames.new.items)) }
+    ensures moved { IsPermutation frames.old.items frames.new.items }
+    ensures err { OnErr result (frames.new.items ≡ frames.old.items) }
 {
     frames.sort_by_key(|frame| frame.at.0)?;
     Ok(())

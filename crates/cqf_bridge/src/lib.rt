@@ -12,7 +12,7 @@
 //! - [`Sent`] is a frame that a link carries.
 //! - [`Started`] is a transmission and [`Dropped`] a dropped offer, with its [`Reason`]; a [`Book`] has all of a run.
 //!
-//! The types of frames and books stand with the definitions, in `cqf_model`, and [`StreamGates`] in `cqf_stream_gates`; this
+//! The types of frames and books stand with the definitions, in `cqf_model`, and [`StreamGates`] in `cqf_bridge_gates`; this
 //! crate hands them on.
 #![tactic(auto)]
 
@@ -31,8 +31,8 @@ mod sending;
 pub use batch::Batch;
 pub use bridge::Bridge;
 pub use checking::{incoming_links, leads_by};
+pub use cqf_bridge_gates::StreamGates;
 pub use cqf_model::{Book, Dropped, Offer, Offered, Reason, Sent, Started};
-pub use cqf_stream_gates::StreamGates;
 pub use faults::BridgeFault;
 pub use gathering::{Came, Incoming, bring_in_order, gather_offers};
 pub use offers::offers_of;

@@ -2,9 +2,9 @@
 ghost use Rattle.std.specs.Prelude.{◌≡◌, ◌+◌, ◌^◌, ◌<◌, ◌==◌, ◌&&◌, IfOk, filter, length};
 ghost use Rattle.cqf_model.specs.Domain.{cycle_of};
 ghost use Rattle.cqf_model.specs.Traffic.{numbered};
-ghost use Rattle.cqf_laws_pages.specs.Gathered.{is_offered_in, offered_for};
+ghost use Rattle.cqf_laws_cycle.specs.Gathered.{is_offered_in, offered_for};
 
-use cqf_laws_pages::frames_are_taken_in_order;
+use cqf_laws_cycle::frames_are_taken_in_order;
 use cqf_model::{Offer, Offered};
 use cqf_topology::Domain;
 use cqf_units::{Cycle, Memory};

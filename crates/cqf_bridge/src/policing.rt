@@ -1,19 +1,19 @@
 //! What becomes of the frames that come to a bridge, one after the other.
-ghost use Rattle.std.specs.Prelude.{◌≡◌, ◌+◌, Bool, IfOk, List, Some};
+ghost use Rattle.std.specs.Prelude.{◌≡◌, ◌+◌, Bool, IfOk, List, OnErr, Some};
 ghost use Rattle.cqf_model.specs.declared.topology.Row.{Row as ARow};
 ghost use Rattle.cqf_model.specs.Domain.{cycle_of};
 ghost use Rattle.cqf_model.specs.Table.{table_of};
 ghost use Rattle.cqf_model.specs.Traffic.{AtEdge as Offering, Policed, Relayed, edge_verdict};
-ghost use Rattle.cqf_stream_gates.specs.Gates.{AreKept, HaveCounted};
-ghost use Rattle.cqf_bridge.specs.Taking.{IsPolicedBehind, PassesGate, Polices, received_as, verdict_unless, way_of};
+ghost use Rattle.cqf_bridge_gates.specs.Gates.{AreKept, HaveCounted};
+ghost use Rattle.cqf_bridge.specs.Taking.{IsPolicedBehind, PassesGate, Polices, received_as, verdict_unless, way_taken};
 
 use crate::checking::leads_on;
 use crate::gathering::{Came, Incoming};
 use cqf_admission::Table;
+use cqf_bridge_gates::StreamGates;
 use cqf_gates::Passed;
 use cqf_laws_cycle::gate_counts_cycles;
 use cqf_model::{Reason, Row};
-use cqf_stream_gates::StreamGates;
 use cqf_topology::Domain;
 use cqf_units::{Cycle, Memory, Name, Octets};
 
@@ -41,7 +41,8 @@ fn pass_gate(
 ) -> Result<Option<u8>, Memory>
     requires in_cycle { cycle_of domain.now frame.now.at.0 ≡ cycle.0 }
     requires kept { AreKept domain.now.cycle_time (frame.now.at.0 + 1) gates.old }
-    ensures { IfOk result (λ class. PassesGate domain.now cycle.0 (received_as frame.now) row.now gates.old gates.new class) }
+    ensures passes { IfOk result (λ class. PassesGate domain.now cycle.0 (received_as frame.now) row.now gates.old gates.new class) }
+    ensures err { OnErr result (gates.new ≡ gates.old) }
 {
     gate_counts_cycles();
     let _time = domain.cycle_time();
@@ -74,10 +75,11 @@ fn police_offer<'a>(
     name: &Name,
     gates: &mut StreamGates,
 ) -> Result<Outcome<'a>, Memory>
-    requires way { way_of frame.now.came ≡ Offering name.now }
+    requires way { way_taken frame.now.came ≡ Offering name.now }
     requires in_cycle { cycle_of domain.now frame.now.at.0 ≡ cycle.0 }
     requires kept { AreKept domain.now.cycle_time (frame.now.at.0 + 1) gates.old }
-    ensures { IfOk result (λ outcome. Polices domain.now table.now.rows number cycle.0 (received_as frame.now) gates.old gates.new outcome) }
+    ensures polices { IfOk result (λ outcome. Polices domain.now table.now.rows number cycle.0 (received_as frame.now) gates.old gates.new outcome) }
+    ensures err { OnErr result (gates.new ≡ gates.old) }
 {
     let _order = table.rows();
     let Some(row) = table.row_named(name) else {
@@ -103,10 +105,11 @@ fn police_inside<'a>(
     stream: u32,
     gates: &mut StreamGates,
 ) -> Result<Outcome<'a>, Memory>
-    requires way { way_of frame.now.came ≡ Relayed link stream }
+    requires way { way_taken frame.now.came ≡ Relayed link stream }
     requires in_cycle { cycle_of domain.now frame.now.at.0 ≡ cycle.0 }
     requires kept { AreKept domain.now.cycle_time (frame.now.at.0 + 1) gates.old }
-    ensures { IfOk result (λ outcome. Polices domain.now table.now.rows number cycle.0 (received_as frame.now) gates.old gates.new outcome) }
+    ensures polices { IfOk result (λ outcome. Polices domain.now table.now.rows number cycle.0 (received_as frame.now) gates.old gates.new outcome) }
+    ensures err { OnErr result (gates.new ≡ gates.old) }
 {
     let _order = table.rows();
     let Some(row) = table.row_of(stream) else {
@@ -123,7 +126,7 @@ fn police_inside<'a>(
 
 /// What becomes of a frame at the bridge of this number, by the table of its cycle and behind the frames that the gates have
 /// counted: its stream's gate counts it where it goes on (profile, after IEEE 802.1Q, 8.6.5.1). The frame is whole within the
-/// cycle, and no sooner than the frames before it. `Memory` where a growth is refused.
+/// cycle, and no sooner than the frames before it. `Memory` where a growth is refused; then the gates have counted nothing.
 pub fn police<'a>(
     domain: &Domain,
     number: u8,
@@ -138,6 +141,7 @@ pub fn police<'a>(
     ensures behind { IfOk result (λ outcome. (tables : List (List ARow)) (policed : List Policed) → table_of tables cycle.0 ≡ table.now.rows →
         HaveCounted domain.now.cycle_time cycle.0 table.now.rows policed gates.old →
         IsPolicedBehind domain.now tables number cycle.0 table.now.rows (received_as frame.now) policed gates.new outcome) }
+    ensures err { OnErr result (gates.new ≡ gates.old) }
 {
     gate_counts_cycles();
     let _time = domain.cycle_time();

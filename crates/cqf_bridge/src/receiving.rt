@@ -3,19 +3,19 @@ ghost use Rattle.std.specs.Prelude.{◌≡◌, ◌+◌, ◌*◌, ◌<◌, Contai
 ghost use Rattle.std.specs.List.Sorted.{IsNonDecreasingBy};
 ghost use Rattle.cqf_model.specs.Run.{Run};
 ghost use Rattle.cqf_model.specs.Traffic.{Received};
-ghost use Rattle.cqf_stream_gates.specs.Gates.{AreKept};
-ghost use Rattle.cqf_bridge.specs.Receiving.{AreBatchesOf, IsRunOf};
+ghost use Rattle.cqf_bridge_gates.specs.Gates.{AreKept};
+ghost use Rattle.cqf_bridge.specs.Receiving.{AreBatchesOf, IsRunOfBridge};
 ghost use Rattle.cqf_bridge.specs.Taking.{AreReady, HasPoliced, IsStopOf, MayBeTaken, TakesCycle, policed_by, received_as, stop_of_run};
+ghost use Rattle.cqf_model.specs.Limits.{most_cycles};
 
 use crate::gathering::{Incoming, in_order};
 use crate::outgoing::Outgoing;
 use crate::recording::take_frame;
 use crate::{Batch, BridgeFault};
 use cqf_admission::Table;
-use cqf_laws_cycle::gate_counts_cycles;
-use cqf_laws_pages::{drops_are_of_the_cycle, frames_are_taken_in_order};
+use cqf_bridge_gates::StreamGates;
+use cqf_laws_cycle::{drops_are_of_the_cycle, frames_are_taken_in_order, gate_counts_cycles};
 use cqf_model::{Dropped, Offered};
-use cqf_stream_gates::StreamGates;
 use cqf_topology::Domain;
 use cqf_units::Cycle;
 use std::alloc::Global;
@@ -31,7 +31,7 @@ fn take_all(
     ports: &mut Vec<Outgoing>,
     drops: &mut Vec<Dropped>,
 ) -> Result<(), BridgeFault>
-    requires early { cycle.0 < 100000 }
+    requires early { cycle.0 < most_cycles }
     requires may { (x : Received) → Contains (map received_as frames.now) x → MayBeTaken domain.now number cycle.0 table.now.rows x }
     requires ordered { IsNonDecreasingBy (λ (x : Received). x.at) (map received_as frames.now) }
     requires ready { AreReady domain.now cycle.0 (cycle.0 * domain.now.cycle_time) gates.old ports.old.items }
@@ -64,14 +64,14 @@ pub(crate) fn receive_frames(
     gates: &mut StreamGates,
     ports: &mut Vec<Outgoing>,
 ) -> Result<Vec<Dropped>, BridgeFault>
-    requires early { cycle.0 < 100000 }
-    requires offers { (run : Run) × IsRunOf domain.now number cycle.0 table.now.rows offers.now run }
+    requires early { cycle.0 < most_cycles }
+    requires offers { (run : Run) × IsRunOfBridge domain.now number cycle.0 table.now.rows offers.now run }
     requires batches { AreBatchesOf domain.now number cycle.0 table.now.rows batches.now }
     requires ready { AreReady domain.now cycle.0 (cycle.0 * domain.now.cycle_time) gates.old ports.old.items }
     ensures kept { OnOk result (AreKept domain.now.cycle_time ((cycle.0 + 1) * domain.now.cycle_time) gates.new) }
-    ensures takes { IfOk result (λ drops. (run : Run) → IsRunOf domain.now number cycle.0 table.now.rows offers.now run →
+    ensures takes { IfOk result (λ drops. (run : Run) → IsRunOfBridge domain.now number cycle.0 table.now.rows offers.now run →
         TakesCycle run number cycle.0 batches.now ports.old.items ports.new.items drops.items) }
-    ensures stops { IfErr result (λ fault. (run : Run) → IsRunOf domain.now number cycle.0 table.now.rows offers.now run →
+    ensures stops { IfErr result (λ fault. (run : Run) → IsRunOfBridge domain.now number cycle.0 table.now.rows offers.now run →
         stop_of_run run number cycle.0 batches.now fault) }
 {
     frames_are_taken_in_order();

@@ -7,17 +7,17 @@ ghost use Rattle.cqf_model.specs.Table.{goes_to};
 ghost use Rattle.cqf_model.specs.Traffic.{DroppedFor, Queued};
 ghost use Rattle.cqf_bridge.specs.PortRecord.{PortRecord};
 ghost use Rattle.cqf_bridge.specs.Taking.{AreReady, CanRecord, IsStopBy, IsWaiting, MayBeTaken, TakesFrame};
-ghost use Rattle.cqf_bridge.specs.Taking.{class_in, queue_on, received_as, verdict_of, with_verdict};
+ghost use Rattle.cqf_bridge.specs.Taking.{class_in, queue_on, received_as, verdict_taken, with_verdict};
+ghost use Rattle.cqf_model.specs.Limits.{most_cycles};
 
 use crate::BridgeFault;
 use crate::gathering::Incoming;
 use crate::outgoing::Outgoing;
 use crate::policing::{Outcome, police};
 use cqf_admission::Table;
-use cqf_laws_cycle::gate_gives_class;
-use cqf_laws_pages::queued_frames_wait;
+use cqf_bridge_gates::StreamGates;
+use cqf_laws_cycle::{gate_gives_class, queued_frames_wait};
 use cqf_model::{Arrival, Dropped, Reason, Row};
-use cqf_stream_gates::StreamGates;
 use cqf_topology::Domain;
 use cqf_units::{Cycle, Memory};
 
@@ -66,7 +66,7 @@ fn queue_frame(
     frame: &Incoming,
     ports: &mut Vec<Outgoing>,
 ) -> Result<(), Memory>
-    requires early { cycle.0 < 100000 }
+    requires early { cycle.0 < most_cycles }
     requires in_cycle { cycle_of domain.now frame.now.at.0 ≡ cycle.0 }
     requires class { class ≡ class_in domain.now (received_as frame.now) row.now }
     requires waiting { (r : PortRecord) → Contains ports.old.items r → IsWaiting domain.now cycle.0 (frame.now.at.0 + 1) r }
@@ -115,13 +115,13 @@ pub(crate) fn take_frame(
     ports: &mut Vec<Outgoing>,
     drops: &mut Vec<Dropped>,
 ) -> Result<(), BridgeFault>
-    requires early { cycle.0 < 100000 }
+    requires early { cycle.0 < most_cycles }
     requires may { MayBeTaken domain.now number cycle.0 table.now.rows (received_as frame.now) }
     requires ready { AreReady domain.now cycle.0 (frame.now.at.0 + 1) gates.old ports.old.items }
     ensures takes { OnOk result (TakesFrame domain.now table.now.rows number cycle.0 (received_as frame.now) gates.old gates.new
         ports.old.items ports.new.items drops.old.items drops.new.items) }
     ensures stops { IfErr result (λ fault.
-        IsStopBy (verdict_of domain.now table.now.rows number cycle.0 gates.old (received_as frame.now)) frame.now.frame fault) }
+        IsStopBy (verdict_taken domain.now table.now.rows number cycle.0 gates.old (received_as frame.now)) frame.now.frame fault) }
 {
     let outcome = match police(domain, number, cycle, table, frame, gates) {
         Ok(outcome) => outcome,

@@ -3,6 +3,7 @@ ghost use Rattle.std.specs.Prelude.{◌≡◌, ◌+◌, ◌*◌, ◌<◌, ◌≤
 ghost use Rattle.cqf_bridge.specs.BridgeState.{AreBackedOf, IsInStep, end_of_cycle, port_with};
 ghost use Rattle.cqf_bridge.specs.PortRecord.{PortRecord};
 ghost use Rattle.cqf_bridge.specs.Sending.{CanTake, FirstSend, PortSends};
+ghost use Rattle.cqf_model.specs.Limits.{end_of_starts, longest_cycle, most_cycles};
 
 use crate::Batch;
 use crate::outgoing::Outgoing;
@@ -44,11 +45,11 @@ fn take_background(port: &mut Outgoing, background: &[Backed]) -> Result<(), Mem
 
 /// The end of a cycle.
 pub(crate) fn end_of(domain: &Domain, cycle: Cycle) -> Nanos
-    requires { cycle.0 < 100000 }
+    requires { cycle.0 < most_cycles }
     ensures value { result.0 ≡ end_of_cycle domain.now cycle.0 }
-    ensures early { result.0 < 1000001 * 10000000 }
+    ensures early { result.0 < end_of_starts }
     ensures lasting { 0 < domain.now.cycle_time }
-    ensures short { domain.now.cycle_time ≤ 10000000 }
+    ensures short { domain.now.cycle_time ≤ longest_cycle }
 {
     Nanos((u64::from(cycle.0) + 1) * domain.cycle_time().0)
 }
@@ -63,7 +64,7 @@ fn send_port(
     batches: &mut Vec<Batch>,
     started: &mut Vec<Started>,
 ) -> Result<(), Memory>
-    requires early { cycle.0 < 100000 }
+    requires early { cycle.0 < most_cycles }
     requires frames { (bridge : ℕ) × AreBackedOf domain.now bridge cycle.0 background.now }
     requires in_step { IsInStep domain.now cycle.0 cycle.0 port.old }
     ensures given { OnErr result (batches.new.items ≡ batches.old.items) }
@@ -86,7 +87,7 @@ pub(crate) fn send_ports(
     batches: &mut Vec<Batch>,
     started: &mut Vec<Started>,
 ) -> Result<(), Memory>
-    requires early { cycle.0 < 100000 }
+    requires early { cycle.0 < most_cycles }
     requires frames { (bridge : ℕ) × AreBackedOf domain.now bridge cycle.0 background.now }
     requires in_step { (r : PortRecord) → Contains ports.old.items r → IsInStep domain.now cycle.0 cycle.0 r }
     ensures given { OnErr result (take (length batches.old.items) batches.new.items ≡ batches.old.items) }

@@ -4,8 +4,11 @@ use Rattle.std.proofs.lemmas.List.{drop-map, length-map}
 use Rattle.cqf_model.specs.History.{Recorded}
 use Rattle.cqf_admission.specs.declared.entries.Entry.{Entry}
 use Rattle.cqf_admission.specs.Admission.{Administration, recorded_of}
-use Rattle.cqf_desk.specs.Closing.{ComesToLeast, IsBorneOut, IsBorneOutBy}
-use Rattle.cqf_desk.specs.Desk.{Sitting}
+use Rattle.std.specs.Prelude.{Err}
+use Rattle.cqf_desk.specs.declared.faults.CloseFault.{CloseFault}
+use Rattle.cqf_desk.specs.declared.faults.CloseFault.TheVariants.{Memory, SeatMissing, SeatsDisagree}
+use Rattle.cqf_desk.specs.Closing.{AreItsSeats, ComesToLeast, IsBorneOut, IsBorneOutBy, IsCloseFault, Settles}
+use Rattle.cqf_desk.specs.Desk.{Counter, Sitting}
 
 -- the opening part is as long as its list
 many_before : (start : List Recorded) (history : List Entry) → map recorded_of history ≡ start → length history ≡ length start
@@ -28,3 +31,10 @@ is_shorter start history all opening less more =
     let many = many_before start history opening in
     let same = length-map all recorded_of in
     omega (arith, less, more, many, same)
+
+-- why a desk with these seats isn't closed
+pub close_fault : (desk : Counter) (seats : List Sitting) (entries : List Recorded) (fault : CloseFault) → AreItsSeats desk.seats seats →
+    Settles desk.opening desk.seats entries seats (Err fault) → IsCloseFault desk seats fault
+close_fault desk seats entries SeatMissing its settles = absurd settles
+close_fault desk seats entries (SeatsDisagree number) its settles = (its, entries, settles)
+close_fault desk seats entries Memory its settles = its

@@ -7,7 +7,7 @@ use Rattle.std.proofs.lemmas.Bool.{and_parts}
 use Rattle.std.proofs.lemmas.List.{take_more_same}
 use Rattle.std.proofs.lemmas.Option.{get_or_from_slice_get, slice_get_within}
 use Rattle.std.proofs.lemmas.Slice.Eq.{bytes_eq-Decides}
-use Rattle.cqf_trees.specs.Branches.{branch_of, branches_of}
+use Rattle.cqf_admission_trees.specs.Branches.{branch_of, branches_of}
 
 -- lists whose elements compare as the same make the same of each
 pub same_made : {X Y : Type 0} (E : X → X → Bool) (f : X → Y) → ((x y : X) → E x y ≡ true → f x ≡ f y) → (xs ys : List X) → pointwise E xs ys ≡ true → map f xs ≡ map f ys

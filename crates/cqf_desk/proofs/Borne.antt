@@ -5,9 +5,10 @@ use Rattle.std.specs.List.{list_any}
 use Rattle.std.proofs.lemmas.List.Elements.{All-map}
 use Rattle.std.proofs.lemmas.List.{map-append, take-append-drop}
 use Rattle.cqf_model.specs.History.{Recorded}
+use Rattle.cqf_model.specs.Calls.{calls_by}
 use Rattle.cqf_admission.specs.declared.entries.Entry.{Entry}
 use Rattle.cqf_admission.specs.Admission.{Administration, recorded_of}
-use Rattle.cqf_desk.specs.Closing.{AreItsSeats, GoesOnBySeats, IsBorneOut, IsOfSeats, calls_by, tables_by}
+use Rattle.cqf_desk.specs.Closing.{AreItsSeats, GoesOnBySeats, IsBorneOut, IsOfSeats, tables_by}
 use Rattle.cqf_desk.specs.Desk.{Sitting}
 use Rattle.cqf_desk.proofs.Rests.{front_is, rest_is}
 

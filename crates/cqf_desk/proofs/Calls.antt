@@ -4,9 +4,9 @@ use Rattle.std.proofs.lemmas.Bool.{eq-eqb, ne_eqb}
 use Rattle.std.proofs.lemmas.List.{append-nil, take_all}
 use Rattle.std.proofs.lemmas.List.Elements.{filter-append}
 use Rattle.cqf_model.specs.History.{Recorded}
+use Rattle.cqf_model.specs.Calls.{calls_by}
 use Rattle.cqf_admission.specs.declared.entries.Entry.{Entry}
 use Rattle.cqf_admission.specs.Admission.{recorded_of}
-use Rattle.cqf_desk.specs.Closing.{calls_by}
 use Rattle.cqf_desk.proofs.Rests.{one_more}
 
 -- of the entries so far the seat has read its own

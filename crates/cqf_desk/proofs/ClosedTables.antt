@@ -5,7 +5,7 @@ use Rattle.cqf_model.specs.declared.history.Reply.TheVariants.{Sealed}
 use Rattle.cqf_model.specs.Domain.{Domain}
 use Rattle.cqf_model.specs.History.{Act, Admits, Recorded, Seals, Withdraws, held_in, is_seal, next_number, seals, table_at}
 use Rattle.cqf_laws_history.specs.StateLaws.{SealClosesTable, SealsAreCounted}
-use Rattle.cqf_laws_definitions.specs.TableLaws.{ClosedTablesStay}
+use Rattle.cqf_laws_history.specs.TableLaws.{ClosedTablesStay}
 
 -- no later calls change a table that is closed
 pub stays : ClosedTablesStay → SealsAreCounted → (d : Domain) (entries more : List Recorded) (cycle : ℕ) → cycle < seals entries →

@@ -4,7 +4,7 @@ use Rattle.std.proofs.lemmas.List.{append-nil, append_assoc, drop-map, length-ma
 use Rattle.cqf_model.specs.History.{Recorded}
 use Rattle.cqf_admission.specs.declared.entries.Entry.{Entry}
 use Rattle.cqf_admission.specs.Admission.{recorded_of}
-use Rattle.cqf_desk.specs.Again.{GoesOn}
+use Rattle.cqf_desk.specs.Again.{FollowerGoesOn}
 use Rattle.cqf_desk.specs.declared.following.Follower.{Follower}
 use Rattle.cqf_desk.specs.Following.{HasMade, KeepsTables}
 use Rattle.cqf_desk.proofs.Rests.{one_more}
@@ -15,7 +15,7 @@ pub record HasPassed (old new : Follower) (others : List Entry) (number k : ℕ)
   pub made : HasMade old new (map recorded_of (take k others))
 
 -- one call is made where the admission goes on with it
-pub makes_one : (old new : Follower) (e : Recorded) → new.first ≡ old.first → GoesOn old.admission new.admission e → HasMade old new (e ∷ [])
+pub makes_one : (old new : Follower) (e : Recorded) → new.first ≡ old.first → FollowerGoesOn old.admission new.admission e → HasMade old new (e ∷ [])
 makes_one old new e same goes = record { first = same; domain = goes.domain; entries = goes.entries }
 
 -- calls, and then others

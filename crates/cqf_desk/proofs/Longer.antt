@@ -14,9 +14,9 @@ use Rattle.cqf_model.specs.History.{Recorded, Seals, is_seal, seals, table_at}
 use Rattle.cqf_admission.specs.declared.entries.Entry.{Entry}
 use Rattle.cqf_admission.specs.Admission.{Administration, recorded_of}
 use Rattle.cqf_admission.specs.Tables.{CycleTable}
-use Rattle.cqf_laws_definitions.specs.TableLaws.{ClosedTablesStay}
+use Rattle.cqf_laws_history.specs.TableLaws.{ClosedTablesStay}
 use Rattle.cqf_laws_history.specs.StateLaws.{SealClosesTable, SealsAreCounted}
-use Rattle.cqf_desk.specs.Again.{GoesOn, HasGone, next_table}
+use Rattle.cqf_desk.specs.Again.{FollowerGoesOn, FollowerHasGone, next_table}
 use Rattle.cqf_desk.specs.Closing.{closed_by, is_seal_by, table_closed, tables_by}
 use Rattle.cqf_desk.specs.declared.following.Follower.{Follower}
 use Rattle.cqf_desk.specs.Following.{AddsTable, HasFollowed, HasTables, IsUpToSeal, KeepsTables}
@@ -121,13 +121,13 @@ by_others stay counted d es (e ∷ more) first number begun none =
     ∙ by_other stay counted d es e first number begun parts.0
 
 -- the tables of an administration that goes on
-gone_on : (old new : Administration) (e : Recorded) (first after number : ℕ) → after ≡ first → GoesOn old new e →
+gone_on : (old new : Administration) (e : Recorded) (first after number : ℕ) → after ≡ first → FollowerGoesOn old new e →
     tables_by old.domain (old.entries ++ e ∷ []) first number ≡ tables_by new.domain new.entries after number
 gone_on old new e first after number same goes =
     (λ i. tables_by (sym goes.domain i) (sym goes.entries i) (sym same i) number)
 
 -- a follower that goes on has begun with as many entries
-begun_so : (old new : Administration) (e : Recorded) (first after : ℕ) → after ≡ first → GoesOn old new e → first ≤ length old.entries → after ≤ length new.entries
+begun_so : (old new : Administration) (e : Recorded) (first after : ℕ) → after ≡ first → FollowerGoesOn old new e → first ≤ length old.entries → after ≤ length new.entries
 begun_so old new e first after same goes begun =
     let long : length new.entries ≡ length (old.entries ++ e ∷ []) = ap length goes.entries in
     let longer = length-append old.entries (e ∷ []) in
@@ -135,7 +135,7 @@ begun_so old new e first after same goes begun =
 
 -- a follower that has made all calls behind an opening part, by which the seat closes its tables
 pub joins_so : (opening again : Administration) (f : Follower) (rest : List Recorded) (tables : List CycleTable) (number : ℕ) →
-    f ≡ record { first = length opening.entries; admission = again } → HasGone opening again rest →
+    f ≡ record { first = length opening.entries; admission = again } → FollowerHasGone opening again rest →
     tables ≡ tables_by opening.domain (opening.entries ++ rest) (length opening.entries) number → HasTables f number tables
 joins_so opening again f rest tables number is gone own =
     let longer = length-append opening.entries rest in
@@ -155,7 +155,7 @@ keeps_on old mid new number keeps then = λ tables has. then tables (keeps table
 
 -- a follower goes on by a call that is no Seal of the seat
 pub keeps_tables : ClosedTablesStay → SealsAreCounted → (old new : Follower) (e : Recorded) (number : ℕ) → new.first ≡ old.first →
-    GoesOn old.admission new.admission e → is_seal_by number e ≡ false → KeepsTables old new number
+    FollowerGoesOn old.admission new.admission e → is_seal_by number e ≡ false → KeepsTables old new number
 keeps_tables stay counted old new e number same goes none = λ tables has. record {
   begun = begun_so old.admission new.admission e old.first new.first same goes has.begun;
   own = has.own ∙ sym (by_other stay counted old.admission.domain old.admission.entries e old.first number has.begun none)
@@ -164,7 +164,7 @@ keeps_tables stay counted old new e number same goes none = λ tables has. recor
 
 -- and by one of its Seals
 pub adds_table : ClosedTablesStay → SealsAreCounted → SealClosesTable → (old new : Follower) (e : Recorded) (number : ℕ) (table : CycleTable) → new.first ≡ old.first →
-    GoesOn old.admission new.admission e → is_seal_by number e ≡ true → e.reply ≡ Sealed → table ≡ next_table old.admission → AddsTable old new number table
+    FollowerGoesOn old.admission new.admission e → is_seal_by number e ≡ true → e.reply ≡ Sealed → table ≡ next_table old.admission → AddsTable old new number table
 adds_table stay counted closing old new e number table same goes its sealed is = λ tables has. record {
   begun = begun_so old.admission new.admission e old.first new.first same goes has.begun;
   own = ap (λ ts. ts ++ table ∷ []) has.own

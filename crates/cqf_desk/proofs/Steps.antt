@@ -15,10 +15,10 @@ use Rattle.cqf_model.specs.History.{IsLegalHistory, Recorded, held_in, is_seal, 
 use Rattle.cqf_admission.specs.declared.entries.Entry.{Entry}
 use Rattle.cqf_admission.specs.Admission.{Administration, recorded_of}
 use Rattle.cqf_admission.specs.Tables.{CycleTable}
-use Rattle.cqf_desk.specs.Again.{GoesOn, HasGone, MovesOn, StepsTo, next_table}
+use Rattle.cqf_desk.specs.Again.{FollowerGoesOn, FollowerHasGone, MovesOn, FollowerStepsTo, next_table}
 use Rattle.cqf_desk.specs.Closing.{closed_by, is_seal_by, table_closed, tables_by}
 use Rattle.cqf_model.specs.declared.history.Reply.TheVariants.{Sealed}
-use Rattle.cqf_laws_definitions.specs.TableLaws.{ClosedTablesStay}
+use Rattle.cqf_laws_history.specs.TableLaws.{ClosedTablesStay}
 use Rattle.cqf_laws_history.specs.StateLaws.{SealClosesTable, SealsAreCounted}
 use Rattle.cqf_desk.proofs.ClosedTables.{table_there}
 use Rattle.cqf_desk.proofs.Rests.{parts_at, before, behind, is_at, one_more, take-map}
@@ -34,7 +34,7 @@ none_made start rest = record { domain = refl; entries = sym (append-nil start.e
 
 -- with one more
 pub one_made : (start again new : Administration) (rest : List Entry) (k : ℕ) (e : Entry) → HasGoneOn start again rest k → k < length rest → e ≡ get_or rest k e →
-    GoesOn again new (recorded_of e) → HasGoneOn start new rest (k + 1)
+    FollowerGoesOn again new (recorded_of e) → HasGoneOn start new rest (k + 1)
 one_made start again new rest k e gone inside is goes =
     record {
       domain = goes.domain ∙ gone.domain;
@@ -85,7 +85,7 @@ some_at (x ∷ xs) (suc i) inside = some_at xs i (omega (arith, inside))
 
 -- a call that is no Seal of the seat
 pub closes_nothing : (start again new : Administration) (rest : List Entry) (number : ℕ) (tables : List CycleTable) (next k : ℕ) (e : Entry) →
-    HasClosed start again rest number tables next k → k < length rest → e ≡ get_or rest k e → GoesOn again new (recorded_of e) →
+    HasClosed start again rest number tables next k → k < length rest → e ≡ get_or rest k e → FollowerGoesOn again new (recorded_of e) →
     is_seal_by number (recorded_of e) ≡ false → HasClosed start new rest number tables next (k + 1)
 closes_nothing start again new rest number tables next k e has inside is goes none =
     let all = start.entries ++ map recorded_of rest in
@@ -102,7 +102,7 @@ closes_nothing start again new rest number tables next k e has inside is goes no
 
 -- a Seal of the seat
 pub closes_its_table : ClosedTablesStay → SealsAreCounted → SealClosesTable → (start again new : Administration) (rest : List Entry) (number : ℕ) (tables : List CycleTable) (next k : ℕ) (e : Entry) (table : CycleTable) →
-    HasClosed start again rest number tables next k → k < length rest → e ≡ get_or rest k e → GoesOn again new (recorded_of e) →
+    HasClosed start again rest number tables next k → k < length rest → e ≡ get_or rest k e → FollowerGoesOn again new (recorded_of e) →
     is_seal_by number (recorded_of e) ≡ true → e.reply ≡ Sealed → next < length tables → table ≡ get_or tables next table → table ≡ next_table again →
     HasClosed start new rest number tables (next + 1) (k + 1)
 closes_its_table stay counted closing start again new rest number tables next k e table has inside is goes its sealed there own next_is =
@@ -132,7 +132,7 @@ closes_its_table stay counted closing start again new rest number tables next k 
 
 -- one step
 pub steps_on : ClosedTablesStay → SealsAreCounted → SealClosesTable → (start again new : Administration) (rest : List Entry) (number : ℕ) (tables : List CycleTable) (next after k : ℕ) (e : Entry) →
-    HasClosed start again rest number tables next k → k < length rest → e ≡ get_or rest k e → StepsTo again new (recorded_of e) number tables next after →
+    HasClosed start again rest number tables next k → k < length rest → e ≡ get_or rest k e → FollowerStepsTo again new (recorded_of e) number tables next after →
     HasClosed start new rest number tables after (k + 1)
 steps_on stay counted closing start again new rest number tables next after k e has inside is steps = by_seal (is_seal_by number (recorded_of e)) refl steps.moves
   where
@@ -165,7 +165,7 @@ closes_all start again rest number tables next k has through all =
 
 -- all calls
 pub goes_through : (start again : Administration) (rest : List Entry) (number : ℕ) (tables : List CycleTable) (next k : ℕ) →
-    HasClosed start again rest number tables next k → length rest ≤ k → HasGone start again (map recorded_of rest)
+    HasClosed start again rest number tables next k → length rest ≤ k → FollowerHasGone start again (map recorded_of rest)
 goes_through start again rest number tables next k has through = record {
   domain = has.gone.domain;
   entries = has.gone.entries ∙ ap (λ xs. start.entries ++ map recorded_of xs) (take_all k rest through);
@@ -186,11 +186,6 @@ closes_none start rest number none =
         closes start.domain (start.entries ++ map recorded_of rest) number (length start.entries + i) (recorded_of there.0) false
         (behind start.entries (map recorded_of rest) i ∙ slice_get-map recorded_of rest i ∙ ap (option_map recorded_of) there.1)
         (none_member (λ (e : Entry). is_seal_by number (recorded_of e)) rest there.0 none (contains_at rest i there.0 there.1))
-
--- no tables at all
-pub no_tables : (tables : List CycleTable) → length tables ≡ 0 → tables ≡ []
-no_tables [] h = refl
-no_tables (t ∷ tables) h = absurd (omega (arith, h))
 
 -- what is said of what there is
 pub some_of : {X : Type 0} (P : X → Type 0) (o : Option X) (x : X) → o ≡ Some x → IfSome o P → P x

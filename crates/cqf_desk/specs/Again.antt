@@ -28,12 +28,12 @@ IsClosedSo answer reply made.Otherwise = Unit {0}
 IsClosedSo answer reply made.Memory = answer ≡ Err fault.Memory
 
 -- an administration goes on with an entry
-pub record GoesOn (old new : Administration) (e : Recorded) : Type 0 where
+pub record FollowerGoesOn (old new : Administration) (e : Recorded) : Type 0 where
   pub domain : new.domain ≡ old.domain
   pub entries : new.entries ≡ old.entries ++ e ∷ []
 
 -- an administration has gone on with these entries
-pub record HasGone (old new : Administration) (calls : List Recorded) : Type 0 where
+pub record FollowerHasGone (old new : Administration) (calls : List Recorded) : Type 0 where
   pub domain : new.domain ≡ old.domain
   pub entries : new.entries ≡ old.entries ++ calls
 
@@ -44,8 +44,8 @@ next_table a = record { cycle = seals a.entries; rows = held_of a }
 -- what a call comes to: where it is answered as it was, the administration goes on with it, and where a growth was refused, it is as
 -- it was
 abbrev pub ComesTo : Administration → Administration → Recorded → Made → Type 0
-ComesTo old new e made.Answered = GoesOn old new e × (is_seal e.act ≡ false)
-ComesTo old new e (made.Closed table) = GoesOn old new e × (is_seal e.act ≡ true) × (e.reply ≡ Sealed) × (table ≡ next_table old)
+ComesTo old new e made.Answered = FollowerGoesOn old new e × (is_seal e.act ≡ false)
+ComesTo old new e (made.Closed table) = FollowerGoesOn old new e × (is_seal e.act ≡ true) × (e.reply ≡ Sealed) × (table ≡ next_table old)
 ComesTo old new e made.Otherwise = Unit {0}
 ComesTo old new e made.Memory = new ≡ old
 
@@ -55,7 +55,7 @@ MovesOn true tables next after table = (slice_get tables next ≡ Some table) ×
 MovesOn false tables next after table = after ≡ next
 
 -- a call that is made once more, and what it closes for the seat
-pub record StepsTo (old new : Administration) (e : Recorded) (number : ℕ) (tables : List CycleTable) (next after : ℕ) : Type 0 where
-  pub goes : GoesOn old new e
+pub record FollowerStepsTo (old new : Administration) (e : Recorded) (number : ℕ) (tables : List CycleTable) (next after : ℕ) : Type 0 where
+  pub goes : FollowerGoesOn old new e
   pub sealed : is_seal e.act ≡ true → e.reply ≡ Sealed
   pub moves : MovesOn (is_seal_by number e) tables next after (next_table old)

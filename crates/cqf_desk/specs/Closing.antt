@@ -1,9 +1,10 @@
 -- What a closed desk's history is to its seats (profile).
 use Rattle.std.specs.Prelude.{ℕ, Bool, ◌≡◌, ◌+◌, ◌-◌, ◌<◌, ◌≤◌, ◌⊎◌, ◌++◌, List, [], ◌∷◌, ◌==◌, ◌&&◌, if◌then◌else◌, true, Option, None, Some, Result, Ok, Err}
-use Rattle.std.specs.Prelude.{All, drop, filter, length, map, slice_get, take}
+use Rattle.std.specs.Prelude.{All, drop, length, map, slice_get, take}
 use Rattle.std.specs.List.{list_any}
 use Rattle.std.specs.Option.{option_map_or}
 use Rattle.cqf_lists.specs.Lists.{each_below}
+use Rattle.cqf_model.specs.Calls.{calls_by}
 use Rattle.cqf_model.specs.Domain.{Domain}
 use Rattle.cqf_model.specs.History.{IsLegalHistory, Recorded, is_seal, seals, table_at}
 use Rattle.cqf_admission.specs.declared.entries.Entry.{Entry}
@@ -13,10 +14,6 @@ use Rattle.cqf_desk.specs.declared.faults.CloseFault.{CloseFault}
 use Rattle.cqf_desk.specs.declared.faults.CloseFault.TheVariants.{SeatMissing, SeatsDisagree, Memory}
 use Rattle.cqf_desk.specs.declared.history.History.{History}
 use Rattle.cqf_desk.specs.Desk.{Counter, Sitting}
-
--- the calls of one seat, in order, with their answers
-abbrev pub calls_by : ℕ → List Recorded → List Recorded
-calls_by number entries = filter (λ (e : Recorded). e.seat == number) entries
 
 -- whether an entry is a Seal of one seat
 abbrev pub is_seal_by : ℕ → Recorded → Bool
@@ -73,6 +70,14 @@ Disagrees opening d count entries seats number =
 -- the number of one of the seats, or how many there are
 abbrev pub IsOneOrCount : ℕ → List Sitting → ℕ → Type 0
 IsOneOrCount count seats number = (list_any (λ (s : Sitting). s.number == number) seats ≡ true) ⊎ (number ≡ count)
+
+-- why a desk isn't closed: its seats aren't handed in; or this is whom the comparison with its history names. Which history it is
+-- no clause can say, since it stands behind a lock
+abbrev pub IsCloseFault : Counter → List Sitting → CloseFault → Type 0
+IsCloseFault desk seats SeatMissing = ¬ AreItsSeats desk.seats seats
+IsCloseFault desk seats (SeatsDisagree number) =
+    AreItsSeats desk.seats seats × (entries : List Recorded) × Disagrees desk.opening.entries desk.opening.domain desk.seats entries seats number
+IsCloseFault desk seats Memory = AreItsSeats desk.seats seats
 
 -- its parts: the opening part comes first, and the rest goes on legally by calls of so many seats
 pub record GoesOnBySeats (opening : Administration) (count : ℕ) (first rest : List Entry) : Type 0 where

@@ -10,6 +10,7 @@ use Rattle.cqf_lists.specs.Lists.{each_below}
 use Rattle.cqf_admission.specs.declared.entries.SealFault.{SealFault}
 use Rattle.cqf_admission.specs.Admission.{Administration, Closes, calls, is_entered, reply_of}
 use Rattle.cqf_admission.specs.Tables.{CycleTable}
+use Rattle.cqf_model.specs.Limits.{most_calls}
 
 -- a desk: the administration that was handed to it, and how many seats it has
 pub record Counter : Type 0 where
@@ -49,7 +50,7 @@ KeepsSeal old new (Err fault) = new ≡ old
 -- what a call does to the administration behind the desk: where the history is full it is refused for that, before all
 -- else, and else it gets the answer that is due there, and enters with it
 pub record IsAnswered (old new : Administration) (seat : ℕ) (act : Act) (result : Result Receipt Refused) : Type 0 where
-  pub full : (result ≡ Err HistoryFull) ↔ (100000 ≤ calls old.entries)
+  pub full : (result ≡ Err HistoryFull) ↔ (most_calls ≤ calls old.entries)
   pub domain : new.domain ≡ old.domain
   pub due : is_entered result ≡ true → reply_of result ≡ reply_to old.domain old.entries act
   pub entered : is_entered result ≡ true → new.entries ≡ with_entry old.entries seat act (reply_of result)

@@ -42,10 +42,10 @@ abbrev pub AddsTable : Follower → Follower → ℕ → CycleTable → Type 0
 AddsTable old new number table = (tables : List CycleTable) → HasTables old number tables → HasTables new number (tables ++ table ∷ [])
 
 -- how far a follower got with calls with which the seat closes no table: where a growth was refused, it goes on from there
-abbrev pub Follows : Follower → Follower → ℕ → List Recorded → Followed → Type 0
-Follows old new number calls followed.All = KeepsTables old new number × HasMade old new calls
-Follows old new number calls followed.Otherwise = Unit {0}
-Follows old new number calls followed.Memory = KeepsTables old new number
+abbrev pub FollowsSeat : Follower → Follower → ℕ → List Recorded → Followed → Type 0
+FollowsSeat old new number calls followed.All = KeepsTables old new number × HasMade old new calls
+FollowsSeat old new number calls followed.Otherwise = Unit {0}
+FollowsSeat old new number calls followed.Memory = KeepsTables old new number
 
 -- the seat's own Seal, which closes a table
 abbrev pub ClosesOwn : Follower → Follower → ℕ → Made → Type 0

@@ -1,5 +1,6 @@
-pub mod Again
 pub mod Closing
 pub mod Desk
-pub mod Faults
 pub mod Following
+-- what the inner functions say
+pub mod Again
+pub mod Faults

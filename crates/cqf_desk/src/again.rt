@@ -2,14 +2,13 @@
 ghost use Rattle.std.specs.Prelude.{◌≡◌, ◌++◌, true, Some, length, map, slice_get, IfOk, IfSome};
 ghost use Rattle.cqf_model.specs.History.{IsLegalHistory};
 ghost use Rattle.cqf_admission.specs.Admission.{recorded_of};
-ghost use Rattle.cqf_desk.specs.Again.{ComesTo, HasGone, IsAnsweredSo, IsClosedSo, StepsTo};
+ghost use Rattle.cqf_desk.specs.Again.{ComesTo, FollowerHasGone, IsAnsweredSo, IsClosedSo, FollowerStepsTo};
 ghost use Rattle.cqf_desk.specs.Closing.{tables_by};
 
 use crate::same::is_same_table;
 use crate::seats::{enters, reply_of};
 use cqf_admission::{Admission, Call, Entry, Receipt, Refused, Reply, SealFault, Table};
-use cqf_laws_definitions::closed_tables_stay;
-use cqf_laws_history::state_follows_history;
+use cqf_laws_history::{closed_tables_stay, state_follows_history};
 use cqf_units::Memory;
 use std::alloc::AllocError;
 
@@ -105,7 +104,7 @@ fn step(
     tables: &[Table],
     next: usize,
 ) -> Result<Option<usize>, Memory>
-    ensures { IfOk result (λ after. IfSome after (StepsTo again.old again.new (recorded_of entry.now) number tables.now next)) }
+    ensures { IfOk result (λ after. IfSome after (FollowerStepsTo again.old again.new (recorded_of entry.now) number tables.now next)) }
 {
     match make(again, entry) {
         Made::Answered => Ok(Some(next)),
@@ -135,7 +134,7 @@ pub(crate) fn has_tables(
 ) -> Result<bool, Memory>
     ensures closes { IfOk result (λ same. same ≡ true →
         tables.now ≡ tables_by again.old.domain (again.old.entries ++ map recorded_of rest.now) (length again.old.entries) number) }
-    ensures goes { IfOk result (λ same. same ≡ true → HasGone again.old again.new (map recorded_of rest.now)) }
+    ensures goes { IfOk result (λ same. same ≡ true → FollowerHasGone again.old again.new (map recorded_of rest.now)) }
 {
     closed_tables_stay();
     state_follows_history();

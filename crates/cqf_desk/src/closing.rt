@@ -1,10 +1,11 @@
 //! The comparisons by which a desk is closed.
-ghost use Rattle.std.specs.Prelude.{ℕ, ◌≡◌, ◌↔◌, ◌++◌, ◌==◌, ◌<◌, true, false, None, length, map, min, All, IfOk, IsErrOf};
+ghost use Rattle.std.specs.Prelude.{ℕ, ◌≡◌, ◌↔◌, ◌++◌, ◌==◌, ◌<◌, true, false, None, length, map, min, All, IfErr, IfOk, IsErrOf};
 ghost use Rattle.std.specs.List.{list_any};
 ghost use Rattle.std.specs.Option.{option_map_or};
 ghost use Rattle.cqf_model.specs.History.{IsLegalHistory};
+ghost use Rattle.cqf_model.specs.Calls.{calls_by};
 ghost use Rattle.cqf_admission.specs.Admission.{recorded_of};
-ghost use Rattle.cqf_desk.specs.Closing.{AreItsSeats, ComesToLeast, GoesOnBySeats, IsBorneOut, IsClosed, IsOneOrCount, Settles, calls_by, tables_by};
+ghost use Rattle.cqf_desk.specs.Closing.{AreItsSeats, ComesToLeast, GoesOnBySeats, IsBorneOut, IsCloseFault, IsClosed, IsOneOrCount, Settles, tables_by};
 
 use crate::again::{goes_on, has_tables};
 use crate::faults::CloseFault;
@@ -215,6 +216,7 @@ pub(crate) fn settle(
     ensures missing { IsErrOf result CloseFault.SeatMissing → ⊥ }
     ensures named { (number : ℕ) → IsErrOf result (CloseFault.SeatsDisagree number) → IsOneOrCount count seats.now number }
     ensures closed { IfOk result (λ history. IsClosed (record { opening = opening.now; seats = count }) seats.now history) }
+    ensures fault { IfErr result (λ fault. IsCloseFault (record { opening = opening.now; seats = count }) seats.now fault) }
 {
     match check(alloc, opening, count, entries.as_slice(), seats) {
         Ok(()) => Ok(History {

@@ -1,8 +1,8 @@
 //! The desk.
-ghost use Rattle.std.specs.Prelude.{ℕ, ◌≡◌, ◌↔◌, IfOk, IsErrOf};
+ghost use Rattle.std.specs.Prelude.{ℕ, ◌≡◌, ◌↔◌, IfErr, IfOk, IsErrOf};
 ghost use Rattle.cqf_model.specs.History.{Admits, Withdraws};
 ghost use Rattle.cqf_admission.specs.Asking.{asked_of};
-ghost use Rattle.cqf_desk.specs.Closing.{AreItsSeats, IsClosed, IsOneOrCount};
+ghost use Rattle.cqf_desk.specs.Closing.{AreItsSeats, IsCloseFault, IsClosed, IsOneOrCount};
 ghost use Rattle.cqf_desk.specs.Desk.{IsAnsweredSomewhere, IsSealedSomewhere, Keeps, KeepsSeal, fresh_seats};
 
 use crate::closing::{are_its_seats, settle};
@@ -104,6 +104,7 @@ impl Desk {
         ensures missing { IsErrOf result CloseFault.SeatMissing ↔ (AreItsSeats self.seats seats.items → ⊥) }
         ensures named { (number : ℕ) → IsErrOf result (CloseFault.SeatsDisagree number) → IsOneOrCount self.seats seats.items number }
         ensures closed { IfOk result (λ history. IsClosed self seats.items history) }
+        ensures fault { IfErr result (λ fault. IsCloseFault self seats.items fault) }
     {
         if !are_its_seats(self.seats, seats.as_slice()) {
             return Err(CloseFault::SeatMissing);
@@ -117,6 +118,7 @@ impl Desk {
         ensures missing { IsErrOf result CloseFault.SeatMissing → ⊥ }
         ensures named { (number : ℕ) → IsErrOf result (CloseFault.SeatsDisagree number) → IsOneOrCount self.seats seats.now number }
         ensures closed { IfOk result (λ history. IsClosed self seats.now history) }
+        ensures fault { IfErr result (λ fault. IsCloseFault self seats.now fault) }
     {
         let entries = self.admission.into_inner().into_history();
         settle(self.alloc, &self.opening, self.seats, entries, seats)

@@ -4,14 +4,13 @@ ghost use Rattle.std.specs.List.{list_any};
 ghost use Rattle.cqf_admission.specs.Admission.{recorded_of};
 ghost use Rattle.cqf_desk.specs.Closing.{is_seal_by};
 ghost use Rattle.cqf_admission.specs.Tables.{CycleTable};
-ghost use Rattle.cqf_desk.specs.Following.{AreFollowed, AreFollowedWith, ClosesOwn, Follows, HasFollowed, HasTables, IsUpToSeal, StayFollowed};
+ghost use Rattle.cqf_desk.specs.Following.{AreFollowed, AreFollowedWith, ClosesOwn, FollowsSeat, HasFollowed, HasTables, IsUpToSeal, StayFollowed};
 
 use crate::again::{Made, has_tables, make};
 use crate::domains::is_same_domain;
 use crate::same::are_same_entries;
 use cqf_admission::{Admission, Call, Entry, Reply, Table};
-use cqf_laws_definitions::closed_tables_stay;
-use cqf_laws_history::state_follows_history;
+use cqf_laws_history::{closed_tables_stay, state_follows_history};
 use cqf_units::Memory;
 use std::alloc::{AllocError, Global};
 
@@ -64,7 +63,7 @@ fn are_up_to_seal(followed: &[Entry], rest: &[Entry], number: u16) -> bool
 impl Follower {
     /// Makes a call once more that is no Seal of the seat.
     fn passes(&mut self, entry: &Entry, number: u16) -> Followed
-        ensures { Follows self.old self.new number (recorded_of entry.now ∷ []) result }
+        ensures { FollowsSeat self.old self.new number (recorded_of entry.now ∷ []) result }
     {
         closed_tables_stay();
         state_follows_history();
@@ -81,7 +80,7 @@ impl Follower {
 
     /// Makes all of these calls once more likewise.
     fn passes_all(&mut self, others: &[Entry], number: u16) -> Followed
-        ensures { Follows self.old self.new number (map recorded_of others.now) result }
+        ensures { FollowsSeat self.old self.new number (map recorded_of others.now) result }
     {
         for entry in others {
             match self.passes(entry, number) {
@@ -95,7 +94,7 @@ impl Follower {
 
     /// Follows a history in which no call behind those that it has made is a Seal of the seat.
     fn follow(&mut self, history: &[Entry], number: u16) -> Followed
-        ensures { Follows self.old self.new number (drop (length self.old.admission.entries) (map recorded_of history.now)) result }
+        ensures { FollowsSeat self.old self.new number (drop (length self.old.admission.entries) (map recorded_of history.now)) result }
     {
         let done = self.admission.history().len();
         if history.len() < done {

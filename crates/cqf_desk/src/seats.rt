@@ -5,6 +5,7 @@ ghost use Rattle.cqf_admission.specs.Admission.{Closes, calls, is_entered, recor
 ghost use Rattle.cqf_admission.specs.Asking.{asked_of};
 ghost use Rattle.cqf_desk.specs.Closing.{tables_by};
 ghost use Rattle.cqf_desk.specs.Desk.{IsAnswered, IsSealed, Keeps};
+ghost use Rattle.cqf_model.specs.Limits.{most_calls};
 
 use crate::following::{Follower, catch_up, close_own, kept};
 use cqf_admission::{
@@ -199,7 +200,7 @@ impl Seat {
 /// The answer to a request or a withdrawal that there is no memory for.
 pub(crate) fn unasked(admission: &Admission) -> Result<Receipt, Refused>
     ensures legal { IsLegalHistory admission.now.domain admission.now.entries }
-    ensures full { (result ≡ Err Refused.HistoryFull) ↔ (100000 ≤ calls admission.now.entries) }
+    ensures full { (result ≡ Err Refused.HistoryFull) ↔ (most_calls ≤ calls admission.now.entries) }
     ensures left { is_entered result ≡ false }
 {
     if admission.history().len() >= MOST_CALLS + admission.next_cycle().0 as usize {

@@ -4,7 +4,7 @@ use Rattle.std.proofs.lemmas.Bool.Decides.{nat_tests, leb_tells}
 use Rattle.std.proofs.lemmas.List.{take_all, take-append-le, length-take, length-take-le, append-nil}
 use Rattle.cqf_model.specs.GateList.{Entry}
 use Rattle.cqf_text.specs.Lines.{lines_of}
-use Rattle.cqf_gates.specs.GateListText.{entry_of_line, entries_of_lines, entries_of_text, with_entry}
+use Rattle.cqf_gates.specs.GateListText.{entry_of_line, entries_of_lines, entries_of_text, with_gate_line}
 use Rattle.cqf_gates.specs.TxList.{tx_list_of}
 use Rattle.cqf_gates.specs.TxText.{list_of_text, in_text}
 
@@ -29,7 +29,7 @@ pub read-none : (text : List ℕ) → IsReadSoFar text [] 1 text
 read-none text = record { read = []; keeps = refl; goes_on = behind_none _ }
 
 -- one more entry stands behind those that were read
-behind_one_more : (read : List Entry) (number : ℕ) (entry : Entry) (others : Result (List Entry) ℕ) → behind_entries read (with_entry number (Some entry) others) ≡ behind_entries (read ++ entry ∷ []) others
+behind_one_more : (read : List Entry) (number : ℕ) (entry : Entry) (others : Result (List Entry) ℕ) → behind_entries read (with_gate_line number (Some entry) others) ≡ behind_entries (read ++ entry ∷ []) others
 behind_one_more read number entry (Ok others) = ap Ok (sym (append_assoc read (entry ∷ []) others))
 behind_one_more read number entry (Err line) = refl
 
@@ -49,8 +49,8 @@ keeps-one_more kept after read entry keeps room full =
 pub read-one_more : (text : List ℕ) (kept after : List Entry) (number : ℕ) (left line behind : List ℕ) (entry : Entry) → IsReadSoFar text kept number left → lines_of left ≡ line ∷ lines_of behind → entry_of_line line ≡ Some entry → (length kept < 17 → after ≡ kept ++ entry ∷ []) → (17 ≤ length kept → after ≡ kept) → IsReadSoFar text after (number + 1) behind
 read-one_more text kept after number left line behind entry so_far first good room full =
     let others : Result (List Entry) ℕ = entries_of_lines (number + 1) (lines_of behind) in
-    let now_first : entries_of_lines number (lines_of left) ≡ with_entry number (entry_of_line line) others = ap (entries_of_lines number) first in
-    let now_good : entries_of_lines number (lines_of left) ≡ with_entry number (Some entry) others = now_first ∙ ap (λ e. with_entry number e others) good in
+    let now_first : entries_of_lines number (lines_of left) ≡ with_gate_line number (entry_of_line line) others = ap (entries_of_lines number) first in
+    let now_good : entries_of_lines number (lines_of left) ≡ with_gate_line number (Some entry) others = now_first ∙ ap (λ e. with_gate_line number e others) good in
     record {
       read = so_far.read ++ entry ∷ [];
       keeps = keeps-one_more kept after so_far.read entry so_far.keeps room full;
@@ -61,7 +61,7 @@ read-one_more text kept after number left line behind entry so_far first good ro
 pub read-bad_line : (text : List ℕ) (kept : List Entry) (number : ℕ) (left line behind : List ℕ) → IsReadSoFar text kept number left → lines_of left ≡ line ∷ lines_of behind → entry_of_line line ≡ None → entries_of_text text ≡ Err number
 read-bad_line text kept number left line behind so_far first bad =
     let others : Result (List Entry) ℕ = entries_of_lines (number + 1) (lines_of behind) in
-    let now_bad : entries_of_lines number (lines_of left) ≡ Err number = ap (entries_of_lines number) first ∙ ap (λ e. with_entry number e others) bad in
+    let now_bad : entries_of_lines number (lines_of left) ≡ Err number = ap (entries_of_lines number) first ∙ ap (λ e. with_gate_line number e others) bad in
     so_far.goes_on ∙ ap (behind_entries so_far.read) now_bad
 
 -- the first 17 entries make what all make

@@ -14,7 +14,7 @@ use Rattle.cqf_model.specs.GateList.{Entry}
 use Rattle.cqf_text.proofs.DecimalLemmas.{own}
 use Rattle.cqf_text.proofs.LineLemmas.{lines_of-first}
 use Rattle.cqf_text.specs.Decimal.{is_decimal, decimal_in}
-use Rattle.cqf_gates.specs.GateListText.{entry_of_line, entries_of_lines, with_entry, hex_digit, line_of_entry, text_of_entries}
+use Rattle.cqf_gates.specs.GateListText.{entry_of_line, entries_of_lines, with_gate_line, hex_digit, line_of_gates, text_of_entries}
 use Rattle.cqf_text.specs.Lines.{is_line_feed, lines_of}
 use Rattle.cqf_gates.specs.TxList.{IsTxList, tx_list_of}
 use Rattle.cqf_gates.specs.TxText.{list_of_text}
@@ -52,7 +52,7 @@ decimal-no_feed n k small inside =
     digit-no_feed (get_or (decimal n) k 0) digit
 
 -- a line that is written is read as its entry
-entry_of_line-line : (entry : Entry) → entry.0 < 256 → entry.1 < 2 ^ 32 → entry_of_line (line_of_entry entry) ≡ Some entry
+entry_of_line-line : (entry : Entry) → entry.0 < 256 → entry.1 < 2 ^ 32 → entry_of_line (line_of_gates entry) ≡ Some entry
 entry_of_line-line entry states interval =
     let high : digit_value (hex_digit (entry.0 / 16)) ≡ entry.0 / 16 = digit_value-hex (entry.0 / 16) (omega arith) in
     let low : digit_value (hex_digit (entry.0 % 16)) ≡ entry.0 % 16 = digit_value-hex (entry.0 % 16) (omega arith) in
@@ -63,7 +63,7 @@ entry_of_line-line entry states interval =
     simp (high, low, high_digit, low_digit, number, whole)
 
 -- a written line has no line feed
-line-no_feed : (entry : Entry) (k : ℕ) → entry.0 < 256 → entry.1 < 2 ^ 32 → k < length (line_of_entry entry) → is_line_feed (get_or (line_of_entry entry) k 0) ≡ false
+line-no_feed : (entry : Entry) (k : ℕ) → entry.0 < 256 → entry.1 < 2 ^ 32 → k < length (line_of_gates entry) → is_line_feed (get_or (line_of_gates entry) k 0) ≡ false
 line-no_feed entry zero states interval inside = hex-no_feed (entry.0 / 16) (omega arith)
 line-no_feed entry (suc zero) states interval inside = hex-no_feed (entry.0 % 16) (omega arith)
 line-no_feed entry (suc (suc zero)) states interval inside = refl
@@ -87,11 +87,11 @@ entries_of_lines-text : (number : ℕ) (entries : List Entry) → All (λ (entry
 entries_of_lines-text number [] ranges = refl
 entries_of_lines-text number (entry ∷ entries) ranges =
     let range = ranges 0 (0, 0) (omega arith) in
-    let first : lines_of (text_of_entries (entry ∷ entries)) ≡ line_of_entry entry ∷ lines_of (text_of_entries entries) =
-    lines_of-line (line_of_entry entry) (text_of_entries entries) (λ k inside. line-no_feed entry k range.0 range.1 inside) in
-    let good : entry_of_line (line_of_entry entry) ≡ Some entry = entry_of_line-line entry range.0 range.1 in
+    let first : lines_of (text_of_entries (entry ∷ entries)) ≡ line_of_gates entry ∷ lines_of (text_of_entries entries) =
+    lines_of-line (line_of_gates entry) (text_of_entries entries) (λ k inside. line-no_feed entry k range.0 range.1 inside) in
+    let good : entry_of_line (line_of_gates entry) ≡ Some entry = entry_of_line-line entry range.0 range.1 in
     let others : entries_of_lines (number + 1) (lines_of (text_of_entries entries)) ≡ Ok entries = entries_of_lines-text (number + 1) entries (λ k d inside. ranges (suc k) d (omega arith)) in
-    ap (entries_of_lines number) first ∙ ap (λ e. with_entry number e (entries_of_lines (number + 1) (lines_of (text_of_entries entries)))) good ∙ ap (with_entry number (Some entry)) others
+    ap (entries_of_lines number) first ∙ ap (λ e. with_gate_line number e (entries_of_lines (number + 1) (lines_of (text_of_entries entries)))) good ∙ ap (with_gate_line number (Some entry)) others
 
 -- a number above 0 fails the test for 0
 longer-test : (n : ℕ) → 0 < n → eqb n 0 ≡ false

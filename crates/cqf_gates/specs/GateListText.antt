@@ -16,16 +16,16 @@ entry_of_line (high ∷ low ∷ space ∷ digits) =
 entry_of_line _ = None
 
 -- the first entry, if the first line writes one, and then the others; else the first line's number
-abbrev pub with_entry : ℕ → Option (ℕ × ℕ) → Result (List (ℕ × ℕ)) ℕ → Result (List (ℕ × ℕ)) ℕ
-with_entry number None others = Err number
-with_entry number (Some entry) (Ok others) = Ok (entry ∷ others)
-with_entry number (Some entry) (Err bad) = Err bad
+abbrev pub with_gate_line : ℕ → Option (ℕ × ℕ) → Result (List (ℕ × ℕ)) ℕ → Result (List (ℕ × ℕ)) ℕ
+with_gate_line number None others = Err number
+with_gate_line number (Some entry) (Ok others) = Ok (entry ∷ others)
+with_gate_line number (Some entry) (Err bad) = Err bad
 
 -- the entries that lines write, one each, or the number of the first line that writes none, where the lines count
 -- from a number on
 abbrev pub entries_of_lines : ℕ → List (List ℕ) → Result (List (ℕ × ℕ)) ℕ
 entries_of_lines number [] = Ok []
-entries_of_lines number (line ∷ lines) = with_entry number (entry_of_line line) (entries_of_lines (number + 1) lines)
+entries_of_lines number (line ∷ lines) = with_gate_line number (entry_of_line line) (entries_of_lines (number + 1) lines)
 
 -- the entries that a text writes, one a line, or its first bad line, where lines count from 1
 abbrev pub entries_of_text : List ℕ → Result (List (ℕ × ℕ)) ℕ
@@ -36,10 +36,10 @@ abbrev pub hex_digit : ℕ → ℕ
 hex_digit n = if nat_lt n 10 then 48 + n else 55 + n
 
 -- the line that writes an entry: gate states in two upper case digits, a space, and the interval
-abbrev pub line_of_entry : (ℕ × ℕ) → List ℕ
-line_of_entry entry = hex_digit (entry.0 / 16) ∷ hex_digit (entry.0 % 16) ∷ 32 ∷ decimal entry.1
+abbrev pub line_of_gates : (ℕ × ℕ) → List ℕ
+line_of_gates entry = hex_digit (entry.0 / 16) ∷ hex_digit (entry.0 % 16) ∷ 32 ∷ decimal entry.1
 
 -- the text that writes entries, one a line
 abbrev pub text_of_entries : List (ℕ × ℕ) → List ℕ
 text_of_entries [] = []
-text_of_entries (entry ∷ entries) = line_of_entry entry ++ 10 ∷ text_of_entries entries
+text_of_entries (entry ∷ entries) = line_of_gates entry ++ 10 ∷ text_of_entries entries

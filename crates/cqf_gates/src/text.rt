@@ -1,7 +1,7 @@
 //! Gate lists as texts (profile).
 ghost use Rattle.std.specs.Prelude.{◌≡◌, ◌<◌, ◌^◌, ◌++◌, ◌∷◌, [], IfOk, OnOk};
 ghost use Rattle.std.specs.String.{string_bytes};
-ghost use Rattle.cqf_gates.specs.GateListText.{hex_digit, line_of_entry, text_of_entries};
+ghost use Rattle.cqf_gates.specs.GateListText.{hex_digit, line_of_gates, text_of_entries};
 ghost use Rattle.cqf_gates.specs.StreamText.{line_of_stream_entry, text_of_stream_entries};
 ghost use Rattle.cqf_gates.specs.TxText.{list_of_text};
 
@@ -54,7 +54,7 @@ fn hex_digit_of(number: u8) -> u8
 
 /// Appends the line that writes an entry.
 fn push_entry(alloc: Global, text: &mut Vec<u8>, states: u8, interval: u32) -> Result<(), Memory>
-    ensures line { OnOk result (text.new.items ≡ text.old.items ++ line_of_entry (states, interval) ++ 10 ∷ []) }
+    ensures line { OnOk result (text.new.items ≡ text.old.items ++ line_of_gates (states, interval) ++ 10 ∷ []) }
     ensures ranges { (states < 256) × (interval < 2 ^ 32) }
 {
     let end = format!(in alloc; " {interval}\n")?;

@@ -9,7 +9,7 @@ use Rattle.cqf_model.specs.declared.frames.Started.{Started}
 use Rattle.cqf_instants.specs.declared.lanes.Branch.{Branch}
 use Rattle.cqf_instants.specs.declared.lanes.Waiting.{Waiting}
 use Rattle.cqf_instants.specs.declared.link.Sender.{Sender}
-use Rattle.cqf_instants.specs.Lanes.{TellsLane, cap_at, caps_below, in_pace, start_of, sum_below}
+use Rattle.cqf_instants.specs.Lanes.{TellsLane, cap_at, caps_below, in_pace, start_of_lane, sum_below}
 use Rattle.cqf_instants.proofs.Adding.{cap_there}
 
 -- sums of the same numbers
@@ -33,13 +33,13 @@ sums_rise f m n upto =
     omega (arith, sums_more f m k, ap (sum_below f) e)
 
 -- a start a frame
-one_each : (cycle link begins r t : ℕ) (xs : List Waiting) → length (in_pace (start_of cycle link begins) r t xs) ≡ length xs
+one_each : (cycle link begins r t : ℕ) (xs : List Waiting) → length (in_pace (start_of_lane cycle link begins) r t xs) ≡ length xs
 one_each cycle link begins r t [] = refl
 one_each cycle link begins r t (x ∷ xs) =
     let n = t + r * wire_of x.octets in
     omega (
       arith,
-      length-append (start_of cycle link begins t x) (in_pace (start_of cycle link begins) r n xs),
+      length-append (start_of_lane cycle link begins t x) (in_pace (start_of_lane cycle link begins) r n xs),
       one_each cycle link begins r n xs,
     )
 
@@ -50,7 +50,7 @@ pub lane_told : (sender : Sender) (cycle begins : ℕ) (lane : List Waiting) (ol
 lane_told sender cycle begins lane old own branches before after told all h = omega (
   arith,
   ap length h.tells.starts,
-  length-append told (in_pace (start_of cycle sender.link begins) sender.octet_time 0 h.sorted),
+  length-append told (in_pace (start_of_lane cycle sender.link begins) sender.octet_time 0 h.sorted),
   one_each cycle sender.link begins sender.octet_time 0 h.sorted,
   length_permutation lane h.sorted h.same,
 )

@@ -1,7 +1,7 @@
 -- The laws by which a pass goes.
 use Rattle.cqf_laws_instants.specs.Instants.{BatchIsDue, FirstBatchIsEmpty, QueueHasRoom}
-use Rattle.cqf_laws_taken.specs.LaneLaws.{CoveredGoByTheirTree, LaneIsQueued, UncoveredGoNowhere}
-use Rattle.cqf_laws_taken.specs.QueueLaws.{CoveringCovers}
+use Rattle.cqf_laws_instants.specs.LaneLaws.{CoveredGoByTheirTree, LaneIsQueued, UncoveredGoNowhere}
+use Rattle.cqf_laws_instants.specs.QueueLaws.{CoveringCovers}
 
 -- what a link sends in a cycle, how much that is, and what comes to its lane
 pub record TheLaws : Type 0 where

@@ -48,7 +48,7 @@ pub record IsOver (old new : Progress) : Type 0 where
   pub all : old.told ≡ old.basis.cycles
 
 -- the starts have room for what the lanes of so many links can hold
-pub record HasRoomFor (links : ℕ) (standing : Standing) : Type 0 where
+pub record LaneHasRoomFor (links : ℕ) (standing : Standing) : Type 0 where
   pub now : caps_below standing.now.items links ≤ vec_capacity standing.starts
   pub next : caps_below standing.next.items links ≤ vec_capacity standing.starts
 
@@ -56,6 +56,6 @@ pub record HasRoomFor (links : ℕ) (standing : Standing) : Type 0 where
 pub record IsUnderWay (basis : Basis) (told : ℕ) (standing : Standing) : Type 0 where
   pub some : SomeBasis basis
   pub within : told ≤ basis.cycles
-  pub room : HasRoomFor (length basis.links.items) standing
+  pub room : LaneHasRoomFor (length basis.links.items) standing
   pub ready : (given : Given) → IsBasisOf given basis →
       IsReadyFor given basis.offers.items (length basis.links.items) basis.branches.items told standing.begins standing.from standing.now.items standing.next.items

@@ -2,7 +2,7 @@
 ghost use Rattle.std.specs.Prelude.{ℕ, ◌≡◌, ◌≤◌, ◌<◌, ◌^◌, IfOk, length};
 ghost use Rattle.cqf_units.specs.Timing.{nanos_of_octet};
 ghost use Rattle.cqf_instants.specs.Lanes.{sum_below};
-ghost use Rattle.cqf_instants.specs.Telling.{AreEmpty, frames_at, frames_in};
+ghost use Rattle.cqf_instants.specs.Telling.{AreEmptyLanes, frames_at, frames_in};
 
 use crate::lanes::Waiting;
 use cqf_model::Link;
@@ -40,7 +40,7 @@ pub(crate) fn empty_lanes(
     guard: u32,
 ) -> Result<Vec<Vec<Waiting>>, Memory>
     requires { guard ≤ cycle_time }
-    ensures { IfOk result (λ lanes. AreEmpty links.now cycle_time guard (length links.now) lanes.items) }
+    ensures { IfOk result (λ lanes. AreEmptyLanes links.now cycle_time guard (length links.now) lanes.items) }
 {
     let mut lanes = Vec::new(alloc);
     for place in 0..links.len() {

@@ -34,8 +34,8 @@ fn the_laws()
 {
     cqf_laws_instants::batch_is_due();
     cqf_laws_instants::queue_has_room();
-    cqf_laws_taken::what_a_cycle_queues();
-    cqf_laws_taken::lane_is_queued();
+    cqf_laws_instants::what_a_cycle_queues();
+    cqf_laws_instants::lane_is_queued();
 }
 
 /// Where a pass stands before its first cycle. It has all the memory that it will need.

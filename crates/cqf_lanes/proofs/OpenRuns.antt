@@ -19,10 +19,6 @@ twice : (b : Bool) → not (not b) ≡ b
 twice true = refl
 twice false = refl
 
--- the run of those that don't close is the run of those that open
-run_by_closes : (class : ℕ) (states : List ℕ) → prefix_len (λ gates. not (closes class gates)) states ≡ open_run_of class states
-run_by_closes class states = λ i. prefix_len (λ gates. twice (has_bit gates class) i) states
-
 -- the mask of sixteen entries, as vectors give it
 pub closed_mask : (class power : ℕ) (states : List ℕ) → power ≡ 2 ^ class → length states ≡ 16 → mask_l (map (top 7) (zip2 (λ a b. cond (eqb a b) (2 ^ 8 - 1) 0) (zip2 bit_and states (replicate 16 power)) (replicate 16 0))) % 2 ^ 64 ≡ mask_l (map (closes class) states)
 closed_mask class power states is long =

@@ -12,9 +12,9 @@ use Rattle.cqf_model.specs.Book.{Contents, background_in, drops_in, page_drops, 
 use Rattle.cqf_model.specs.Domain.{Domain, IsAccepted}
 use Rattle.cqf_model.specs.Run.{Run}
 use Rattle.cqf_model.specs.Traffic.{Policed, policed_before}
-use Rattle.cqf_order.specs.BookOrder.{IsDropBelow, IsStartBelow}
-use Rattle.cqf_laws_pages.specs.PageLaws.{IsSomeBook, on_links_of}
-use Rattle.cqf_laws_pages.specs.PageLaws.{PageSaysTheBackground, PageSaysWhatIsDropped, PageSaysWhatItsLinksSend}
+use Rattle.cqf_book_order.specs.BookOrder.{IsDropBelow, IsStartBelow}
+use Rattle.cqf_laws_cycle.specs.PageLaws.{IsSomeBook, on_links_of}
+use Rattle.cqf_laws_cycle.specs.PageLaws.{PageSaysTheBackground, PageSaysWhatIsDropped, PageSaysWhatItsLinksSend}
 use Rattle.cqf_book.specs.Shares.{AreDropsInOrder, AreStartsInOrder, IsBookOfPages, on_pages}
 use Rattle.cqf_laws_account.specs.Gathered.{ArePagesOf}
 use Rattle.cqf_laws_account.proofs.ThreeKeys.{AreByTwo, keyed}

@@ -13,7 +13,7 @@ use Rattle.cqf_model.specs.Book.{Contents, background_in, page_of, page_starts, 
 use Rattle.cqf_model.specs.Domain.{Domain, IsAccepted, bridge_of, leaves}
 use Rattle.cqf_model.specs.Run.{Run}
 use Rattle.cqf_model.proofs.Links.{bridge_within}
-use Rattle.cqf_laws_pages.specs.PageLaws.{BookIsItsPages, IsSomeBook, PageSaysTheBackground, PageSaysWhatItsLinksSend, book_of_pages, is_on_link, on_links_of}
+use Rattle.cqf_laws_cycle.specs.PageLaws.{BookIsItsPages, IsSomeBook, PageSaysTheBackground, PageSaysWhatItsLinksSend, book_of_pages, is_on_link, on_links_of}
 use Rattle.cqf_laws_account.specs.Gathered.{ArePagesOf}
 use Rattle.cqf_laws_account.specs.Paged.{AreByLink, ArePagesByLink, TellTheBook, contents_on, contents_there}
 use Rattle.cqf_laws_account.proofs.Ordered.{background_by_two, starts_by_two}

@@ -8,11 +8,12 @@ use Rattle.cqf_lists.proofs.EachBelow.{length-singles}
 use Rattle.cqf_lists.proofs.Members.{contains_at, contains_filter, contains_map}
 use Rattle.cqf_model.specs.Domain.{Domain}
 use Rattle.cqf_model.specs.History.{Act, Recorded, is_seal, seals, table_at}
+use Rattle.cqf_model.specs.Calls.{calls_by, IsHistoryOf, acts_of}
 use Rattle.cqf_admission.specs.Tables.{CycleTable}
-use Rattle.cqf_desk.specs.Closing.{IsBorneOut, IsOfSeats, calls_by, tables_by}
+use Rattle.cqf_desk.specs.Closing.{IsBorneOut, IsOfSeats, tables_by}
 use Rattle.cqf_desk.specs.Desk.{Sitting}
 use Rattle.cqf_laws_account.specs.Sealing.{OneSeatClosesAllTables, SealsAlone, cycle_tables}
-use Rattle.cqf_laws_account.specs.Seated.{AreSeated, AsksForNoSeal, ClosesItsCycles, IsHistoryOf, acts_of}
+use Rattle.cqf_laws_account.specs.Seated.{AreSeated, AsksForNoSeal, ClosesItsCycles}
 
 -- what holds of all holds of a member
 of_member : {X : Type 0} (P : X → Type 0) (xs : List X) (x : X) → All P xs → Contains xs x → P x

@@ -20,29 +20,29 @@ use Rattle.cqf_model.specs.Run.{Run}
 use Rattle.cqf_model.specs.Table.{table_of}
 use Rattle.cqf_laws_network.specs.NetworkLaws.{BookExists}
 use Rattle.cqf_laws_history.specs.HistoryLaws.{ThereAreSoManyTables}
-use Rattle.cqf_laws_pages.specs.PageLaws.{IsSomeBook}
+use Rattle.cqf_laws_cycle.specs.PageLaws.{IsSomeBook}
 use Rattle.cqf_bridge.specs.Batch.{LinkBatch}
 use Rattle.cqf_bridge.specs.Receiving.{ReceivesCycle, links_into}
 use Rattle.cqf_book.specs.Shares.{IsBookOfPages}
-use Rattle.cqf_laws_course.specs.CourseLaws.{PagesAreOfTheBook}
-use Rattle.cqf_laws_course.specs.Courses.{AreUnderWay, Course, HasWorked, IsGiven, Traffic, taken_in}
-use Rattle.cqf_laws_course.proofs.LinkNumbers.{link_into}
-use Rattle.cqf_laws_account.specs.Apart.{HavePosted, HaveWorkedApart, taken_at, together}
+use Rattle.cqf_laws_bridge.specs.CourseLaws.{PagesAreOfTheBook}
+use Rattle.cqf_laws_bridge.specs.Courses.{AreUnderWay, Course, HasWorked, IsGiven, Traffic, taken_in}
+use Rattle.cqf_laws_bridge.proofs.LinkNumbers.{link_into}
+use Rattle.cqf_laws_account.specs.Apart.{HavePosted, HaveWorkedApart, taken_apart, together}
 use Rattle.cqf_laws_account.specs.Gathered.{ArePagesOf, GatheredPagesAreTheBook, contents_of_page}
 use Rattle.cqf_laws_account.specs.Paged.{HasThePages}
 use Rattle.cqf_laws_account.proofs.Gathering.{leaves_one}
 
 -- what was taken from a link that ends in a bridge is by the lists of the bridge
-taken_by_node : (own : ℕ → Course) (node : Node) (l bridge : ℕ) → node_is node bridge ≡ true → taken_at own (Some node) l ≡ (own bridge).taken l
+taken_by_node : (own : ℕ → Course) (node : Node) (l bridge : ℕ) → node_is node bridge ≡ true → taken_apart own (Some node) l ≡ (own bridge).taken l
 taken_by_node own (Bridge b) l bridge here = ap (λ (k : ℕ). (own k).taken l) (eqb-true b bridge here)
 taken_by_node own (Station s) l bridge here = absurd cc
 
 -- also by the link's number
-taken_there : (d : Domain) (own : ℕ → Course) (l bridge : ℕ) → enters d l bridge ≡ true → taken_at own (end_of d l) l ≡ (own bridge).taken l
+taken_there : (d : Domain) (own : ℕ → Course) (l bridge : ℕ) → enters d l bridge ≡ true → taken_apart own (end_of d l) l ≡ (own bridge).taken l
 taken_there d own l bridge here =
     elim (slice_get_cases d.links l).1 [
       | inl w ↦
-          ap (λ (o : Option Link). taken_at own (option_map (λ (link : Link). link.to) o) l) w.2
+          ap (λ (o : Option Link). taken_apart own (option_map (λ (link : Link). link.to) o) l) w.2
           ∙ taken_by_node own w.0.to l bridge (sym (ap (λ (o : Option Link). option_map_or (λ (link : Link). node_is link.to bridge) o false) w.2) ∙ here)
       | inr w ↦
           let none : enters d l bridge ≡ false = ap (λ (o : Option Link). option_map_or (λ (link : Link). node_is link.to bridge) o false) w.1 in
@@ -52,7 +52,7 @@ taken_there d own l bridge here =
 -- what a bridge takes in a cycle is by its own lists
 taken_together : (d : Domain) (own : ℕ → Course) (bridge cycle : ℕ) → taken_in d (together d own) bridge cycle ≡ taken_in d (own bridge) bridge cycle
 taken_together d own bridge cycle =
-    flat_map_same (λ l. option_to_list (slice_get (taken_at own (end_of d l) l) cycle)) (λ l. option_to_list (slice_get ((own bridge).taken l) cycle))
+    flat_map_same (λ l. option_to_list (slice_get (taken_apart own (end_of d l) l) cycle)) (λ l. option_to_list (slice_get ((own bridge).taken l) cycle))
     (links_into d bridge)
     (λ l h. ap (λ (xs : List LinkBatch). option_to_list (slice_get xs cycle)) (taken_there d own l bridge (link_into d bridge l h).1))
 
@@ -82,22 +82,22 @@ worked_together t own bridge w =
 module _ (t : Traffic) (entries : List Recorded) (own : ℕ → Course) (apart : HaveWorkedApart t entries own) where
   -- of a link that ends in a node
   fed_node : (l : ℕ) (node : Node) → ((bridge : ℕ) → node_is node bridge ≡ true → enters t.domain l bridge ≡ true) →
-      (rest : List LinkBatch) × ((own (bridge_of t.domain l)).put l ≡ taken_at own (Some node) l ++ rest)
+      (rest : List LinkBatch) × ((own (bridge_of t.domain l)).put l ≡ taken_apart own (Some node) l ++ rest)
   fed_node l (Bridge b) there = apart.links l b (there b (eq-eqb b b refl))
   fed_node l (Station s) there = ((own (bridge_of t.domain l)).put l, refl)
 
   -- what was taken from each link is the beginning of what was put on it
-  fed : (l : ℕ) → (rest : List LinkBatch) × ((own (bridge_of t.domain l)).put l ≡ taken_at own (end_of t.domain l) l ++ rest)
+  fed : (l : ℕ) → (rest : List LinkBatch) × ((own (bridge_of t.domain l)).put l ≡ taken_apart own (end_of t.domain l) l ++ rest)
   fed l =
       elim (slice_get_cases t.domain.links l).1 [
         | inl w ↦
             let node_of : Option Link → Option Node = option_map (λ (link : Link). link.to) in
             let r = fed_node l w.0.to (λ bridge is.
             ap (λ (o : Option Link). option_map_or (λ (link : Link). node_is link.to bridge) o false) w.2 ∙ is) in
-            (r.0, r.1 ∙ ap (λ (o : Option Link). taken_at own (node_of o) l ++ r.0) (sym w.2))
+            (r.0, r.1 ∙ ap (λ (o : Option Link). taken_apart own (node_of o) l ++ r.0) (sym w.2))
         | inr w ↦
             let node_of : Option Link → Option Node = option_map (λ (link : Link). link.to) in
-            ((own (bridge_of t.domain l)).put l, ap (λ (o : Option Link). taken_at own (node_of o) l ++ (own (bridge_of t.domain l)).put l) (sym w.1))
+            ((own (bridge_of t.domain l)).put l, ap (λ (o : Option Link). taken_apart own (node_of o) l ++ (own (bridge_of t.domain l)).put l) (sym w.1))
       ]
 
   -- a bridge has taken no more tables than there are

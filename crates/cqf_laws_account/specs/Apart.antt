@@ -10,14 +10,14 @@ use Rattle.cqf_model.specs.History.{Recorded, seals, tables_of}
 use Rattle.cqf_model.specs.HistoryBook.{IsBookOfHistory}
 use Rattle.cqf_bridge.specs.Batch.{LinkBatch}
 use Rattle.cqf_book.specs.Shares.{IsBookOfPages}
-use Rattle.cqf_laws_course.specs.Courses.{AreUnderWay, Course, HasWorked, IsGiven, Traffic}
+use Rattle.cqf_laws_bridge.specs.Courses.{AreUnderWay, Course, HasWorked, IsGiven, Traffic}
 use Rattle.cqf_laws_account.specs.Gathered.{contents_of_page}
 
 -- what was taken from a link, by the lists of the bridge that it ends in
-abbrev pub taken_at : (ℕ → Course) → Option Node → ℕ → List LinkBatch
-taken_at own None l = []
-taken_at own (Some (Bridge bridge)) l = (own bridge).taken l
-taken_at own (Some (Station station)) l = []
+abbrev pub taken_apart : (ℕ → Course) → Option Node → ℕ → List LinkBatch
+taken_apart own None l = []
+taken_apart own (Some (Bridge bridge)) l = (own bridge).taken l
+taken_apart own (Some (Station station)) l = []
 
 -- all together, from the lists of each bridge: of each link what was put by those of the bridge that it leaves
 abbrev pub together : Domain → (ℕ → Course) → Course
@@ -26,7 +26,7 @@ together d own = record {
   tables = λ bridge. (own bridge).tables bridge;
   pages = λ bridge. (own bridge).pages bridge;
   put = λ l. (own (bridge_of d l)).put l;
-  taken = λ l. taken_at own (end_of d l) l;
+  taken = λ l. taken_apart own (end_of d l) l;
 }
 
 -- each bridge did its part by its own lists, under tables that are the first of the history's Seals; and what it took from a link is

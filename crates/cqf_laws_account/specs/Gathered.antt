@@ -3,7 +3,7 @@ use Rattle.std.specs.Prelude.{ℕ, ◌≡◌, ◌<◌, List, Some, length, slice
 use Rattle.cqf_model.specs.declared.frames.Page.{Page}
 use Rattle.cqf_model.specs.Book.{Contents, page_of}
 use Rattle.cqf_model.specs.Domain.{Domain, IsAccepted}
-use Rattle.cqf_laws_pages.specs.PageLaws.{IsSomeBook}
+use Rattle.cqf_laws_cycle.specs.PageLaws.{IsSomeBook}
 use Rattle.cqf_book.specs.Shares.{IsBookOfPages, said}
 
 -- what stands on a page

@@ -8,8 +8,8 @@ use Rattle.cqf_model.specs.Book.{Contents}
 use Rattle.cqf_model.specs.Domain.{Domain, IsAccepted}
 use Rattle.cqf_model.specs.History.{Recorded, seals}
 use Rattle.cqf_model.specs.HistoryBook.{IsBookOfHistory}
-use Rattle.cqf_laws_pages.specs.PageLaws.{IsSomeBook, book_of_pages, is_on_link, on_links_of}
-use Rattle.cqf_laws_course.specs.Courses.{Course, IsGiven, Traffic}
+use Rattle.cqf_laws_cycle.specs.PageLaws.{IsSomeBook, book_of_pages, is_on_link, on_links_of}
+use Rattle.cqf_laws_bridge.specs.Courses.{Course, IsGiven, Traffic}
 use Rattle.cqf_laws_account.specs.Apart.{HavePosted, HaveWorkedApart}
 use Rattle.cqf_laws_account.specs.Gathered.{ArePagesOf, contents_of_page}
 

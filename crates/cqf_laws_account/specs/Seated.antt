@@ -1,14 +1,11 @@
 -- The history of a desk at which administrators make what is asked of them, and one more seat seals (profile).
-use Rattle.std.specs.Prelude.{ℕ, ◌≡◌, ◌+◌, ◌<◌, List, All, Contains, Some, drop, false, length, map, replicate, slice_get, take}
+use Rattle.std.specs.Prelude.{ℕ, ◌≡◌, ◌+◌, List, Contains, Some, false, length, replicate, slice_get}
 use Rattle.cqf_model.specs.Domain.{Domain}
-use Rattle.cqf_model.specs.History.{Act, IsLegalHistory, Recorded, Seals, is_seal, seals}
-use Rattle.cqf_desk.specs.Closing.{IsOfSeats, calls_by}
+use Rattle.cqf_model.specs.History.{Act, Recorded, Seals, is_seal, seals}
+use Rattle.cqf_model.specs.Calls.{IsHistoryOf, acts_of}
+use Rattle.cqf_desk.specs.Closing.{IsOfSeats}
 use Rattle.cqf_desk.specs.Desk.{Sitting}
 use Rattle.cqf_laws_account.specs.Sealing.{cycle_tables}
-
--- what is called for in entries, in order
-abbrev pub acts_of : List Recorded → List Act
-acts_of entries = map (λ (e : Recorded). e.act) entries
 
 -- among the seats, each administrator's has called for what was asked of the administrator, and the next one has sealed so many cycles
 pub record AreSeated (asked : List (List Act)) (cycles : ℕ) (seats : List Sitting) : Type 0 where
@@ -23,15 +20,6 @@ pub record AreSeated (asked : List (List Act)) (cycles : ℕ) (seats : List Sitt
 -- no Seal is asked of an administrator
 abbrev pub AsksForNoSeal : List (List Act) → Type 0
 AsksForNoSeal asked = (acts : List Act) (act : Act) → Contains asked acts → Contains acts act → is_seal act ≡ false
-
--- a legal history with its opening part, behind which each administrator's entries call for what was asked of the administrator, all of
--- it and in order, the next seat's entries are one Seal a cycle, and no others are there
-pub record IsHistoryOf (d : Domain) (opening : List Recorded) (asked : List (List Act)) (cycles : ℕ) (entries : List Recorded) : Type 0 where
-  pub legal : IsLegalHistory d entries
-  pub begins : take (length opening) entries ≡ opening
-  pub calls : (admin : ℕ) (acts : List Act) → slice_get asked admin ≡ Some acts → acts_of (calls_by admin (drop (length opening) entries)) ≡ acts
-  pub seals : acts_of (calls_by (length asked) (drop (length opening) entries)) ≡ replicate cycles Seals
-  pub known : All (λ (e : Recorded). e.seat < length asked + 1) (drop (length opening) entries)
 
 -- the history has just as many Seals, and the conductor's tables are those of its cycles
 pub record ClosesItsCycles (d : Domain) (entries : List Recorded) (cycles : ℕ) (conductor : Sitting) : Type 0 where

@@ -29,7 +29,7 @@ ghost use Rattle.cqf_laws_account.specs.Seated.{ConductorHasTheTables, SeatsGive
 pub fn gathered_pages_are_the_book()
     ensures { GatheredPagesAreTheBook }
 {
-    cqf_laws_pages::page_is_of_its_bridge();
+    cqf_laws_cycle::page_is_of_its_bridge();
 }
 
 /// Where each bridge did its part by lists of its own, the tables that it took are the first of one history's Seals, and what it took
@@ -40,7 +40,7 @@ pub fn bridges_apart_give_the_book()
     ensures book { BridgesApartGiveTheBook }
 {
     gathered_pages_are_the_book();
-    cqf_laws_course::pages_are_of_the_book();
+    cqf_laws_bridge::pages_are_of_the_book();
     cqf_laws_network::book_exists();
     cqf_laws_history::tables_are_orderly();
 }
@@ -65,8 +65,8 @@ pub fn seats_give_the_history()
 pub fn pages_tell_the_book()
     ensures { PagesTellTheBook }
 {
-    cqf_laws_pages::page_is_of_its_bridge();
-    cqf_laws_pages::book_is_its_pages();
+    cqf_laws_cycle::page_is_of_its_bridge();
+    cqf_laws_cycle::book_is_its_pages();
 }
 
 /// Where each bridge did its part by lists of its own, the tables that it took are the first of one history's Seals, and what it took
@@ -76,7 +76,7 @@ pub fn bridges_apart_post_the_pages()
     ensures { BridgesApartPostThePages }
 {
     gathered_pages_are_the_book();
-    cqf_laws_course::pages_are_of_the_book();
+    cqf_laws_bridge::pages_are_of_the_book();
     cqf_laws_network::book_exists();
     cqf_laws_history::tables_are_orderly();
 }

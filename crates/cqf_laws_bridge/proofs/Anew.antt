@@ -14,8 +14,8 @@ use Rattle.cqf_model.specs.Traffic.{Carried, Policed, Received, is_queued_of, po
 use Rattle.cqf_model.proofs.Coming.{before_when}
 use Rattle.cqf_model.proofs.InCycle.{received_in_when}
 use Rattle.cqf_model.proofs.Policing.{police_member}
-use Rattle.cqf_laws_pages.specs.BridgeCycle.{policed_in, policed_of, received_in}
-use Rattle.cqf_shift.specs.Edge.{GateIsReservation, octets_before}
+use Rattle.cqf_laws_cycle.specs.BridgeCycle.{policed_in, policed_of, received_in}
+use Rattle.cqf_laws_shift.specs.Edge.{GateIsReservation, octets_before}
 
 module _ (reserves : GateIsReservation) (d : Domain) (some : 0 < d.cycle_time) (tables : List (List Row)) (bridge cycle : ℕ) (earlier : List Policed)
     (others : (p : Policed) → Contains earlier p → cycle_of d p.received.at ≡ cycle → ⊥) where

@@ -1,5 +1,5 @@
 -- Bridges that pass on their batches follow the network together.
-use Rattle.std.proofs.Common.{◌≡◌, ℕ, zero, suc, ◌+◌, ◌≤◌, ◌<◌, List, ◌++◌, length, map, filter, sym, ap, ◌∙◌, arith, subst, Contains}
+use Rattle.std.proofs.Common.{refl, ◌≡◌, ℕ, zero, suc, ◌+◌, ◌≤◌, ◌<◌, List, ◌++◌, length, map, filter, sym, ap, ◌∙◌, arith, subst, Contains}
 use Rattle.std.proofs.lemmas.List.{append_cancel_left, map-id}
 use Rattle.std.proofs.lemmas.Simd.{map-map}
 use Rattle.cqf_lists.proofs.EachBelow.{same_below}
@@ -9,12 +9,12 @@ use Rattle.cqf_lists.proofs.Numbers.{kept_number}
 use Rattle.cqf_lists.specs.Lists.{each_below}
 use Rattle.cqf_model.specs.Book.{Contents, IsBook, background_in, page_of}
 use Rattle.cqf_model.specs.Domain.{Domain, IsAccepted, bridge_of, enters}
-use Rattle.cqf_model.specs.Network.{Network, compiled_lists}
+use Rattle.cqf_model.specs.Network.{Network, compiled_lists, LosesNothing}
 use Rattle.cqf_model.specs.Run.{Run}
 use Rattle.cqf_model.proofs.Links.{bridge_within}
-use Rattle.cqf_laws_pages.specs.BridgeCycle.{IsCompiledNetwork}
-use Rattle.cqf_laws_pages.specs.Gathered.{backed_for}
-use Rattle.cqf_laws_pages.specs.PageLaws.{BookIsItsPages, IsSomeBook, book_of_pages, is_on_link, on_links_of}
+use Rattle.cqf_laws_cycle.specs.BridgeCycle.{IsCompiledNetwork}
+use Rattle.cqf_laws_cycle.specs.Gathered.{backed_for}
+use Rattle.cqf_laws_cycle.specs.PageLaws.{BookIsItsPages, IsSomeBook, book_of_pages, is_on_link, on_links_of}
 use Rattle.cqf_bridge.specs.declared.faults.BridgeFault.{BridgeFault}
 use Rattle.cqf_bridge.specs.declared.faults.BridgeFault.TheVariants.{Memory}
 use Rattle.cqf_bridge.specs.Batch.{LinkBatch}
@@ -24,7 +24,7 @@ use Rattle.cqf_bridge.specs.Faults.{IsSendFault}
 use Rattle.cqf_laws_bridge.specs.Cycles.{GivesTheBatches, GivesTheDrops, NewBridgeFollows, PageFollows, ReceivingFollows, SendingFollows, drops_of_cycle, page_given}
 use Rattle.cqf_laws_bridge.specs.Driven.{AreDriven, ArePassedOn, DrivenCourse, GoesThrough, SendsInCourse, page_of_course}
 use Rattle.cqf_laws_bridge.specs.Follows.{FollowsTheNetwork, HasSentOfTheNetwork, batch_of, batches_from, batches_into, handed_with}
-use Rattle.cqf_laws_bridge.specs.NoFaults.{LosesNothing, ReceivesButForMemory, SendsButForMemory}
+use Rattle.cqf_laws_bridge.specs.NoFaults.{ReceivesButForMemory, SendsButForMemory}
 
 -- a bridge follows the network before a cycle
 pub record IsBefore (run : Run) (net : Network) (course : DrivenCourse) (bridge cycle : ℕ) : Type 0 where
@@ -138,7 +138,8 @@ module _ (run : Run) (cycles : ℕ) (net : Network) (course : DrivenCourse) (com
     receives_then but_for_memory loses bridge after fault inside passed h =
         let halfway = course.halfway bridge cycle in
         let is = halfway_is bridge inside in
-        but_for_memory run cycles cycle net halfway after fault compiled loses is.0 (sym is.1) within
+        but_for_memory run cycles cycle net halfway after fault compiled loses is.0.of_run.domain
+        (record { not_spent = is.0.of_run.not_spent; next = (sym is.1, is.0.turn, refl) }) within
         (subst (λ (xs : List LinkBatch). IsReceiveFault run halfway after cycle (handed_with run cycle xs) fault)
         (handed_are bridge passed ∙ ap (λ (b : ℕ). batches_into run.domain net.carried b cycle) (sym is.2)) h)
 
@@ -180,7 +181,7 @@ module _ (run : Run) (cycles : ℕ) (net : Network) (course : DrivenCourse) (com
         IsSendFault (course.before bridge driven) after driven fault → fault ≡ Memory
     all_send but_for_memory bridge after fault inside h =
         let is = all_before driven (omega arith) bridge inside in
-        but_for_memory run driven net (course.before bridge driven) after fault is.follows (sym is.received) h
+        but_for_memory driven (course.before bridge driven) after fault is.follows.of_run.not_spent (sym is.received, is.follows.turn) h
 
     -- and where nothing is lost it receives it, but for want of memory
     pub all_receive : ReceivesButForMemory → LosesNothing run cycles net → driven < cycles →

@@ -8,3 +8,5 @@ mod Losses
 mod OwnPages
 mod SameFrames
 mod Courses
+pub mod LinkNumbers
+mod Going

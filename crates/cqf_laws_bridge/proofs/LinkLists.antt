@@ -1,5 +1,5 @@
 -- The links of a bridge, and what stands for each of them.
-use Rattle.std.proofs.Common.{◌≡◌, ℕ, zero, suc, ◌<◌, Bool, true, false, List, [], ◌∷◌, ◌++◌, ◌==◌, if◌then◌else◌, length, sym, ap, ap₂, refl, ◌∙◌, inl, inr, arith}
+use Rattle.std.proofs.Common.{◌≡◌, ℕ, zero, suc, ◌<◌, Bool, true, false, List, [], ◌++◌, ◌==◌, if◌then◌else◌, length, sym, ap, ap₂, refl, ◌∙◌, inl, inr, arith}
 use Rattle.std.proofs.Common.{Option, append-nil, eqb-true, eq-eqb, ne_eqb}
 use Rattle.std.specs.Option.{option_map_or}
 use Rattle.std.proofs.lemmas.Bool.{cases_lt, cond-false, cond-true}

@@ -14,22 +14,22 @@ use Rattle.cqf_model.specs.declared.frames.Sent.{Sent}
 use Rattle.cqf_model.specs.declared.topology.Row.{Row}
 use Rattle.cqf_model.specs.Book.{batch}
 use Rattle.cqf_model.specs.Domain.{Domain, cycle_of, enters}
-use Rattle.cqf_model.specs.Network.{IsLoss, Network}
+use Rattle.cqf_model.specs.Network.{IsLoss, Network, LosesNothing}
 use Rattle.cqf_model.specs.Run.{Run}
 use Rattle.cqf_model.specs.Table.{goes_on, row_of, table_of}
 use Rattle.cqf_model.specs.Traffic.{Carried, ExceedsGate, LacksRow, Policed, Queued, Received, inside_verdict, offered_at, police, police_all, policed_before}
 use Rattle.cqf_model.specs.Traffic.{received_at, relayed_at, sent_received, whole_at, within_gate}
 use Rattle.cqf_model.proofs.LinkEnds.{enters_inside}
-use Rattle.cqf_laws_pages.specs.BridgeCycle.{BatchIsWholeInItsCycle, CycleBringsItsBatches, IsCompiledNetwork, policed_of, received_in}
-use Rattle.cqf_laws_pages.specs.RunSteps.{LossesAreOfCycles}
-use Rattle.cqf_shift.specs.Edge.{GateIsReservation}
+use Rattle.cqf_laws_cycle.specs.BridgeCycle.{BatchIsWholeInItsCycle, CycleBringsItsBatches, IsCompiledNetwork, policed_of, received_in}
+use Rattle.cqf_laws_cycle.specs.RunSteps.{LossesAreOfCycles}
+use Rattle.cqf_laws_shift.specs.Edge.{GateIsReservation}
 use Rattle.cqf_bridge.specs.declared.faults.BridgeFault.{BridgeFault}
 use Rattle.cqf_bridge.specs.declared.faults.BridgeFault.TheVariants.{Memory, OverOctets, Spent, StrangeBatch, WrongCycle}
 use Rattle.cqf_bridge.specs.Batch.{LinkBatch}
 use Rattle.cqf_bridge.specs.BridgeState.{BridgeState}
-use Rattle.cqf_bridge.specs.Receiving.{AreBatchesOf, IsFirstOver, IsReceiveFault, MayCome, links_into, verdicts_in}
-use Rattle.cqf_laws_bridge.specs.Follows.{HasSentOfTheNetwork, batch_of, batches_into, handed_in}
-use Rattle.cqf_laws_bridge.specs.NoFaults.{LosesNothing}
+use Rattle.cqf_bridge.specs.Receiving.{AreBatchesOf, IsFirstOver, IsReceiveFault, MayCome, MayReceive, links_into, verdicts_in}
+use Rattle.cqf_laws_bridge.specs.Follows.{batch_of, batches_into, handed_in}
+use Rattle.cqf_laws_bridge.specs.Verdicts.{LosesNothingIn}
 use Rattle.cqf_laws_bridge.proofs.TakenCycles.{verdicts_are}
 
 -- each frame that comes gets its verdict, behind some others
@@ -81,18 +81,12 @@ comes_in_cycle run carried cycle bridge m sent some here inside in_time =
     contains_below (λ k. received_at run carried bridge (begins + k)) d.cycle_time offset x below
     (subst (λ (n : ℕ). Contains (received_at run carried bridge n) x) at at_instant)
 
-module _ (run : Run) (cycles cycle bridge : ℕ) (net : Network) (compiled : IsCompiledNetwork run cycles net) (loses : LosesNothing run cycles net)
-    (in_cycles : cycle < cycles) (whole : BatchIsWholeInItsCycle) (losses : LossesAreOfCycles) where
-  -- nothing of the cycle is lost
-  pub none_lost_in : (p : Policed) → Contains (policed_of run net.carried bridge cycle) p → IsLoss p.verdict → ⊥
-  none_lost_in p h lost =
-      loses bridge p
-      ((losses run net.carried cycles bridge p).1 (record { cycle = cycle; within_run = in_cycles; came = h; lost = lost }))
-
-  -- so a frame that a link sends in it to the bridge may come
-  frame_may_come : (m : ℕ) (sent : Sent) → enters run.domain m bridge ≡ true → Contains (batch run.domain net.carried m cycle) sent →
+module _ (run : Run) (cycles cycle bridge : ℕ) (net : Network) (compiled : IsCompiledNetwork run cycles net) (none : LosesNothingIn run net bridge cycle)
+    (whole : BatchIsWholeInItsCycle) where
+  -- where nothing is lost there in the cycle, a frame that a link sends in it to the bridge may come
+  unlost_frame : (m : ℕ) (sent : Sent) → enters run.domain m bridge ≡ true → Contains (batch run.domain net.carried m cycle) sent →
       MayCome run.domain bridge cycle (table_of run.tables cycle) m sent
-  frame_may_come m sent here h =
+  unlost_frame m sent here h =
       let d = run.domain in
       let x = sent_received d m sent in
       let some : 0 < d.cycle_time = omega (arith, compiled.accepted.guard_short) in
@@ -101,7 +95,7 @@ module _ (run : Run) (cycles cycle bridge : ℕ) (net : Network) (compiled : IsC
       let came = comes_in_cycle run net.carried cycle bridge m sent some here sent_by_it in_time in
       let v = verdict_on d run.tables bridge (policed_before run net.carried bridge (cycle * d.cycle_time)) (received_in run net.carried bridge cycle) x came in
       let k = kept_has_row d bridge m (λ (row : Row). within_gate d v.0 row x) (row_of (table_of run.tables (cycle_of d (whole_at d m sent))) sent.stream)
-      (none_lost_in (police d run.tables bridge v.0 x) v.1) in
+      (none (police d run.tables bridge v.0 x) v.1) in
       record {
         row = k.0;
         known = ap (λ (c : ℕ). row_of (table_of run.tables c) sent.stream) (sym in_time) ∙ k.1;
@@ -110,8 +104,8 @@ module _ (run : Run) (cycles cycle bridge : ℕ) (net : Network) (compiled : IsC
       }
 
   -- and the batches that end in it are the cycle's
-  pub batches_may_come : AreBatchesOf run.domain bridge cycle (table_of run.tables cycle) (batches_into run.domain net.carried bridge cycle)
-  batches_may_come =
+  pub unlost_may_come : AreBatchesOf run.domain bridge cycle (table_of run.tables cycle) (batches_into run.domain net.carried bridge cycle)
+  unlost_may_come =
       let d = run.domain in
       let of_link = batch_of d net.carried cycle in
       let links = links_into d bridge in
@@ -121,8 +115,20 @@ module _ (run : Run) (cycles cycle bridge : ℕ) (net : Network) (compiled : IsC
         frames = λ b sent h of_batch. (let f = contains_from_map of_link links b h in
             let here = (kept_number (λ l. enters d l bridge) (length d.links) f.0 f.1).1 in
             subst (λ (y : LinkBatch). MayCome d bridge cycle (table_of run.tables cycle) y.link sent) f.2
-            (frame_may_come f.0 sent here (subst (λ (y : LinkBatch). Contains y.frames sent) (sym f.2) of_batch)));
+            (unlost_frame f.0 sent here (subst (λ (y : LinkBatch). Contains y.frames sent) (sym f.2) of_batch)));
       }
+
+module _ (run : Run) (cycles cycle bridge : ℕ) (net : Network) (compiled : IsCompiledNetwork run cycles net) (loses : LosesNothing run cycles net)
+    (in_cycles : cycle < cycles) (whole : BatchIsWholeInItsCycle) (losses : LossesAreOfCycles) where
+  -- nothing of the cycle is lost
+  pub none_lost_in : (p : Policed) → Contains (policed_of run net.carried bridge cycle) p → IsLoss p.verdict → ⊥
+  none_lost_in p h lost =
+      loses bridge p
+      ((losses run net.carried cycles bridge p).1 (record { cycle = cycle; within_run = in_cycles; came = h; lost = lost }))
+
+  -- so the batches that end in it are the cycle's
+  pub batches_may_come : AreBatchesOf run.domain bridge cycle (table_of run.tables cycle) (batches_into run.domain net.carried bridge cycle)
+  batches_may_come = unlost_may_come run cycles cycle bridge net compiled none_lost_in whole
 
 -- and none of their frames is over its octets
 pub none_over : BatchIsWholeInItsCycle → CycleBringsItsBatches → LossesAreOfCycles → GateIsReservation → (run : Run) (cycles cycle bridge frame : ℕ)
@@ -135,20 +141,20 @@ none_over whole brings losses reserves run cycles cycle bridge frame net compile
     subst (λ (ps : List Policed). Contains ps over.over) taken (contains_at (verdicts_in run bridge cycle batches) over.place over.over over.there) in
     none_lost_in run cycles cycle bridge net compiled loses in_cycles whole losses over.over inside (subst IsLoss (sym over.exceeds) tt)
 
--- so a bridge that has sent as the network does doesn't receive the cycle for want of memory alone
+-- so a bridge that has sent the cycle doesn't receive it for want of memory alone
 pub memory_alone : BatchIsWholeInItsCycle → CycleBringsItsBatches → LossesAreOfCycles → GateIsReservation → (run : Run) (cycles cycle : ℕ) (net : Network)
     (before after : BridgeState) (fault : BridgeFault) → IsCompiledNetwork run cycles net → LosesNothing run cycles net →
-    HasSentOfTheNetwork run net before → cycle ≡ before.received → cycle < cycles →
+    before.domain ≡ run.domain → MayReceive before cycle (handed_in run net before.number cycle) → cycle < cycles →
     IsReceiveFault run before after cycle (handed_in run net before.number cycle) fault → fault ≡ Memory
-memory_alone whole brings losses reserves run cycles cycle net before after Spent compiled loses has next in_cycles h =
-    absurd (cc (h.0, has.of_run.not_spent))
-memory_alone whole brings losses reserves run cycles cycle net before after WrongCycle compiled loses has next in_cycles h =
-    absurd (h.1 (next, has.turn, refl))
-memory_alone whole brings losses reserves run cycles cycle net before after StrangeBatch compiled loses has next in_cycles h =
+memory_alone whole brings losses reserves run cycles cycle net before after Spent compiled loses domain may in_cycles h =
+    absurd (cc (h.0, may.not_spent))
+memory_alone whole brings losses reserves run cycles cycle net before after WrongCycle compiled loses domain may in_cycles h =
+    absurd (h.1 may.next)
+memory_alone whole brings losses reserves run cycles cycle net before after StrangeBatch compiled loses domain may in_cycles h =
     let d = run.domain in
     let batches = batches_into d net.carried before.number cycle in
-    absurd (h.1 (subst (λ (x : Domain). AreBatchesOf x before.number cycle (table_of run.tables cycle) batches) (sym has.of_run.domain)
+    absurd (h.1 (subst (λ (x : Domain). AreBatchesOf x before.number cycle (table_of run.tables cycle) batches) (sym domain)
     (batches_may_come run cycles cycle before.number net compiled loses in_cycles whole losses)))
-memory_alone whole brings losses reserves run cycles cycle net before after (OverOctets frame) compiled loses has next in_cycles h =
+memory_alone whole brings losses reserves run cycles cycle net before after (OverOctets frame) compiled loses domain may in_cycles h =
     absurd (none_over whole brings losses reserves run cycles cycle before.number frame net compiled loses in_cycles h.1)
-memory_alone whole brings losses reserves run cycles cycle net before after Memory compiled loses has next in_cycles h = refl
+memory_alone whole brings losses reserves run cycles cycle net before after Memory compiled loses domain may in_cycles h = refl

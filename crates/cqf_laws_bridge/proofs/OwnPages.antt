@@ -9,8 +9,8 @@ use Rattle.cqf_model.specs.Network.{Network, compiled_lists}
 use Rattle.cqf_model.specs.Run.{Run}
 use Rattle.cqf_model.specs.Traffic.{Carried, policed_before}
 use Rattle.cqf_laws_network.specs.NetworkLaws.{LegalNetworkIsUnique}
-use Rattle.cqf_laws_pages.specs.BridgeCycle.{DropsAreOfTheCycle, IsCompiledNetwork}
-use Rattle.cqf_laws_pages.specs.PageLaws.{PageSaysTheBackground, PageSaysWhatIsDropped, PageSaysWhatItsLinksSend, on_links_of}
+use Rattle.cqf_laws_cycle.specs.BridgeCycle.{DropsAreOfTheCycle, IsCompiledNetwork}
+use Rattle.cqf_laws_cycle.specs.PageLaws.{PageSaysTheBackground, PageSaysWhatIsDropped, PageSaysWhatItsLinksSend, on_links_of}
 use Rattle.cqf_bridge.specs.BridgeState.{links_from}
 use Rattle.cqf_laws_bridge.specs.Cycles.{drops_of_cycle, page_given, starts_of_batch}
 use Rattle.cqf_laws_bridge.specs.Follows.{batch_of, batches_from}

@@ -8,8 +8,8 @@ use Rattle.cqf_model.specs.Domain.{leaves}
 use Rattle.cqf_model.specs.Network.{Network, QueuedFrame, backed_in, comes_before}
 use Rattle.cqf_model.specs.Run.{Run}
 use Rattle.cqf_laws_network.specs.NetworkLaws.{HaveOnePast, HaveTheSameTables, PortsGetThePast, with_tables}
-use Rattle.cqf_laws_pages.specs.PageLaws.{on_links_of}
-use Rattle.cqf_laws_pages.specs.RunSteps.{KeepsItsCycles}
+use Rattle.cqf_laws_cycle.specs.PageLaws.{on_links_of}
+use Rattle.cqf_laws_cycle.specs.RunSteps.{KeepsItsCycles}
 use Rattle.cqf_bridge.specs.BridgeState.{BridgeState}
 use Rattle.cqf_laws_bridge.specs.Follows.{FollowsTheNetwork, HasSentOfTheNetwork, HasTaken, IsOfRun}
 

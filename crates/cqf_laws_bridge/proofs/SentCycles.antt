@@ -13,9 +13,9 @@ use Rattle.cqf_model.specs.Domain.{Domain, leaves}
 use Rattle.cqf_model.specs.Network.{Network, comes_before}
 use Rattle.cqf_model.specs.Port.{Transmission}
 use Rattle.cqf_model.specs.Run.{Run}
-use Rattle.cqf_laws_pages.specs.Gathered.{PortsGetTheirBackground, backed_for}
-use Rattle.cqf_laws_pages.specs.PageLaws.{on_links_of}
-use Rattle.cqf_laws_pages.specs.PortCycle.{PortStartsTheBatch, waits_in}
+use Rattle.cqf_laws_cycle.specs.Gathered.{PortsGetTheirBackground, backed_for}
+use Rattle.cqf_laws_cycle.specs.PageLaws.{on_links_of}
+use Rattle.cqf_laws_cycle.specs.PortCycle.{PortStartsTheBatch, waits_in}
 use Rattle.cqf_bridge.specs.Batch.{LinkBatch}
 use Rattle.cqf_bridge.specs.BridgeState.{BridgeState, background_from, batch_from, end_of_cycle, links_from, port_behind, port_with}
 use Rattle.cqf_bridge.specs.PortRecord.{AreDemanded, PortRecord}

@@ -10,17 +10,17 @@ use Rattle.cqf_model.specs.Domain.{leaves}
 use Rattle.cqf_model.specs.Network.{Network, QueuedFrame, arrivals_of, backed_frame, backed_in, backed_of, comes_before, sent_of}
 use Rattle.cqf_model.specs.Port.{AreLegal, PortRules, Transmission}
 use Rattle.cqf_model.specs.Run.{Run}
-use Rattle.cqf_laws_pages.specs.BridgeCycle.{IsCompiledNetwork}
-use Rattle.cqf_laws_pages.specs.Gathered.{PortsGetTheirBackground, backed_for, is_for_link}
-use Rattle.cqf_laws_pages.specs.PortCycle.{MakesTheBatch, PortStartsTheBatch, StartsInCycle, waits_in}
+use Rattle.cqf_laws_cycle.specs.BridgeCycle.{IsCompiledNetwork}
+use Rattle.cqf_laws_cycle.specs.Gathered.{PortsGetTheirBackground, backed_for, is_for_link}
+use Rattle.cqf_laws_cycle.specs.PortCycle.{MakesTheBatch, PortStartsTheBatch, StartsInCycle, waits_in}
 use Rattle.cqf_bridge.specs.Batch.{LinkBatch}
 use Rattle.cqf_bridge.specs.BridgeState.{background_from, backed_on, batch_from, end_of_cycle, port_behind, port_with}
 use Rattle.cqf_bridge.specs.PortRecord.{AreDemanded, PortRecord, frame_with, recorded, rules_on}
-use Rattle.cqf_laws_bridge.specs.Follows.{HasTaken, batch_of, streams_of}
+use Rattle.cqf_laws_bridge.specs.Follows.{HasTaken, batch_of, streams_of_starts}
 use Rattle.cqf_laws_bridge.proofs.LinkLists.{bridge_it_leaves}
 
 -- frames whose arrivals and streams stand side by side
-pub frames_again : (frames : List QueuedFrame) → map frame_with (zip (arrivals_of frames) (streams_of frames)) ≡ frames
+pub frames_again : (frames : List QueuedFrame) → map frame_with (zip (arrivals_of frames) (streams_of_starts frames)) ≡ frames
 frames_again [] = refl
 frames_again (x ∷ frames) = ap (λ (xs : List QueuedFrame). x ∷ xs) (frames_again frames)
 
@@ -64,9 +64,9 @@ module _ (run : Run) (cycles cycle number : ℕ) (net : Network) (compiled : IsC
       ∙ sym (map-append (λ (x : QueuedFrame). x.arrival) came own_backed)
 
   -- and its streams theirs
-  streams_with : (port_with all_backed r).streams ≡ streams_of queue
+  streams_with : (port_with all_backed r).streams ≡ streams_of_starts queue
   streams_with =
-      (λ i. has.streams i ++ streams_of (gets_own i))
+      (λ i. has.streams i ++ streams_of_starts (gets_own i))
       ∙ sym (map-append (λ (x : QueuedFrame). x.stream) came own_backed)
 
   -- what is demanded of it is legal for these

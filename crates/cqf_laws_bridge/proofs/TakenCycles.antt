@@ -13,14 +13,14 @@ use Rattle.cqf_model.specs.Port.{AreLegal}
 use Rattle.cqf_model.specs.Run.{Run}
 use Rattle.cqf_model.specs.Traffic.{Carried, Policed, police_all}
 use Rattle.cqf_model.proofs.Links.{octet_positive}
-use Rattle.cqf_laws_pages.specs.BridgeCycle.{CycleBringsItsBatches, IsCompiledNetwork, policed_of}
-use Rattle.cqf_laws_pages.specs.PortCycle.{ClosedArrivalsChangeNothing, PortGoesOn, QueuedFramesWait, QueuedInItsCycle, waits_in}
-use Rattle.cqf_shift.specs.Edge.{GateIsReservation}
+use Rattle.cqf_laws_cycle.specs.BridgeCycle.{CycleBringsItsBatches, IsCompiledNetwork, policed_of}
+use Rattle.cqf_laws_cycle.specs.PortCycle.{ClosedArrivalsChangeNothing, PortGoesOn, QueuedFramesWait, QueuedInItsCycle, waits_in}
+use Rattle.cqf_laws_shift.specs.Edge.{GateIsReservation}
 use Rattle.cqf_bridge.specs.BridgeState.{BridgeState}
 use Rattle.cqf_bridge.specs.PortRecord.{PortRecord, rules_on}
 use Rattle.cqf_bridge.specs.Receiving.{carried_by, port_queued, verdicts_in}
 use Rattle.cqf_laws_bridge.specs.Cycles.{GivesTheDrops, ReceivesOfTheRun, drops_of_cycle}
-use Rattle.cqf_laws_bridge.specs.Follows.{FollowsTheNetwork, HasTaken, batches_into, streams_of}
+use Rattle.cqf_laws_bridge.specs.Follows.{FollowsTheNetwork, HasTaken, batches_into, streams_of_starts}
 use Rattle.cqf_laws_bridge.proofs.Anew.{policed_anew}
 use Rattle.cqf_laws_bridge.proofs.LinkLists.{bridge_it_leaves, brings_its_batch}
 use Rattle.cqf_laws_bridge.proofs.SentCycles.{port_of_link}
@@ -90,8 +90,8 @@ module _ (run : Run) (carried : Carried) (cycle number : ℕ) (goes_on : PortGoe
         rules = has.rules;
         reached = has.reached;
         arrivals = ap (λ (xs : List Arrival). xs ++ arrivals_of queued) has.arrivals ∙ arrivals_then;
-        streams = (λ i. has.streams i ++ streams_of queued) ∙ sym (map-append (λ (x : QueuedFrame). x.stream) kept queued)
-            ∙ sym (ap streams_of comes_then);
+        streams = (λ i. has.streams i ++ streams_of_starts queued) ∙ sym (map-append (λ (x : QueuedFrame). x.stream) kept queued)
+            ∙ sym (ap streams_of_starts comes_then);
         legal = subst (λ (xs : List Arrival). AreLegal (rules_on run.domain r.link) xs end r.port.starts) arrivals_then
             ((closed (rules_on run.domain r.link) (arrivals_of kept) (arrivals_of queued) end r.port.starts (octet_positive run.domain r.link in_links)
             queued_closed).1 has.legal);

@@ -8,12 +8,12 @@ use Rattle.cqf_model.specs.Domain.{Domain}
 use Rattle.cqf_model.specs.Network.{Network, compiled_lists}
 use Rattle.cqf_model.specs.Run.{AreBackground, AreOffers, Run}
 use Rattle.cqf_model.specs.Table.{table_of}
-use Rattle.cqf_laws_pages.specs.BridgeCycle.{IsCompiledNetwork, policed_of}
-use Rattle.cqf_laws_pages.specs.Gathered.{backed_for, offered_for}
-use Rattle.cqf_laws_pages.specs.PageLaws.{on_links_of}
+use Rattle.cqf_laws_cycle.specs.BridgeCycle.{IsCompiledNetwork, policed_of}
+use Rattle.cqf_laws_cycle.specs.Gathered.{backed_for, offered_for}
+use Rattle.cqf_laws_cycle.specs.PageLaws.{on_links_of}
 use Rattle.cqf_bridge.specs.Batch.{LinkBatch}
 use Rattle.cqf_bridge.specs.BridgeState.{AreBackedOf, BridgeState, IsNextToSend, SendsCycle, new_bridge}
-use Rattle.cqf_bridge.specs.Receiving.{IsRunOf, ReceivesCycle}
+use Rattle.cqf_bridge.specs.Receiving.{IsRunOfBridge, ReceivesCycle}
 use Rattle.cqf_laws_bridge.specs.Follows.{FollowsTheNetwork, HasSentOfTheNetwork, batches_from, batches_into}
 
 -- a bridge that has done nothing follows each network
@@ -28,7 +28,7 @@ BackgroundIsOfTheBridge = (d : Domain) (run : Run) (bridge cycle : ℕ) → d �
 
 abbrev pub OffersAreOfTheBridge : Type 0
 OffersAreOfTheBridge = (d : Domain) (run : Run) (bridge cycle : ℕ) → d ≡ run.domain → AreOffers run.domain run.offers →
-    IsRunOf d bridge cycle (table_of run.tables cycle) (offered_for run.domain run.offers bridge cycle) run
+    IsRunOfBridge d bridge cycle (table_of run.tables cycle) (offered_for run.domain run.offers bridge cycle) run
 
 -- a bridge that follows the network sends a cycle of the run, with the run's background frames
 pub record SendsOfTheRun (run : Run) (cycles cycle : ℕ) (net : Network) (before after : BridgeState) (given given_after : List LinkBatch) :

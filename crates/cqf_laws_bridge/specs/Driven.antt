@@ -5,14 +5,14 @@ use Rattle.cqf_model.specs.declared.frames.Dropped.{Dropped}
 use Rattle.cqf_model.specs.declared.frames.Offer.{Offer}
 use Rattle.cqf_model.specs.Book.{Contents, IsBook, page_of}
 use Rattle.cqf_model.specs.Domain.{Domain, IsAccepted, bridge_of}
+use Rattle.cqf_model.specs.Headline.{KeepsThePromise}
 use Rattle.cqf_model.specs.History.{IsLegalHistory, Recorded, seals}
 use Rattle.cqf_model.specs.HistoryBook.{run_of_history}
-use Rattle.cqf_model.specs.Network.{Network, compiled_lists}
+use Rattle.cqf_model.specs.Network.{Network, compiled_lists, LosesNothing}
 use Rattle.cqf_model.specs.Run.{AreBackground, AreOffers, Run}
-use Rattle.cqf_laws_pages.specs.BridgeCycle.{IsCompiledNetwork}
-use Rattle.cqf_laws_pages.specs.Gathered.{backed_for}
-use Rattle.cqf_laws_pages.specs.PageLaws.{book_of_pages}
-use Rattle.cqf_shift.specs.Books.{SaysTheShift}
+use Rattle.cqf_laws_cycle.specs.BridgeCycle.{IsCompiledNetwork}
+use Rattle.cqf_laws_cycle.specs.Gathered.{backed_for}
+use Rattle.cqf_laws_cycle.specs.PageLaws.{book_of_pages}
 use Rattle.cqf_bridge.specs.declared.faults.BridgeFault.{BridgeFault}
 use Rattle.cqf_bridge.specs.declared.faults.BridgeFault.TheVariants.{Memory}
 use Rattle.cqf_bridge.specs.Batch.{LinkBatch}
@@ -21,7 +21,6 @@ use Rattle.cqf_bridge.specs.Faults.{IsSendFault}
 use Rattle.cqf_bridge.specs.Receiving.{IsReceiveFault, ReceivesCycle, links_into}
 use Rattle.cqf_laws_bridge.specs.Cycles.{page_given}
 use Rattle.cqf_laws_bridge.specs.Follows.{FollowsTheNetwork, HasSentOfTheNetwork, handed_with}
-use Rattle.cqf_laws_bridge.specs.NoFaults.{LosesNothing}
 
 -- what bridges do, by bridge and cycle: what each was before the cycle, and when it had sent it; the batches behind which it put its
 -- own, its own, and those that it was handed; and what it dropped
@@ -104,11 +103,12 @@ DrivenBridgesReceiveButForMemory = (run : Run) (cycles cycle bridge : ℕ) (net 
     IsReceiveFault run (course.halfway bridge cycle) after cycle (handed_with run cycle (course.handed bridge cycle)) fault → fault ≡ Memory
 
 -- and what driven bridges give under the tables of a legal history says the shift: each frame that its reservation covers leaves its
--- path's k-th bridge on each branch k cycles after its own cycle, no other frame leaves, and every other offer is dropped at its edge with
--- its reason
+-- path's k-th bridge on each branch k cycles after its own cycle, once, no other frame leaves, and every other offer is dropped at its
+-- edge, once, with its reason; of the network whose book that is nothing is lost inside, and its loads, instants and latencies are as
+-- promised
 abbrev pub DrivenBridgesSayTheShift : Type 0
 DrivenBridgesSayTheShift =
     (d : Domain) (entries : List Recorded) (offers : List Offer) (background : List Background) (cycles : ℕ) (course : DrivenCourse) →
     IsAccepted d → IsLegalHistory d entries → cycles ≤ seals entries → AreOffers d offers → AreBackground d background →
     (let run = run_of_history d entries offers background cycles in
-    AreDriven run cycles course → SaysTheShift run (book_of_pages d cycles (page_of_course course)))
+    AreDriven run cycles course → KeepsThePromise run (book_of_pages d cycles (page_of_course course)))

@@ -7,16 +7,16 @@ use Rattle.cqf_model.specs.Port.{AreLegal}
 use Rattle.cqf_model.specs.Run.{Run}
 use Rattle.cqf_model.specs.Table.{table_of}
 use Rattle.cqf_model.specs.Traffic.{Carried}
-use Rattle.cqf_laws_pages.specs.PageLaws.{on_links_of}
-use Rattle.cqf_laws_pages.specs.PortCycle.{waits_in}
+use Rattle.cqf_laws_cycle.specs.PageLaws.{on_links_of}
+use Rattle.cqf_laws_cycle.specs.PortCycle.{waits_in}
 use Rattle.cqf_bridge.specs.Batch.{LinkBatch}
 use Rattle.cqf_bridge.specs.BridgeState.{BridgeState, links_from}
 use Rattle.cqf_bridge.specs.PortRecord.{PortRecord, rules_on}
 use Rattle.cqf_bridge.specs.Receiving.{Handed, links_into}
 
 -- of what stream each frame is
-abbrev pub streams_of : List QueuedFrame → List (Option ℕ)
-streams_of frames = map (λ (x : QueuedFrame). x.stream) frames
+abbrev pub streams_of_starts : List QueuedFrame → List (Option ℕ)
+streams_of_starts frames = map (λ (x : QueuedFrame). x.stream) frames
 
 -- a port goes by its compiled list, has run to an instant, has recorded just these frames, and has started what is legal for them up
 -- to the instant
@@ -24,7 +24,7 @@ pub record HasTaken (d : Domain) (until : ℕ) (frames : List QueuedFrame) (r : 
   pub rules : r.port.rules ≡ rules_on d r.link
   pub reached : r.port.reached ≡ until
   pub arrivals : r.port.arrivals ≡ arrivals_of frames
-  pub streams : r.streams ≡ streams_of frames
+  pub streams : r.streams ≡ streams_of_starts frames
   pub legal : AreLegal (rules_on d r.link) (arrivals_of frames) until r.port.starts
 
 -- a bridge of the run's domain that isn't spent, with a port for each link that leaves it, by number

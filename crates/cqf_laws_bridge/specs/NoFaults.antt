@@ -1,26 +1,21 @@
 -- Laws about the faults of a bridge that follows the network of a run, in a planner's words.
-use Rattle.std.specs.Prelude.{ℕ, ◌≡◌, ◌≤◌, ◌<◌, List, length}
+use Rattle.std.specs.Prelude.{ℕ, ◌≡◌, ◌≤◌, ◌<◌, List, false, length}
 use Rattle.cqf_model.specs.declared.frames.Background.{Background}
 use Rattle.cqf_model.specs.declared.frames.Offer.{Offer}
 use Rattle.cqf_model.specs.Domain.{Domain}
 use Rattle.cqf_model.specs.History.{IsLegalHistory, Recorded, seals}
 use Rattle.cqf_model.specs.HistoryBook.{run_of_history}
-use Rattle.cqf_model.specs.Network.{IsLost, Network}
+use Rattle.cqf_model.specs.Network.{LosesNothing, Network}
 use Rattle.cqf_model.specs.Run.{AreBackground, AreOffers, Run}
 use Rattle.cqf_model.specs.Table.{table_of}
-use Rattle.cqf_model.specs.Traffic.{Policed}
-use Rattle.cqf_shift.specs.Run.{IsLegalRun}
-use Rattle.cqf_laws_pages.specs.BridgeCycle.{IsCompiledNetwork}
+use Rattle.cqf_laws_shift.specs.Run.{IsLegalRun}
+use Rattle.cqf_laws_cycle.specs.BridgeCycle.{IsCompiledNetwork}
 use Rattle.cqf_bridge.specs.declared.faults.BridgeFault.{BridgeFault}
 use Rattle.cqf_bridge.specs.declared.faults.BridgeFault.TheVariants.{Memory}
-use Rattle.cqf_bridge.specs.BridgeState.{BridgeState}
+use Rattle.cqf_bridge.specs.BridgeState.{BridgeState, IsNextToSend}
 use Rattle.cqf_bridge.specs.Faults.{IsSendFault}
-use Rattle.cqf_bridge.specs.Receiving.{AreBatchesOf, IsFirstOver, IsReceiveFault, verdicts_in}
-use Rattle.cqf_laws_bridge.specs.Follows.{FollowsTheNetwork, HasSentOfTheNetwork, batches_into, handed_in}
-
--- nothing is lost inside in so many cycles
-abbrev pub LosesNothing : Run → ℕ → Network → Type 0
-LosesNothing run cycles net = (bridge : ℕ) (policed : Policed) → ¬ IsLost run net.carried cycles bridge policed
+use Rattle.cqf_bridge.specs.Receiving.{AreBatchesOf, IsFirstOver, IsReceiveFault, MayReceive, verdicts_in}
+use Rattle.cqf_laws_bridge.specs.Follows.{batches_into, handed_in}
 
 -- a run of orderly tables loses nothing
 abbrev pub OrderlyRunLosesNothing : Type 0
@@ -43,13 +38,15 @@ abbrev pub NoneIsOver : Type 0
 NoneIsOver = (run : Run) (cycles cycle bridge frame : ℕ) (net : Network) → IsCompiledNetwork run cycles net → LosesNothing run cycles net →
     cycle < cycles → ¬ IsFirstOver (verdicts_in run bridge cycle (batches_into run.domain net.carried bridge cycle)) frame
 
--- a bridge that follows the network refuses to send the next cycle for want of memory alone
+-- a bridge that isn't spent refuses to send its next cycle for want of memory alone
 abbrev pub SendsButForMemory : Type 0
-SendsButForMemory = (run : Run) (cycle : ℕ) (net : Network) (before after : BridgeState) (fault : BridgeFault) →
-    FollowsTheNetwork run net before → cycle ≡ before.received → IsSendFault before after cycle fault → fault ≡ Memory
+SendsButForMemory = (cycle : ℕ) (before after : BridgeState) (fault : BridgeFault) →
+    before.spent ≡ false → IsNextToSend before cycle → IsSendFault before after cycle fault → fault ≡ Memory
 
--- and where nothing is lost, it refuses to receive it for want of memory alone
+-- and where nothing is lost, it refuses to receive the cycle that it has sent for want of memory alone, where it is handed the
+-- table of the cycle and the network's batches: whatever was recorded at its ports
 abbrev pub ReceivesButForMemory : Type 0
 ReceivesButForMemory = (run : Run) (cycles cycle : ℕ) (net : Network) (before after : BridgeState) (fault : BridgeFault) →
-    IsCompiledNetwork run cycles net → LosesNothing run cycles net → HasSentOfTheNetwork run net before → cycle ≡ before.received → cycle < cycles →
+    IsCompiledNetwork run cycles net → LosesNothing run cycles net → before.domain ≡ run.domain →
+    MayReceive before cycle (handed_in run net before.number cycle) → cycle < cycles →
     IsReceiveFault run before after cycle (handed_in run net before.number cycle) fault → fault ≡ Memory

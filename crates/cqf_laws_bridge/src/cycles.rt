@@ -15,8 +15,8 @@ pub fn new_bridge_follows()
 pub fn sending_follows()
     ensures { SendingFollows }
 {
-    cqf_laws_pages::background_comes_in_order();
-    cqf_laws_pages::port_sends_what_came_before();
+    cqf_laws_cycle::background_comes_in_order();
+    cqf_laws_cycle::port_sends_what_came_before();
 }
 
 /// A bridge that has sent a cycle as the network does, and receives it with what the network sends on each link that ends in the
@@ -25,11 +25,11 @@ pub fn sending_follows()
 pub fn receiving_follows()
     ensures { ReceivingFollows }
 {
-    cqf_laws_pages::cycle_brings_its_batches();
-    cqf_laws_pages::port_goes_on();
-    cqf_laws_pages::queued_frames_wait();
-    cqf_laws_pages::closed_arrivals_change_nothing();
-    cqf_shift::gate_is_reservation();
+    cqf_laws_cycle::cycle_brings_its_batches();
+    cqf_laws_cycle::port_goes_on();
+    cqf_laws_cycle::queued_frames_wait();
+    cqf_laws_cycle::closed_arrivals_change_nothing();
+    cqf_laws_shift::gate_is_reservation();
 }
 
 /// What a bridge gave in a cycle, the frames of its batches, its background frames and its drops, is its page of the run's book
@@ -37,7 +37,7 @@ pub fn receiving_follows()
 pub fn page_follows()
     ensures { PageFollows }
 {
-    cqf_laws_pages::page_is_of_its_bridge();
-    cqf_laws_pages::drops_are_of_the_cycle();
+    cqf_laws_cycle::page_is_of_its_bridge();
+    cqf_laws_cycle::drops_are_of_the_cycle();
     cqf_laws_network::legal_network_is_unique();
 }

@@ -27,7 +27,7 @@ pub fn driven_bridges_give_the_book()
     sending_follows();
     receiving_follows();
     page_follows();
-    cqf_laws_pages::book_is_its_pages();
+    cqf_laws_cycle::book_is_its_pages();
 }
 
 /// Bridges that are driven so refuse to send a cycle for want of memory alone, and to receive it, too, in a run that loses nothing
@@ -42,13 +42,14 @@ pub fn driven_bridges_want_memory_alone()
     no_other_fault();
 }
 
-/// What bridges give that are driven so, under the tables of a legal history of admissions, says the shift, for every accepted domain,
-/// whatever is offered and beside any background frames (IEEE 802.1Q, Annex T, and the profile).
+/// What bridges give that are driven so, under the tables of a legal history of admissions, says the shift, and keeps all else that is
+/// promised (`KeepsThePromise` of `cqf_model/specs/Headline.antt`), for every accepted domain, whatever is offered and beside any
+/// background frames (IEEE 802.1Q, Annex T, and the profile).
 pub fn driven_bridges_say_the_shift()
     ensures { DrivenBridgesSayTheShift }
 {
     driven_bridges_give_the_book();
     cqf_laws_network::book_exists();
     cqf_laws_history::tables_are_orderly();
-    cqf_laws_book::book_of_history_says_the_shift();
+    cqf_laws_shift::book_of_history_says_the_shift();
 }

@@ -11,5 +11,5 @@ pub fn longer_run_is_followed()
     ensures longer_halfway { LongerRunIsFollowedHalfway }
 {
     cqf_laws_network::the_past_alone_matters();
-    cqf_laws_pages::longer_run_keeps_its_cycles();
+    cqf_laws_cycle::longer_run_keeps_its_cycles();
 }

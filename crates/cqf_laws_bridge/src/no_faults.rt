@@ -14,20 +14,20 @@ pub fn history_loses_nothing()
     ensures orderly { OrderlyRunLosesNothing }
     ensures history { RunOfHistoryLosesNothing }
 {
-    cqf_shift::gates_mean_the_shift();
+    cqf_laws_shift::gates_mean_the_shift();
     cqf_laws_history::tables_are_orderly();
 }
 
 /// Where nothing is lost inside, the batches of a cycle may come to the bridge in which their links end, none of their frames is
-/// over its octets there, and a bridge that follows the network refuses neither to send the next cycle nor to receive it, but for
-/// want of memory.
+/// over its octets there, and a bridge that isn't spent refuses neither to send its next cycle nor to receive it with them, but
+/// for want of memory.
 pub fn no_other_fault()
     ensures batches { BatchesMayCome }
     ensures none_over { NoneIsOver }
     ensures sends { SendsButForMemory }
     ensures receives { ReceivesButForMemory }
 {
-    cqf_laws_pages::cycle_brings_its_batches();
-    cqf_laws_pages::run_is_its_cycles();
-    cqf_shift::gate_is_reservation();
+    cqf_laws_cycle::cycle_brings_its_batches();
+    cqf_laws_cycle::run_is_its_cycles();
+    cqf_laws_shift::gate_is_reservation();
 }

@@ -7,12 +7,13 @@ use Rattle.cqf_units.specs.Timing.{ending_of, idle_after}
 use Rattle.cqf_model.specs.declared.ports.Arrival.{Arrival}
 use Rattle.cqf_model.specs.GateList.{IsOpenThrough, port_list}
 use Rattle.cqf_model.specs.Port.{IsEligible, IsFirst, IsIdle, PortRules, Transmission, Waits, class_of, instant_of, no_arrival, octets_of}
+use Rattle.cqf_model.specs.Turn.{is_streams}
 use Rattle.cqf_lists.proofs.Members.{contains_filter, contains_from_filter, contains_from_map, contains_map}
 use Rattle.cqf_lists.proofs.Pairs.{pairs_map}
 use Rattle.cqf_lists.proofs.Ranks.{kept_at_rank, rank_less, ranked}
 use Rattle.cqf_laws_cycle.specs.Beside.{StreamsStartAsAlone, is_start_of_streams, place_alone, start_alone, starts_alone, only_streams}
 use Rattle.cqf_laws_cycle.specs.Compiled.{given_class}
-use Rattle.cqf_laws_cycle.specs.OnePort.{AreSent, IsWithinBudget, KeepsBehind, StreamsAt, is_streams}
+use Rattle.cqf_laws_cycle.specs.OnePort.{AreSent, IsWithinBudget, KeepsBehind, StreamsAt}
 use Rattle.cqf_units.proofs.Cycles.{cycle_below, cycle_from, cycle_upto, cycles_ordered, from_next}
 use Rattle.cqf_laws_cycle.proofs.GateLists.{port_list_sends_until, sends_no_own}
 use Rattle.cqf_laws_cycle.proofs.OnePorts.{background_keeps_behind}

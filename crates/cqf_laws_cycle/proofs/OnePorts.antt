@@ -9,8 +9,9 @@ use Rattle.cqf_units.specs.Timing.{wire_of, ending_of, idle_after}
 use Rattle.cqf_model.specs.declared.ports.Arrival.{Arrival}
 use Rattle.cqf_model.specs.GateList.{port_list}
 use Rattle.cqf_model.specs.Port.{Transmission, Waits, IsFirst, IsIdle, IsEligible, no_arrival, instant_of, class_of, octets_of}
+use Rattle.cqf_model.specs.Turn.{due, load, wire_in}
 use Rattle.cqf_laws_cycle.specs.Compiled.{given_class, open_class, guard_from, IsIn, IsSentIn}
-use Rattle.cqf_laws_cycle.specs.OnePort.{PortIsOneCycleLate, BackgroundKeepsBehind, IsWithinBudget, AreSent, AreDue, KeepsBehind, StreamsAt, due, load, wire_in}
+use Rattle.cqf_laws_cycle.specs.OnePort.{PortIsOneCycleLate, BackgroundKeepsBehind, IsWithinBudget, AreSent, AreDue, KeepsBehind, StreamsAt}
 use Rattle.cqf_units.proofs.Cycles.{cycle_below, cycle_from, cycle_is, cycle_upto, cycles_ordered, from_next}
 use Rattle.cqf_laws_cycle.proofs.GateLists.{classes_take_turns, port_list_sends_until, sends_no_own}
 

@@ -11,12 +11,13 @@ use Rattle.cqf_model.specs.Domain.{Domain, octet_time_of}
 use Rattle.cqf_model.specs.GateList.{port_list}
 use Rattle.cqf_model.specs.Network.{QueuedFrame, Sends, arrivals_of, backed_by, backed_of, no_frame, sent_by, sent_of}
 use Rattle.cqf_model.specs.Port.{Transmission, class_of, no_arrival}
+use Rattle.cqf_model.specs.Turn.{is_streams}
 use Rattle.cqf_lists.proofs.Filters.{filter-map, filter_alike}
 use Rattle.cqf_lists.proofs.Kept.{flat_kept, flat_none}
 use Rattle.cqf_lists.proofs.Members.{contains_from_filter}
 use Rattle.cqf_lists.proofs.Ranks.{kept_at_rank, rank, rank_map}
 use Rattle.cqf_laws_cycle.specs.Beside.{IsToldByClass, StreamsAreSentAsAlone, is_of_stream, is_start_of_streams, place_alone, start_alone, starts_alone}
-use Rattle.cqf_laws_cycle.specs.OnePort.{AreSent, IsWithinBudget, is_streams}
+use Rattle.cqf_laws_cycle.specs.OnePort.{AreSent, IsWithinBudget}
 use Rattle.cqf_laws_cycle.proofs.Besides.{streams_start_as_alone}
 
 -- what isn't none is there

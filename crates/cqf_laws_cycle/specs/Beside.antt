@@ -6,7 +6,8 @@ use Rattle.cqf_model.specs.declared.ports.Start.{Start}
 use Rattle.cqf_model.specs.Domain.{Domain, octet_time_of}
 use Rattle.cqf_model.specs.Network.{QueuedFrame, Sends, arrivals_of, compiled_lists}
 use Rattle.cqf_model.specs.Port.{Transmission, no_arrival}
-use Rattle.cqf_laws_cycle.specs.OnePort.{AreSent, IsWithinBudget, is_streams}
+use Rattle.cqf_model.specs.Turn.{is_streams}
+use Rattle.cqf_laws_cycle.specs.OnePort.{AreSent, IsWithinBudget}
 
 -- the streams' frames of a list, in their order
 abbrev pub only_streams : List Arrival → List Arrival

@@ -1,3 +1,9 @@
 pub mod Beside
 pub mod Compiled
 pub mod OnePort
+pub mod PageLaws
+pub mod BridgeCycle
+pub mod PortCycle
+pub mod Gathered
+pub mod RunSteps
+pub mod ArrivalLaws

@@ -1,18 +1,15 @@
 -- One port whose streams' frames come in cycles, with background frames among them in any order of places.
-use Rattle.std.specs.Prelude.{ℕ, ◌≡◌, ◌+◌, ◌*◌, ◌<◌, ◌≤◌, Bool, List, length, take, sum_by, AllPairs, Contains, if◌then◌else◌, nat_le, ◌==◌}
-use Rattle.cqf_units.specs.Timing.{wire_of, ending_of, idle_after, budget_of, cycle_at}
+use Rattle.std.specs.Prelude.{ℕ, ◌≡◌, ◌+◌, ◌*◌, ◌<◌, ◌≤◌, List, length, AllPairs, Contains}
+use Rattle.cqf_units.specs.Timing.{ending_of, idle_after, budget_of, cycle_at}
 use Rattle.cqf_model.specs.declared.ports.Arrival.{Arrival}
 use Rattle.cqf_model.specs.GateList.{port_list}
-use Rattle.cqf_model.specs.Port.{Transmission, AreLegal, Waits, instant_of, class_of, octets_of}
+use Rattle.cqf_model.specs.Port.{Transmission, AreLegal, Waits, class_of, octets_of}
+use Rattle.cqf_model.specs.Turn.{cycle_of_place, due, load}
 use Rattle.cqf_laws_cycle.specs.Compiled.{given_class, guard_from}
 
 -- a stream's frame: it has class 6 or 7, and a background frame one of 0 to 5
 abbrev pub IsStreams : Arrival → Type 0
 IsStreams a = 6 ≤ a.class
-
--- the same as a test
-abbrev pub is_streams : Arrival → Bool
-is_streams a = nat_le 6 a.class
 
 -- the arrival at a place is a stream's frame
 abbrev pub StreamsAt : List Arrival → ℕ → Type 0
@@ -22,30 +19,12 @@ StreamsAt arrivals place = 6 ≤ class_of arrivals place
 abbrev pub BackgroundAt : List Arrival → ℕ → Type 0
 BackgroundAt arrivals place = class_of arrivals place < 6
 
--- what a stream's frame of a cycle takes of the wire, in octets: one of another cycle and a background frame count for
--- nothing
-abbrev pub wire_in : ℕ → ℕ → Arrival → ℕ
-wire_in cycle_time cycle a = if cycle_at cycle_time a.at.0 == cycle then (if is_streams a then wire_of a.octets else 0) else 0
-
--- what the streams' frames of a cycle take
-abbrev pub load : ℕ → ℕ → List Arrival → ℕ
-load cycle_time cycle arrivals = sum_by (wire_in cycle_time cycle) arrivals
-
--- the cycle of the arrival at a place
-abbrev pub cycle_of_place : ℕ → List Arrival → ℕ → ℕ
-cycle_of_place cycle_time arrivals place = cycle_at cycle_time (instant_of arrivals place)
-
 -- the streams' frames come in order of instant, each with the class that the stream gates give in its cycle. Background
 -- frames come when they like
 pub record ComeInCycles (cycle_time : ℕ) (arrivals : List Arrival) : Type 0 where
   pub in_order : AllPairs (λ (a b : Arrival). IsStreams a → IsStreams b → a.at.0 ≤ b.at.0) arrivals
   pub classes : (place : ℕ) → place < length arrivals → StreamsAt arrivals place →
       class_of arrivals place ≡ given_class (cycle_of_place cycle_time arrivals place)
-
--- when a stream's frame is due: in the next cycle, behind the streams' frames that came before it in its own
-abbrev pub due : ℕ → ℕ → List Arrival → ℕ → ℕ
-due cycle_time octet_time arrivals place = let cycle = cycle_of_place cycle_time arrivals place in
-    (cycle + 1) * cycle_time + octet_time * load cycle_time cycle (take place arrivals)
 
 -- when the wire is free again behind a stream's frame that starts when it is due
 abbrev pub free_behind : ℕ → ℕ → List Arrival → ℕ → ℕ

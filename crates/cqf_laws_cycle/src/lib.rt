@@ -1,7 +1,8 @@
-//! Laws of one port under the compiled gate lists: what comes to it in a cycle leaves it in the next.
+//! Laws of one port under the compiled gate lists, what comes to it in a cycle leaves it in the next; and laws about a book
+//! and its pages, and about a run that goes on cycle by cycle.
 //!
 //! Each law is a function that does nothing: its contract is a statement of `specs/` about the definitions of `cqf_model`,
-//! and its proof shows that the statement holds. A proof elsewhere uses the law by a call of the function.
+//! and its proof shows that the statement holds for each domain. A proof elsewhere uses the law by a call of the function.
 //!
 //! - **The lists.** In each cycle a port has one class of streams open, and the classes of background frames beside it, all
 //!   up to the guard time ([`port_list_is_open`]), and sends a frame of these exactly where it ends by then
@@ -14,14 +15,46 @@
 //! - **Beside background frames.** So these change nothing for streams: the starts of streams' frames are legal for those
 //!   frames alone ([`streams_start_as_alone`]), and what a link carries of them is what it may carry where they come alone
 //!   ([`streams_are_sent_as_alone`]).
+//! - **A port from cycle to cycle.** What its bridge queues to it in a cycle waits ([`queued_frames_wait`], [`port_goes_on`]),
+//!   so what the port sends in a cycle hangs on what came to it before and on the background frames of the cycle
+//!   ([`port_sends_what_came_before`]), which it gets in order ([`background_comes_in_order`]).
+//! - **A bridge.** It takes a cycle's frames behind those of the cycles before ([`bridge_goes_on`]), and these are what its
+//!   incoming links send in the cycle and what is offered in it ([`cycle_brings_its_batches`]), in order of instant
+//!   ([`frames_are_taken_in_order`]).
+//! - **Arrivals.** What comes to a bridge and to a port is exactly the offers, background frames and links' frames that are to
+//!   come there, each once, at its instant and in order ([`arrivals_are_exact`]).
+//! - **A run.** It goes on from legal to legal ([`run_goes_on`]), and a longer one, or one with another last table, changes
+//!   nothing of its cycles ([`longer_run_keeps_its_cycles`], [`last_table_waits`]).
+//! - **A book.** Each page is of its bridge alone, and the pages together are the book ([`page_is_of_its_bridge`],
+//!   [`book_is_its_pages`]).
+//!
+//! ```
+//! // here on, a proof knows that books of one domain with the same pages are equal
+//! cqf_laws_cycle::book_is_its_pages();
+//! ```
 #![tactic(auto)]
 
+mod arrivals;
 mod beside;
+mod bridges;
 mod compiled;
+mod pages;
 mod port;
+mod ports;
+mod runs;
 
+pub use arrivals::arrivals_are_exact;
 pub use beside::{streams_are_sent_as_alone, streams_start_as_alone};
+pub use bridges::{
+    background_comes_in_order, bridge_goes_on, cycle_brings_its_batches, drops_are_of_the_cycle,
+    frames_are_taken_in_order, frames_keep_their_order,
+};
 pub use compiled::{
     classes_alternate, gate_counts_cycles, gate_gives_class, port_list_is_open, port_list_sends,
 };
+pub use pages::{book_is_its_pages, page_is_of_its_bridge};
 pub use port::{background_keeps_behind, port_is_one_cycle_late};
+pub use ports::{
+    closed_arrivals_change_nothing, port_goes_on, port_sends_what_came_before, queued_frames_wait,
+};
+pub use runs::{last_table_waits, longer_run_keeps_its_cycles, run_goes_on, run_is_its_cycles};

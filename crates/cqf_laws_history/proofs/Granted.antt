@@ -26,12 +26,12 @@ use Rattle.cqf_laws_history.proofs.Branches.{IsBranch, first_is_bridge, is_branc
 use Rattle.cqf_laws_history.proofs.Trees.{MakeATree, all_make_a_tree, tree_from, tree_is_branches}
 
 -- a refusal that hangs on a test isn't due where the test fails
-refused_if_none : (b : Bool) (refused : Refused) → refused_if b refused ≡ None → b ≡ false
+pub refused_if_none : (b : Bool) (refused : Refused) → refused_if b refused ≡ None → b ≡ false
 refused_if_none true refused e = absurd cc
 refused_if_none false refused e = refl
 
 -- a refusal at a place isn't due where there is no such place
-refused_at_none : (refused : ℕ → Refused) (o : Option ℕ) → refused_at refused o ≡ None → o ≡ None
+pub refused_at_none : (refused : ℕ → Refused) (o : Option ℕ) → refused_at refused o ≡ None → o ≡ None
 refused_at_none refused None e = refl
 refused_at_none refused (Some place) e = absurd cc
 
@@ -89,7 +89,7 @@ granted d rows asked e =
 -- ---- its branches
 
 -- where no place of the branches fails, none of a branch does
-first_place_none : (fails : Branch → ℕ → Bool) (paths : List Branch) → first_place fails paths ≡ None → (branch : Branch) → Contains paths branch → (k : ℕ) →
+pub first_place_none : (fails : Branch → ℕ → Bool) (paths : List Branch) → first_place fails paths ≡ None → (branch : Branch) → Contains paths branch → (k : ℕ) →
     k < length branch + 1 → fails branch k ≡ false
 first_place_none fails [] e branch c k h = absurd (contains_none branch c)
 first_place_none fails (x ∷ paths) e branch c k h =
@@ -101,12 +101,12 @@ first_place_none fails (x ∷ paths) e branch c k h =
     ]
 
 -- where a tree isn't broken, no branch of it is
-none_broken : (d : Domain) (paths : List Branch) → broken_place d paths ≡ None → first_place (is_broken_at d) paths ≡ None
+pub none_broken : (d : Domain) (paths : List Branch) → broken_place d paths ≡ None → first_place (is_broken_at d) paths ≡ None
 none_broken d [] e = absurd cc
 none_broken d (branch ∷ paths) e = e
 
 -- a tree that isn't broken has a branch
-first_branch : (d : Domain) (paths : List Branch) → broken_place d paths ≡ None → (branch : Branch) × Contains paths branch
+pub first_branch : (d : Domain) (paths : List Branch) → broken_place d paths ≡ None → (branch : Branch) × Contains paths branch
 first_branch d [] e = absurd cc
 first_branch d (branch ∷ paths) e = (branch, contains_here branch paths)
 

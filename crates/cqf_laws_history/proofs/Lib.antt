@@ -7,3 +7,10 @@ pub mod Sound
 pub mod Growth
 pub mod Orderly
 pub mod Streams
+pub mod Verdicts
+pub mod Closed
+mod Pairs
+mod StreamRows
+mod Backgrounds
+pub mod Ends
+pub mod Numbers

@@ -73,7 +73,7 @@ pub record MakeATree (xs ys : Branch) : Type 0 where
   pub agree : Agree xs ys
 
 -- branches that the test calls a tree make one
-make_tree : (xs ys : Branch) → make_a_tree xs ys ≡ true → NoRepeat xs → NoRepeat ys → MakeATree xs ys
+pub make_tree : (xs ys : Branch) → make_a_tree xs ys ≡ true → NoRepeat xs → NoRepeat ys → MakeATree xs ys
 make_tree [] ys e no_x no_y = absurd cc
 make_tree (x ∷ xs) [] e no_x no_y = absurd cc
 make_tree (x ∷ xs) (y ∷ ys) e no_x no_y =

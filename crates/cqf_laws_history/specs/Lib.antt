@@ -1,3 +1,10 @@
 pub mod HistoryLaws
 pub mod StateLaws
 pub mod StreamLaws
+pub mod TrafficLaws
+pub mod TableLaws
+pub mod TimingLaws
+pub mod TreeLaws
+pub mod BackgroundLaws
+pub mod LedgerLaws
+pub mod BranchLaws

@@ -11,6 +11,7 @@ use Rattle.cqf_model.specs.Domain.{Domain, budget}
 use Rattle.cqf_model.specs.History.{Act, Admits, Asked, IsLegalHistory, Recorded, Seals, Withdraws, held_in, is_seal, next_number, refusal_of, reply_to, seals}
 use Rattle.cqf_model.specs.History.{table_at, tree_of}
 use Rattle.cqf_model.specs.Table.{IsTree, is_held, link_cost, row_named}
+use Rattle.cqf_model.specs.Limits.{most_calls, most_cycles}
 
 -- the entries with one more behind them
 abbrev pub with_entry : List Recorded → ℕ → Act → Reply → List Recorded
@@ -39,8 +40,8 @@ ended_row number effect row =
 -- a legal history goes on with the answer that is due, and there is room for so many Seals and so many other calls
 abbrev pub HistoryGoesOn : Type 0
 HistoryGoesOn =
-    (d : Domain) (entries : List Recorded) (seat : ℕ) (act : Act) → IsLegalHistory d entries → seals entries + (if is_seal act then 1 else 0) ≤ 100000 →
-    length entries + 1 - (seals entries + (if is_seal act then 1 else 0)) ≤ 100000 →
+    (d : Domain) (entries : List Recorded) (seat : ℕ) (act : Act) → IsLegalHistory d entries → seals entries + (if is_seal act then 1 else 0) ≤ most_cycles →
+    length entries + 1 - (seals entries + (if is_seal act then 1 else 0)) ≤ most_calls →
     IsLegalHistory d (with_entry entries seat act (reply_to d entries act))
 
 -- a Seal is one Seal more, and no other entry is

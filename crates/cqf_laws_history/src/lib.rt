@@ -1,14 +1,19 @@
-//! Laws about the tables of a history of admissions.
+//! Laws about a history of admissions and its tables, and what the definitions of `cqf_model` mean where they are read most.
 //!
 //! Each law is a function that does nothing: its contract is a statement of `specs/` about the definitions of
 //! `cqf_model`, and its proof shows that the statement holds for each domain and legal history. A proof elsewhere uses
 //! the law by a call of the function.
 //!
-//! - [`tables_are_orderly`]: what the tables of a legal history give to the laws of the network.
-//! - [`granted_is_a_tree`]: what a request has that isn't refused.
-//! - [`state_follows_history`]: how the streams that are held change with each entry, so that an administration needn't
-//!   look through its history.
-//! - [`streams_follow_history`]: how the list of all streams that were ever granted changes with each entry.
+//! - **Histories.** [`tables_are_orderly`]: what the tables of a legal history give to the laws of the network.
+//!   [`granted_is_a_tree`]: what a request has that isn't refused. [`branches_make_a_tree_by_pairs`]: for which branch a request
+//!   is refused as no tree. [`state_follows_history`]: how the streams that are held
+//!   change with each entry, so that an administration needn't look through its history. [`streams_follow_history`]: how the
+//!   list of all streams that were ever granted changes with each entry. [`seal_empties_a_slot`]: which streams a Seal lets
+//!   go of, and that a ring of 32 slots has just these in one.
+//! - **Frames at a bridge**, in a planner's words: [`verdicts_have_their_reason`], [`queued_frames_leave_their_bridge`],
+//!   [`frames_go_to_each_port`], [`relayed_frames_are_queued_or_lost`].
+//! - **Streams and tables**: [`trees_say_where_streams_go`], [`streams_let_go_in_time`], [`closed_tables_stay`].
+//! - **Background frames**: [`background_is_told`]. **Times**: [`delay_counts`].
 //!
 //! ```
 //! // here on, a proof knows that the tables of a legal history are orderly: no link of them is over its budget
@@ -16,55 +21,17 @@
 //! ```
 #![tactic(auto)]
 
-ghost use Rattle.cqf_laws_history.specs.HistoryLaws.{TablesAreOrderly, TablesAscend, ThereAreSoManyTables, GrantedIsATree, TreeIsItsBranches, TreesHaveFewLinks};
-ghost use Rattle.cqf_laws_history.specs.StreamLaws.{GrantedIsLast, SealChangesNoStream, WithdrawnEnds};
-ghost use Rattle.cqf_laws_history.specs.StateLaws.{
-  HistoryGoesOn,
-  SealsAreCounted,
-  GrantedFindsRoom,
-  GrantedIsHeld,
-  RefusedChangesNothing,
-  WithdrawnIsHeldOn,
-  SealLetsGo,
-  SealClosesTable,
-  HeldAreSound,
+mod definitions;
+mod histories;
+mod seals;
+
+pub use definitions::{
+    background_is_told, closed_tables_stay, delay_counts, frames_go_to_each_port,
+    queued_frames_leave_their_bridge, relayed_frames_are_queued_or_lost, streams_let_go_in_time,
+    trees_say_where_streams_go, verdicts_have_their_reason,
 };
-
-/// The tables of the first cycles of a legal history are one a cycle, and orderly: their trees are trees of the domain,
-/// numbers and names name one stream, a live stream stays until its last frame has left the last bridge of its deepest
-/// branch, and what the streams of a table cost of a link is within the link's budget (profile). Their rows stand by number.
-pub fn tables_are_orderly()
-    ensures orderly { TablesAreOrderly }
-    ensures ascend { TablesAscend }
-    ensures count { ThereAreSoManyTables }
-{}
-
-/// The branches of a request that isn't refused are a tree of the domain: each hop of the tree is one of a branch, and each
-/// hop of a branch is in the tree. A tree has no more links than its domain (profile).
-pub fn granted_is_a_tree()
-    ensures tree { GrantedIsATree }
-    ensures branches { TreeIsItsBranches }
-    ensures few { TreesHaveFewLinks }
-{}
-
-/// A running state tells what a whole history says: with each entry the streams that are held in the next cycle, and the
-/// number of the next stream, change in one small step. A request that isn't refused finds room (profile).
-pub fn state_follows_history()
-    ensures goes_on { HistoryGoesOn }
-    ensures counted { SealsAreCounted }
-    ensures granted { GrantedIsHeld }
-    ensures room { GrantedFindsRoom }
-    ensures refused { RefusedChangesNothing }
-    ensures withdrawn { WithdrawnIsHeldOn }
-    ensures lets_go { SealLetsGo }
-    ensures closes { SealClosesTable }
-    ensures held { HeldAreSound }
-{}
-
-/// The streams of a history by number, held or not, change with each entry in one small step: a granted one stands behind
-/// the others, a withdrawn one ends in its place, and a Seal changes none (profile).
-pub fn streams_follow_history()
-    ensures granted { GrantedIsLast }
-    ensures withdrawn { WithdrawnEnds }
-    ensures sealed { SealChangesNoStream }
-{}
+pub use histories::{
+    branches_make_a_tree_by_pairs, granted_is_a_tree, state_follows_history,
+    streams_follow_history, tables_are_orderly,
+};
+pub use seals::seal_empties_a_slot;

@@ -7,14 +7,14 @@ use Rattle.cqf_model.specs.declared.ports.Arrival.{Arrival}
 use Rattle.cqf_model.specs.Book.{started}
 use Rattle.cqf_model.specs.Domain.{bridge_of}
 use Rattle.cqf_model.specs.Network.{QueuedFrame, queued_in, sent_by}
-use Rattle.cqf_model.specs.Run.{Run}
+use Rattle.cqf_model.specs.Run.{Run, end_of_run}
 use Rattle.cqf_model.specs.Traffic.{Carried}
 use Rattle.cqf_lists.proofs.Members.{contains_here, contains_later}
-use Rattle.cqf_shift.specs.Alone.{IsRunAlone, end_of_run}
-use Rattle.cqf_shift.specs.Run.{RunBesideIsRunAlone}
-use Rattle.cqf_shift.proofs.Came.{policed}
-use Rattle.cqf_shift.proofs.CycleLaws.{CycleLaws}
-use Rattle.cqf_shift.proofs.Queues.{queued_from}
+use Rattle.cqf_laws_shift.specs.Alone.{IsRunAlone}
+use Rattle.cqf_laws_shift.specs.Run.{RunBesideIsRunAlone}
+use Rattle.cqf_laws_shift.proofs.Came.{policed}
+use Rattle.cqf_laws_shift.proofs.CycleLaws.{CycleLaws}
+use Rattle.cqf_laws_shift.proofs.Queues.{queued_from}
 use Rattle.cqf_laws_instants.specs.Instants.{StartsAreInTurn, in_turn_from, starts_from}
 use Rattle.cqf_laws_instants.proofs.Dues.{batch_is_due, in_queue}
 

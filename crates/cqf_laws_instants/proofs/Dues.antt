@@ -16,8 +16,9 @@ use Rattle.cqf_model.specs.Book.{batch}
 use Rattle.cqf_model.specs.Domain.{Domain, bridge_of, cycle_of, octet_time_of}
 use Rattle.cqf_model.specs.Network.{QueuedFrame, arrivals_of, no_frame, queued_before, queued_in, sent_of}
 use Rattle.cqf_model.specs.Port.{Transmission, no_arrival}
-use Rattle.cqf_model.specs.Run.{Run}
+use Rattle.cqf_model.specs.Run.{Run, end_of_run}
 use Rattle.cqf_model.specs.Traffic.{Carried}
+use Rattle.cqf_model.specs.Turn.{cycle_of_place, due, is_streams, load, wire_in}
 use Rattle.cqf_model.proofs.Links.{octet_positive}
 use Rattle.cqf_model.proofs.Sending.{sent_then}
 use Rattle.cqf_lists.specs.Lists.{each_below}
@@ -26,17 +27,17 @@ use Rattle.cqf_lists.proofs.Fronts.{Front, each_front}
 use Rattle.cqf_lists.proofs.Members.{contains_filter, contains_from_filter, contains_from_take, contains_here, contains_none}
 use Rattle.cqf_lists.proofs.Pairs.{same_ordered}
 use Rattle.cqf_lists.proofs.Sums.{sum_le_members, sum_map, sum_none}
-use Rattle.cqf_laws_cycle.specs.OnePort.{StreamsAt, cycle_of_place, due, is_streams, load, wire_in}
-use Rattle.cqf_shift.specs.Alone.{IsRunAlone, end_of_run}
-use Rattle.cqf_shift.specs.Run.{RunBesideIsRunAlone}
-use Rattle.cqf_shift.proofs.Came.{policed, queued}
-use Rattle.cqf_shift.proofs.CycleLaws.{CycleLaws}
-use Rattle.cqf_shift.proofs.Fed.{queue_class, some_time}
-use Rattle.cqf_shift.proofs.Queues.{gives_streams, queued_from}
-use Rattle.cqf_shift.proofs.QueuesByCycles.{queue_by_cycles}
-use Rattle.cqf_shift.proofs.Runs.{place_timed, ports_due, sends, sent_timed, start_due, start_in_queue}
-use Rattle.cqf_shift.proofs.Trees.{goes_inside}
-use Rattle.cqf_shift.proofs.Ways.{queued_member}
+use Rattle.cqf_laws_cycle.specs.OnePort.{StreamsAt}
+use Rattle.cqf_laws_shift.specs.Alone.{IsRunAlone}
+use Rattle.cqf_laws_shift.specs.Run.{RunBesideIsRunAlone}
+use Rattle.cqf_laws_shift.proofs.Came.{policed, queued}
+use Rattle.cqf_laws_shift.proofs.CycleLaws.{CycleLaws}
+use Rattle.cqf_laws_shift.proofs.Fed.{queue_class, some_time}
+use Rattle.cqf_laws_shift.proofs.Queues.{gives_streams, queued_from}
+use Rattle.cqf_laws_shift.proofs.QueuesByCycles.{queue_by_cycles}
+use Rattle.cqf_laws_shift.proofs.Runs.{place_timed, ports_due, sends, sent_timed, start_due, start_in_queue}
+use Rattle.cqf_laws_shift.proofs.Trees.{goes_inside}
+use Rattle.cqf_laws_shift.proofs.Ways.{queued_member}
 use Rattle.cqf_laws_instants.specs.Instants.{BatchIsDue, FirstBatchIsEmpty, in_turn_from}
 use Rattle.cqf_laws_instants.proofs.Turns.{is_turn, turn_is, turns, turns_ascend, turns_send, wire}
 

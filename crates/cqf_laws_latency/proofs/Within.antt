@@ -9,19 +9,20 @@ use Rattle.cqf_model.specs.declared.frames.Sent.{Sent}
 use Rattle.cqf_model.specs.Book.{batch}
 use Rattle.cqf_model.specs.Domain.{bridge_of, cycle_of, delay_of, octet_time_of}
 use Rattle.cqf_model.specs.Network.{Network, QueuedFrame, queued_in}
-use Rattle.cqf_model.specs.Run.{Run}
+use Rattle.cqf_model.specs.Run.{Run, end_of_run}
 use Rattle.cqf_model.specs.Table.{link_cost, table_of}
 use Rattle.cqf_model.specs.Traffic.{Carried, whole_at}
+use Rattle.cqf_model.specs.Promise.{wire_in_cycle}
 use Rattle.cqf_lists.proofs.Members.{contains_cases, contains_filter, contains_here, contains_later, contains_none}
 use Rattle.cqf_lists.proofs.Sums.{sum_filter, sum_member}
-use Rattle.cqf_shift.specs.Alone.{IsRunAlone, end_of_run}
-use Rattle.cqf_shift.specs.MainLaw.{GatesMeanTheShift, wire_in_cycle}
-use Rattle.cqf_shift.specs.Run.{IsLegalRun, RunBesideIsRunAlone}
-use Rattle.cqf_shift.proofs.CycleLaws.{CycleLaws}
-use Rattle.cqf_shift.proofs.Came.{came, policed}
-use Rattle.cqf_shift.proofs.Fed.{facts, least}
-use Rattle.cqf_shift.proofs.Queues.{load_within_cost}
-use Rattle.cqf_shift.proofs.Runs.{fed, sent_timed}
+use Rattle.cqf_laws_shift.specs.Alone.{IsRunAlone}
+use Rattle.cqf_laws_shift.specs.MainLaw.{GatesMeanTheShift}
+use Rattle.cqf_laws_shift.specs.Run.{IsLegalRun, RunBesideIsRunAlone}
+use Rattle.cqf_laws_shift.proofs.CycleLaws.{CycleLaws}
+use Rattle.cqf_laws_shift.proofs.Came.{came, policed}
+use Rattle.cqf_laws_shift.proofs.Fed.{facts, least}
+use Rattle.cqf_laws_shift.proofs.Queues.{load_within_cost}
+use Rattle.cqf_laws_shift.proofs.Runs.{fed, sent_timed}
 use Rattle.cqf_laws_instants.specs.Instants.{in_turn_from}
 use Rattle.cqf_laws_latency.specs.Latency.{FramesAreWholeWithinHeld, FramesAreWholeWithinQueued, IsWholeWithin}
 use Rattle.cqf_laws_instants.proofs.Booked.{queued_of_stream, sent_one}

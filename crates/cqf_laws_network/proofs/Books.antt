@@ -27,7 +27,7 @@ use Rattle.cqf_model.specs.Traffic.{Carried, Policed, policed_before}
 use Rattle.cqf_model.proofs.Coming.{policed_front}
 use Rattle.cqf_model.proofs.Drops.{dropped_at, drops_at}
 use Rattle.cqf_model.proofs.Sending.{backed_in_run, sent_in_run}
-use Rattle.cqf_laws_port.specs.PortLaws.{LegalPartIsLegalForTheSamePast}
+use Rattle.cqf_laws_network.specs.PortLaws.{LegalPartIsLegalForTheSamePast}
 use Rattle.cqf_laws_network.specs.NetworkLaws.{HaveOnePast, IsShorter, backed_before, book_before_cycle, carried_before, drops_before_cycle, network_before}
 use Rattle.cqf_laws_network.specs.NetworkLaws.{starts_before_cycle, with_tables}
 use Rattle.cqf_laws_network.proofs.Came.{bridges_by_past}

@@ -1,3 +1,8 @@
+pub mod Alike
+pub mod Spans
+pub mod Settled
+pub mod Decide
+pub mod Exist
 pub mod Came
 pub mod Ports
 pub mod Networks

@@ -20,7 +20,7 @@ use Rattle.cqf_model.specs.Run.{Run}
 use Rattle.cqf_model.specs.Traffic.{Carried}
 use Rattle.cqf_model.proofs.Coming.{comes_in_late}
 use Rattle.cqf_model.proofs.Legal.{none_at_0}
-use Rattle.cqf_laws_port.specs.PortLaws.{LegalPartIsLegalForTheSamePast, LegalStartsExist, OnlyThePastCounts}
+use Rattle.cqf_laws_network.specs.PortLaws.{LegalPartIsLegalForTheSamePast, LegalStartsExist, OnlyThePastCounts}
 use Rattle.cqf_laws_network.specs.NetworkLaws.{CarryTheSame, HaveOnePast, HaveTheSameTables, IsShorter, SendTheSame, backed_before, carried_before}
 use Rattle.cqf_laws_network.specs.NetworkLaws.{network_before, sent_before, with_tables}
 use Rattle.cqf_laws_network.proofs.Came.{Late, one_front, ports_by_past}

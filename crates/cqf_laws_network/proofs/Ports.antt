@@ -16,7 +16,7 @@ use Rattle.cqf_model.specs.GateList.{Entry}
 use Rattle.cqf_model.specs.Network.{QueuedFrame, Sends, arrivals_of, backed_of, no_frame, sent_of}
 use Rattle.cqf_model.specs.Port.{AreLegal, PortRules, Transmission, instant_of, no_arrival}
 use Rattle.cqf_model.proofs.Sending.{backed_same, backed_then, backed_within, sent_same, sent_then, sent_within}
-use Rattle.cqf_laws_port.specs.PortLaws.{HasAllBefore, LegalPartIsLegalForTheSamePast, OnlyThePastCounts, starts_before}
+use Rattle.cqf_laws_network.specs.PortLaws.{HasAllBefore, LegalPartIsLegalForTheSamePast, OnlyThePastCounts, starts_before}
 use Rattle.cqf_laws_network.specs.NetworkLaws.{PortGoesByThePast, SendTheSame, backed_before, sent_before}
 use Rattle.cqf_laws_network.proofs.Came.{Late}
 

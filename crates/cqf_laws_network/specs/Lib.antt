@@ -1,1 +1,3 @@
+pub mod GateLaws
+pub mod PortLaws
 pub mod NetworkLaws

@@ -1,9 +1,15 @@
-//! Laws about the legal network of a run and about its book.
+//! Laws about gate control lists, about what an output port may send, and about the legal network of a run and its book.
 //!
 //! Each law is a function that does nothing: its contract is a statement of `specs/` about the definitions of
-//! `cqf_model`, and its proof shows that the statement holds for each run, whatever its gate lists, tables, offers and
-//! background frames are. A proof elsewhere uses the law by a call of the function.
+//! `cqf_model`, and its proof shows that the statement holds for each gate list, port and run. A proof elsewhere uses the
+//! law by a call of the function.
 //!
+//! - Of a gate list: the states at an instant are those of the one entry in force, and a frame is eligible just where its
+//!   class stays open long enough ([`mask_is_in_force`], [`eligible_by_open_for`]).
+//! - Of a port: it can always go on ([`legal_starts_exist`]); what it sends is settled ([`legal_starts_are_unique`]), by
+//!   what came before alone ([`only_the_past_counts`]); an earlier end cuts it off and changes nothing before
+//!   ([`legal_part_is_legal`]); and neither does an arrival that is told late, where its gate was closed since it came
+//!   ([`late_arrival_changes_nothing`]).
 //! - There is a legal network ([`legal_network_exists`]), and no other ([`legal_network_is_unique`]), so what a domain does
 //!   is settled; and so is what a book of it says ([`book_exists`], [`book_is_unique`]).
 //! - The past alone matters: what comes to a bridge or a port, and what a port sends of either kind, hangs on what was sent
@@ -17,75 +23,14 @@
 //! ```
 #![tactic(auto)]
 
-ghost use Rattle.cqf_laws_network.specs.NetworkLaws.{
-  LegalNetworkExists,
-  LegalNetworkIsUnique,
-  PortGoesByThePast,
-  BridgesGoByThePast,
-  PortsGetThePast,
-  BeginningIsLegal,
-  ShorterRunIsTheBeginning,
-  FirstTablesAreTheSame,
-  BookIsUnique,
-  BookExists,
-  ShorterBookIsTheBeginning,
+mod gated_ports;
+mod legal_networks;
+
+pub use gated_ports::{
+    eligible_by_open_for, late_arrival_changes_nothing, legal_part_is_legal,
+    legal_starts_are_unique, legal_starts_exist, mask_is_in_force, only_the_past_counts,
 };
-
-/// For any run, gate lists and number of cycles some network is legal.
-pub fn legal_network_exists()
-    ensures { LegalNetworkExists }
-{
-    cqf_laws_port::legal_part_is_legal();
-    cqf_laws_port::only_the_past_counts();
-    cqf_laws_port::legal_starts_exist();
-}
-
-/// For the same run, gate lists and number of cycles no two networks are legal.
-pub fn legal_network_is_unique()
-    ensures { LegalNetworkIsUnique }
-{
-    cqf_laws_port::only_the_past_counts();
-}
-
-/// What a port sends before an instant hangs on what comes to it before the instant; and what comes to the bridges and the
-/// ports before a cycle, on what the links carry before it and on the tables of the cycles before it.
-pub fn the_past_alone_matters()
-    ensures sends { PortGoesByThePast }
-    ensures bridges { BridgesGoByThePast }
-    ensures ports { PortsGetThePast }
-{
-    cqf_laws_port::only_the_past_counts();
-}
-
-/// What a legal network sends before an earlier cycle begins is the legal network of the shorter run, and the tables from
-/// that cycle on don't count for it: the first tables alone give the same.
-pub fn shorter_run_is_the_beginning()
-    ensures legal { BeginningIsLegal }
-    ensures only { ShorterRunIsTheBeginning }
-    ensures tables { FirstTablesAreTheSame }
-{
-    cqf_laws_port::legal_part_is_legal();
-    legal_network_is_unique();
-}
-
-/// For the same run, gate lists and number of cycles there are no two books.
-pub fn book_is_unique()
-    ensures { BookIsUnique }
-{
-    legal_network_is_unique();
-}
-
-/// For any run, gate lists and number of cycles there is a book.
-pub fn book_exists()
-    ensures { BookExists }
-{
-    legal_network_exists();
-}
-
-/// What the book of a run says of its first cycles is the book of the run of those cycles alone, with the same tables or
-/// with the tables of those cycles alone.
-pub fn shorter_book_is_the_beginning()
-    ensures { ShorterBookIsTheBeginning }
-{
-    cqf_laws_port::legal_part_is_legal();
-}
+pub use legal_networks::{
+    book_exists, book_is_unique, legal_network_exists, legal_network_is_unique,
+    shorter_book_is_the_beginning, shorter_run_is_the_beginning, the_past_alone_matters,
+};

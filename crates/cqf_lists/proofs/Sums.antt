@@ -130,16 +130,6 @@ sum_filter f p (x ∷ xs) = elim (cases_Bool (p x)) [
       ∙ zero-add (sum_by (λ x. if p x then f x else 0) xs))
 ]
 
--- a sum over what a filter keeps is at most the sum
-pub sum_filter_le : {X : Type 0} (f : X → ℕ) (p : X → Bool) (xs : List X) → sum_by f (filter p xs) ≤ sum_by f xs
-sum_filter_le f p xs =
-    omega (arith, sum_filter f p xs, sum_le_members (λ x. if p x then f x else 0) f xs (λ x c. at_most (p x) (f x)))
-  where
-    -- a number that may count adds at most itself
-    at_most : (b : Bool) (n : ℕ) → (if b then n else 0) ≤ n
-    at_most true n = omega arith
-    at_most false n = omega arith
-
 -- the elements by their keys, each once
 pub sum_by_keys : {X : Type 0} (f : X → ℕ) (key : X → ℕ) (xs : List X) (n : ℕ) →
     sum_by f (each_below (λ t. filter (λ x. key x == t) xs) n) ≡ sum_by (λ x. if nat_lt (key x) n then f x else 0) xs

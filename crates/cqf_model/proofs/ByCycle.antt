@@ -1,15 +1,13 @@
 -- A port's queue, cycle by cycle.
-use Rattle.std.proofs.Common.{◌≡◌, ℕ, zero, suc, ◌+◌, ◌*◌, ◌<◌, ◌==◌, ◌++◌, [], List, filter, sym, ap, ◌∙◌, arith, refl, subst, eq-eqb, ne_eqb, Contains}
+use Rattle.std.proofs.Common.{◌≡◌, ℕ, ◌+◌, ◌*◌, ◌<◌, ◌==◌, ◌++◌, [], List, filter, sym, ap, ◌∙◌, arith, subst, eq-eqb, ne_eqb, Contains}
 use Rattle.std.proofs.lemmas.List.Elements.{Contains-append_right, filter-append}
-use Rattle.cqf_lists.specs.Lists.{each_below}
 use Rattle.cqf_lists.proofs.Members.{contains_from_flat}
-use Rattle.cqf_lists.proofs.EachBelow.{filter_each, filter_none, none_below}
+use Rattle.cqf_lists.proofs.EachBelow.{filter_each, filter_none}
 use Rattle.cqf_units.proofs.Cycles.{cycle_below, cycle_is}
-use Rattle.cqf_model.specs.declared.frames.Background.{Background}
-use Rattle.cqf_model.specs.Domain.{Domain, bridge_of, cycle_of}
+use Rattle.cqf_model.specs.Domain.{bridge_of, cycle_of}
 use Rattle.cqf_model.specs.Run.{Run}
 use Rattle.cqf_model.specs.Traffic.{Carried, Policed, policed_before, received_before}
-use Rattle.cqf_model.specs.Network.{QueuedFrame, backed_at, backed_in, comes_before, queued_before, queued_by, queued_in}
+use Rattle.cqf_model.specs.Network.{QueuedFrame, queued_before, queued_by, queued_in}
 use Rattle.cqf_model.proofs.Policing.{police_member}
 use Rattle.cqf_model.proofs.Coming.{before_when, queued_front, queued_when}
 
@@ -47,30 +45,3 @@ module _ (run : Run) (carried : Carried) (l : ℕ) where
       let kept : queued_in run carried l cycle ≡ front.rest =
       ap (filter in_cycle) front.is ∙ filter-append in_cycle earlier front.rest ∙ ap (λ (xs : List QueuedFrame). xs ++ filter in_cycle front.rest) none ∙ all in
       front.is ∙ ap (λ (xs : List QueuedFrame). earlier ++ xs) (sym kept)
-
-  -- so the queues of the first cycles, one after the other, are what is queued before the end of the last
-  pub queues_end_to_end : (cycles : ℕ) → each_below (queued_in run carried l) cycles ≡ queued_before run carried l (cycles * run.domain.cycle_time)
-  queues_end_to_end zero = let none : 0 ≡ 0 * run.domain.cycle_time = omega arith in ap (queued_before run carried l) none
-  queues_end_to_end (suc cycle) =
-      let next : (cycle + 1) * run.domain.cycle_time ≡ suc cycle * run.domain.cycle_time = omega arith in
-      ap (λ (xs : List QueuedFrame). xs ++ queued_in run carried l cycle) (queues_end_to_end cycle) ∙ sym (queue_goes_on cycle)
-      ∙ ap (queued_before run carried l) next
-
--- without background frames none is for a link in a cycle
-none_backed : (d : Domain) (background : List Background) (l cycle : ℕ) → background ≡ [] → backed_in d background l cycle ≡ []
-none_backed d background l cycle none =
-    ap (λ (xs : List Background). backed_in d xs l cycle) none
-    ∙ none_below (λ offset. backed_at [] l (cycle * d.cycle_time + offset)) d.cycle_time (λ offset soon. refl)
-
--- and what comes to a port is what is queued to it
-pub comes_without_background : (run : Run) (carried : Carried) (l cycles : ℕ) → run.background ≡ [] →
-    comes_before run carried l cycles ≡ queued_before run carried l (cycles * run.domain.cycle_time)
-comes_without_background run carried l cycles none =
-    same cycles ∙ queues_end_to_end run carried l cycles
-  where
-    -- what comes to a port in the first cycles is what is queued to it, cycle by cycle
-    same : (n : ℕ) → comes_before run carried l n ≡ each_below (queued_in run carried l) n
-    same zero = refl
-    same (suc n) =
-        ap (λ (xs : List QueuedFrame). comes_before run carried l n ++ (xs ++ queued_in run carried l n)) (none_backed run.domain run.background l n none)
-        ∙ ap (λ (xs : List QueuedFrame). xs ++ queued_in run carried l n) (same n)

@@ -6,6 +6,7 @@ use Rattle.cqf_units.specs.Timing.{nanos_of_octet, budget_of, cycle_at}
 use Rattle.cqf_model.specs.declared.topology.Link.{Link}
 use Rattle.cqf_model.specs.declared.topology.Node.{Node}
 use Rattle.cqf_model.specs.declared.topology.Node.TheVariants.{Bridge, Station}
+use Rattle.cqf_model.specs.Limits.{longest_cycle}
 
 -- a domain: times in nanoseconds, the names of its bridges and stations, and its directed links, each by its place
 pub record Domain : Type 0 where
@@ -33,7 +34,7 @@ pub record IsAcceptedLink (d : Domain) (link : Link) : Type 0 where
 -- where domains are read: nothing that a network does hangs on it, though what a name means to admission does
 pub record IsAccepted (d : Domain) : Type 0 where
   pub cycle_least : 10000 ≤ d.cycle_time
-  pub cycle_most : d.cycle_time ≤ 10000000
+  pub cycle_most : d.cycle_time ≤ longest_cycle
   pub guard_some : 0 < d.guard
   pub guard_short : d.guard < d.cycle_time
   pub some_bridge : 0 < length d.bridges

@@ -19,6 +19,7 @@ use Rattle.cqf_model.specs.declared.topology.Node.TheVariants.{Bridge, Station}
 use Rattle.cqf_model.specs.declared.topology.Row.{Row}
 use Rattle.cqf_model.specs.Domain.{Domain, budget, is_text, node_named, link_between, same_node}
 use Rattle.cqf_model.specs.Table.{is_held, link_cost, links_in, row_named}
+use Rattle.cqf_model.specs.Limits.{most_calls, most_cycles}
 
 -- a branch of a stream's tree, by names: its bridges in order, and then the listener's station
 abbrev pub Branch : Type 0
@@ -84,6 +85,10 @@ hops_along d branch =
 abbrev pub tree_of : Domain → List Branch → List Hop
 tree_of d paths = each_once (λ (a b : Hop). a.link == b.link) (flat_map (hops_along d) paths)
 
+-- what each entry gives by its place and itself, in order
+abbrev pub each_entry : {X : Type 0} → (ℕ → Recorded → List X) → List Recorded → List X
+each_entry gives entries = each_below (λ place. option_map_or (λ (e : Recorded). gives place e) (slice_get entries place) []) (length entries)
+
 -- the effect of an entry that withdraws the stream of a number, where so many Seals stand before it
 abbrev pub withdrawal_by : ℕ → ℕ → Act → Reply → List Cycle
 withdrawal_by effect number (Admits asked) reply = []
@@ -94,9 +99,7 @@ withdrawal_by effect number (Withdraws name) Sealed = []
 
 -- the effects of the accepted withdrawals of a stream's number, in order
 abbrev pub withdrawals : List Recorded → ℕ → List Cycle
-withdrawals entries number = each_below
-    (λ place. option_map_or (λ (e : Recorded). withdrawal_by (seals (take place entries)) number e.act e.reply) (slice_get entries place) [])
-    (length entries)
+withdrawals entries number = each_entry (λ place e. withdrawal_by (seals (take place entries)) number e.act e.reply) entries
 
 -- the stream of an entry that admits one, where so many Seals stand before it. It is withdrawn from the effect of the
 -- first accepted withdrawal of its number on
@@ -116,9 +119,7 @@ stream_by d entries effect (Admits asked) (Accepted receipt) = record {
 
 -- the streams that were accepted, by number
 abbrev pub streams_of : Domain → List Recorded → List Row
-streams_of d entries = each_below
-    (λ place. option_map_or (λ (e : Recorded). stream_by d entries (seals (take place entries)) e.act e.reply) (slice_get entries place) [])
-    (length entries)
+streams_of d entries = each_entry (λ place e. stream_by d entries (seals (take place entries)) e.act e.reply) entries
 
 -- those that are held in a cycle
 abbrev pub held_in : Domain → List Recorded → ℕ → List Row
@@ -130,14 +131,27 @@ is_bridge None = false
 is_bridge (Some (Bridge b)) = true
 is_bridge (Some (Station s)) = false
 
+-- whether a branch begins elsewhere than at a bridge
+abbrev pub begins_elsewhere : Domain → Branch → ℕ → Bool
+begins_elsewhere d branch place = (place == 0) && not (is_bridge (node_at d branch 0))
+
+-- whether no link leads to the node at a place from the one before
+abbrev pub lacks_link : Domain → Branch → ℕ → Bool
+lacks_link d branch place = nat_le 1 place && nat_lt place (length branch) && is_none (link_at d branch (place - 1))
+
+-- whether a branch has its last node at a place, and that is a bridge
+abbrev pub ends_at_bridge : Domain → Branch → ℕ → Bool
+ends_at_bridge d branch place = (place + 1 == length branch) && is_bridge (node_at d branch place)
+
+-- whether a place is that of the first node behind the most that a branch may have
+abbrev pub is_beyond_most : Branch → ℕ → Bool
+is_beyond_most branch place = (place == 17) && nat_lt place (length branch)
+
 -- where a branch is broken: it is empty or begins with no bridge; no link goes from the node before to this one; its last
 -- node is a bridge; or the place is 17, so that 17 nodes stand before it
 abbrev pub is_broken_at : Domain → Branch → ℕ → Bool
 is_broken_at d branch place =
-    ((place == 0) && not (is_bridge (node_at d branch 0)))
-    || (nat_le 1 place && nat_lt place (length branch) && is_none (link_at d branch (place - 1)))
-    || ((place + 1 == length branch) && is_bridge (node_at d branch place))
-    || ((place == 17) && nat_lt place (length branch))
+    begins_elsewhere d branch place || lacks_link d branch place || ends_at_bridge d branch place || is_beyond_most branch place
 
 -- whether both nodes are there and the same
 abbrev pub is_same : Option Node → Option Node → Bool
@@ -243,14 +257,12 @@ reply_to d entries Seals = Sealed
 -- a legal history: each answer is the one that is due behind the entries before it, and there are not too many entries
 pub record IsLegalHistory (d : Domain) (entries : List Recorded) : Type 0 where
   pub replies : (place : ℕ) (e : Recorded) → slice_get entries place ≡ Some e → e.reply ≡ reply_to d (take place entries) e.act
-  pub few_seals : seals entries ≤ 100000
-  pub few_calls : length entries - seals entries ≤ 100000
+  pub few_seals : seals entries ≤ most_cycles
+  pub few_calls : length entries - seals entries ≤ most_calls
 
 -- the places of the Seals
 abbrev pub seal_places : List Recorded → List ℕ
-seal_places entries = each_below
-    (λ place. option_map_or (λ (e : Recorded). if is_seal e.act then place ∷ [] else []) (slice_get entries place) [])
-    (length entries)
+seal_places entries = each_entry (λ place e. if is_seal e.act then place ∷ [] else []) entries
 
 -- the table of a cycle: the streams that are held in it by the entries before the Seal that closes it, by number. Of the
 -- cycle that the next Seal would close it is the table by all entries; of later cycles there is none to speak of

@@ -141,3 +141,7 @@ IsLoss ExceedsGate = Unit {0}
 pub record IsLost (run : Run) (carried : Carried) (cycles bridge : ℕ) (policed : Policed) : Type 0 where
   pub came : Contains (policed_before run carried bridge (cycles * run.domain.cycle_time)) policed
   pub lost : IsLoss policed.verdict
+
+-- nothing is lost inside in so many cycles
+abbrev pub LosesNothing : Run → ℕ → Network → Type 0
+LosesNothing run cycles net = (bridge : ℕ) (policed : Policed) → ¬ IsLost run net.carried cycles bridge policed

@@ -1,9 +1,10 @@
 -- What a run is given (profile).
-use Rattle.std.specs.Prelude.{◌<◌, ◌≤◌, All, List, length}
+use Rattle.std.specs.Prelude.{ℕ, ◌*◌, ◌<◌, ◌≤◌, All, List, length}
 use Rattle.cqf_model.specs.declared.frames.Background.{Background}
 use Rattle.cqf_model.specs.declared.frames.Offer.{Offer}
 use Rattle.cqf_model.specs.declared.topology.Row.{Row}
 use Rattle.cqf_model.specs.Domain.{Domain}
+use Rattle.cqf_model.specs.Limits.{end_of_offers}
 
 -- a domain, the table of each cycle, what is offered at its bridges, and the background frames of its links
 pub record Run : Type 0 where
@@ -12,13 +13,17 @@ pub record Run : Type 0 where
   pub offers : List Offer
   pub background : List Background
 
+-- the end of a run: it goes over as many cycles as there are tables
+abbrev pub end_of_run : Run → ℕ
+end_of_run run = length run.tables * run.domain.cycle_time
+
 -- an offer that may be handed to a run: at a bridge of the domain, of a size that Ethernet has (IEEE 802.3), early
 -- enough (profile)
 pub record IsOffer (d : Domain) (offer : Offer) : Type 0 where
   pub at_bridge : offer.bridge < length d.bridges
   pub least : 64 ≤ offer.octets
   pub most : offer.octets ≤ 1522
-  pub early : offer.at.0 < 1000000000000
+  pub early : offer.at.0 < end_of_offers
 
 -- how many there may be is said where they are read
 abbrev pub AreOffers : Domain → List Offer → Type 0
@@ -31,7 +36,7 @@ pub record IsBackground (d : Domain) (frame : Background) : Type 0 where
   pub class_most : frame.class ≤ 5
   pub least : 64 ≤ frame.octets
   pub most : frame.octets ≤ 1522
-  pub early : frame.at.0 < 1000000000000
+  pub early : frame.at.0 < end_of_offers
 
 -- each of some background frames may be handed to a run
 abbrev pub AreBackground : Domain → List Background → Type 0

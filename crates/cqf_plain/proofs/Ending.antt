@@ -1,125 +1,148 @@
 -- A run from its beginning over all its cycles to its end, and what it promises there.
-use Rattle.std.proofs.Common.{◌≡◌, ℕ, ◌*◌, ◌≤◌, ◌<◌, List, [], sym, refl, ap, ◌∙◌, arith, subst, length, map, get_or, Option}
-use Rattle.std.specs.BTreeSet.{BTreeSet}
+use Rattle.std.proofs.Common.{◌≡◌, ℕ, ◌+◌, ◌*◌, ◌<◌, List, [], sym, refl, ap, ◌∙◌, arith, subst, length, map, get_or, inl, inr, Contains}
+use Rattle.std.specs.Prelude.{Some, slice_get}
 use Rattle.std.proofs.lemmas.List.{get_or-map, length-map}
-use Rattle.cqf_model.specs.declared.frames.Backed.{Backed}
+use Rattle.std.proofs.lemmas.Option.{get_or_from_slice_get, slice_get_cases}
+use Rattle.cqf_lists.specs.Lists.{each_below}
+use Rattle.cqf_lists.proofs.EachBelow.{same_below}
+use Rattle.cqf_lists.proofs.Members.{contains_none}
 use Rattle.cqf_model.specs.declared.frames.Background.{Background}
-use Rattle.cqf_model.specs.declared.frames.Dropped.{Dropped}
 use Rattle.cqf_model.specs.declared.frames.Offer.{Offer}
-use Rattle.cqf_model.specs.declared.frames.Offered.{Offered}
-use Rattle.cqf_model.specs.declared.frames.Started.{Started}
 use Rattle.cqf_model.specs.declared.topology.Row.{Row}
-use Rattle.cqf_model.specs.Book.{Contents}
+use Rattle.cqf_model.specs.Book.{Contents, IsBook, drops_in}
 use Rattle.cqf_model.specs.Domain.{Domain, IsAccepted}
 use Rattle.cqf_model.specs.History.{Recorded}
-use Rattle.cqf_model.specs.Network.{numbered_background}
+use Rattle.cqf_model.specs.Network.{IsLegalNetwork, IsLost, Network, compiled_lists}
 use Rattle.cqf_model.specs.Run.{AreBackground, AreOffers, Run}
 use Rattle.cqf_model.specs.Table.{AreOrderly, table_of}
-use Rattle.cqf_model.specs.Traffic.{numbered}
+use Rattle.cqf_model.specs.Traffic.{policed_before}
 use Rattle.cqf_laws_history.specs.HistoryLaws.{TablesAreOrderly}
-use Rattle.cqf_laws_pages.specs.Gathered.{IsInOrderOf}
-use Rattle.cqf_shift.specs.Books.{BookSaysTheShift}
-use Rattle.cqf_shift.specs.MainLaw.{GatesMeanTheShift}
+use Rattle.cqf_laws_network.specs.NetworkLaws.{BookIsUnique, LegalNetworkIsUnique}
+use Rattle.cqf_laws_cycle.specs.BridgeCycle.{DropsAreOfTheCycle}
+use Rattle.cqf_laws_shift.specs.Books.{BookSaysTheShift}
+use Rattle.cqf_laws_shift.specs.MainLaw.{GatesMeanTheShift}
 use Rattle.cqf_admission.specs.Tables.{CycleTable}
-use Rattle.cqf_plain.specs.Clock.{Due}
+use Rattle.cqf_bridge.specs.BridgeState.{BridgeState}
+use Rattle.cqf_laws_bridge.specs.Cycles.{NewBridgeFollows, drops_of_cycle}
+use Rattle.cqf_laws_bridge.specs.Follows.{FollowsTheNetwork}
 use Rattle.cqf_plain.specs.declared.faults.RunFault.{RunFault}
 use Rattle.cqf_plain.specs.declared.faults.RunFault.TheVariants.{WrongTables, Inside, Memory}
-use Rattle.cqf_plain.specs.Edge.{offered_when}
-use Rattle.cqf_plain.specs.Going.{GoesBy, GoesByAll, HasEnded, IsNew, IsNext, IsNow, IsStopOf}
-use Rattle.cqf_plain.specs.Laws.{RunLaws}
-use Rattle.cqf_plain.specs.Ports.{AreNew, LinkPort, port_at}
+use Rattle.cqf_plain.specs.Course.{CourseState, IsAt, IsNewCourse, IsRunOver, StopsCourse, CourseMayGoOn}
+use Rattle.cqf_plain.specs.Driven.{drops_of_first}
 use Rattle.cqf_plain.specs.Promise.{AreOfHistory, KeepsItOfHistory, WantsMemoryAlone}
-use Rattle.cqf_plain.specs.Run.{AreNumbered, IsBookOfRun, IsRunFault, run_of}
-use Rattle.cqf_plain.specs.Sending.{IsCut, at_of}
-use Rattle.cqf_plain.specs.Telling.{AreNumberable, AreOf, TellsBook}
-use Rattle.cqf_plain.proofs.Cutting.{first_cut}
-use Rattle.cqf_plain.proofs.Finishing.{stand_of}
-use Rattle.cqf_plain.proofs.RunReady.{numberable}
-use Rattle.cqf_plain.proofs.WholeRun.{begins_at, ends_at}
+use Rattle.cqf_plain.specs.Run.{AreTablesNumbered, IsBookOfRun, IsRunFault, run_of}
 
 -- the rows of a cycle's table
 abbrev rows_of : CycleTable → List Row
 rows_of table = table.rows
 
-module _ (d : Domain) (tables : List CycleTable) (frames : List Backed) (offers : List Offered) (run : Run) (by : GoesByAll d tables frames offers run) where
-  -- there are as many cycles as tables
-  pub as_many : length run.tables ≡ length tables
-  as_many = ap (λ (rows : List (List Row)). length rows) by.rows ∙ length-map tables rows_of
-
-  -- the run goes through the next cycle by its table
-  pub next_cycle : (cycle next taken : ℕ) (table : CycleTable) (ports : List LinkPort) (due : BTreeSet Due) (drops : List Dropped) →
-      cycle < length tables → table ≡ get_or tables cycle table → IsNow run cycle frames next offers taken ports due drops →
-      IsNext d cycle table.rows frames next offers taken ports due drops run
-  next_cycle cycle next taken table ports due drops inside is at = record {
-    by = by.by;
-    within_run = omega (arith, inside, as_many);
-    table = ap (λ (rows : List (List Row)). table_of rows cycle) by.rows ∙ get_or-map rows_of tables cycle table [] inside ∙ ap rows_of (sym is);
-    now_at = at;
-  }
-
-  -- behind the last it is at its end
-  pub has_ended : (next taken : ℕ) (ports : List LinkPort) (due : BTreeSet Due) (drops : List Dropped) → length tables ≤ 100000 →
-      IsNow run (length tables) frames next offers taken ports due drops → HasEnded d frames offers next taken ports due drops run
-  has_ended next taken ports due drops short at = record {
-    by = by.by;
-    short = omega (arith, short, as_many);
-    now_at = subst (λ (n : ℕ). IsNow run n frames next offers taken ports due drops) (sym as_many) at;
-  }
-
--- what is new begins a run
-pub begins_new : (d : Domain) (frames : List Backed) (offers : List Offered) (run : Run) (next taken : ℕ) (ports : List LinkPort) (due : BTreeSet Due)
-    (told : List (Option ℕ)) (drops : List Dropped) → GoesBy d frames offers run → IsNew d next taken ports due told drops →
-    IsNow run 0 frames next offers taken ports due drops
-begins_new d frames offers run next taken ports due told drops by new =
-    let none : 0 ≡ 0 * run.domain.cycle_time = omega arith in
-    let first : IsNow run 0 frames 0 offers 0 ports due [] =
+-- a run of which nothing has happened is at its beginning
+pub begins_at : NewBridgeFollows → (d : Domain) (tables : List CycleTable) (offers : List Offer) (background : List Background) (net : Network) (c : CourseState) →
+    IsNewCourse d offers background c → IsAt (run_of d tables offers background) net 0 c
+begins_at follows d tables offers background net c new =
+    let run = run_of d tables offers background in
+    let none : 0 * d.cycle_time ≡ 0 = omega arith in
     record {
-      at = begins_at run frames ports due told (subst (λ (e : Domain). AreNew e ports) (sym by.domain) new.new_ports) new.fresh;
-      cut = subst (λ (t : ℕ). IsCut offered_when t offers 0) none (first_cut offered_when offers);
-    } in
-    subst (λ (n : ℕ). IsNow run 0 frames n offers taken ports due drops) (sym new.first_frame)
-    (subst (λ (n : ℕ). IsNow run 0 frames 0 offers n ports due drops) (sym new.first_offer)
-    (subst (λ (xs : List Dropped). IsNow run 0 frames 0 offers 0 ports due xs) (sym new.no_drops) first))
+      stand = record {
+        one_each = new.bridges.one_each;
+        each = λ k e inside. (let s = new.bridges.each k e inside in record {
+          own = record {
+            domain = ap (λ (b : BridgeState). b.domain) s.is_new;
+            number = ap (λ (b : BridgeState). b.number) s.is_new;
+            received = ap (λ (b : BridgeState). b.received) s.is_new;
+            agenda = s.agenda;
+          };
+          follows = subst (FollowsTheNetwork run net) (sym s.is_new) (follows run net k inside);
+          none_came = s.none_came;
+        });
+      };
+      starts = ap (λ (b : Contents). b.starts) new.book;
+      background = ap (λ (b : Contents). b.background) new.book;
+      drops = ap (λ (b : Contents). b.drops) new.book;
+      none_lost = λ bridge p lost.
+          contains_none p (subst (λ (t : ℕ). Contains (policed_before run net.carried bridge t) p) none lost.came);
+    }
 
-module _ (d : Domain) (frames : List Backed) (offers : List Offered) (next taken : ℕ) (ports : List LinkPort) (due : BTreeSet Due) (drops : List Dropped)
-    (run : Run) (ended : HasEnded d frames offers next taken ports due drops run) where
-  -- at its end there are at most 64 ports
-  pub few_ports : length ports ≤ 64
-  few_ports = omega (arith, ended.by.of_run.accepted.few_links, ended.now_at.at.stand.ran.one_each)
+-- what an index gives stands there
+there_at : {X : Type 0} (xs : List X) (place : ℕ) (x : X) → place < length xs → x ≡ get_or xs place x → slice_get xs place ≡ Some x
+there_at xs place x inside is = elim (slice_get_cases xs place).1 [
+  | inl w ↦ w.2 ∙ ap Some (sym (get_or_from_slice_get xs place w.0 x w.2) ∙ sym is)
+  | inr w ↦ absurd (omega (arith, w.0, inside))
+]
 
-  -- each start is in a cycle that has a number
-  pub all_numberable : (l : ℕ) → l < length ports → AreNumberable d.cycle_time (port_at ports l)
-  all_numberable l below =
-      let some : 0 < run.domain.cycle_time = omega (arith, ended.by.of_run.accepted.cycle_least) in
-      subst (λ (e : Domain). AreNumberable e.cycle_time (port_at ports l)) ended.by.domain
-      (numberable run (length run.tables) ports some ended.short ended.now_at.at.stand l below)
+-- of tables that are numbered, each is of the cycle at whose place it stands
+pub numbered_so : (tables : List CycleTable) (place : ℕ) (table : CycleTable) → AreTablesNumbered (length tables) tables → place < length tables →
+    table ≡ get_or tables place table → table.cycle ≡ place
+numbered_so tables place table numbered inside is = numbered.numbers place table (there_at tables place table inside is)
 
-  -- and what the ports tell is its book
-  pub book_at_end : RunLaws → (cycle_time : ℕ) (starts background : List Started) → cycle_time ≡ d.cycle_time →
-      ((e : Domain) (cycles : ℕ) → e.cycle_time ≡ cycle_time → AreOf e cycles ports → TellsBook e cycles ports starts background) →
-      IsBookOfRun run (record { starts = starts; background = background; drops = drops })
-  book_at_end laws cycle_time starts background same tells =
-      ends_at laws run frames next ports due drops starts background ended.now_at.at
-      (tells run.domain (length run.tables) (ap (λ (e : Domain). e.cycle_time) ended.by.domain ∙ sym same)
-      (stand_of run (length run.tables) ports ended.now_at.at.stand))
+module _ (d : Domain) (tables : List CycleTable) (run : Run) (net : Network) (over : IsRunOver d tables run net) where
+  -- there are as many cycles as tables
+  as_many : length run.tables ≡ length tables
+  as_many = ap (λ (rows : List (List Row)). length rows) over.rows ∙ length-map tables rows_of
+
+  -- it may go on by the next table
+  pub may_go_on : AreTablesNumbered (length tables) tables → (place : ℕ) (table : CycleTable) (c : CourseState) → place < length tables →
+      table ≡ get_or tables place table → IsAt run net place c → CourseMayGoOn d table c run net
+  may_go_on numbered place table c inside is at =
+      let own = numbered_so tables place table numbered inside is in
+      record {
+        domain = over.domain;
+        of_run = record {
+          compiled = over.compiled;
+          offers = over.offers;
+          background = over.background;
+          within_run = omega (arith, inside, as_many, own);
+        };
+        table_is = record {
+          rows = ap (table_of run.tables) own
+              ∙ ap (λ (rows : List (List Row)). table_of rows place) over.rows ∙ get_or-map rows_of tables place table [] inside ∙ ap rows_of (sym is);
+        };
+        at = subst (λ (n : ℕ). IsAt run net n c) (sym own) at;
+      }
+
+  -- and is then at the one behind it
+  pub at_next : AreTablesNumbered (length tables) tables → (place : ℕ) (table : CycleTable) (c : CourseState) → place < length tables →
+      table ≡ get_or tables place table → IsAt run net (table.cycle + 1) c → IsAt run net (place + 1) c
+  at_next numbered place table c inside is at =
+      subst (λ (n : ℕ). IsAt run net (n + 1) c) (numbered_so tables place table numbered inside is) at
+
+  -- behind the last the book is the run's
+  pub ends_at : BookIsUnique → LegalNetworkIsUnique → DropsAreOfTheCycle → (c : CourseState) → IsAt run net (length tables) c → IsBookOfRun run c.book
+  ends_at one_book unique among c short =
+      let cycles = length run.tables in
+      let e = run.domain in
+      let at = subst (λ (n : ℕ). IsAt run net n c) (sym as_many) short in
+      let is : IsBook run (compiled_lists e) cycles c.book =
+      record {
+        net = net;
+        legal = over.compiled.legal;
+        are_starts = at.starts;
+        are_background = at.background;
+        are_drops = at.drops
+            ∙ same_below (λ cycle. drops_of_first run net cycle (length e.bridges))
+            (λ cycle. each_below (drops_in e (length run.offers) (λ bridge. policed_before run net.carried bridge (cycles * e.cycle_time)) cycle) (length e.bridges)) cycles
+            (λ cycle inside. same_below (λ bridge. drops_of_cycle run net bridge cycle)
+            (drops_in e (length run.offers) (λ bridge. policed_before run net.carried bridge (cycles * e.cycle_time)) cycle) (length e.bridges)
+            (λ bridge below. sym (among run net.carried cycles cycle bridge (length run.offers) inside)));
+      } in
+      record {
+        is_book = is;
+        only = λ other is_other. one_book run _ cycles other c.book is_other is;
+        loses_nothing = λ other bridge p legal lost.
+            at.none_lost bridge p
+            (subst (λ (n : Network). IsLost run n.carried cycles bridge p) (unique run (compiled_lists e) cycles other net legal over.compiled.legal) lost);
+      }
 
 module _ (d : Domain) (tables : List CycleTable) (offers : List Offer) (background : List Background) (accepted : IsAccepted d) (good : AreOffers d offers)
     (behind : AreBackground d background) where
-  -- the run that is asked for goes by what is arranged of it
-  pub goes_by_all : (e : Domain) (frames listed : List Backed) (edge offered : List Offered) → e ≡ d → frames ≡ listed → edge ≡ offered →
-      IsInOrderOf at_of (numbered_background background) listed → IsInOrderOf offered_when (numbered offers) offered →
-      GoesByAll e tables frames edge (run_of d tables offers background)
-  goes_by_all e frames listed edge offered same are_frames are_offers arranged in_order = record {
-    by = record {
-      domain = sym same;
-      of_run = record {
-        accepted = accepted;
-        good = behind;
-        arranged = subst (IsInOrderOf at_of (numbered_background background)) (sym are_frames) arranged;
-      };
-      good = good;
-      offered = subst (IsInOrderOf offered_when (numbered offers)) (sym are_offers) in_order;
-    };
+  -- the run that is asked for goes over the tables
+  pub over_so : (e : Domain) (net : Network) → e ≡ d → IsLegalNetwork (run_of d tables offers background) (compiled_lists d) (length (map rows_of tables)) net →
+      IsRunOver e tables (run_of d tables offers background) net
+  over_so e net same legal = record {
+    domain = sym same;
+    compiled = record { accepted = accepted; legal = legal };
+    offers = good;
+    background = behind;
     rows = refl;
   }
 
@@ -129,19 +152,10 @@ module _ (d : Domain) (tables : List CycleTable) (offers : List Offer) (backgrou
       subst (AreOrderly d) (sym of_history.rows) (are_orderly d entries (length tables) of_history.legal of_history.sealed)
 
   -- under them the book keeps the promise
-  pub keeps_promise : BookSaysTheShift → GatesMeanTheShift → TablesAreOrderly → (book : Contents) →
+  pub keeps_promise : BookSaysTheShift → TablesAreOrderly → (book : Contents) →
       IsBookOfRun (run_of d tables offers background) book → KeepsItOfHistory d tables offers background book
-  keeps_promise says mean are_orderly book is entries of_history =
-      let run = run_of d tables offers background in
-      let in_order = orderly are_orderly entries of_history in
-      record {
-        says = says run book accepted in_order good behind is.is_book;
-        net = is.is_book.net;
-        legal = is.is_book.legal;
-        tells = is.is_book.are_starts;
-        means = mean run is.is_book.net
-            (record { accepted = accepted; orderly = in_order; offered = good; background = behind; legal = is.is_book.legal });
-      }
+  keeps_promise says are_orderly book is entries of_history =
+      says (run_of d tables offers background) book accepted (orderly are_orderly entries of_history) good behind is.is_book
 
   -- and there is no book for want of memory alone
   pub memory_alone : GatesMeanTheShift → TablesAreOrderly → (cycles : ℕ) (fault : RunFault) →
@@ -155,7 +169,7 @@ module _ (d : Domain) (tables : List CycleTable) (offers : List Offer) (backgrou
   memory_alone mean are_orderly cycles Memory lost entries of_history are_numbered = refl
 
 -- why a run by numbered tables doesn't go on is why it gives no book
-pub fault_of_stop : (run : Run) (cycles : ℕ) (tables : List CycleTable) (fault : RunFault) → AreNumbered cycles tables → IsStopOf run fault →
+pub fault_of_stop : (run : Run) (cycles : ℕ) (tables : List CycleTable) (fault : RunFault) → AreTablesNumbered cycles tables → StopsCourse run fault →
     IsRunFault run cycles tables fault
 fault_of_stop run cycles tables WrongTables are_numbered stop = absurd stop
 fault_of_stop run cycles tables (Inside frame) are_numbered stop = (are_numbered, stop)

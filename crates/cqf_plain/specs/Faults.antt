@@ -4,7 +4,7 @@ use Rattle.cqf_plain.specs.declared.faults.RunFault.{RunFault}
 use Rattle.cqf_plain.specs.declared.faults.RunFault.TheVariants.{WrongTables, Inside, Memory}
 
 -- the text of a fault: its name, and the frame's number
-abbrev pub text_of_fault : RunFault → List ℕ
-text_of_fault WrongTables = codes "WrongTables"
-text_of_fault (Inside frame) = codes "Inside " ++ decimal frame
-text_of_fault Memory = codes "Memory"
+abbrev pub text_of_run_fault : RunFault → List ℕ
+text_of_run_fault WrongTables = codes "WrongTables"
+text_of_run_fault (Inside frame) = codes "Inside " ++ decimal frame
+text_of_run_fault Memory = codes "Memory"

@@ -1,19 +1,8 @@
-pub mod Faults
 pub mod Run
 pub mod Promise
-pub mod Frames
-pub mod Ports
-pub mod Clock
-pub mod Backing
-pub mod Passing
-pub mod Bridging
-pub mod AtBridge
-pub mod Sending
-pub mod Telling
-pub mod Cycle
-pub mod Laws
-pub mod Edge
-pub mod Quiet
-pub mod Going
-pub mod Incoming
-pub mod TakingFrames
+pub mod Turns
+pub mod Driven
+pub mod Course
+-- what the inner functions say
+pub mod Faults
+pub mod Losing

@@ -1,211 +1,105 @@
 //! A run, cycle by cycle.
-ghost use Rattle.std.specs.Prelude.{◌≡◌, ◌+◌, ◌*◌, ◌<◌, ◌≤◌, ℕ, true, IfErr, IfOk, OnOk, length};
-ghost use Rattle.std.specs.List.Sorted.{IsNonDecreasingBy};
+ghost use Rattle.std.specs.Prelude.{◌≡◌, ◌+◌, ◌^◌, ◌<◌, IfErr, IfOk, OnOk, length};
+ghost use Rattle.cqf_model.specs.Book.{contents_of};
+ghost use Rattle.cqf_model.specs.Network.{Network};
 ghost use Rattle.cqf_model.specs.Run.{Run};
-ghost use Rattle.cqf_plain.specs.Edge.{offered_when};
-ghost use Rattle.cqf_plain.specs.Going.{GoesByAll, IsNew, IsNext, IsNow, IsStopOf};
-ghost use Rattle.cqf_plain.specs.Incoming.{AreLinksInto};
-ghost use Rattle.cqf_plain.specs.Quiet.{IsQuiet};
-ghost use Rattle.cqf_plain.specs.Sending.{IsCut, at_of};
+ghost use Rattle.cqf_plain.specs.Course.{IsAt, IsHalfway, IsNewCourse, StopsCourse, CourseMayGoOn};
+ghost use Rattle.cqf_model.specs.Limits.{most_cycles};
 
 use crate::RunFault;
-use crate::clock::Clock;
-use crate::cycle::take_cycle;
-use crate::edge::cut_offers;
-use crate::incoming::links_by_bridge;
-use crate::laws::run_laws;
-use crate::port::EgressPort;
-use crate::relay::counted;
-use crate::steps::new_ports;
-use crate::transmit::{cut, send_cycle, start_of};
-use arrayvec::ArrayVec;
+use crate::driven::{Driven, new_bridges};
+use crate::handing::pass_on;
+use crate::receiving::receive_all;
+use crate::sending::send_all;
 use cqf_admission::Table;
 use cqf_compile::Plan;
-use cqf_model::{Backed, Dropped, Offered};
+use cqf_laws_cycle::run_is_its_cycles;
+use cqf_model::{Background, Book, Offer};
 use cqf_topology::Domain;
-use cqf_units::{Memory, Nanos};
+use cqf_units::Memory;
 use std::alloc::Global;
+use std::marker::Model;
 
-/// A run as a cycle begins.
-#[derive(Drop)]
+/// What a run has come to: its bridges, and its book so far.
+#[derive(Debug, Drop)]
 pub(crate) struct Course {
-    pub(crate) ports: Vec<EgressPort>,
-    pub(crate) clock: Clock,
-    pub(crate) drops: Vec<Dropped>,
-    /// The place of the first background frame of the cycle or a later one.
-    pub(crate) next_frame: usize,
-    /// The place of the first offer of the cycle or a later one.
-    pub(crate) next_offer: usize,
+    /// By number.
+    bridges: Vec<Driven>,
+    book: Book,
 }
 
-/// A run over a plan that hasn't begun.
-pub(crate) fn new_course(alloc: Global, plan: &Plan) -> Result<Course, Memory>
-    ensures { IfOk result (λ course. IsNew plan.now course.next_frame course.next_offer
-        course.ports.items course.clock.due course.clock.told.items course.drops.items) }
-{
-    let ports = new_ports(alloc, plan)?;
-    let clock = Clock::new(alloc, ports.len())?;
-    Ok(Course {
-        ports,
-        clock,
-        drops: Vec::new(alloc),
-        next_frame: 0,
-        next_offer: 0,
-    })
+impl Model for Course {
+    ghost use Rattle.cqf_model.specs.Book.{contents_of};
+    ghost use Rattle.cqf_plain.specs.Course.{CourseState};
+
+    ghost Value = { CourseState };
+
+    ghost view = { λ c. record { bridges = c.bridges.items; book = contents_of c.book } };
 }
 
-/// Whether nothing happens up to a cycle's end but what is offered: no port starts, and no background frame comes.
-fn is_quiet(clock: &Clock, frames: &[Backed], next: usize, start: Nanos, end: Nanos) -> bool
-    requires in_order { start.0 ≤ end.0 }
-    requires from { IsCut at_of start.0 frames.now next }
-    requires arranged { IsNonDecreasingBy at_of frames.now }
-    ensures { result ≡ true → IsQuiet end.0 frames.now next clock.now.due }
-{
-    if !clock.is_idle(end) {
-        return false;
+impl Course {
+    /// A run over a plan that hasn't begun.
+    pub(crate) fn new(
+        alloc: Global,
+        plan: &Plan,
+        offers: &[Offer],
+        background: &[Background],
+    ) -> Result<Course, Memory>
+        requires few_offers { length offers.now < 2 ^ 32 }
+        requires few_background { length background.now < 2 ^ 32 }
+        ensures { IfOk result (IsNewCourse plan.now offers.now background.now) }
+    {
+        Ok(Course {
+            bridges: new_bridges(alloc, plan, offers, background)?,
+            book: Book {
+                starts: Vec::new(alloc),
+                background: Vec::new(alloc),
+                drops: Vec::new(alloc),
+            },
+        })
     }
-    cut(frames, next, start, end) == next
-}
 
-/// The ports send a cycle, and the bridges take it, with the offers up to a place.
-fn go_through(
-    alloc: Global,
-    domain: &Domain,
-    table: &Table,
-    links: &[ArrayVec<u8, 64>],
-    frames: &[Backed],
-    offers: &[Offered],
-    to: usize,
-    cycle: u32,
-    course: &mut Course,
-) -> Result<(), RunFault>
-    requires early { cycle < 100000 }
-    requires links { AreLinksInto domain.now (length domain.now.bridges) links.now }
-    requires told { length course.old.clock.told.items ≡ length course.old.ports.items }
-    requires behind { course.old.next_offer ≤ to }
-    requires cut { IsCut offered_when ((cycle + 1) * domain.now.cycle_time) offers.now to }
-    requires part { (run : Run) × IsNext domain.now cycle table.now.rows frames.now course.old.next_frame offers.now course.old.next_offer
-        course.old.ports.items course.old.clock.due course.old.drops.items run }
-    ensures told { OnOk result (length course.new.clock.told.items ≡ length course.new.ports.items) }
-    ensures goes { OnOk result ((run : Run) →
-        IsNext domain.now cycle table.now.rows frames.now course.old.next_frame offers.now course.old.next_offer
-        course.old.ports.items course.old.clock.due course.old.drops.items run →
-        IsNow run (cycle + 1) frames.now course.new.next_frame offers.now course.new.next_offer
-        course.new.ports.items course.new.clock.due course.new.drops.items) }
-    ensures stops { IfErr result (λ fault. (run : Run) →
-        IsNext domain.now cycle table.now.rows frames.now course.old.next_frame offers.now course.old.next_offer
-        course.old.ports.items course.old.clock.due course.old.drops.items run → IsStopOf run fault) }
-{
-    run_laws();
-    let Ok(counts) = counted(alloc, course.ports.as_slice()) else {
-        return Err(RunFault::Memory);
-    };
-    let Ok(next) = send_cycle(
-        &mut course.ports,
-        &mut course.clock,
-        domain,
-        cycle,
-        frames,
-        course.next_frame,
-    ) else {
-        return Err(RunFault::Memory);
-    };
-    match take_cycle(
-        alloc,
-        domain,
-        cycle,
-        table,
-        links,
-        &mut course.ports,
-        &mut course.clock,
-        counts.as_slice(),
-        &offers[course.next_offer..to],
-        &mut course.drops,
-    ) {
-        Ok(()) => {}
-        Err(fault) => return Err(fault),
+    /// The bridges send the cycle of a table, and it goes along the links.
+    fn send(&mut self, alloc: Global, domain: &Domain, table: &Table) -> Result<(), Memory>
+        requires early { table.now.cycle < most_cycles }
+        requires part { (run : Run) × (net : Network) × CourseMayGoOn domain.now table.now self.old run net }
+        ensures { OnOk result ((run : Run) (net : Network) → CourseMayGoOn domain.now table.now self.old run net →
+            IsHalfway run net table.now.cycle self.old self.new) }
+    {
+        let sent = send_all(alloc, &mut self.bridges, table.cycle())?;
+        pass_on(alloc, domain, sent, &mut self.bridges, &mut self.book)?;
+        Ok(())
     }
-    course.next_frame = next;
-    course.next_offer = to;
-    Ok(())
-}
 
-/// The run goes on by a cycle. One in which nothing happens is passed over.
-pub(crate) fn go_on(
-    alloc: Global,
-    domain: &Domain,
-    table: &Table,
-    links: &[ArrayVec<u8, 64>],
-    frames: &[Backed],
-    offers: &[Offered],
-    cycle: u32,
-    course: &mut Course,
-) -> Result<(), RunFault>
-    requires early { cycle < 100000 }
-    requires links { AreLinksInto domain.now (length domain.now.bridges) links.now }
-    requires told { length course.old.clock.told.items ≡ length course.old.ports.items }
-    requires part { (run : Run) × IsNext domain.now cycle table.now.rows frames.now course.old.next_frame offers.now course.old.next_offer
-        course.old.ports.items course.old.clock.due course.old.drops.items run }
-    ensures told { OnOk result (length course.new.clock.told.items ≡ length course.new.ports.items) }
-    ensures goes { OnOk result ((run : Run) →
-        IsNext domain.now cycle table.now.rows frames.now course.old.next_frame offers.now course.old.next_offer
-        course.old.ports.items course.old.clock.due course.old.drops.items run →
-        IsNow run (cycle + 1) frames.now course.new.next_frame offers.now course.new.next_offer
-        course.new.ports.items course.new.clock.due course.new.drops.items) }
-    ensures stops { IfErr result (λ fault. (run : Run) →
-        IsNext domain.now cycle table.now.rows frames.now course.old.next_frame offers.now course.old.next_offer
-        course.old.ports.items course.old.clock.due course.old.drops.items run → IsStopOf run fault) }
-{
-    run_laws();
-    let start = start_of(domain, cycle);
-    let end = start_of(domain, cycle + 1);
-    let to = cut_offers(offers, course.next_offer, start, end);
-    if to == course.next_offer && is_quiet(&course.clock, frames, course.next_frame, start, end) {
-        return Ok(());
-    }
-    go_through(
-        alloc, domain, table, links, frames, offers, to, cycle, course,
-    )
-}
-
-/// The run goes on by all cycles, each by its table.
-pub(crate) fn go_all(
-    alloc: Global,
-    domain: &Domain,
-    tables: &[Table],
-    frames: &[Backed],
-    offers: &[Offered],
-    course: &mut Course,
-) -> Result<(), RunFault>
-    requires short { length tables.now ≤ 100000 }
-    requires told { length course.old.clock.told.items ≡ length course.old.ports.items }
-    requires part { (run : Run) × GoesByAll domain.now tables.now frames.now offers.now run
-        × IsNow run 0 frames.now course.old.next_frame offers.now course.old.next_offer course.old.ports.items course.old.clock.due course.old.drops.items }
-    ensures goes { OnOk result ((run : Run) → GoesByAll domain.now tables.now frames.now offers.now run →
-        IsNow run 0 frames.now course.old.next_frame offers.now course.old.next_offer course.old.ports.items course.old.clock.due course.old.drops.items →
-        IsNow run (length tables.now) frames.now course.new.next_frame offers.now course.new.next_offer
-        course.new.ports.items course.new.clock.due course.new.drops.items) }
-    ensures stops { IfErr result (λ fault. (run : Run) → GoesByAll domain.now tables.now frames.now offers.now run →
-        IsNow run 0 frames.now course.old.next_frame offers.now course.old.next_offer course.old.ports.items course.old.clock.due course.old.drops.items →
-        IsStopOf run fault) }
-{
-    let Ok(links) = links_by_bridge(alloc, domain) else {
-        return Err(RunFault::Memory);
-    };
-    for place in 0..tables.len() {
-        match go_on(
-            alloc,
-            domain,
-            &tables[place],
-            links.as_slice(),
-            frames,
-            offers,
-            place as u32,
-            course,
-        ) {
+    /// The run goes on by the cycle of a table: the bridges send it, it goes along the links, and they receive it.
+    pub(crate) fn go_on(
+        &mut self,
+        alloc: Global,
+        domain: &Domain,
+        table: &Table,
+    ) -> Result<(), RunFault>
+        requires early { table.now.cycle < most_cycles }
+        requires part { (run : Run) × (net : Network) × CourseMayGoOn domain.now table.now self.old run net }
+        ensures goes { OnOk result ((run : Run) (net : Network) → CourseMayGoOn domain.now table.now self.old run net →
+            IsAt run net (table.now.cycle + 1) self.new) }
+        ensures stops { IfErr result (λ fault. (run : Run) (net : Network) → CourseMayGoOn domain.now table.now self.old run net → StopsCourse run fault) }
+    {
+        run_is_its_cycles();
+        match self.send(alloc, domain, table) {
+            Ok(()) => {}
+            Err(_) => return Err(RunFault::Memory),
+        }
+        match receive_all(alloc, &mut self.bridges, table, &mut self.book.drops) {
             Ok(()) => {}
             Err(fault) => return Err(fault),
         }
+        Ok(())
     }
-    Ok(())
+
+    /// The book of what was run.
+    pub(crate) fn into_book(self) -> Book
+        ensures { contents_of result ≡ self.book }
+    {
+        self.book
+    }
 }

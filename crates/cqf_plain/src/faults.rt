@@ -1,6 +1,6 @@
 //! Why a run gives no book.
 ghost use Rattle.std.specs.Prelude.{Some};
-ghost use Rattle.cqf_plain.specs.Faults.{text_of_fault};
+ghost use Rattle.cqf_plain.specs.Faults.{text_of_run_fault};
 
 use std::fmt;
 use thiserror::Error;
@@ -12,14 +12,15 @@ pub enum RunFault {
     /// There isn't one table for each cycle, numbered from 0.
     WrongTables,
     /// This frame came to a bridge by a link, and its stream has no row there by which it goes on, or its stream's gate has
-    /// fewer octets left. With the tables of one history it never comes.
+    /// fewer octets left. It is the first such frame of the run: by cycle, then by bridge, then in the order in which the bridge
+    /// takes frames. With the tables of one history it never comes.
     Inside(u32),
     /// A growth was refused.
     Memory,
 }
 
 impl fmt::Display for RunFault {
-    ghost output = { λ fault. Some (text_of_fault fault) };
+    ghost output = { λ fault. Some (text_of_run_fault fault) };
 
     fn fmt<W: fmt::Write>(&self, f: &mut fmt::Formatter<W>) -> fmt::Result {
         match self {

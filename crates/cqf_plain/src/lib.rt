@@ -1,29 +1,23 @@
-//! The network on one thread: all ports on one clock, in order of time.
+//! A run of the network on one thread, for so many cycles from cycle 0 on: its bridges, driven one after the other.
 //!
-//! Each cycle has two phases (IEEE 802.1Q, Annex T). First the ports send it (`transmit`): they get its background frames
-//! (`backing`), and then the port whose next start is the earliest runs up to the cycle's end, again and again, until none is
-//! due before it (`steps`, `clock`). Then the bridges take what came to them since the cycle began (`relay`, `incoming`,
-//! `at_bridge`), and what passes there comes to the ports (`passing`). At the end the book is what the ports have started
-//! (`book`), and the offers that were dropped.
+//! Each cycle has two phases (IEEE 802.1Q, Annex T). First every [`cqf_bridge::Bridge`] sends it (`sending`); what the links have
+//! sent goes into the book, and along each link to the bridge in which it ends (`handing`). Then every bridge receives it, with
+//! what is offered there (`receiving`). Where a frame is lost inside, which the tables of one history never bring about, it is
+//! found among those that came (`losing`). Between the phases and between the cycles stands a `Course`: the bridges, and the book
+//! so far.
+//!
+//! The network is nothing but its bridges and what they pass on: so [`run`] gives the book that the definitions allow.
 #![tactic(auto)]
 
-mod at_bridge;
-mod backing;
-mod book;
-mod clock;
 mod course;
-mod cycle;
-mod edge;
+mod driven;
 mod faults;
-mod incoming;
-mod laws;
-mod passing;
-mod port;
-mod relay;
+mod handing;
+mod losing;
+mod receiving;
 mod running;
-mod steps;
+mod sending;
 mod tables;
-mod transmit;
 
 pub use faults::RunFault;
 pub use running::run;

@@ -1,45 +1,49 @@
-//! A run of the network.
-ghost use Rattle.std.specs.Prelude.{◌≤◌, IfErr, IfOk, List, length};
-ghost use Rattle.cqf_model.specs.declared.frames.Backed.{Backed as ABacked};
-ghost use Rattle.cqf_model.specs.declared.frames.Offered.{Offered as AnOffered};
+//! A run of the network on one thread, from its beginning to its book.
+ghost use Rattle.std.specs.Prelude.{◌≤◌, IfErr, IfOk, OnOk, length};
 ghost use Rattle.cqf_model.specs.Book.{contents_of};
+ghost use Rattle.cqf_model.specs.Network.{Network};
 ghost use Rattle.cqf_model.specs.Run.{AreBackground, AreOffers, Run};
-ghost use Rattle.cqf_plain.specs.Going.{HasEnded, IsStopOf};
+ghost use Rattle.cqf_plain.specs.Course.{IsAt, IsRunOver, StopsCourse};
 ghost use Rattle.cqf_plain.specs.Promise.{KeepsItOfHistory, WantsMemoryAlone};
-ghost use Rattle.cqf_plain.specs.Run.{AreNumbered, IsBookOfRun, IsRunFault, run_of};
+ghost use Rattle.cqf_plain.specs.Run.{AreTablesNumbered, IsBookOfRun, IsRunFault, run_of};
+ghost use Rattle.cqf_model.specs.Limits.{most_cycles, most_rows};
 
 use crate::RunFault;
-use crate::backing::arranged;
-use crate::book::told_starts;
-use crate::course::{Course, go_all, new_course};
-use crate::edge::offers_in_order;
-use crate::laws::run_laws;
+use crate::course::Course;
 use crate::tables::are_numbered;
 use cqf_admission::Table;
 use cqf_compile::Plan;
+use cqf_laws_bridge::new_bridge_follows;
+use cqf_laws_cycle::drops_are_of_the_cycle;
 use cqf_laws_history::tables_are_orderly;
+use cqf_laws_network::{book_is_unique, legal_network_exists, legal_network_is_unique};
+use cqf_laws_shift::{book_says_the_shift, gates_mean_the_shift};
 use cqf_model::{Background, Book, Offer};
-use cqf_shift::{book_says_the_shift, gates_mean_the_shift};
 use cqf_topology::Domain;
-use cqf_units::Memory;
 use std::alloc::Global;
 
-/// What a run has come to at its end, as a book.
-fn book_of(alloc: Global, domain: &Domain, course: Course) -> Result<Book, Memory>
-    requires part { (run : Run) × (frames : List ABacked) × (offers : List AnOffered) × HasEnded domain.now frames offers course.next_frame course.next_offer
-        course.ports.items course.clock.due course.drops.items run }
-    ensures { IfOk result (λ book. (run : Run) (frames : List ABacked) (offers : List AnOffered) →
-        HasEnded domain.now frames offers course.next_frame course.next_offer course.ports.items course.clock.due course.drops.items run →
-        IsBookOfRun run (contents_of book)) }
+/// The run goes on by all cycles, each by its table.
+fn go_all(
+    alloc: Global,
+    domain: &Domain,
+    tables: &[Table],
+    course: &mut Course,
+) -> Result<(), RunFault>
+    requires short { length tables.now ≤ most_cycles }
+    requires numbered { AreTablesNumbered (length tables.now) tables.now }
+    requires part { (run : Run) × (net : Network) × IsRunOver domain.now tables.now run net × IsAt run net 0 course.old }
+    ensures goes { OnOk result ((run : Run) (net : Network) → IsRunOver domain.now tables.now run net → IsAt run net 0 course.old →
+        IsAt run net (length tables.now) course.new) }
+    ensures stops { IfErr result (λ fault. (run : Run) (net : Network) → IsRunOver domain.now tables.now run net → IsAt run net 0 course.old →
+        StopsCourse run fault) }
 {
-    run_laws();
-    let Course { ports, drops, .. } = course;
-    let (starts, background) = told_starts(alloc, ports, domain.cycle_time())?;
-    Ok(Book {
-        starts,
-        background,
-        drops,
-    })
+    for place in 0..tables.len() {
+        match course.go_on(alloc, domain, &tables[place]) {
+            Ok(()) => {}
+            Err(fault) => return Err(fault),
+        }
+    }
+    Ok(())
 }
 
 /// Runs the network of a plan by tables of which there is one for each cycle.
@@ -50,39 +54,27 @@ fn run_numbered(
     offers: &[Offer],
     background: &[Background],
 ) -> Result<Book, RunFault>
-    requires short { length tables.now ≤ 100000 }
+    requires short { length tables.now ≤ most_cycles }
+    requires numbered { AreTablesNumbered (length tables.now) tables.now }
     requires offers { AreOffers plan.now offers.now }
-    requires few_offers { length offers.now ≤ 1000000 }
+    requires few_offers { length offers.now ≤ most_rows }
     requires background { AreBackground plan.now background.now }
-    requires few_background { length background.now ≤ 1000000 }
+    requires few_background { length background.now ≤ most_rows }
     ensures book { IfOk result (λ book. IsBookOfRun (run_of plan.now tables.now offers.now background.now) (contents_of book)) }
-    ensures stops { IfErr result (IsStopOf (run_of plan.now tables.now offers.now background.now)) }
+    ensures stops { IfErr result (StopsCourse (run_of plan.now tables.now offers.now background.now)) }
 {
-    let Ok(frames) = arranged(alloc, background) else {
+    new_bridge_follows();
+    legal_network_exists();
+    legal_network_is_unique();
+    book_is_unique();
+    drops_are_of_the_cycle();
+    let _accepted = plan.domain();
+    let Ok(mut course) = Course::new(alloc, plan, offers, background) else {
         return Err(RunFault::Memory);
     };
-    let Ok(edge) = offers_in_order(alloc, offers) else {
-        return Err(RunFault::Memory);
-    };
-    let Ok(mut course) = new_course(alloc, plan) else {
-        return Err(RunFault::Memory);
-    };
-    match go_all(
-        alloc,
-        plan.domain(),
-        tables,
-        frames.as_slice(),
-        edge.as_slice(),
-        &mut course,
-    ) {
-        Ok(()) => {}
-        Err(fault) => return Err(fault),
-    }
-    // what was offered is over, and makes room for the book
-    drop(edge);
-    match book_of(alloc, plan.domain(), course) {
-        Ok(book) => Ok(book),
-        Err(_) => Err(RunFault::Memory),
+    match go_all(alloc, plan.domain(), tables, &mut course) {
+        Ok(()) => Ok(course.into_book()),
+        Err(fault) => Err(fault),
     }
 }
 
@@ -91,8 +83,9 @@ fn run_numbered(
 /// profile).
 ///
 /// `cycles` is at most 100,000; there are at most 1,000,000 offers, each at a bridge of the domain, and 1,000,000 background
-/// frames, each on a link of it. `WrongTables` where there isn't one table for each cycle, numbered from 0; `Inside` with a frame
-/// that the network loses inside, which never comes with the tables of one history; `Memory` where a growth is refused. With the
+/// frames, each on a link of it. `WrongTables` where there isn't one table for each cycle, numbered from 0; `Inside` with the first
+/// frame that the network loses inside, by cycle, then bridge, then the order in which the bridge takes frames, which never comes
+/// with the tables of one history; `Memory` where a growth is refused, which may be before a frame that is lost is met. With the
 /// tables of one history the book says the shift, and loads, instants and latencies are as promised.
 pub fn run(
     alloc: Global,
@@ -102,12 +95,12 @@ pub fn run(
     background: &[Background],
     cycles: u32,
 ) -> Result<Book, RunFault>
-    requires short { cycles ≤ 100000 }
+    requires short { cycles ≤ most_cycles }
     requires offers { AreOffers plan.now offers.now }
-    requires few_offers { length offers.now ≤ 1000000 }
+    requires few_offers { length offers.now ≤ most_rows }
     requires background { AreBackground plan.now background.now }
-    requires few_background { length background.now ≤ 1000000 }
-    ensures numbered { IfOk result (λ book. AreNumbered cycles tables.now) }
+    requires few_background { length background.now ≤ most_rows }
+    ensures numbered { IfOk result (λ book. AreTablesNumbered cycles tables.now) }
     ensures book { IfOk result (λ book. IsBookOfRun (run_of plan.now tables.now offers.now background.now) (contents_of book)) }
     ensures fault { IfErr result (IsRunFault (run_of plan.now tables.now offers.now background.now) cycles tables.now) }
     ensures promise { IfOk result (λ book. KeepsItOfHistory plan.now tables.now offers.now background.now (contents_of book)) }

@@ -11,7 +11,7 @@ use Rattle.cqf_model.specs.declared.ports.Arrival.{Arrival}
 use Rattle.cqf_model.specs.GateList.{IsOpenThrough}
 use Rattle.cqf_model.specs.Port.{PortRules, octets_of}
 use Rattle.cqf_port.specs.Progress.{AreInside, IsReady, NoneReady, IsChosen}
-use Rattle.cqf_port.specs.Asked.{HeadFits, NoHeadFits, IsShort, AreAsked}
+use Rattle.cqf_port.specs.Asked.{HeadFits, NoHeadFits, IsShortFrame, AreAsked}
 use Rattle.cqf_port.specs.Spans.{AreSpansAt}
 
 -- no class is asked for at first
@@ -24,12 +24,12 @@ none_asked octet_time arrivals heads t spans need left eight also = record {
   others = λ class low unseen. unset_from_zero 0 class (bit_at-zero class);
 }
 
-module _ (octet_time : ℕ) (arrivals : List Arrival) (heads : List (Option ℕ)) (t : ℕ) (spans : List ℕ) (seen classes : ℕ) (need left : List ℕ) (low_seen : seen < 8) (so_far : AreAsked octet_time arrivals heads t spans seen classes need left) (short : IsShort octet_time arrivals (get_or heads seen None)) where
+module _ (octet_time : ℕ) (arrivals : List Arrival) (heads : List (Option ℕ)) (t : ℕ) (spans : List ℕ) (seen classes : ℕ) (need left : List ℕ) (low_seen : seen < 8) (so_far : AreAsked octet_time arrivals heads t spans seen classes need left) (short : IsShortFrame octet_time arrivals (get_or heads seen None)) where
   -- what is short of the classes so far and of one more
-  short_more : (class : ℕ) → class < 8 → class < seen + 1 → IsShort octet_time arrivals (get_or heads class None)
+  short_more : (class : ℕ) → class < 8 → class < seen + 1 → IsShortFrame octet_time arrivals (get_or heads class None)
   short_more class low looked = elim (cases_lt class seen) [
     | inl before ↦ so_far.short class low before
-    | inr here ↦ subst (λ k. IsShort octet_time arrivals (get_or heads k None)) (let same : seen ≡ class = omega arith in same) short
+    | inr here ↦ subst (λ k. IsShortFrame octet_time arrivals (get_or heads k None)) (let same : seen ≡ class = omega arith in same) short
   ]
 
   -- one more class asks for nothing

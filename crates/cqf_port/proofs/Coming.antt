@@ -7,7 +7,7 @@ use Rattle.cqf_units.specs.declared.timing.Nanos.{Nanos}
 use Rattle.cqf_model.specs.declared.ports.Arrival.{Arrival}
 use Rattle.cqf_model.specs.GateList.{Entry, InForce, IsOpen, round_of, states_at}
 use Rattle.cqf_model.specs.Port.{PortRules, Transmission, instant_of, class_of}
-use Rattle.cqf_laws_port.specs.GateLaws.{StatesAreOfTheEntry, SomeEntryIsInForce}
+use Rattle.cqf_laws_network.specs.GateLaws.{StatesAreOfTheEntry, SomeEntryIsInForce}
 use Rattle.cqf_port.specs.PortState.{AreTaken, WasOpen}
 use Rattle.cqf_port.specs.Progress.{NoneReady, IsAbreast}
 use Rattle.cqf_port.specs.NextStart.{StartsNext, StartsNoMore, HaveCome, NeverReady, IsNextReady}

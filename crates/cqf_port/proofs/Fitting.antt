@@ -7,7 +7,7 @@ use Rattle.std.proofs.lemmas.List.Sums.{sum_by_more}
 use Rattle.std.proofs.Math.Nat.{mod-add-div'}
 use Rattle.cqf_gates.specs.TxList.{IsTxList}
 use Rattle.cqf_model.specs.GateList.{Entry, InForce, IsOpenThrough, round_of, states_at}
-use Rattle.cqf_laws_port.specs.GateLaws.{StatesAreOfTheEntry, RoundTakesTime, SomeEntryIsInForce}
+use Rattle.cqf_laws_network.specs.GateLaws.{StatesAreOfTheEntry, RoundTakesTime, SomeEntryIsInForce}
 use Rattle.cqf_port.specs.Quiet.{FitsNowhere}
 use Rattle.cqf_port.specs.Spans.{AreSpans, IsAhead}
 use Rattle.cqf_port.proofs.Coming.{same_in_round}

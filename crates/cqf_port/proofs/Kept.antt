@@ -9,7 +9,7 @@ use Rattle.cqf_units.specs.declared.timing.Nanos.{Nanos}
 use Rattle.cqf_model.specs.declared.ports.Arrival.{Arrival}
 use Rattle.cqf_model.specs.declared.ports.Start.{Start}
 use Rattle.cqf_model.specs.Port.{Transmission, PortRules, AreLegal, no_arrival, instant_of, class_of}
-use Rattle.cqf_laws_port.specs.PortLaws.{LegalStartsAreUnique}
+use Rattle.cqf_laws_network.specs.PortLaws.{LegalStartsAreUnique}
 use Rattle.cqf_port.specs.PortState.{PortState, AreTaken, IsPort, IsLast, IsOutOfOrder, WasOpen, Advances, RunsUpTo, start_of}
 use Rattle.cqf_port.specs.Progress.{IsNewest, AreNewest, IsAfterArrival, IsKept, AreMore}
 use Rattle.cqf_port.specs.declared.progress.Progress.{Progress}

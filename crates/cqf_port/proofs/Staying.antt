@@ -2,7 +2,7 @@
 use Rattle.std.proofs.Common.{ℕ, ◌≡◌, ◌+◌, ◌-◌, ◌^◌, ◌≤◌, ◌<◌, List, [], take, get_or, IsBitSet, inl, inr, sym, ap, subst, ◌∙◌, arith}
 use Rattle.std.proofs.lemmas.Bool.{cases_lt}
 use Rattle.cqf_model.specs.GateList.{Entry, InForce, IsOpen, IsOpenThrough, round_of, states_at}
-use Rattle.cqf_laws_port.specs.GateLaws.{StatesAreOfTheEntry, RoundTakesTime, SomeEntryIsInForce}
+use Rattle.cqf_laws_network.specs.GateLaws.{StatesAreOfTheEntry, RoundTakesTime, SomeEntryIsInForce}
 use Rattle.cqf_port.specs.Spans.{IsSpan, AreSpansAt, AreSpans, AreLess}
 
 -- a closed class stays open for no time

@@ -15,8 +15,8 @@ abbrev pub NoHeadFits : ℕ → List Arrival → Option ℕ → ℕ → ℕ → 
 NoHeadFits octet_time arrivals head t left = ¬ HeadFits octet_time arrivals head t left
 
 -- the head takes less than 2^43 nanoseconds
-abbrev pub IsShort : ℕ → List Arrival → Option ℕ → Type 0
-IsShort octet_time arrivals head = (place : ℕ) → head ≡ Some place → (octets_of arrivals place + 8) * octet_time < 2 ^ 43
+abbrev pub IsShortFrame : ℕ → List Arrival → Option ℕ → Type 0
+IsShortFrame octet_time arrivals head = (place : ℕ) → head ≡ Some place → (octets_of arrivals place + 8) * octet_time < 2 ^ 43
 
 -- of the classes below one that was seen, just those whose heads fit are set and need no longer than what is left; the
 -- others aren't set
@@ -27,5 +27,5 @@ pub record AreAsked (octet_time : ℕ) (arrivals : List Arrival) (heads : List (
   pub each : (class : ℕ) → class < 8 → class < seen →
       (IsBitSet classes class × (slice_index_or need class 0 ≤ slice_index_or left class 0))
       ↔ HeadFits octet_time arrivals (slice_index_or heads class None) t (slice_index_or spans class 0)
-  pub short : (class : ℕ) → class < 8 → class < seen → IsShort octet_time arrivals (slice_index_or heads class None)
+  pub short : (class : ℕ) → class < 8 → class < seen → IsShortFrame octet_time arrivals (slice_index_or heads class None)
   pub others : (class : ℕ) → class < 8 → seen ≤ class → ¬ IsBitSet classes class

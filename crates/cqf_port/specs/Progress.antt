@@ -44,10 +44,6 @@ pub record AreInside (arrivals : List Arrival) (heads : List (Option ℕ)) : Typ
   pub places : (class place : ℕ) → class < 8 → slice_index_or heads class None ≡ Some place → place < length arrivals
   pub classes : (class place : ℕ) → class < 8 → slice_index_or heads class None ≡ Some place → class_of arrivals place ≡ class
 
--- the class has no head that is ready
-abbrev pub NoneReadyOf : PortRules → List Arrival → List (Option ℕ) → ℕ → ℕ → Type 0
-NoneReadyOf rules arrivals heads t class = (place : ℕ) → ¬ IsReady rules arrivals heads t class place
-
 -- no class from this one on has a head that is ready
 abbrev pub NoneReady : PortRules → List Arrival → List (Option ℕ) → ℕ → ℕ → Type 0
 NoneReady rules arrivals heads t lowest = (class place : ℕ) → lowest ≤ class → class < 8 → ¬ IsReady rules arrivals heads t class place

@@ -3,7 +3,7 @@ ghost use Rattle.std.specs.Prelude.{◌≡◌, ◌+◌, ◌^◌, ◌<◌, ◌≤
 ghost use Rattle.cqf_units.specs.Timing.{nanos_of_octet};
 ghost use Rattle.cqf_port.specs.PortState.{AreTaken, rules_of};
 ghost use Rattle.cqf_port.specs.Progress.{AreInside, NoneReady, IsChosen};
-ghost use Rattle.cqf_port.specs.Asked.{AreAsked, HeadFits, IsShort, NoHeadFits};
+ghost use Rattle.cqf_port.specs.Asked.{AreAsked, HeadFits, IsShortFrame, NoHeadFits};
 
 use crate::spans::Schedule;
 use cqf_lanes::{eligible, highest};
@@ -39,7 +39,7 @@ fn asked_of(
     left: u64,
 ) -> Option<(u32, u32)>
     requires { (place : ℕ) → head ≡ Some place → place < length arrivals.now }
-    ensures short { IsShort (nanos_of_octet rate) arrivals.now head }
+    ensures short { IsShortFrame (nanos_of_octet rate) arrivals.now head }
     ensures asked { let octet_time = nanos_of_octet rate in
         MatchOption result (NoHeadFits octet_time arrivals.now head t.0 left) (λ asked. (asked.0 ≤ asked.1) ↔ HeadFits octet_time arrivals.now head t.0 left) }
 {

@@ -3,7 +3,7 @@ ghost use Rattle.std.specs.Prelude.{◌^◌, ◌<◌, ◌↔◌, IsTrue};
 ghost use Rattle.cqf_port.specs.PortState.{WasOpen};
 
 use crate::spans::Schedule;
-use cqf_laws_port::mask_is_in_force;
+use cqf_laws_network::mask_is_in_force;
 use cqf_units::Nanos;
 
 /// Whether the class was open at an instant from the first one up to, and without, the last. It goes from entry to

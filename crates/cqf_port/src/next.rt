@@ -7,7 +7,7 @@ ghost use Rattle.cqf_port.specs.NextStart.{HaveCome, IsNextReady, NeverReady};
 use crate::choice::choose;
 use crate::quiet::idle_until;
 use crate::spans::Schedule;
-use cqf_laws_port::mask_is_in_force;
+use cqf_laws_network::mask_is_in_force;
 use cqf_model::Arrival;
 use cqf_units::{Nanos, Rate};
 

@@ -11,7 +11,7 @@ use crate::progress::{Progress, after_arrival};
 use crate::run::{hand_on, run_or_stay};
 use crate::spans::Schedule;
 use cqf_gates::TxList;
-use cqf_laws_port::legal_starts_are_unique;
+use cqf_laws_network::legal_starts_are_unique;
 use cqf_model::{Arrival, Start};
 use cqf_units::{Memory, Nanos, Rate};
 use std::alloc::{AllocError, Global};

@@ -5,7 +5,7 @@ ghost use Rattle.cqf_port.specs.Quiet.{FitsNowhere};
 ghost use Rattle.cqf_model.specs.GateList.{InForce, IsOpen, IsOpenThrough, round_of, states_at};
 
 use cqf_gates::{OpenFor, TxList};
-use cqf_laws_port::mask_is_in_force;
+use cqf_laws_network::mask_is_in_force;
 use cqf_units::Nanos;
 use std::marker::Model;
 

@@ -6,7 +6,7 @@ use Rattle.cqf_model.specs.Domain.{Domain}
 use Rattle.cqf_model.specs.Run.{AreBackground, IsBackground}
 use Rattle.cqf_report.specs.Records.{Fields, records_of}
 use Rattle.cqf_report.specs.Table.{in_five}
-use Rattle.cqf_report.specs.BackgroundFrames.{background_header, background_instant, background_of, background_with, background_frames_of, link_named, node_in}
+use Rattle.cqf_report.specs.BackgroundFrames.{background_header, background_instant, background_of_table, background_with, background_frames_of, link_named, node_in}
 use Rattle.cqf_report.proofs.ReadTables.{decimal_in-range, rows_under-few, table-each}
 use Rattle.cqf_text.specs.Decimal.{decimal_in}
 
@@ -30,14 +30,14 @@ frame-with d (Some at) (Some link) (Some class) (Some octets) frame early inside
     })
 
 -- and so may one that is read of texts
-frame-five : (d : Domain) (at from to class octets : List ℕ) (frame : Background) → background_of d at from to class octets ≡ Some frame → IsBackground d frame
+frame-five : (d : Domain) (at from to class octets : List ℕ) (frame : Background) → background_of_table d at from to class octets ≡ Some frame → IsBackground d frame
 frame-five d at from to class octets frame e =
     frame-with d (decimal_in 0 999999999999 at) (link_named d from to) (decimal_in 0 5 class) (decimal_in 64 1522 octets) frame
     (λ n is. (decimal_in-range 0 999999999999 at n is).1) (λ n is. link_inside d (node_in d from) (node_in d to) n is)
     (λ n is. (decimal_in-range 0 5 class n is).1) (λ n is. decimal_in-range 64 1522 octets n is) e
 
 -- or of a record
-frame-row : (d : Domain) (fields : Fields) (frame : Background) → in_five (background_of d) fields ≡ Some frame → IsBackground d frame
+frame-row : (d : Domain) (fields : Fields) (frame : Background) → in_five (background_of_table d) fields ≡ Some frame → IsBackground d frame
 frame-row d [] frame e = cc
 frame-row d (a ∷ []) frame e = cc
 frame-row d (a ∷ b ∷ []) frame e = cc
@@ -49,9 +49,9 @@ frame-row d (a ∷ b ∷ c ∷ x ∷ y ∷ z ∷ fields) frame e = cc
 -- each background frame of a text may be handed to a run
 pub frames-good : (d : Domain) (text : List ℕ) (frames : List Background) → background_frames_of d text ≡ Ok frames → AreBackground d frames
 frames-good d text frames e =
-    table-each (IsBackground d) (in_five (background_of d)) background_instant (λ fields frame is. frame-row d fields frame is) background_header
+    table-each (IsBackground d) (in_five (background_of_table d)) background_instant (λ fields frame is. frame-row d fields frame is) background_header
     (records_of text) frames e
 
 -- and there are at most 1,000,000
 pub frames-few : (d : Domain) (text : List ℕ) (frames : List Background) → background_frames_of d text ≡ Ok frames → length frames ≤ 1000000
-frames-few d text frames e = rows_under-few background_header (in_five (background_of d)) background_instant (records_of text) frames e
+frames-few d text frames e = rows_under-few background_header (in_five (background_of_table d)) background_instant (records_of text) frames e

@@ -5,7 +5,8 @@ use Rattle.std.proofs.lemmas.Bool.{cases_lt}
 use Rattle.std.proofs.lemmas.Bool.Decides.{nat_tests}
 use Rattle.cqf_lists.proofs.Places.{slice_get_behind}
 use Rattle.cqf_report.specs.Records.{Fields}
-use Rattle.cqf_report.specs.Table.{most_rows, row_then, rows_from, with_row}
+use Rattle.cqf_model.specs.Limits.{most_rows}
+use Rattle.cqf_report.specs.Table.{row_then, rows_from, with_row}
 use Rattle.cqf_report.specs.TableLaws.{AreGoodBefore, IsFirstBack, IsFirstFault, IsGood, TellsFirst, Writes}
 use Rattle.cqf_report.specs.declared.tables.TableFault.{TableFault}
 use Rattle.cqf_report.specs.declared.tables.TableFault.TheVariants.{TooMany, OutOfOrder}

@@ -6,7 +6,7 @@ use Rattle.cqf_model.specs.Domain.{Domain}
 use Rattle.cqf_model.specs.OnLinks.{frames_on, octets_on}
 use Rattle.cqf_report.specs.Books.{name_of_link}
 use Rattle.cqf_report.specs.LinkSums.{link_fields, most_on, sums_fields}
-use Rattle.cqf_report.specs.Written.{line_of}
+use Rattle.cqf_report.specs.Written.{line_of_fields}
 
 -- a line stands behind those of the links before
 pub line_behind : (header : List ℕ) (line : ℕ → List ℕ) (link : ℕ) (text : List ℕ) → text ≡ line link →
@@ -19,14 +19,14 @@ line_behind header line link text is =
 
 -- equal sums make one line
 pub same_sums : (ends names : List ℕ) (frames f octets o most m : ℕ) → ends ≡ names → frames ≡ f → octets ≡ o → most ≡ m →
-    line_of (sums_fields ends frames octets most) ≡ line_of (sums_fields names f o m)
+    line_of_fields (sums_fields ends frames octets most) ≡ line_of_fields (sums_fields names f o m)
 same_sums ends names frames f octets o most m is_ends is_frames is_octets is_most = rw (is_ends, is_frames, is_octets, is_most) refl
 
 -- the line of a link's sums stands behind those of the links before it
 pub one_line_more : (header : List ℕ) (d : Domain) (starts : List Started) (link : ℕ) (ends : List ℕ) (frames octets most : ℕ) →
     ends ≡ name_of_link d link → frames ≡ frames_on link starts → octets ≡ octets_on link starts → most ≡ most_on link starts →
-    (header ++ each_below (λ l. line_of (link_fields d starts l)) link) ++ line_of (sums_fields ends frames octets most)
-    ≡ header ++ each_below (λ l. line_of (link_fields d starts l)) (link + 1)
+    (header ++ each_below (λ l. line_of_fields (link_fields d starts l)) link) ++ line_of_fields (sums_fields ends frames octets most)
+    ≡ header ++ each_below (λ l. line_of_fields (link_fields d starts l)) (link + 1)
 one_line_more header d starts link ends frames octets most is_ends is_frames is_octets is_most =
-    line_behind header (λ l. line_of (link_fields d starts l)) link (line_of (sums_fields ends frames octets most))
+    line_behind header (λ l. line_of_fields (link_fields d starts l)) link (line_of_fields (sums_fields ends frames octets most))
     (same_sums ends (name_of_link d link) frames (frames_on link starts) octets (octets_on link starts) most (most_on link starts) is_ends is_frames is_octets is_most)

@@ -11,7 +11,7 @@ use Rattle.cqf_lists.proofs.Members.{contains_here, contains_later}
 use Rattle.cqf_lists.proofs.Pairs.{pairs_second}
 use Rattle.cqf_lists.proofs.Sums.{sum_none, sum_some}
 use Rattle.cqf_model.specs.declared.frames.Started.{Started}
-use Rattle.cqf_report.specs.LinkSums.{AreInOrder, IsBefore, IsMost, are_of_one_batch, most_on, octets_in}
+use Rattle.cqf_report.specs.LinkSums.{AreSumsInOrder, IsBefore, IsMost, are_of_one_batch, most_on, octets_summed}
 
 module _ {X : Type 0} (f : X → ℕ) where
   -- the greatest of some numbers is no less than where it began
@@ -51,14 +51,14 @@ counts_not false in_cycle octets apart = refl
 -- the most that a link has in one cycle is so
 pub most_is_most : (link : ℕ) (starts : List Started) → IsMost link starts (most_on link starts)
 most_is_most link starts =
-    let in_cycle_of : Started → ℕ = λ start. octets_in link start.cycle.0 starts in
+    let in_cycle_of : Started → ℕ = λ start. octets_summed link start.cycle.0 starts in
     record {
       no_more = λ cycle. elim (sum_some (λ (start : Started). if (start.link == link) && (start.cycle.0 == cycle) then start.octets else 0) starts) [
         | inl none ↦ omega (arith, none)
         | inr some ↦
             let counts = counts_in (some.0.link == link) (some.0.cycle.0 == cycle) some.0.octets some.2 in
             let same : some.0.cycle.0 ≡ cycle = eqb-true some.0.cycle.0 cycle counts.1 in
-            subst (λ (c : ℕ). octets_in link c starts ≤ most_on link starts) same (greatest_bounds in_cycle_of 0 starts some.0 some.1)
+            subst (λ (c : ℕ). octets_summed link c starts ≤ most_on link starts) same (greatest_bounds in_cycle_of 0 starts some.0 some.1)
       ];
       reached = elim (greatest_reached in_cycle_of 0 starts) [
         | inl none ↦ inl none
@@ -79,13 +79,13 @@ most_is_one link starts one two first second =
     omega (arith, most_within link starts one two first second, most_within link starts two one second first)
 
 -- the octets of starts in two lists end to end
-octets_in-append : (link cycle : ℕ) (xs ys : List Started) → octets_in link cycle (xs ++ ys) ≡ octets_in link cycle xs + octets_in link cycle ys
+octets_in-append : (link cycle : ℕ) (xs ys : List Started) → octets_summed link cycle (xs ++ ys) ≡ octets_summed link cycle xs + octets_summed link cycle ys
 octets_in-append link cycle xs ys =
     sum_by-append (λ (start : Started). if (start.link == link) && (start.cycle.0 == cycle) then start.octets else 0) xs ys
 
 -- starts none of which is on a link in a cycle have no octets there
 octets_in-none : (link cycle : ℕ) (starts : List Started)
-    → ((start : Started) → Contains starts start → start.link ≡ link → start.cycle.0 ≡ cycle → ⊥) → octets_in link cycle starts ≡ 0
+    → ((start : Started) → Contains starts start → start.link ≡ link → start.cycle.0 ≡ cycle → ⊥) → octets_summed link cycle starts ≡ 0
 octets_in-none link cycle starts apart =
     sum_none (λ (start : Started). if (start.link == link) && (start.cycle.0 == cycle) then start.octets else 0) starts
     (λ start among. counts_not (start.link == link) (start.cycle.0 == cycle) start.octets
@@ -98,11 +98,11 @@ counts_whole on in_cycle octets is_on is_in = rw (is_on, is_in) refl
 -- starts that are all on one link in one cycle have all their octets there
 octets_in-all : (link cycle : ℕ) (starts : List Started)
     → ((start : Started) → Contains starts start → (start.link ≡ link) × (start.cycle.0 ≡ cycle))
-    → octets_in link cycle starts ≡ sum_by (λ (start : Started). start.octets) starts
+    → octets_summed link cycle starts ≡ sum_by (λ (start : Started). start.octets) starts
 octets_in-all link cycle [] same = refl
 octets_in-all link cycle (start ∷ starts) same =
     let here = same start (contains_here start starts) in
-    let rest : octets_in link cycle starts ≡ sum_by (λ (start : Started). start.octets) starts =
+    let rest : octets_summed link cycle starts ≡ sum_by (λ (start : Started). start.octets) starts =
     octets_in-all link cycle starts (λ other among. same other (contains_later start starts other among)) in
     let one = counts_whole (start.link == link) (start.cycle.0 == cycle) start.octets (eq-eqb start.link link here.0) (eq-eqb start.cycle.0 cycle here.1) in
     omega (
@@ -117,13 +117,13 @@ module _ (link cycle : ℕ) (batch later : List Started)
     (same : (start : Started) → Contains batch start → (start.link ≡ link) × (start.cycle.0 ≡ cycle))
     (apart : (start : Started) → Contains later start → start.link ≡ link → start.cycle.0 ≡ cycle → ⊥) where
   -- a batch before starts of other batches is all that its link has in its cycle
-  octets_here : octets_in link cycle (batch ++ later) ≡ sum_by (λ (start : Started). start.octets) batch
+  octets_here : octets_summed link cycle (batch ++ later) ≡ sum_by (λ (start : Started). start.octets) batch
   octets_here = omega (arith, octets_in-append link cycle batch later, octets_in-all link cycle batch same, octets_in-none link cycle later apart)
 
   -- and adds nothing elsewhere
-  octets_elsewhere : (other in_cycle : ℕ) → (other ≡ link → in_cycle ≡ cycle → ⊥) → octets_in other in_cycle (batch ++ later) ≡ octets_in other in_cycle later
+  octets_elsewhere : (other in_cycle : ℕ) → (other ≡ link → in_cycle ≡ cycle → ⊥) → octets_summed other in_cycle (batch ++ later) ≡ octets_summed other in_cycle later
   octets_elsewhere other in_cycle elsewhere =
-      let none : octets_in other in_cycle batch ≡ 0 = octets_in-none other in_cycle batch (λ start among on_other in_other.
+      let none : octets_summed other in_cycle batch ≡ 0 = octets_in-none other in_cycle batch (λ start among on_other in_other.
       let place = same start among in elsewhere (sym on_other ∙ place.0) (sym in_other ∙ place.1)) in
       omega (arith, octets_in-append other in_cycle batch later, none)
 
@@ -135,7 +135,7 @@ module _ (link cycle : ℕ) (batch later : List Started)
       record {
         no_more = λ c. elim (cases_eq c cycle) [
           | inl e ↦
-              let here : octets_in link c (batch ++ later) ≡ octets = subst (λ (n : ℕ). octets_in link n (batch ++ later) ≡ octets) (sym e) octets_here in
+              let here : octets_summed link c (batch ++ later) ≡ octets = subst (λ (n : ℕ). octets_summed link n (batch ++ later) ≡ octets) (sym e) octets_here in
               omega (arith, here)
           | inr differ ↦ omega (arith, octets_elsewhere link c (λ on in_cycle. differ in_cycle), behind.no_more c)
         ];
@@ -145,7 +145,7 @@ module _ (link cycle : ℕ) (batch later : List Started)
             | inl none ↦ absurd (omega (arith, none, less))
             | inr found ↦ elim (cases_eq found.0 cycle) [
               | inl e ↦
-                  let none : octets_in link found.0 later ≡ 0 = subst (λ (n : ℕ). octets_in link n later ≡ 0) (sym e) (octets_in-none link cycle later apart) in
+                  let none : octets_summed link found.0 later ≡ 0 = subst (λ (n : ℕ). octets_summed link n later ≡ 0) (sym e) (octets_in-none link cycle later apart) in
                   absurd (omega (arith, none, found.1, less))
               | inr differ ↦ inr (found.0, omega (arith, octets_elsewhere link found.0 (λ on in_cycle. differ in_cycle), found.1, less))
             ]
@@ -177,7 +177,7 @@ between first middle last (inl early) (inr late) on in_cycle = absurd (omega (ar
 between first middle last (inr early) (inl late) on in_cycle = absurd (omega (arith, early.0, late, in_cycle))
 between first middle last (inr early) (inr late) on in_cycle = (omega (arith, early.1, late.1, on), early.0)
 
-module _ (rest batch later : List Started) (d : Started) (parts : rest ≡ batch ++ later) (some : 0 < length batch) (ordered : AreInOrder rest)
+module _ (rest batch later : List Started) (d : Started) (parts : rest ≡ batch ++ later) (some : 0 < length batch) (ordered : AreSumsInOrder rest)
     (prefix : IsChunkByPrefix are_of_one_batch rest (length batch)) where
   -- an element of the batch in the list
   at_batch : (k : ℕ) → k < length batch → get_or rest k d ≡ get_or batch k d
@@ -240,11 +240,11 @@ module _ (rest batch later : List Started) (d : Started) (parts : rest ≡ batch
 -- what each link has as its most so far is, with what the rest has, the most of all
 pub record AreMostSoFar (starts rest : List Started) (most : List ℕ) : Type 0 where
   pub each_link : length most ≡ 256
-  pub ordered : AreInOrder rest
+  pub ordered : AreSumsInOrder rest
   pub with_rest : (link : ℕ) → link < 256 → max (slice_index most link) (most_on link rest) ≡ most_on link starts
 
 -- before the first batch no link has any
-pub none_most : (starts : List Started) (most : List ℕ) → AreInOrder starts → most ≡ replicate 256 0 → AreMostSoFar starts starts most
+pub none_most : (starts : List Started) (most : List ℕ) → AreSumsInOrder starts → most ≡ replicate 256 0 → AreMostSoFar starts starts most
 none_most starts most ordered is = record {
   each_link = ap length is ∙ length-replicate {A = ℕ} 256 0;
   ordered = ordered;
@@ -262,7 +262,7 @@ more_most starts rest batch later most d octets parts some prefix sums before =
     let apart = behind_batch rest batch later d parts some before.ordered prefix in
     record {
       each_link = length-set most link (max (slice_index most link) octets) ∙ before.each_link;
-      ordered = pairs_second IsBefore batch later (subst (λ (xs : List Started). AreInOrder xs) parts before.ordered);
+      ordered = pairs_second IsBefore batch later (subst (λ (xs : List Started). AreSumsInOrder xs) parts before.ordered);
       with_rest = λ k below. elim (cases_eq k link) [
         | inl e ↦
             let raised : slice_index (slice_set most link (max (slice_index most link) octets)) k ≡ max (slice_index most link) octets =

@@ -10,7 +10,7 @@ use Rattle.cqf_model.specs.Domain.{Domain}
 use Rattle.cqf_model.specs.GateList.{Entry}
 use Rattle.cqf_model.specs.Run.{Run}
 use Rattle.cqf_model.specs.Traffic.{Carried}
-use Rattle.cqf_report.specs.LinkSums.{AreInOrder, IsBefore}
+use Rattle.cqf_report.specs.LinkSums.{AreSumsInOrder, IsBefore}
 
 module _ (d : Domain) (carried : Carried) where
   -- a start of a batch is on its link in its cycle
@@ -20,7 +20,7 @@ module _ (d : Domain) (carried : Carried) where
       (ap (λ (s : Started). s.cycle.0) (sym from.2), ap (λ (s : Started). s.link) (sym from.2))
 
   -- those of a cycle stand in order of link
-  cycle_in_order : (cycle : ℕ) → AreInOrder (each_below (starts_in d carried cycle) (length d.links))
+  cycle_in_order : (cycle : ℕ) → AreSumsInOrder (each_below (starts_in d carried cycle) (length d.links))
   cycle_in_order cycle =
       pairs_below IsBefore (starts_in d carried cycle) (length d.links)
       (λ link below. pairs_members IsBefore (starts_in d carried cycle link) (λ x y in_x in_y.
@@ -33,7 +33,7 @@ module _ (d : Domain) (carried : Carried) where
       inr (one.0 ∙ sym two.0, omega (arith, one.1, two.1, less)))
 
   -- and all in order of cycle
-  pub starts_in_order : (cycles : ℕ) → AreInOrder (starts_of d cycles carried)
+  pub starts_in_order : (cycles : ℕ) → AreSumsInOrder (starts_of d cycles carried)
   starts_in_order cycles =
       pairs_below IsBefore (λ cycle. each_below (starts_in d carried cycle) (length d.links)) cycles
       (λ cycle below. cycle_in_order cycle)
@@ -43,6 +43,6 @@ module _ (d : Domain) (carried : Carried) where
       inl (omega (arith, (of_batch j one.0 x one.2).0, (of_batch k two.0 y two.2).0, less)))
 
 -- so do those of every book
-pub book_in_order : (run : Run) (lists : ℕ → List Entry) (cycles : ℕ) (book : Contents) → IsBook run lists cycles book → AreInOrder book.starts
+pub book_in_order : (run : Run) (lists : ℕ → List Entry) (cycles : ℕ) (book : Contents) → IsBook run lists cycles book → AreSumsInOrder book.starts
 book_in_order run lists cycles book is =
-    subst (λ (xs : List Started). AreInOrder xs) (sym is.are_starts) (starts_in_order run.domain is.net.carried cycles)
+    subst (λ (xs : List Started). AreSumsInOrder xs) (sym is.are_starts) (starts_in_order run.domain is.net.carried cycles)

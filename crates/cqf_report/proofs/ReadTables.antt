@@ -8,7 +8,8 @@ use Rattle.std.proofs.lemmas.List.Elements.{All-cons, All-nil}
 use Rattle.std.proofs.lemmas.List.Kept.{AllPairs-cons}
 use Rattle.std.specs.Option.{option_and_then}
 use Rattle.cqf_report.specs.Records.{Fields}
-use Rattle.cqf_report.specs.Table.{is_header, most_rows, row_then, rows_from, rows_under, with_row}
+use Rattle.cqf_model.specs.Limits.{most_rows}
+use Rattle.cqf_report.specs.Table.{is_header, row_then, rows_from, rows_under, with_row}
 use Rattle.cqf_report.specs.declared.tables.TableFault.{TableFault}
 use Rattle.cqf_report.specs.declared.tables.TableFault.TheVariants.{BadHeader, BadRow, OutOfOrder, TooMany}
 use Rattle.cqf_text.specs.Decimal.{decimal_in, decimal_value, within}

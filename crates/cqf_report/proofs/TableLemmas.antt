@@ -6,7 +6,8 @@ use Rattle.std.specs.Str.{bytes_eq}
 use lib.Pointwise.{pointwise_long}
 use Rattle.csv.specs.declared.reader.Reader.{Reader}
 use Rattle.cqf_report.specs.Records.{Fields, RefusesRow, StillGives, TakesRow}
-use Rattle.cqf_report.specs.Table.{IsFaultOf, TakesHeader, TakesNext, has_header, is_header, most_rows, rows_from, rows_under, with_row}
+use Rattle.cqf_model.specs.Limits.{most_rows}
+use Rattle.cqf_report.specs.Table.{IsFaultOf, TakesHeader, TakesNext, has_header, is_header, rows_from, rows_under, with_row}
 use Rattle.cqf_report.specs.declared.tables.TableFault.{TableFault}
 use Rattle.cqf_report.specs.declared.tables.TableFault.TheVariants.{BadHeader, TooMany, BadRow, OutOfOrder}
 

@@ -18,7 +18,7 @@ use Rattle.csv.specs.declared.writer.WriterBuilder.{WriterBuilder}
 use Rattle.csv.specs.declared.writer.QuoteStyle.TheVariants as style
 use Rattle.csv.specs.declared.writer.Writer.{Writer}
 use Rattle.cqf_report.specs.Records.{Fields}
-use Rattle.cqf_report.specs.Written.{ArePlain, HasWritten, IsPlain, line_of}
+use Rattle.cqf_report.specs.Written.{ArePlain, HasWritten, IsPlain, line_of_fields}
 
 -- a plain field is written as it is
 field-plain : (field : List ℕ) → IsPlain field → field_text default_writer field ≡ field
@@ -33,7 +33,7 @@ fields-plain field (next ∷ fields) plain =
     (ap (λ (text : List ℕ). text ++ fields_text default_writer fields) (field-plain next plain.0) ∙ fields-plain next fields plain.1)
 
 -- a record of two plain fields or more is written as its line
-row-plain : (fields : Fields) → 2 ≤ length fields → ArePlain fields → row_text default_writer fields ≡ line_of fields
+row-plain : (fields : Fields) → 2 ≤ length fields → ArePlain fields → row_text default_writer fields ≡ line_of_fields fields
 unfolding is_blank
 row-plain [] some plain = absurd (omega arith)
 row-plain (field ∷ []) some plain = absurd (omega arith)
@@ -53,17 +53,17 @@ pub writes-line : {W : Type 0} (contents : W → Option (List ℕ)) (old new : W
     → (fields_written old ≡ 0 → has_written old ≡ false → (writer_setup old).style ≢ style.NonNumeric →
     Appends (text_written contents old) (text_written contents new) (row_text (writer_setup old) fields))
     → fields_written new ≡ 0 → has_written new ≡ false → writer_setup new ≡ writer_setup old
-    → HasWritten contents new (text ++ line_of fields)
+    → HasWritten contents new (text ++ line_of_fields fields)
 writes-line contents old new fields text some plain so_far writes between clean setup =
     let unquoted : (writer_setup old).style ≢ style.NonNumeric = rw so_far.plain (λ e. cc) in
     let appended : Appends (text_written contents old) (text_written contents new) (row_text (writer_setup old) fields) =
     writes so_far.between so_far.clean unquoted in
-    let row : row_text (writer_setup old) fields ≡ line_of fields = ap (λ (c : WriterBuilder). row_text c fields) so_far.plain ∙ row-plain fields some plain in
+    let row : row_text (writer_setup old) fields ≡ line_of_fields fields = ap (λ (c : WriterBuilder). row_text c fields) so_far.plain ∙ row-plain fields some plain in
     record {
       plain = setup ∙ so_far.plain;
       between = between;
       clean = clean;
-      written = appends-known (text_written contents old) (text_written contents new) text (line_of fields) so_far.written (rw row at appended);
+      written = appends-known (text_written contents old) (text_written contents new) text (line_of_fields fields) so_far.written (rw row at appended);
     }
 
 -- no byte above the comma calls for quotes

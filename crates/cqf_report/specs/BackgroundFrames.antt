@@ -7,7 +7,7 @@ use Rattle.cqf_model.specs.Domain.{Domain, node_named}
 use Rattle.cqf_model.specs.History.{link_from}
 use Rattle.cqf_text.specs.Decimal.{decimal_in}
 use Rattle.cqf_report.specs.Records.{Fields}
-use Rattle.cqf_report.specs.Table.{in_five, table_of}
+use Rattle.cqf_report.specs.Table.{in_five, table_read}
 use Rattle.cqf_report.specs.declared.tables.TableFault.{TableFault}
 
 -- the fields of the header
@@ -33,8 +33,8 @@ background_with (Some at) (Some link) (Some class) (Some octets) =
 
 -- the background frame that five fields write: an instant before 1,000,000,000,000, a link of the domain by the names of
 -- its ends, a class that no stream has, and a size that Ethernet has (IEEE 802.3)
-abbrev pub background_of : Domain → List ℕ → List ℕ → List ℕ → List ℕ → List ℕ → Option Background
-background_of d at from to class octets =
+abbrev pub background_of_table : Domain → List ℕ → List ℕ → List ℕ → List ℕ → List ℕ → Option Background
+background_of_table d at from to class octets =
     background_with (decimal_in 0 999999999999 at) (link_named d from to) (decimal_in 0 5 class) (decimal_in 64 1522 octets)
 
 -- the instant from which it waits
@@ -43,4 +43,4 @@ background_instant frame = frame.at.0
 
 -- the background frames that a text writes, in order, or its first fault
 abbrev pub background_frames_of : Domain → List ℕ → Result (List Background) TableFault
-background_frames_of d text = table_of background_header (in_five (background_of d)) background_instant text
+background_frames_of d text = table_read background_header (in_five (background_of_table d)) background_instant text

@@ -14,7 +14,7 @@ use Rattle.cqf_model.specs.declared.topology.Node.TheVariants.{Bridge, Station}
 use Rattle.cqf_model.specs.Book.{Contents}
 use Rattle.cqf_model.specs.Domain.{Domain}
 use Rattle.cqf_report.specs.Records.{Fields}
-use Rattle.cqf_report.specs.Written.{IsPlain, line_of}
+use Rattle.cqf_report.specs.Written.{IsPlain, line_of_fields}
 
 -- the header of a book
 abbrev pub book_header : Fields
@@ -29,15 +29,15 @@ name_of_node d (Bridge bridge) = name_of_bridge d bridge
 name_of_node d (Station station) = slice_index_or d.stations station []
 
 -- a link by its ends, as `FROM>TO`
-abbrev pub ends_of : Domain → Link → List ℕ
-ends_of d link = name_of_bridge d link.from ++ 62 ∷ name_of_node d link.to
+abbrev pub ends_of_link : Domain → Link → List ℕ
+ends_of_link d link = name_of_bridge d link.from ++ 62 ∷ name_of_node d link.to
 
 abbrev pub name_of_link : Domain → ℕ → List ℕ
-name_of_link d l = option_map_or (ends_of d) (slice_get d.links l) []
+name_of_link d l = option_map_or (ends_of_link d) (slice_get d.links l) []
 
 -- the links of a domain by the names of their ends, by number, each as it is written
 pub record AreLinkNames (d : Domain) (names : List (String Global)) : Type 0 where
-  pub are : map string_bytes names ≡ map (ends_of d) d.links
+  pub are : map string_bytes names ≡ map (ends_of_link d) d.links
   pub plain : All (λ (name : String Global). IsPlain (string_bytes name)) names
 
 -- a reason as a book names it
@@ -60,15 +60,15 @@ dropped_fields d dropped =
 
 -- one line a transmission, and one line a drop, in their orders
 abbrev pub lines_of_starts : List ℕ → Domain → List Started → List ℕ
-lines_of_starts what d starts = flat_map (λ (started : Started). line_of (started_fields what d started)) starts
+lines_of_starts what d starts = flat_map (λ (started : Started). line_of_fields (started_fields what d started)) starts
 
 abbrev pub lines_of_drops : Domain → List Dropped → List ℕ
-lines_of_drops d drops = flat_map (λ (dropped : Dropped). line_of (dropped_fields d dropped)) drops
+lines_of_drops d drops = flat_map (λ (dropped : Dropped). line_of_fields (dropped_fields d dropped)) drops
 
 -- the text of a book: the header, the transmissions of streams' frames, those of background frames, and then the drops
 abbrev pub text_of_book : Domain → Contents → List ℕ
 text_of_book d book =
-    line_of book_header
+    line_of_fields book_header
     ++ lines_of_starts (codes "start") d book.starts
     ++ lines_of_starts (codes "background") d book.background
     ++ lines_of_drops d book.drops

@@ -5,15 +5,15 @@ use Rattle.std.specs.declared.vec.Vec.{Vec}
 use Rattle.cqf_model.specs.declared.frames.Started.{Started}
 
 -- what some lists hold
-abbrev pub lists_of : List (Vec ℕ Global) → List (List ℕ)
-lists_of lists = map (λ (list : Vec ℕ Global). list.items) lists
+abbrev pub lists_by_link : List (Vec ℕ Global) → List (List ℕ)
+lists_by_link lists = map (λ (list : Vec ℕ Global). list.items) lists
 
 -- the octets of the starts on a link, in their order
 abbrev pub octets_listed : ℕ → List Started → List ℕ
 octets_listed link starts = map (λ (start : Started). start.octets) (filter (λ (start : Started). start.link == link) starts)
 
 -- a list for each of so many links from 0 on: the octets of the starts on it
-pub record AreByLink (starts : List Started) (links : ℕ) (lists : List (List ℕ)) : Type 0 where
+pub record AreListsByLink (starts : List Started) (links : ℕ) (lists : List (List ℕ)) : Type 0 where
   pub all : length lists ≡ links
   pub each : (link : ℕ) (none : List ℕ) → link < links → slice_index_or lists link none ≡ octets_listed link starts
 

@@ -6,7 +6,7 @@ use Rattle.cqf_report.specs.declared.columns.Column.{Column}
 use Rattle.cqf_report.specs.Books.{name_of_link}
 use Rattle.cqf_report.specs.LinkSums.{link_header, sums_fields}
 use Rattle.cqf_report.specs.Records.{Fields}
-use Rattle.cqf_report.specs.Written.{line_of}
+use Rattle.cqf_report.specs.Written.{line_of_fields}
 
 -- a link's frames, and its octets in each cycle: none past the links
 abbrev pub frames_by : List Column → ℕ → ℕ
@@ -20,4 +20,4 @@ abbrev pub column_fields : Domain → (ℕ → ℕ) → (ℕ → List ℕ) → �
 column_fields d frames octets link = sums_fields (name_of_link d link) (frames link) (sum (octets link)) (fold max 0 (octets link))
 
 abbrev pub columns_text : Domain → (ℕ → ℕ) → (ℕ → List ℕ) → List ℕ
-columns_text d frames octets = line_of link_header ++ each_below (λ link. line_of (column_fields d frames octets link)) (length d.links)
+columns_text d frames octets = line_of_fields link_header ++ each_below (λ link. line_of_fields (column_fields d frames octets link)) (length d.links)

@@ -7,9 +7,10 @@ pub mod Offers
 pub mod Books
 pub mod Faults
 pub mod BackgroundFrames
-pub mod OtherColumns
 pub mod TableLaws
 pub mod HistoryText
 pub mod LinkSums
 pub mod Columns
+-- what the inner functions say
+pub mod OtherColumns
 pub mod ByLink

@@ -9,21 +9,21 @@ use Rattle.cqf_model.specs.Domain.{Domain}
 use Rattle.cqf_model.specs.OnLinks.{frames_on, octets_on}
 use Rattle.cqf_report.specs.Books.{name_of_link}
 use Rattle.cqf_report.specs.Records.{Fields}
-use Rattle.cqf_report.specs.Written.{line_of}
+use Rattle.cqf_report.specs.Written.{line_of_fields}
 
 -- the octets of those that are on a link in one cycle
-abbrev pub octets_in : ℕ → ℕ → List Started → ℕ
-octets_in link cycle starts =
+abbrev pub octets_summed : ℕ → ℕ → List Started → ℕ
+octets_summed link cycle starts =
     sum_by (λ (start : Started). if (start.link == link) && (start.cycle.0 == cycle) then start.octets else 0) starts
 
 -- the most octets that are on a link in one cycle, of the cycles in which anything starts; 0 where nothing does
 abbrev pub most_on : ℕ → List Started → ℕ
-most_on link starts = fold (λ most (start : Started). max most (octets_in link start.cycle.0 starts)) 0 starts
+most_on link starts = fold (λ most (start : Started). max most (octets_summed link start.cycle.0 starts)) 0 starts
 
 -- a number is the most that a link has in one cycle: no cycle has more, and one has it, unless it is 0
 pub record IsMost (link : ℕ) (starts : List Started) (most : ℕ) : Type 0 where
-  pub no_more : (cycle : ℕ) → octets_in link cycle starts ≤ most
-  pub reached : (most ≡ 0) ⊎ ((cycle : ℕ) × (octets_in link cycle starts ≡ most))
+  pub no_more : (cycle : ℕ) → octets_summed link cycle starts ≤ most
+  pub reached : (most ≡ 0) ⊎ ((cycle : ℕ) × (octets_summed link cycle starts ≡ most))
 
 -- two starts are of one batch: on one link in one cycle
 abbrev pub are_of_one_batch : Started → Started → Bool
@@ -34,8 +34,8 @@ abbrev pub IsBefore : Started → Started → Type 0
 IsBefore first second = (first.cycle.0 < second.cycle.0) ⊎ ((first.cycle.0 ≡ second.cycle.0) × (first.link ≤ second.link))
 
 -- starts are in order of cycle, and within a cycle in order of link, as those of a book are
-abbrev pub AreInOrder : List Started → Type 0
-AreInOrder starts = AllPairs IsBefore starts
+abbrev pub AreSumsInOrder : List Started → Type 0
+AreSumsInOrder starts = AllPairs IsBefore starts
 
 -- the header of the table
 abbrev pub link_header : Fields
@@ -50,4 +50,4 @@ link_fields d starts link = sums_fields (name_of_link d link) (frames_on link st
 
 -- the text of a book's sums by link: the header, and then one line a link, by number. Only streams' frames count
 abbrev pub links_text : Domain → Contents → List ℕ
-links_text d book = line_of link_header ++ each_below (λ link. line_of (link_fields d book.starts link)) (length d.links)
+links_text d book = line_of_fields link_header ++ each_below (λ link. line_of_fields (link_fields d book.starts link)) (length d.links)

@@ -4,7 +4,7 @@ use Rattle.std.specs.List.{flat_map}
 use Rattle.cqf_units.specs.Timing.{ending_of}
 use Rattle.cqf_model.specs.declared.ports.Start.{Start}
 use Rattle.cqf_report.specs.Records.{Fields}
-use Rattle.cqf_report.specs.Written.{line_of}
+use Rattle.cqf_report.specs.Written.{line_of_fields}
 
 -- the header of a table of starts
 abbrev pub start_header : Fields
@@ -17,4 +17,4 @@ start_fields octet_time start =
 
 -- the text of starts: the header, and then one line a start, in their order
 abbrev pub text_of_starts : ℕ → List Start → List ℕ
-text_of_starts octet_time starts = line_of start_header ++ flat_map (λ (start : Start). line_of (start_fields octet_time start)) starts
+text_of_starts octet_time starts = line_of_fields start_header ++ flat_map (λ (start : Start). line_of_fields (start_fields octet_time start)) starts

@@ -6,10 +6,7 @@ use Rattle.csv.specs.declared.reader.Reader.{Reader}
 use Rattle.cqf_report.specs.Records.{Fields, StillGives, records_of}
 use Rattle.cqf_report.specs.declared.tables.TableFault.{TableFault}
 use Rattle.cqf_report.specs.declared.tables.TableFault.TheVariants.{BadHeader, TooMany, BadRow, OutOfOrder, Memory}
-
--- the most rows that a table may have
-abbrev pub most_rows : ℕ
-most_rows = 1000000
+use Rattle.cqf_model.specs.Limits.{most_rows}
 
 -- the fields are exactly those of the header
 abbrev pub is_header : Fields → Fields → Bool
@@ -59,8 +56,8 @@ rows_under names read instant (first ∷ rows) =
     if is_header names first then rows_from read instant 1 0 rows else Err BadHeader
 
 -- the rows of a text with this header, or its first fault
-abbrev pub table_of : {A : Type 0} → Fields → (Fields → Option A) → (A → ℕ) → List ℕ → Result (List A) TableFault
-table_of names read instant text = rows_under names read instant (records_of text)
+abbrev pub table_read : {A : Type 0} → Fields → (Fields → Option A) → (A → ℕ) → List ℕ → Result (List A) TableFault
+table_read names read instant text = rows_under names read instant (records_of text)
 
 -- the fault is the table's first. Nothing is said of want of memory
 abbrev pub IsFaultOf : {A : Type 0} → Result (List A) TableFault → TableFault → Type 0

@@ -1,7 +1,8 @@
 -- Which fault of a table's rows is told, in words of places alone (profile). Places count from 0, and numbers of rows from 1.
 use Rattle.std.specs.Prelude.{ℕ, ◌≡◌, ◌+◌, ◌≤◌, ◌<◌, List, Option, Some, None, MatchResult, length, slice_get}
 use Rattle.cqf_report.specs.Records.{Fields}
-use Rattle.cqf_report.specs.Table.{most_rows, rows_from}
+use Rattle.cqf_model.specs.Limits.{most_rows}
+use Rattle.cqf_report.specs.Table.{rows_from}
 use Rattle.cqf_report.specs.declared.tables.TableFault.{TableFault}
 use Rattle.cqf_report.specs.declared.tables.TableFault.TheVariants.{BadHeader, TooMany, BadRow, OutOfOrder, Memory}
 

@@ -6,8 +6,8 @@ use Rattle.csv.specs.declared.writer.Writer.{Writer}
 use Rattle.cqf_report.specs.Records.{Fields}
 
 -- the line of a record: its fields with commas between them, and a line feed
-abbrev pub line_of : Fields → List ℕ
-line_of fields = join_with_byte 44 fields ++ 10 ∷ []
+abbrev pub line_of_fields : Fields → List ℕ
+line_of_fields fields = join_with_byte 44 fields ++ 10 ∷ []
 
 -- the field stands as it is, with no quotes round it: it has no comma, quotation mark or line end
 abbrev pub IsPlain : List ℕ → Type 0

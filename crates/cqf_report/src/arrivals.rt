@@ -3,7 +3,8 @@
 ghost use Rattle.std.specs.Prelude.{◌≡◌, ◌≤◌, IfOk, IfErr, Ok, length};
 ghost use Rattle.cqf_report.specs.OtherColumns.{in_four-other};
 ghost use Rattle.cqf_report.specs.Table.{IsFaultOf, in_four};
-ghost use Rattle.cqf_report.specs.Arrivals.{arrival_header, arrival_instant, arrival_of, arrivals_of, AreArrivals};
+ghost use Rattle.cqf_report.specs.Arrivals.{arrival_header, arrival_instant, arrival_of, arrivals_of_table, AreArrivals};
+ghost use Rattle.cqf_model.specs.Limits.{most_rows};
 
 use crate::rows::{RowFormat, read_table};
 use crate::tables::{TableFault, four_fields, is_header_of, read_number};
@@ -83,10 +84,10 @@ impl RowFormat for ArrivalRows {
 /// `BadHeader` where the first record is another or there is none; then the first fault of the rows in their order:
 /// `TooMany` at row 1,000,001, whatever it holds, `BadRow`, `OutOfOrder`; `Memory` where a growth is refused.
 pub fn read_arrivals(alloc: Global, text: &[u8]) -> Result<Vec<Arrival>, TableFault>
-    ensures ok { IfOk result (λ arrivals. arrivals_of text.now ≡ Ok arrivals.items) }
+    ensures ok { IfOk result (λ arrivals. arrivals_of_table text.now ≡ Ok arrivals.items) }
     ensures good { IfOk result (λ arrivals. AreArrivals arrivals.items) }
-    ensures few { IfOk result (λ arrivals. length arrivals.items ≤ 1000000) }
-    ensures err { IfErr result (λ fault. IsFaultOf (arrivals_of text.now) fault) }
+    ensures few { IfOk result (λ arrivals. length arrivals.items ≤ most_rows) }
+    ensures err { IfErr result (λ fault. IsFaultOf (arrivals_of_table text.now) fault) }
 {
     read_table(alloc, &ArrivalRows, text)
 }

@@ -5,7 +5,8 @@ ghost use Rattle.cqf_model.specs.Run.{AreBackground};
 ghost use Rattle.cqf_report.specs.OtherColumns.{in_five-other};
 ghost use Rattle.csv.specs.Records.{fields_of};
 ghost use Rattle.cqf_report.specs.Table.{IsFaultOf, in_five, is_header};
-ghost use Rattle.cqf_report.specs.BackgroundFrames.{background_frames_of, background_header, background_instant, background_of, link_named, node_in};
+ghost use Rattle.cqf_report.specs.BackgroundFrames.{background_frames_of, background_header, background_instant, background_of_table, link_named, node_in};
+ghost use Rattle.cqf_model.specs.Limits.{most_rows};
 
 use crate::rows::{RowFormat, read_table};
 use crate::tables::{OfferFault, five_fields, is_header_of_five, read_number};
@@ -51,7 +52,7 @@ fn read_frame(
     class: &[u8],
     octets: &[u8],
 ) -> Option<Background>
-    ensures { result ≡ background_of domain.now at.now from.now to.now class.now octets.now }
+    ensures { result ≡ background_of_table domain.now at.now from.now to.now class.now octets.now }
 {
     let Some(at) = read_decimal(at, 0, 999_999_999_999) else {
         return None;
@@ -84,11 +85,11 @@ impl RowFormat for BackgroundRows<'_> {
 
     ghost header = { background_header };
 
-    ghost row_of = { λ rows. in_five (background_of rows.domain.now) };
+    ghost row_of = { λ rows. in_five (background_of_table rows.domain.now) };
 
     ghost instant_of = { background_instant };
 
-    ghost no_row_of_others = { λ rows. in_five-other (background_of rows.domain.now) };
+    ghost no_row_of_others = { λ rows. in_five-other (background_of_table rows.domain.now) };
 
     fn names_columns(record: &ByteRecord) -> bool
         ensures { result ≡ is_header background_header (fields_of record.now) }
@@ -134,7 +135,7 @@ pub fn read_background(
 ) -> Result<Vec<Background>, OfferFault>
     ensures ok { IfOk result (λ frames. background_frames_of domain.now text.now ≡ Ok frames.items) }
     ensures good { IfOk result (λ frames. AreBackground domain.now frames.items) }
-    ensures few { IfOk result (λ frames. length frames.items ≤ 1000000) }
+    ensures few { IfOk result (λ frames. length frames.items ≤ most_rows) }
     ensures err { IfErr result (λ fault. IsFaultOf (background_frames_of domain.now text.now) fault) }
 {
     read_table(alloc, &BackgroundRows { domain }, text)

@@ -2,7 +2,7 @@
 
 ghost use Rattle.std.specs.Prelude.{ℕ, ◌≡◌, ◌++◌, ◌∷◌, List, [], IfOk, Some};
 ghost use Rattle.cqf_model.specs.Book.{contents_of};
-ghost use Rattle.cqf_report.specs.Written.{ArePlain, HasWritten, IsPlain, line_of};
+ghost use Rattle.cqf_report.specs.Written.{ArePlain, HasWritten, IsPlain, line_of_fields};
 ghost use Rattle.cqf_report.specs.Books.{book_header, dropped_fields, lines_of_drops, lines_of_starts, name_of_reason, started_fields, text_of_book};
 
 use crate::lines::{open_writer_behind, write_line, written_text};
@@ -40,7 +40,7 @@ fn write_event<'f, W: Write + Drop>(
 ) -> Result<(), Memory>
     requires { ArePlain (what.now ∷ cycle.now ∷ place.now ∷ frame.now ∷ octets.now ∷ detail.now ∷ []) }
     ensures { IfOk result (λ _. (text : List ℕ) → HasWritten W.contents writer.old text
-        → HasWritten W.contents writer.new (text ++ line_of (what.now ∷ cycle.now ∷ place.now ∷ frame.now ∷ octets.now ∷ detail.now ∷ []))) }
+        → HasWritten W.contents writer.new (text ++ line_of_fields (what.now ∷ cycle.now ∷ place.now ∷ frame.now ∷ octets.now ∷ detail.now ∷ []))) }
 {
     write_line(writer, &[what, cycle, place, frame, octets, detail])
 }
@@ -54,7 +54,7 @@ fn write_started<W: Write + Drop>(
 ) -> Result<(), Memory>
     requires { IsPlain what.now }
     ensures { IfOk result (λ _. (text : List ℕ) → HasWritten W.contents writer.old text
-        → HasWritten W.contents writer.new (text ++ line_of (started_fields what.now links.now started.now))) }
+        → HasWritten W.contents writer.new (text ++ line_of_fields (started_fields what.now links.now started.now))) }
 {
     let link = links.name_of(started.link);
     let mut cycle = Buffer::new();
@@ -96,7 +96,7 @@ fn write_dropped<W: Write + Drop>(
     dropped: &Dropped,
 ) -> Result<(), Memory>
     ensures { IfOk result (λ _. (text : List ℕ) → HasWritten W.contents writer.old text
-        → HasWritten W.contents writer.new (text ++ line_of (dropped_fields domain.now dropped.now))) }
+        → HasWritten W.contents writer.new (text ++ line_of_fields (dropped_fields domain.now dropped.now))) }
 {
     let mut cycle = Buffer::new();
     let mut frame = Buffer::new();
@@ -129,7 +129,7 @@ fn write_drops<W: Write + Drop>(
 
 /// Writes the header of a book.
 fn write_header<W: Write + Drop>(writer: &mut Writer<W>) -> Result<(), Memory>
-    ensures { IfOk result (λ _. (text : List ℕ) → HasWritten W.contents writer.old text → HasWritten W.contents writer.new (text ++ line_of book_header)) }
+    ensures { IfOk result (λ _. (text : List ℕ) → HasWritten W.contents writer.old text → HasWritten W.contents writer.new (text ++ line_of_fields book_header)) }
 {
     let names = [
         b"what".as_slice(),

@@ -7,8 +7,8 @@ ghost use Rattle.cqf_model.specs.Domain.{Domain as DomainValue};
 ghost use Rattle.cqf_model.specs.GateList.{Entry};
 ghost use Rattle.cqf_model.specs.Run.{Run};
 ghost use Rattle.cqf_report.specs.Arrivals.{arrival_instant, arrival_of};
-ghost use Rattle.cqf_report.specs.BackgroundFrames.{background_instant, background_of};
-ghost use Rattle.cqf_report.specs.LinkSums.{AreInOrder, IsMost, most_on};
+ghost use Rattle.cqf_report.specs.BackgroundFrames.{background_instant, background_of_table};
+ghost use Rattle.cqf_report.specs.LinkSums.{AreSumsInOrder, IsMost, most_on};
 ghost use Rattle.cqf_report.specs.Offers.{offer_instant, offer_of};
 ghost use Rattle.cqf_report.specs.Records.{Fields};
 ghost use Rattle.cqf_report.specs.Table.{in_five, in_four};
@@ -19,7 +19,7 @@ ghost use Rattle.cqf_report.specs.TableLaws.{TellsFirst};
 pub fn first_fault_is_told()
     ensures arrivals { (rows : List Fields) → TellsFirst (in_four arrival_of) arrival_instant rows }
     ensures offers { (d : DomainValue) (rows : List Fields) → TellsFirst (in_four (offer_of d)) offer_instant rows }
-    ensures background { (d : DomainValue) (rows : List Fields) → TellsFirst (in_five (background_of d)) background_instant rows }
+    ensures background { (d : DomainValue) (rows : List Fields) → TellsFirst (in_five (background_of_table d)) background_instant rows }
 {}
 
 /// Law: the most octets that a link has in one cycle is so, over all cycles: no cycle has more, and one has it, unless it
@@ -30,5 +30,5 @@ pub fn most_is_the_greatest()
 
 /// Law: the starts of every book stand in order of cycle, and within a cycle in order of link.
 pub fn books_are_in_order()
-    ensures { (run : Run) (lists : ℕ → List Entry) (cycles : ℕ) (book : Contents) → IsBook run lists cycles book → AreInOrder book.starts }
+    ensures { (run : Run) (lists : ℕ → List Entry) (cycles : ℕ) (book : Contents) → IsBook run lists cycles book → AreSumsInOrder book.starts }
 {}

@@ -1,7 +1,7 @@
 //! The lines of a table that is written.
 
 ghost use Rattle.std.specs.Prelude.{ℕ, [], ◌≡◌, ◌≤◌, ◌++◌, List, IfOk, Some, map, length};
-ghost use Rattle.cqf_report.specs.Written.{HasWritten, ArePlain, line_of};
+ghost use Rattle.cqf_report.specs.Written.{HasWritten, ArePlain, line_of_fields};
 
 use cqf_units::Memory;
 use csv::{Writer, WriterBuilder};
@@ -16,7 +16,7 @@ pub(crate) fn write_line<W: Write + Drop>(
     requires some { 2 ≤ length fields.now }
     requires plain { ArePlain (map (λ f. f.now) fields.now) }
     ensures { IfOk result (λ _. (text : List ℕ) → HasWritten W.contents writer.old text
-        → HasWritten W.contents writer.new (text ++ line_of (map (λ f. f.now) fields.now))) }
+        → HasWritten W.contents writer.new (text ++ line_of_fields (map (λ f. f.now) fields.now))) }
 {
     if writer.write_fields(fields).is_err() {
         return Err(AllocError);

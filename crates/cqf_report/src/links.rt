@@ -4,9 +4,9 @@ ghost use Rattle.std.specs.Prelude.{ℕ, ◌≡◌, ◌≤◌, ◌<◌, ◌^◌,
 ghost use Rattle.cqf_model.specs.Book.{contents_of};
 ghost use Rattle.cqf_model.specs.declared.frames.Started.{Started as AStarted};
 ghost use Rattle.cqf_model.specs.OnLinks.{frames_on, octets_on};
-ghost use Rattle.cqf_report.specs.Written.{HasWritten, IsPlain, line_of};
-ghost use Rattle.cqf_report.specs.ByLink.{AddsOctets, AreByLink, lists_of};
-ghost use Rattle.cqf_report.specs.LinkSums.{AreInOrder, are_of_one_batch, link_header, links_text, most_on, sums_fields};
+ghost use Rattle.cqf_report.specs.Written.{HasWritten, IsPlain, line_of_fields};
+ghost use Rattle.cqf_report.specs.ByLink.{AddsOctets, AreListsByLink, lists_by_link};
+ghost use Rattle.cqf_report.specs.LinkSums.{AreSumsInOrder, are_of_one_batch, link_header, links_text, most_on, sums_fields};
 
 use crate::lines::{open_writer, write_line, written_text};
 use crate::names::LinkNames;
@@ -36,7 +36,7 @@ pub(crate) struct Sums {
 
 /// An empty list of octets for each of the links 0 to 255.
 fn no_octets(alloc: Global) -> Result<Vec<Vec<u32>>, Memory>
-    ensures { IfOk result (λ by_link. AreByLink [] 256 (lists_of by_link.items)) }
+    ensures { IfOk result (λ by_link. AreListsByLink [] 256 (lists_by_link by_link.items)) }
 {
     let mut by_link = Vec::with_capacity(alloc, LINKS)?;
     for _link in 0..LINKS {
@@ -48,7 +48,7 @@ fn no_octets(alloc: Global) -> Result<Vec<Vec<u32>>, Memory>
 /// Puts octets behind those of a link.
 fn list_octets(by_link: &mut Vec<Vec<u32>>, link: u8, octets: u32) -> Result<(), Memory>
     requires { length by_link.old.items ≡ 256 }
-    ensures { OnOk result (AddsOctets (lists_of by_link.old.items) (lists_of by_link.new.items) link octets) }
+    ensures { OnOk result (AddsOctets (lists_by_link by_link.old.items) (lists_by_link by_link.new.items) link octets) }
 {
     by_link[usize::from(link)].push(octets)?;
     Ok(())
@@ -56,7 +56,7 @@ fn list_octets(by_link: &mut Vec<Vec<u32>>, link: u8, octets: u32) -> Result<(),
 
 /// The octets of the starts on each of the links 0 to 255, in their order: one look at each start.
 fn octets_by_link(alloc: Global, starts: &[Started]) -> Result<Vec<Vec<u32>>, Memory>
-    ensures { IfOk result (λ by_link. AreByLink starts.now 256 (lists_of by_link.items)) }
+    ensures { IfOk result (λ by_link. AreListsByLink starts.now 256 (lists_by_link by_link.items)) }
 {
     let mut by_link = no_octets(alloc)?;
     for start in starts {
@@ -95,8 +95,8 @@ pub(crate) fn sum_of(rt: &(impl Threads + Sync), listed: &[u32]) -> u128
 /// The sums of a link's starts, by the octets that are listed for each link.
 fn sums_of_link(rt: &(impl Threads + Sync), by_link: &[Vec<u32>], link: u8) -> Sums
     requires { length by_link.now ≡ 256 }
-    ensures frames { (starts : List AStarted) → AreByLink starts 256 (lists_of by_link.now) → result.frames ≡ frames_on link starts }
-    ensures octets { (starts : List AStarted) → AreByLink starts 256 (lists_of by_link.now) → result.octets ≡ octets_on link starts }
+    ensures frames { (starts : List AStarted) → AreListsByLink starts 256 (lists_by_link by_link.now) → result.frames ≡ frames_on link starts }
+    ensures octets { (starts : List AStarted) → AreListsByLink starts 256 (lists_by_link by_link.now) → result.octets ≡ octets_on link starts }
 {
     let listed = by_link[usize::from(link)].as_slice();
     Sums {
@@ -139,7 +139,7 @@ fn raise(most: &mut Vec<u128>, link: u8, octets: u128)
 
 /// The most octets that each of the links 0 to 255 has in one cycle. Starts on one link in one cycle stand side by side.
 fn most_by_link(alloc: Global, starts: &[Started]) -> Result<Vec<u128>, Memory>
-    requires { AreInOrder starts.now }
+    requires { AreSumsInOrder starts.now }
     ensures all { IfOk result (λ most. length most.items ≡ 256) }
     ensures most { IfOk result (λ most. (link : ℕ) → link < 256 → slice_index most.items link ≡ most_on link starts.now) }
 {
@@ -164,7 +164,7 @@ pub(crate) fn write_sums<W: Write + Drop>(
 ) -> Result<(), Memory>
     requires { IsPlain link.now }
     ensures { IfOk result (λ _. (text : List ℕ) → HasWritten W.contents writer.old text
-        → HasWritten W.contents writer.new (text ++ line_of (sums_fields link.now sums.frames sums.octets most))) }
+        → HasWritten W.contents writer.new (text ++ line_of_fields (sums_fields link.now sums.frames sums.octets most))) }
 {
     let mut in_frames = Buffer::new();
     let mut in_octets = Buffer::new();
@@ -182,7 +182,7 @@ pub(crate) fn write_sums<W: Write + Drop>(
 
 /// Writes the header.
 pub(crate) fn write_header<W: Write + Drop>(writer: &mut Writer<W>) -> Result<(), Memory>
-    ensures { IfOk result (λ _. (text : List ℕ) → HasWritten W.contents writer.old text → HasWritten W.contents writer.new (text ++ line_of link_header)) }
+    ensures { IfOk result (λ _. (text : List ℕ) → HasWritten W.contents writer.old text → HasWritten W.contents writer.new (text ++ line_of_fields link_header)) }
 {
     let names = [
         b"link".as_slice(),
@@ -203,7 +203,7 @@ pub fn write_links(
     domain: &Domain,
     book: &Book,
 ) -> Result<Vec<u8>, Memory>
-    requires { AreInOrder book.now.starts.items }
+    requires { AreSumsInOrder book.now.starts.items }
     ensures { IfOk result (λ text. text.items ≡ links_text domain.now (contents_of book.now)) }
 {
     let starts = book.starts.as_slice();

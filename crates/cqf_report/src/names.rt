@@ -3,7 +3,7 @@
 ghost use Rattle.std.specs.Prelude.{◌≡◌, IfOk};
 ghost use Rattle.std.specs.String.{string_bytes};
 ghost use Rattle.cqf_report.specs.Written.{IsPlain};
-ghost use Rattle.cqf_report.specs.Books.{ends_of, name_of_bridge, name_of_link, name_of_node};
+ghost use Rattle.cqf_report.specs.Books.{ends_of_link, name_of_bridge, name_of_link, name_of_node};
 
 use cqf_model::{Link, Node};
 use cqf_topology::Domain;
@@ -48,7 +48,7 @@ fn node_name(domain: &Domain, node: Node) -> &str
 
 /// A link by the names of its ends.
 fn ends(alloc: Global, domain: &Domain, link: Link) -> Result<String, Memory>
-    ensures name { IfOk result (λ name. string_bytes name ≡ ends_of domain.now link) }
+    ensures name { IfOk result (λ name. string_bytes name ≡ ends_of_link domain.now link) }
     ensures plain { IfOk result (λ name. IsPlain (string_bytes name)) }
 {
     let from = bridge_name(domain, link.from);

@@ -4,8 +4,9 @@ ghost use Rattle.std.specs.Prelude.{ℕ, ◌≡◌, ◌≢◌, ◌≤◌, List, 
 ghost use Rattle.csv.specs.Reading.{Ready};
 ghost use Rattle.csv.specs.Records.{fields_of};
 ghost use Rattle.cqf_report.specs.Records.{Fields, StillGives};
-ghost use Rattle.cqf_report.specs.Table.{IsFaultOf, TakesHeader, TakesNext, has_header, is_header, rows_from, table_of};
+ghost use Rattle.cqf_report.specs.Table.{IsFaultOf, TakesHeader, TakesNext, has_header, is_header, rows_from, table_read};
 ghost use Rattle.cqf_report.specs.declared.tables.TableFault.TheVariants as fault_kind;
+ghost use Rattle.cqf_model.specs.Limits.{most_rows};
 
 use crate::records::{Taken, take_record};
 use crate::tables::{MOST_ROWS, TableFault, open_table};
@@ -74,7 +75,7 @@ fn next_row<F: RowFormat, R: Read>(
     number: u32,
     before: Nanos,
 ) -> Result<Option<F::Row>, TableFault>
-    requires few { number ≤ 1000000 }
+    requires few { number ≤ most_rows }
     requires ready { Ready reader.old }
     ensures ready { IfOk result (λ row. IfSome row (λ _. Ready reader.new)) }
     ensures taken { (rows : List Fields) → StillGives R.remaining (Some (length F.header)) reader.old rows
@@ -134,8 +135,8 @@ pub(crate) fn read_table<F: RowFormat>(
     format: &F,
     text: &[u8],
 ) -> Result<Vec<F::Row>, TableFault>
-    ensures ok { IfOk result (λ rows. table_of F.header (F.row_of format.now) F.instant_of text.now ≡ Ok rows.items) }
-    ensures err { IfErr result (λ fault. IsFaultOf (table_of F.header (F.row_of format.now) F.instant_of text.now) fault) }
+    ensures ok { IfOk result (λ rows. table_read F.header (F.row_of format.now) F.instant_of text.now ≡ Ok rows.items) }
+    ensures err { IfErr result (λ fault. IsFaultOf (table_read F.header (F.row_of format.now) F.instant_of text.now) fault) }
 {
     let mut reader = open_table(alloc, text);
     let mut record = ByteRecord::new(alloc);

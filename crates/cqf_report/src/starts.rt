@@ -2,7 +2,7 @@
 
 ghost use Rattle.std.specs.Prelude.{ℕ, ◌≡◌, ◌^◌, ◌<◌, ◌++◌, List, All, IfOk, Some};
 ghost use Rattle.cqf_units.specs.Timing.{nanos_of_octet};
-ghost use Rattle.cqf_report.specs.Written.{HasWritten, line_of};
+ghost use Rattle.cqf_report.specs.Written.{HasWritten, line_of_fields};
 ghost use Rattle.cqf_report.specs.Starts.{start_fields, text_of_starts};
 
 use crate::lines::{open_writer, write_line, written_text};
@@ -21,7 +21,7 @@ fn write_start<W: Write + Drop>(
 ) -> Result<(), Memory>
     requires { start.now.start.0 < 2 ^ 63 }
     ensures { IfOk result (λ _. (text : List ℕ) → HasWritten W.contents writer.old text
-        → HasWritten W.contents writer.new (text ++ line_of (start_fields (nanos_of_octet rate) start.now))) }
+        → HasWritten W.contents writer.new (text ++ line_of_fields (start_fields (nanos_of_octet rate) start.now))) }
 {
     let end = end_of(start.start, Octets(start.octets), rate);
     let mut class = Buffer::new();

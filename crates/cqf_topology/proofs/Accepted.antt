@@ -15,13 +15,13 @@ use Rattle.cqf_model.specs.declared.topology.Node.{Node}
 use Rattle.cqf_model.specs.declared.topology.Node.TheVariants.{Bridge, Station}
 use Rattle.cqf_model.specs.Domain.{Domain, IsNode, node_or, same_node}
 use Rattle.cqf_topology.specs.declared.draft.DraftLink.{DraftLink}
-use Rattle.cqf_fields.specs.declared.keys.Key.TheVariants.{Cycle, Guard, Bridges, Stations, Links}
+use Rattle.cqf_topology_fields.specs.declared.keys.Key.TheVariants.{Cycle, Guard, Bridges, Stations, Links}
 use Rattle.cqf_topology.specs.declared.faults.DomainFault.{DomainFault}
 use Rattle.cqf_topology.specs.declared.faults.DomainFault.TheVariants as fault
 use Rattle.cqf_lists.specs.Results.{and_then, refuse}
-use Rattle.cqf_fields.specs.Fields.{and_first, read_at, whole_document, tables_at, number_from, names_at}
-use Rattle.cqf_topology.specs.DomainText.{DomainText, IsReadable, HasNames, IsNumbered, IsDomain, NoLinkTwice, is_among, first_taken, place_of, apart}
-use Rattle.cqf_topology.specs.DomainText.{joined, first_long_delay, first_long_gap, if_some, link_from, link_keys, domain_keys, domain_from, read_text, checked}
+use Rattle.cqf_topology_fields.specs.Fields.{and_first, read_at, whole_document, tables_of_key, number_from, names_at}
+use Rattle.cqf_topology.specs.DomainText.{DomainText, IsReadable, HasNames, IsNumberedDomain, IsDomain, NoLinkTwice, is_among, first_taken, place_of, apart}
+use Rattle.cqf_topology.specs.DomainText.{joined, first_long_delay, first_long_gap, if_some, link_read, link_keys, domain_keys, domain_from, read_text, checked}
 use Rattle.cqf_topology.specs.DomainText.{joined_link, with_links}
 use Rattle.cqf_topology.specs.JoinedLink.{HasSmallEnds, IsSmallNode}
 use Rattle.cqf_topology.proofs.Distinct.{first_taken-None}
@@ -34,7 +34,7 @@ domain_from-readable table d h =
     let (guard, at_guard, h2) = and_then-Ok (read_at Guard (number_from 1 10000000) table) _ d h1 in
     let (bridges, at_bridges, h3) = and_then-Ok (and_then (names_at Bridges table) (if_some Bridges)) _ d h2 in
     let (stations, at_stations, h4) = and_then-Ok (names_at Stations table) _ d h3 in
-    let (links, at_links, h5) = and_then-Ok (tables_at Links link_from table) _ d h4 in
+    let (links, at_links, h5) = and_then-Ok (tables_of_key Links link_read table) _ d h4 in
     let (names, named, some) = and_then-Ok (names_at Bridges table) (if_some Bridges) bridges at_bridges in
     let some_is = if_some-Ok Bridges names bridges some in
     let cycle_range = number-range Cycle 10000 10000000 table cycle_time at_cycle in
@@ -83,7 +83,7 @@ module _ (d : DomainText) where
 
   -- a text whose names and links are numbered
   pub numbered : (bridges stations : List (List ℕ)) (links : List Link) → HasNames d bridges stations → joined bridges stations d.links ≡ Ok links
-      → IsNumbered d bridges stations links
+      → IsNumberedDomain d bridges stations links
   numbered bridges stations links names h =
       let (free, is) = refuse-Ok (first_taken [] d.bridges) fault.NameTaken (Ok d.bridges) bridges names.has_bridges.bridges_are in
       let same : bridges ≡ d.bridges = cc in
@@ -141,7 +141,7 @@ module _ (d : DomainText) where
       rw (distinct-names bridges stations free free_there, unknown) refl
 
   -- the names and the links are good
-  pub checked-numbered : (bridges stations : List (List ℕ)) (links : List Link) → IsNumbered d bridges stations links → checked d ≡ with_links d links
+  pub checked-numbered : (bridges stations : List (List ℕ)) (links : List Link) → IsNumberedDomain d bridges stations links → checked d ≡ with_links d links
   checked-numbered bridges stations links n = rw (n.distinct, n.joined_are) refl
 
 -- no element passes, where none has a place
@@ -242,7 +242,7 @@ small-node d (Bridge b) few few_too h = omega arith
 small-node d (Station s) few few_too h = omega arith
 
 -- the links of a small domain have small ends
-pub joined-small : (t : DomainText) (bridges stations : List (List ℕ)) (links : List Link) → IsNumbered t bridges stations links
+pub joined-small : (t : DomainText) (bridges stations : List (List ℕ)) (links : List Link) → IsNumberedDomain t bridges stations links
     → length bridges ≤ 32 → length stations ≤ 64 → All HasSmallEnds links
 joined-small t bridges stations links n few few_too k link inside =
     let ends = joined-ends d t.links links there k (get_or links k link) (slice_get-get_or links k link inside) in
@@ -257,7 +257,7 @@ joined-small t bridges stations links n few few_too k link inside =
     there = (λ i. joined (n.bridges_are i) (n.stations_are i) t.links) ∙ n.joined_are
 
 -- the domain of a text that passed its checks is accepted, and its names are names, each once
-pub checked-accepted : (t : DomainText) (d : Domain) → IsNumbered t d.bridges d.stations d.links → d.cycle_time ≡ t.cycle_time → d.guard ≡ t.guard
+pub checked-accepted : (t : DomainText) (d : Domain) → IsNumberedDomain t d.bridges d.stations d.links → d.cycle_time ≡ t.cycle_time → d.guard ≡ t.guard
     → NoLinkTwice d.links → d.guard < d.cycle_time → first_long_delay d.guard d.links ≡ None → first_long_gap d.guard d.links ≡ None
     → length d.bridges ≤ 32 → length d.stations ≤ 64 → length d.links ≤ 64 → IsDomain d
 checked-accepted t d n same_cycle same_guard once short no_delay no_gap few_bridges few_stations few_links =

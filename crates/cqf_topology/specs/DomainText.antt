@@ -12,14 +12,15 @@ use Rattle.cqf_model.specs.declared.topology.Node.{Node}
 use Rattle.cqf_model.specs.declared.topology.Node.TheVariants.{Bridge}
 use Rattle.cqf_model.specs.Domain.{Domain, IsAccepted, is_text, node_or, same_node}
 use Rattle.cqf_topology.specs.declared.draft.DraftLink.{DraftLink}
-use Rattle.cqf_fields.specs.declared.keys.Key.{Key}
-use Rattle.cqf_fields.specs.declared.keys.Key.TheVariants.{Cycle, Guard, Bridges, Stations, Links, From, To, Rate, Delay}
-use Rattle.cqf_fields.specs.declared.faults.TomlFault.{TomlFault}
-use Rattle.cqf_fields.specs.declared.faults.TomlFault.TheVariants as early
+use Rattle.cqf_topology_fields.specs.declared.keys.Key.{Key}
+use Rattle.cqf_topology_fields.specs.declared.keys.Key.TheVariants.{Cycle, Guard, Bridges, Stations, Links, From, To, Rate, Delay}
+use Rattle.cqf_topology_fields.specs.declared.faults.TomlFault.{TomlFault}
+use Rattle.cqf_topology_fields.specs.declared.faults.TomlFault.TheVariants as early
 use Rattle.cqf_topology.specs.declared.faults.DomainFault.{DomainFault}
 use Rattle.cqf_topology.specs.declared.faults.DomainFault.TheVariants as fault
 use Rattle.cqf_lists.specs.Results.{and_then, refuse}
-use Rattle.cqf_fields.specs.Fields.{and_first, whole_document, read_at, tables_at, number_from, name_from, names_at}
+use Rattle.cqf_topology_fields.specs.Fields.{and_first, whole_document, read_at, tables_of_key, number_from, name_from, names_at}
+use Rattle.cqf_model.specs.Limits.{longest_cycle}
 
 -- the keys of a domain text, and those of each of its links, in reading order
 abbrev pub domain_keys : List Key
@@ -54,8 +55,8 @@ if_some key [] = Err (early.BadValue key)
 if_some key (x ∷ xs) = Ok (x ∷ xs)
 
 -- a link's table
-abbrev pub link_from : Members → Result DraftLink TomlFault
-link_from table =
+abbrev pub link_read : Members → Result DraftLink TomlFault
+link_read table =
     and_then (read_at From name_from table) (λ from.
     and_then (read_at To name_from table) (λ to.
     and_then (read_at Rate rate_from table) (λ rate.
@@ -74,7 +75,7 @@ domain_from table =
     and_then (read_at Guard (number_from 1 10000000) table) (λ guard.
     and_then (and_then (names_at Bridges table) (if_some Bridges)) (λ bridges.
     and_then (names_at Stations table) (λ stations.
-    and_then (tables_at Links link_from table) (λ links.
+    and_then (tables_of_key Links link_read table) (λ links.
     Ok (record { cycle_time = cycle_time; guard = guard; bridges = bridges; stations = stations; links = links }))))))
 
 -- the first of some names that stood earlier
@@ -180,7 +181,7 @@ domain_of_text text = and_then (as_domain_fault (read_text text)) checked
 -- what the ranges and forms of the values give
 pub record IsReadable (d : DomainText) : Type 0 where
   pub cycle_least : 10000 ≤ d.cycle_time
-  pub cycle_most : d.cycle_time ≤ 10000000
+  pub cycle_most : d.cycle_time ≤ longest_cycle
   pub guard_some : 0 < d.guard
   pub some_bridge : 0 < length d.bridges
   pub bridges_named : All (λ name. IsTrue (is_name name)) d.bridges
@@ -197,7 +198,7 @@ pub record HasNames (d : DomainText) (bridges stations : List (List ℕ)) : Type
   pub stations_are : refuse (first_taken bridges d.stations) fault.NameTaken (Ok d.stations) ≡ Ok stations
 
 -- a text's names and links by number: what its checks up to that of its ends give
-pub record IsNumbered (d : DomainText) (bridges stations : List (List ℕ)) (links : List Link) : Type 0 where
+pub record IsNumberedDomain (d : DomainText) (bridges stations : List (List ℕ)) (links : List Link) : Type 0 where
   pub readable : IsReadable d
   pub bridges_are : bridges ≡ d.bridges
   pub stations_are : stations ≡ d.stations

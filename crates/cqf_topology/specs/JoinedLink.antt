@@ -13,9 +13,9 @@ node_of (end.Bridge b) = Bridge b
 node_of (end.Station s) = Station s
 
 -- and the end that a node is
-abbrev pub end_of : Node → End
-end_of (Bridge b) = end.Bridge b
-end_of (Station s) = end.Station s
+abbrev pub end_of_joined : Node → End
+end_of_joined (Bridge b) = end.Bridge b
+end_of_joined (Station s) = end.Station s
 
 -- both ends of a link, as a set of ends holds them and as the link has them, and whether two links have the same
 abbrev pub ends_held : ℕ × End → ℕ × Node

@@ -1,4 +1,3 @@
-pub use Rattle.cqf_fields.specs.Fields
 pub mod DomainText
 pub mod JoinedLink
 pub mod StreamsText

@@ -2,9 +2,9 @@
 use Rattle.std.specs.Prelude.{ℕ, List, Option, Some, None, Result, Ok}
 use Rattle.toml.specs.Data.{Data, Members}
 use Rattle.cqf_lists.specs.Results.{and_then}
-use Rattle.cqf_fields.specs.declared.keys.Key.TheVariants.{Streams, Deadline}
-use Rattle.cqf_fields.specs.declared.faults.TomlFault.{TomlFault}
-use Rattle.cqf_fields.specs.Fields.{value_at, whole_document, read_at, tables_at, number_from}
+use Rattle.cqf_topology_fields.specs.declared.keys.Key.TheVariants.{Streams, Deadline}
+use Rattle.cqf_topology_fields.specs.declared.faults.TomlFault.{TomlFault}
+use Rattle.cqf_topology_fields.specs.Fields.{value_at, whole_document, read_at, tables_of_key, number_from}
 use Rattle.cqf_topology.specs.declared.planned.Planned.{Planned}
 use Rattle.cqf_topology.specs.StreamsText.{RequestText, request_from, request_text, streams_keys, stream_keys}
 
@@ -29,4 +29,4 @@ planned_from table = and_then (request_from table) (λ request. and_then (deadli
 
 -- the streams of a text, or its first fault
 abbrev pub planned_of_text : List ℕ → Result (List PlannedText) TomlFault
-planned_of_text text = and_then (whole_document streams_keys Streams stream_keys text) (tables_at Streams planned_from)
+planned_of_text text = and_then (whole_document streams_keys Streams stream_keys text) (tables_of_key Streams planned_from)

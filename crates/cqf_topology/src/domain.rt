@@ -1,8 +1,8 @@
 //! A domain of bridges and stations.
 ghost use Rattle.std.specs.Prelude.{◌≡◌, ◌<◌, ◌==◌, ◌&&◌, length, slice_get, position, Some, IfOk};
 ghost use Rattle.cqf_model.specs.Domain.{IsAccepted, node_named, link_between, same_node};
-ghost use Rattle.cqf_fields.specs.Fields.{Gives};
-ghost use Rattle.cqf_topology.specs.DomainText.{IsDomain, IsOnlyLink, IsReadable, HasBridges, HasNames, IsNumbered};
+ghost use Rattle.cqf_topology_fields.specs.Fields.{Gives};
+ghost use Rattle.cqf_topology.specs.DomainText.{IsDomain, IsOnlyLink, IsReadable, HasBridges, HasNames, IsNumberedDomain};
 ghost use Rattle.cqf_topology.specs.DomainText.{with_links, with_these, checked, domain_of_text};
 
 use crate::DomainFault;
@@ -78,7 +78,7 @@ fn checked_links(
 ) -> Result<Vec<Link>, DomainFault>
     requires { HasNames draft.now bridges.now.keys stations.now.keys }
     ensures given { Gives DomainFault.Memory (λ links. with_these draft.now links.items) result (checked draft.now) }
-    ensures numbered { IfOk result (λ links. IsNumbered draft.now bridges.now.keys stations.now.keys links.items) }
+    ensures numbered { IfOk result (λ links. IsNumberedDomain draft.now bridges.now.keys stations.now.keys links.items) }
 {
     let joined = join_links(alloc, bridges, stations, draft.links())?;
     check(alloc, draft, joined.as_slice())?;

@@ -3,10 +3,10 @@ ghost use Rattle.std.specs.Prelude.{◌≡◌, ◌++◌, ◌∷◌, [], OnOk, Is
 ghost use Rattle.toml.specs.View.{view, table_view, items_view};
 ghost use Rattle.toml.specs.Data.{as_table};
 ghost use Rattle.cqf_lists.specs.Results.{and_then};
-ghost use Rattle.cqf_fields.specs.Fields.{Gives, read_at, tables_at, tables_from, names_at};
-ghost use Rattle.cqf_topology.specs.DomainText.{rate_of, rate_from, link_from, if_some, with_front, domain_from, read_text};
+ghost use Rattle.cqf_topology_fields.specs.Fields.{Gives, read_at, tables_of_key, tables_from, names_at};
+ghost use Rattle.cqf_topology.specs.DomainText.{rate_of, rate_from, link_read, if_some, with_front, domain_from, read_text};
 
-use cqf_fields::{
+use cqf_topology_fields::{
     Key, TomlFault, are_all_tables, array_at, name_at, names_at, number_at, read_document, value_at,
 };
 use cqf_units::{Name, Rate};
@@ -120,7 +120,7 @@ fn rate_at(table: &Table) -> Result<Rate, TomlFault>
 
 /// A link's table.
 fn read_link(table: &Table) -> Result<DraftLink, TomlFault>
-    ensures { result ≡ link_from (table_view table.now) }
+    ensures { result ≡ link_read (table_view table.now) }
 {
     let from = name_at(table, Key::From)?;
     let to = name_at(table, Key::To)?;
@@ -136,7 +136,7 @@ fn read_link(table: &Table) -> Result<DraftLink, TomlFault>
 
 /// A link, as an element of the array of links.
 fn link_in(value: &Value) -> Result<DraftLink, TomlFault>
-    ensures { result ≡ and_then (ok_or (as_table (view value.now)) (TomlFault.BadValue Key.Links)) link_from }
+    ensures { result ≡ and_then (ok_or (as_table (view value.now)) (TomlFault.BadValue Key.Links)) link_read }
 {
     match value.as_table() {
         Some(table) => read_link(table),
@@ -157,7 +157,7 @@ fn add_link(links: &mut Vec<DraftLink>, link: DraftLink) -> Result<(), TomlFault
 
 /// The elements of the array of links, added to the links that were read.
 fn add_links(links: &mut Vec<DraftLink>, values: &[Value]) -> Result<(), TomlFault>
-    ensures { Gives TomlFault.Memory (λ _. links.new.items) result (with_front links.old.items (tables_from Key.Links link_from (items_view values.now))) }
+    ensures { Gives TomlFault.Memory (λ _. links.new.items) result (with_front links.old.items (tables_from Key.Links link_read (items_view values.now))) }
 {
     for value in values {
         let link = link_in(value)?;
@@ -168,7 +168,7 @@ fn add_links(links: &mut Vec<DraftLink>, values: &[Value]) -> Result<(), TomlFau
 
 /// The elements of the array of links.
 fn links_in(alloc: Global, values: &[Value]) -> Result<Vec<DraftLink>, TomlFault>
-    ensures { Gives TomlFault.Memory (λ links. links.items) result (tables_from Key.Links link_from (items_view values.now)) }
+    ensures { Gives TomlFault.Memory (λ links. links.items) result (tables_from Key.Links link_read (items_view values.now)) }
 {
     let mut links = Vec::new(alloc);
     add_links(&mut links, values)?;
@@ -177,7 +177,7 @@ fn links_in(alloc: Global, values: &[Value]) -> Result<Vec<DraftLink>, TomlFault
 
 /// The links of a domain's table.
 fn read_links(alloc: Global, table: &Table) -> Result<Vec<DraftLink>, TomlFault>
-    ensures { Gives TomlFault.Memory (λ links. links.items) result (tables_at Key.Links link_from (table_view table.now)) }
+    ensures { Gives TomlFault.Memory (λ links. links.items) result (tables_of_key Key.Links link_read (table_view table.now)) }
 {
     let values = array_at(table, Key::Links)?;
     if !are_all_tables(values) {

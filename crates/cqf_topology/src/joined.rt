@@ -4,7 +4,7 @@ ghost use Rattle.std.specs.List.{list_any};
 ghost use Rattle.cqf_units.specs.Timing.{nanos_of_octet};
 ghost use Rattle.cqf_model.specs.Domain.{node_or};
 ghost use Rattle.cqf_lists.specs.Results.{refuse};
-ghost use Rattle.cqf_fields.specs.Fields.{Gives};
+ghost use Rattle.cqf_topology_fields.specs.Fields.{Gives};
 ghost use Rattle.cqf_topology.specs.DomainText.{is_among, first_taken, numbered_with, place_of, joined_link, joined};
 ghost use Rattle.cqf_topology.specs.DomainText.{first_twice, first_long_delay, first_long_gap};
 ghost use Rattle.cqf_topology.specs.JoinedLink.{node_of, ends_held, ends_of, are_same_ends, IsSmallNode, HasSmallEnds};
@@ -36,13 +36,13 @@ pub(crate) struct JoinedLink {
 
 impl Model for JoinedLink {
     ghost use Rattle.cqf_model.specs.declared.topology.Link.{Link};
-    ghost use Rattle.cqf_topology.specs.JoinedLink.{node_of, end_of};
+    ghost use Rattle.cqf_topology.specs.JoinedLink.{node_of, end_of_joined};
 
     ghost Value = { Link };
 
     ghost view = { λ l. record { from = l.from; to = node_of l.to; rate = l.rate; delay = l.delay } };
 
-    ghost inverse = { λ link. record { from = link.from; to = end_of link.to; rate = link.rate; delay = link.delay } };
+    ghost inverse = { λ link. record { from = link.from; to = end_of_joined link.to; rate = link.rate; delay = link.delay } };
 }
 
 /// Whether the name is among either names.

@@ -32,8 +32,8 @@ mod names;
 mod planned;
 mod streams;
 
-pub use cqf_fields::{Key, TomlFault as StreamsFault};
 pub use cqf_model::{Link, Node};
+pub use cqf_topology_fields::{Key, TomlFault as StreamsFault};
 pub use domain::Domain;
 pub use faults::DomainFault;
 pub use laws::{taken_is_first_repeated, twice_is_first_twin};

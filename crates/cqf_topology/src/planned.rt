@@ -3,12 +3,12 @@ ghost use Rattle.std.specs.Prelude.{◌≡◌, map, ok_or, IfOk};
 ghost use Rattle.toml.specs.Data.{as_table};
 ghost use Rattle.toml.specs.View.{items_view, view, table_view};
 ghost use Rattle.cqf_lists.specs.Results.{and_then};
-ghost use Rattle.cqf_fields.specs.Fields.{Gives, tables_at, tables_from};
+ghost use Rattle.cqf_topology_fields.specs.Fields.{Gives, tables_of_key, tables_from};
 ghost use Rattle.cqf_topology.specs.PlannedText.{deadline_from, planned_from, planned_of_text, planned_text};
 
 use crate::streams::{KEYS, Request, STREAM_KEYS, read_request};
 use crate::{Key, StreamsFault};
-use cqf_fields::{are_all_tables, array_at, number_at, read_document, value_at};
+use cqf_topology_fields::{are_all_tables, array_at, number_at, read_document, value_at};
 use std::alloc::Global;
 use toml::{Table, Value};
 
@@ -70,7 +70,7 @@ fn all_planned_in(alloc: Global, values: &[Value]) -> Result<Vec<Planned>, Strea
 
 /// The streams of a document.
 fn all_planned(alloc: Global, table: &Table) -> Result<Vec<Planned>, StreamsFault>
-    ensures { Gives StreamsFault.Memory (λ streams. map planned_text streams.items) result (tables_at Key.Streams planned_from (table_view table.now)) }
+    ensures { Gives StreamsFault.Memory (λ streams. map planned_text streams.items) result (tables_of_key Key.Streams planned_from (table_view table.now)) }
 {
     let values = array_at(table, Key::Streams)?;
     if !are_all_tables(values) {

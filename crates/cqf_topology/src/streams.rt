@@ -3,11 +3,11 @@ ghost use Rattle.std.specs.Prelude.{◌≡◌, ◌∷◌, [], map, ok_or, string
 ghost use Rattle.toml.specs.Data.{as_str, as_table};
 ghost use Rattle.toml.specs.View.{items_view, view, table_view};
 ghost use Rattle.cqf_lists.specs.Results.{and_then};
-ghost use Rattle.cqf_fields.specs.Fields.{Gives, read_at, tables_at, tables_from};
+ghost use Rattle.cqf_topology_fields.specs.Fields.{Gives, read_at, tables_of_key, tables_from};
 ghost use Rattle.cqf_topology.specs.StreamsText.{branches_from, request_from, request_text, streams_of_text};
 
 use crate::{Key, StreamsFault};
-use cqf_fields::{
+use cqf_topology_fields::{
     are_all_tables, array_at, number_at, read_document, text_at, text_lists_at, texts_at, value_at,
 };
 use cqf_units::Memory;
@@ -126,7 +126,7 @@ fn requests_in(alloc: Global, values: &[Value]) -> Result<Vec<Request>, StreamsF
 
 /// The streams of a document.
 fn read_requests(alloc: Global, table: &Table) -> Result<Vec<Request>, StreamsFault>
-    ensures { Gives StreamsFault.Memory (λ requests. map request_text requests.items) result (tables_at Key.Streams request_from (table_view table.now)) }
+    ensures { Gives StreamsFault.Memory (λ requests. map request_text requests.items) result (tables_of_key Key.Streams request_from (table_view table.now)) }
 {
     let values = array_at(table, Key::Streams)?;
     if !are_all_tables(values) {

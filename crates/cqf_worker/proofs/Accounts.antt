@@ -7,8 +7,10 @@ use Rattle.cqf_model.specs.declared.frames.Background.{Background}
 use Rattle.cqf_model.specs.declared.frames.Offer.{Offer}
 use Rattle.cqf_model.specs.Book.{Contents, contents_of}
 use Rattle.cqf_model.specs.Domain.{Domain, IsAccepted}
+use Rattle.cqf_model.specs.Headline.{IsAccountOf}
 use Rattle.cqf_model.specs.History.{Recorded, seals}
 use Rattle.cqf_model.specs.Run.{AreBackground, AreOffers}
+use Rattle.cqf_model.specs.Calls.{IsHistoryOf}
 use Rattle.cqf_admission.specs.declared.entries.Command.{Command}
 use Rattle.cqf_book.specs.Pages.{Posted, pages_of}
 use Rattle.cqf_book.specs.Shares.{Agree, IsBookOfPages}
@@ -18,22 +20,21 @@ use Rattle.cqf_desk.specs.declared.history.History.{History}
 use Rattle.cqf_laws_account.specs.Gathered.{GatheredPagesAreTheBook}
 use Rattle.cqf_laws_account.specs.Paged.{BridgesApartPostThePages, HasThePages}
 use Rattle.cqf_laws_account.specs.Sealing.{cycle_tables}
-use Rattle.cqf_laws_account.specs.Seated.{AreSeated, ClosesItsCycles, ConductorHasTheTables, IsHistoryOf, SeatsGiveTheHistory}
-use Rattle.cqf_laws_book.specs.BookOfHistory.{BookOfHistorySaysTheShift}
-use Rattle.cqf_laws_bridge.specs.NoFaults.{RunOfHistoryLosesNothing}
+use Rattle.cqf_laws_account.specs.Seated.{AreSeated, ClosesItsCycles, ConductorHasTheTables, SeatsGiveTheHistory}
+use Rattle.cqf_laws_shift.specs.BookOfHistory.{BookOfHistorySaysTheShift}
 use Rattle.cqf_worker.specs.declared.account.Account.{Account}
 use Rattle.cqf_worker.specs.declared.account.PagedAccount.{PagedAccount}
-use Rattle.cqf_loops.specs.declared.carried.Carried.TheVariants.{Item}
+use Rattle.cqf_worker_loops.specs.declared.carried.Carried.TheVariants.{Item}
 use Rattle.cqf_worker.specs.declared.conducting.Prepared.{Prepared}
-use Rattle.cqf_threads.specs.declared.threads.Administrator.{Administrator}
-use Rattle.cqf_threads.specs.declared.threads.Ended.{Ended}
-use Rattle.cqf_worker.specs.Account.{IsAccount, IsAccountOf, IsPagedAccount, all_asked, entries_of}
-use Rattle.cqf_wires.specs.Closing.{share_at}
+use Rattle.cqf_worker_threads.specs.declared.threads.Administrator.{Administrator}
+use Rattle.cqf_worker_threads.specs.declared.threads.Ended.{Ended}
+use Rattle.cqf_worker.specs.Account.{IsAccount, IsPagedAccount, all_asked, entries_of}
+use Rattle.cqf_worker_wires.specs.Closing.{share_at}
 use Rattle.cqf_worker.specs.Conducting.{IsPrepared, IsSettled, all_seats, seat_of}
-use Rattle.cqf_loops.specs.Handing.{TableEnd}
-use Rattle.cqf_wires.specs.Laying.{traffic_of}
-use Rattle.cqf_threads.specs.Running.{IsEnded, IsReady}
-use Rattle.cqf_wires.specs.Wires.{AreWired, Wiring, pipe_of_tables, tables_pipe}
+use Rattle.cqf_worker_loops.specs.Handing.{TableEnd}
+use Rattle.cqf_worker_wires.specs.Laying.{traffic_of}
+use Rattle.cqf_worker_threads.specs.Running.{IsEnded, IsReadyWorker}
+use Rattle.cqf_worker_wires.specs.Wires.{AreWired, Wiring, pipe_of_tables, tables_pipe}
 use Rattle.cqf_worker.proofs.Apart.{no_pages, pages_are, still_tables, still_wired}
 use Rattle.cqf_worker.proofs.Seating.{are_seated, asked_count, asks_no_seal, fresh_seat, seats_count}
 
@@ -51,7 +52,7 @@ no_calls_yet count administrators seats place a below =
 module _ (d : Domain) (opening : List Recorded) (offers : List Offer) (background : List Background) (cycles : ℕ) (admins : List (List Command))
     (p : Prepared) (is : IsPrepared d opening offers background cycles admins p) where
   -- what is prepared is ready
-  pub is_ready : cycles ≤ 100000 → IsReady cycles p.ready
+  pub is_ready : cycles ≤ 100000 → IsReadyWorker cycles p.ready
   is_ready few = record {
     few = few;
     workers = is.laid.may_work;
@@ -116,29 +117,34 @@ module _ (d : Domain) (opening : List Recorded) (offers : List Offer) (backgroun
             ended.worked settled.fed tables_in_the_end settled.given (given_so closes) closes.sealed of_shares
 
         -- and the account is that of the run
-        pub account_is : SeatsGiveTheHistory → ConductorHasTheTables → BridgesApartPostThePages → BookOfHistorySaysTheShift → RunOfHistoryLosesNothing →
+        pub account_is : SeatsGiveTheHistory → ConductorHasTheTables → BridgesApartPostThePages → BookOfHistorySaysTheShift →
             IsPagedAccount d opening offers background cycles admins account
-        account_is seats tables apart shift loses =
+        account_is seats tables apart promise =
             let entries = entries_of account.history in
             let history : IsHistoryOf d opening (all_asked admins) cycles entries = history_is seats in
             let closes : ClosesItsCycles d entries cycles e.sealed.seat = closes_so tables unsealed in
             let has = pages_of_history history closes apart in
-            let is_account : IsAccountOf d opening offers background cycles admins account.history.opening entries has.0 = record {
-              opens = settled.history.opening ∙ ap (λ (desk : Counter). length desk.opening.entries) is.desk;
+            let is_account : IsAccountOf d opening offers background cycles (all_asked admins) entries has.0 = record {
               history = history;
-              book = has.1.of_history;
-              shift = shift d entries offers background cycles has.0 accepted history.legal good_offers good_background has.1.of_history;
-              none_lost = λ net compiled.
-                  loses d entries offers background cycles net history.legal has.1.of_history.sealed good_offers good_background compiled;
+              sealed = has.1.of_history.sealed;
+              keeps = promise d entries offers background cycles has.0 accepted history.legal good_offers good_background has.1.of_history;
             } in
-            record { book = has.0; is_account = is_account; some = has.1.some; its_pages = has.1.pages_of }
+            record {
+              opens = settled.history.opening ∙ ap (λ (desk : Counter). length desk.opening.entries) is.desk;
+              book = has.0;
+              is = is_account;
+              some = has.1.some;
+              its_pages = has.1.pages_of;
+            }
 
 -- an account by pages, and the book that these are gathered to, are an account
 pub gathered_account : (d : Domain) (opening : List Recorded) (offers : List Offer) (background : List Background) (cycles : ℕ)
     (admins : List (List Command)) (paged : PagedAccount) (account : Account) → GatheredPagesAreTheBook → IsAccepted d →
     IsPagedAccount d opening offers background cycles admins paged → account.history ≡ paged.history →
     IsBookOfPages (pages_of paged.pages) (length d.bridges) (contents_of account.book) → IsAccount d opening offers background cycles admins account
-gathered_account d opening offers background cycles admins paged account law accepted is same gathered =
-    subst₂ (λ (history : History) (book : Contents).
-    IsAccountOf d opening offers background cycles admins history.opening (entries_of history) book) (sym same)
-    (sym (law d cycles (pages_of paged.pages) is.book (contents_of account.book) accepted is.some is.its_pages gathered)) is.is_account
+gathered_account d opening offers background cycles admins paged account law accepted is same gathered = record {
+  opens = ap (λ (history : History). history.opening) same ∙ is.opens;
+  is = subst₂ (λ (history : History) (book : Contents).
+      IsAccountOf d opening offers background cycles (all_asked admins) (entries_of history) book) (sym same)
+      (sym (law d cycles (pages_of paged.pages) is.book (contents_of account.book) accepted is.some is.its_pages gathered)) is.is;
+}

@@ -26,22 +26,22 @@ use Rattle.cqf_book.specs.Shares.{Agree, Own, Said, all_pages_of, is_of, pages_b
 use Rattle.cqf_bridge.specs.Batch.{LinkBatch}
 use Rattle.cqf_bridge.specs.BridgeState.{links_from}
 use Rattle.cqf_bridge.specs.Receiving.{links_into}
-use Rattle.cqf_laws_course.specs.Courses.{Course, HasWorked, IsGiven, Traffic}
-use Rattle.cqf_laws_course.proofs.LinkNumbers.{link_listed, links_ascend}
+use Rattle.cqf_laws_bridge.specs.Courses.{Course, HasWorked, IsGiven, Traffic}
+use Rattle.cqf_laws_bridge.proofs.LinkNumbers.{link_listed, links_ascend}
 use Rattle.cqf_laws_account.specs.Apart.{HavePosted, HaveWorkedApart}
 use Rattle.cqf_laws_account.specs.Gathered.{contents_of_page}
 use Rattle.cqf_laws_account.specs.Paged.{BridgesApartPostThePages, HasThePages}
 use Rattle.cqf_laws_account.specs.Sealing.{cycle_tables}
 use Rattle.cqf_laws_account.proofs.Gathering.{leaves_one}
-use Rattle.cqf_loops.specs.declared.carried.Carried.{Carried}
-use Rattle.cqf_loops.specs.declared.carried.Carried.TheVariants.{Item}
-use Rattle.cqf_loops.specs.declared.worker.Worker.{Worker}
-use Rattle.cqf_wires.specs.Closing.{share_at}
-use Rattle.cqf_loops.specs.Handing.{TableEnd}
-use Rattle.cqf_pipe.specs.PipeEnds.{PipeId}
-use Rattle.cqf_loops.specs.Rows.{wire_of, wires_of}
-use Rattle.cqf_wires.specs.Wires.{AreFed, AreGiven, AreOn, AreWired, AreWorkersOf, BatchPort, IsBeginning, Wiring, pipe_of_tables, tables_pipe}
-use Rattle.cqf_loops.specs.Workers.{HasGoneThrough, Works, batches_at, course_of, ends_in_bridge, item_in, items_in, link_of, links_onward, rows_in}
+use Rattle.cqf_worker_loops.specs.declared.carried.Carried.{Carried}
+use Rattle.cqf_worker_loops.specs.declared.carried.Carried.TheVariants.{Item}
+use Rattle.cqf_worker_loops.specs.declared.worker.Worker.{Worker}
+use Rattle.cqf_worker_wires.specs.Closing.{share_at}
+use Rattle.cqf_worker_loops.specs.Handing.{TableEnd}
+use Rattle.cqf_worker_pipe.specs.PipeEnds.{PipeId}
+use Rattle.cqf_worker_loops.specs.Rows.{wire_of, wires_of}
+use Rattle.cqf_worker_wires.specs.Wires.{AreFedByWires, AreGiven, AreOn, AreWired, AreWorkersOf, BatchPort, IsBeginning, Wiring, pipe_of_tables, tables_pipe}
+use Rattle.cqf_worker_loops.specs.Workers.{HasGoneThrough, Works, batches_at, course_of, ends_in_bridge, item_in, items_in, link_of, links_onward, rows_in}
 
 -- nothing is done
 abbrev pub no_course : Course
@@ -61,7 +61,7 @@ pub record HaveRun (t : Traffic) (entries : List Recorded) (cycles : ℕ) (worke
   pub of_bridges : AreWorkersOf t workers
   pub many : length workers ≡ length t.domain.bridges
   pub worked : AllZip (Works cycles) workers dones
-  pub fed : AreFed dones
+  pub fed : AreFedByWires dones
   pub pipes : map pipe_of_tables ends ≡ map tables_pipe dones
   pub given : AreGiven ends dones
   pub put : (place : ℕ) (d : TableEnd) → place < length ends → (slice_index_or ends place d).items ≡ map Item (cycle_tables t.domain entries cycles)
@@ -313,7 +313,7 @@ posted_too t cycles own pages others have same = record {
 -- so pages that say what the workers' shares do are those of the one-thread book of the history
 pub pages_are : (t : Traffic) (entries : List Recorded) (cycles : ℕ) (workers dones : List Worker) (ends : List TableEnd) (closed : Posted) →
     BridgesApartPostThePages → IsGiven t entries → AreWorkersOf t workers → length workers ≡ length t.domain.bridges → AllZip (Works cycles) workers dones →
-    AreFed dones → map pipe_of_tables ends ≡ map tables_pipe dones → AreGiven ends dones →
+    AreFedByWires dones → map pipe_of_tables ends ≡ map tables_pipe dones → AreGiven ends dones →
     ((place : ℕ) (d : TableEnd) → place < length ends → (slice_index_or ends place d).items ≡ map Item (cycle_tables t.domain entries cycles)) →
     seals entries ≡ cycles → Agree (no_pages (length t.domain.bridges) cycles) (map share_at dones) closed (length t.domain.bridges) →
     (book : Contents) × HasThePages t.domain entries t.offers t.background cycles (pages_of closed) book

@@ -11,13 +11,13 @@ use Rattle.cqf_desk.specs.declared.history.History.{History}
 use Rattle.cqf_desk.specs.Closing.{IsClosed}
 use Rattle.cqf_desk.specs.Desk.{Counter, Sitting}
 use Rattle.cqf_worker.specs.declared.account.PagedAccount.{PagedAccount}
-use Rattle.cqf_threads.specs.declared.faults.ConductFault.{ConductFault}
-use Rattle.cqf_threads.specs.declared.threads.Ended.{Ended}
-use Rattle.cqf_loops.specs.declared.worker.Worker.{Worker}
-use Rattle.cqf_wires.specs.Closing.{share_at}
+use Rattle.cqf_worker_threads.specs.declared.faults.ConductFault.{ConductFault}
+use Rattle.cqf_worker_threads.specs.declared.threads.Ended.{Ended}
+use Rattle.cqf_worker_loops.specs.declared.worker.Worker.{Worker}
+use Rattle.cqf_worker_wires.specs.Closing.{share_at}
 use Rattle.cqf_worker.specs.Conducting.{AreLaidFor, IsSettled, all_seats}
-use Rattle.cqf_loops.specs.Handing.{TableEnd}
-use Rattle.cqf_wires.specs.Wires.{AreFed, AreGiven}
+use Rattle.cqf_worker_loops.specs.Handing.{TableEnd}
+use Rattle.cqf_worker_wires.specs.Wires.{AreFedByWires, AreGiven}
 
 -- workers that are laid for a domain are so for one that is the same
 pub laid_for : (d same : Domain) (offers : List Offer) (background : List Background) (workers : List Worker) (ends : List TableEnd) → same ≡ d →
@@ -38,7 +38,7 @@ desk_is desk opening d many count is domain same =
 
 -- what the closed desk and book give is the account of the run's seats and shares
 pub settled_so : (desk : Counter) (book : Posted) (e : Ended) (seats : List Sitting) (shares : List Own) (history : Result History ConductFault)
-    (closed : Result Posted ConductFault) (account : PagedAccount) → AreFed e.workers.items → AreGiven e.sealed.tables.items e.workers.items →
+    (closed : Result Posted ConductFault) (account : PagedAccount) → AreFedByWires e.workers.items → AreGiven e.sealed.tables.items e.workers.items →
     seats ≡ all_seats e → shares ≡ map share_at e.workers.items → IfOk history (IsClosed desk seats) →
     IfOk closed (λ (pages : Posted). Agree book shares pages book.bridges) → history ≡ Ok account.history → closed ≡ Ok account.pages →
     IsSettled desk book e account

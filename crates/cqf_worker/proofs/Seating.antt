@@ -3,24 +3,25 @@ use Rattle.std.proofs.Common.{ℕ, zero, suc, ◌≡◌, ◌+◌, ◌<◌, ◌�
 use Rattle.std.specs.Prelude.{false, option_map, slice_get}
 use Rattle.std.specs.List.{AllZip}
 use Rattle.std.proofs.Math.Seq.{take-append_seam}
-use Rattle.std.proofs.lemmas.List.{length-map}
+use Rattle.std.proofs.lemmas.List.{length-map, nil_from_length}
 use Rattle.std.proofs.lemmas.List.Elements.{Contains-append_left, Contains-append_right}
 use Rattle.std.proofs.lemmas.Option.{get_or_from_slice_get, same_Some, slice_get_cases, slice_get-map, slice_get_within}
 use Rattle.cqf_lists.proofs.EachBelow.{get_or-singles, length-singles}
 use Rattle.cqf_lists.proofs.Members.{contains_at, contains_from_map, contains_here}
 use Rattle.cqf_lists.proofs.Places.{slice_get_behind}
 use Rattle.cqf_model.specs.History.{Act, is_seal}
+use Rattle.cqf_model.specs.Calls.{acts_of}
 use Rattle.cqf_admission.specs.declared.entries.Command.{Command}
 use Rattle.cqf_admission.specs.declared.entries.Command.TheVariants.{Admit, Withdraw}
 use Rattle.cqf_admission.specs.Commands.{act_of_command}
 use Rattle.cqf_desk.specs.Desk.{Sitting, fresh_seats}
-use Rattle.cqf_laws_account.specs.Seated.{AreSeated, AsksForNoSeal, acts_of}
-use Rattle.cqf_threads.specs.declared.threads.Administrator.{Administrator}
+use Rattle.cqf_laws_account.specs.Seated.{AreSeated, AsksForNoSeal}
+use Rattle.cqf_worker_threads.specs.declared.threads.Administrator.{Administrator}
 use Rattle.cqf_worker.specs.Account.{all_asked}
-use Rattle.cqf_loops.specs.Commands.{acts_asked}
+use Rattle.cqf_worker_loops.specs.Commands.{acts_asked}
 use Rattle.cqf_worker.specs.Conducting.{AreSeatedFor, commands_of, seat_of}
-use Rattle.cqf_loops.specs.Handing.{HasSealed, TableEnd}
-use Rattle.cqf_threads.specs.Running.{CallsOf}
+use Rattle.cqf_worker_loops.specs.Handing.{HasSealed, TableEnd}
+use Rattle.cqf_worker_threads.specs.Running.{CallsOf}
 
 -- a seat with which nobody has called yet
 abbrev pub fresh_seat : ℕ → Sitting
@@ -70,11 +71,6 @@ seats_left f administrators left seats yielded rest all so fresh commands given 
       length-append yielded rest,
     )
 
--- a list of no elements
-nothing_there : {X : Type 0} (xs : List X) → length xs ≡ 0 → xs ≡ []
-nothing_there [] none = refl
-nothing_there (x ∷ xs) none = absurd (omega (arith, none))
-
 -- once all have a seat, the next one is the conductor's
 pub all_seated : {X : Type 0} (f : X → List Command) (administrators : List Administrator) (left seats more : List Sitting) (yielded rest all : List X)
     (conductor : Sitting) → map seat_of administrators ++ left ≡ seats → seats ≡ fresh_seats (length all + 1) →
@@ -82,7 +78,7 @@ pub all_seated : {X : Type 0} (f : X → List Command) (administrators : List Ad
     AreSeatedFor (map f all) administrators conductor
 all_seated f administrators left seats more yielded rest all conductor so fresh commands given none next =
     let each : map commands_of administrators ≡ map f all =
-    commands ∙ ap (map f) (sym (append-nil yielded) ∙ ap (λ xs. yielded ++ xs) (sym (nothing_there rest none)) ∙ given) in
+    commands ∙ ap (map f) (sym (append-nil yielded) ∙ ap (λ xs. yielded ++ xs) (sym (nil_from_length rest none)) ∙ given) in
     let many : length (map seat_of administrators) ≡ length (map f all) =
     length-map administrators seat_of ∙ sym (length-map administrators commands_of) ∙ ap length each in
     let in_order : map seat_of administrators ++ conductor ∷ more ≡ fresh_seats (length (map f all) + 1) =

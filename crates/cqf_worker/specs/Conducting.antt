@@ -1,5 +1,5 @@
 -- A run on threads before they begin, and when all have ended (profile).
-use Rattle.std.specs.Prelude.{ℕ, ◌≡◌, ◌+◌, ◌++◌, List, [], ◌∷◌, All, length, map, replicate}
+use Rattle.std.specs.Prelude.{ℕ, ◌≡◌, ◌+◌, ◌++◌, List, [], ◌∷◌, All, Err, Ok, Result, Some, length, map, replicate}
 use Rattle.cqf_model.specs.declared.frames.Background.{Background}
 use Rattle.cqf_model.specs.declared.frames.Offer.{Offer}
 use Rattle.cqf_model.specs.Domain.{Domain}
@@ -7,18 +7,21 @@ use Rattle.cqf_model.specs.History.{Recorded}
 use Rattle.cqf_admission.specs.declared.entries.Command.{Command}
 use Rattle.cqf_book.specs.Pages.{Posted}
 use Rattle.cqf_book.specs.Shares.{Agree, Own, new_shares}
+use Rattle.cqf_desk.specs.declared.history.History.{History}
 use Rattle.cqf_desk.specs.Closing.{IsClosed}
 use Rattle.cqf_desk.specs.Desk.{Counter, Sitting, fresh_seats}
 use Rattle.cqf_worker.specs.declared.account.PagedAccount.{PagedAccount}
 use Rattle.cqf_worker.specs.declared.conducting.Prepared.{Prepared}
-use Rattle.cqf_threads.specs.declared.threads.Administrator.{Administrator}
-use Rattle.cqf_threads.specs.declared.threads.Ended.{Ended}
-use Rattle.cqf_loops.specs.declared.worker.Worker.{Worker}
-use Rattle.cqf_wires.specs.Closing.{share_at}
-use Rattle.cqf_loops.specs.Handing.{TableEnd}
-use Rattle.cqf_loops.specs.Workers.{MayWork}
-use Rattle.cqf_wires.specs.Laying.{traffic_of}
-use Rattle.cqf_wires.specs.Wires.{AreFed, AreGiven, AreWired, AreWorkersOf, Wiring, pipe_of_tables, tables_pipe}
+use Rattle.cqf_worker_threads.specs.declared.faults.ConductFault.{ConductFault}
+use Rattle.cqf_worker_threads.specs.declared.threads.Administrator.{Administrator}
+use Rattle.cqf_worker_threads.specs.declared.threads.Ended.{Ended}
+use Rattle.cqf_worker_threads.specs.Faults.{first_noted}
+use Rattle.cqf_worker_loops.specs.declared.worker.Worker.{Worker}
+use Rattle.cqf_worker_wires.specs.Closing.{share_at}
+use Rattle.cqf_worker_loops.specs.Handing.{TableEnd}
+use Rattle.cqf_worker_loops.specs.Workers.{MayWork}
+use Rattle.cqf_worker_wires.specs.Laying.{traffic_of}
+use Rattle.cqf_worker_wires.specs.Wires.{AreFedByWires, AreGiven, AreWired, AreWorkersOf, Wiring, pipe_of_tables, tables_pipe}
 
 -- a book of so many cycles in which nothing stands, and a share for each of its bridges
 pub record AreBooked (d : Domain) (cycles : ℕ) (book : Posted) (shares : List Own) : Type 0 where
@@ -61,14 +64,21 @@ all_seats e = e.seats.items ++ e.sealed.seat ∷ []
 
 -- all pipes are closed: what was taken from each is the beginning of what was put there, and the shares are those of the workers
 pub record AreShut (ends : List TableEnd) (those : List Worker) (shares : List Own) : Type 0 where
-  pub fed : AreFed those
+  pub fed : AreFedByWires those
   pub given : AreGiven ends those
   pub own : shares ≡ map share_at those
+
+-- which fault of a history and of pages is told: of two the first, in the order in which faults are told
+abbrev pub IsFirstOfFaults : Result History ConductFault → Result Posted ConductFault → ConductFault → Type 0
+IsFirstOfFaults (Ok history) (Ok pages) fault = ⊥
+IsFirstOfFaults (Ok history) (Err other) fault = fault ≡ other
+IsFirstOfFaults (Err one) (Ok pages) fault = fault ≡ one
+IsFirstOfFaults (Err one) (Err other) fault = fault ≡ first_noted (Some one) other
 
 -- its pipes, its desk and its book are closed: what was taken from each pipe is the beginning of what was put there, the history is that
 -- of the seats, and the pages say what those of the shares do
 pub record IsSettled (desk : Counter) (book : Posted) (e : Ended) (account : PagedAccount) : Type 0 where
-  pub fed : AreFed e.workers.items
+  pub fed : AreFedByWires e.workers.items
   pub given : AreGiven e.sealed.tables.items e.workers.items
   pub history : IsClosed desk (all_seats e) account.history
   pub agree : Agree book (map share_at e.workers.items) account.pages book.bridges

@@ -1,2 +1,3 @@
-pub mod Conducting
 pub mod Account
+-- what the inner functions say
+pub mod Conducting

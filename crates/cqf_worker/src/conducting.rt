@@ -1,13 +1,14 @@
 //! The conductor: a whole run on threads.
-ghost use Rattle.std.specs.Prelude.{◌≡◌, ◌≤◌, ◌+◌, IfOk, Ok, length, map};
+ghost use Rattle.std.specs.Prelude.{◌≡◌, ◌≤◌, ◌+◌, IfErr, IfOk, Ok, length, map};
 ghost use Rattle.cqf_book.specs.Shares.{Agree, new_shares};
 ghost use Rattle.cqf_desk.specs.Closing.{IsClosed};
 ghost use Rattle.cqf_desk.specs.Desk.{fresh_seats};
 ghost use Rattle.cqf_model.specs.History.{seals};
 ghost use Rattle.cqf_model.specs.Run.{AreBackground, AreOffers};
-ghost use Rattle.cqf_wires.specs.Wires.{AreWired, Wiring, pipe_of_tables, tables_pipe};
+ghost use Rattle.cqf_worker_wires.specs.Wires.{AreWired, Wiring, pipe_of_tables, tables_pipe};
 ghost use Rattle.cqf_worker.specs.Account.{IsAccount, IsPagedAccount};
-ghost use Rattle.cqf_worker.specs.Conducting.{AreBooked, AreLaidFor, AreSeatedFor, AreShut, IsPrepared, IsSettled};
+ghost use Rattle.cqf_worker.specs.Conducting.{AreBooked, AreLaidFor, AreSeatedFor, AreShut, IsFirstOfFaults, IsPrepared, IsSettled};
+ghost use Rattle.cqf_model.specs.Limits.{most_cycles, most_rows};
 
 use crate::account::{Account, PagedAccount};
 use cqf_admission::{Admission, Command, Table};
@@ -17,14 +18,13 @@ use cqf_desk::{CloseFault, Desk, History, Seat};
 use cqf_laws_account::{
     bridges_apart_post_the_pages, gathered_pages_are_the_book, seats_give_the_history,
 };
-use cqf_laws_book::book_of_history_says_the_shift;
-use cqf_laws_bridge::history_loses_nothing;
-use cqf_loops::{Carried, Pace, Sealed, Worker};
+use cqf_laws_shift::book_of_history_says_the_shift;
 use cqf_model::{Background, Offer};
-use cqf_pipe::PipeIn;
-use cqf_threads::{Administrator, ConductFault, Ended, Faults, Ready, run_threads};
 use cqf_topology::Domain;
-use cqf_wires::{ClosingFault, Laid, close_pipes, lay};
+use cqf_worker_loops::{Carried, Pace, Sealed, Worker};
+use cqf_worker_pipe::PipeIn;
+use cqf_worker_threads::{Administrator, ConductFault, Ended, Faults, Ready, run_threads};
+use cqf_worker_wires::{ClosingFault, Laid, close_pipes, lay};
 use std::alloc::Global;
 use std::sync::Wait;
 use std::thread::Threads;
@@ -90,7 +90,7 @@ fn open_book(
     domain: &Domain,
     cycles: u32,
 ) -> Result<(CycleBook, Vec<Share>), ConductFault>
-    requires { cycles ≤ 100000 }
+    requires { cycles ≤ most_cycles }
     ensures { IfOk result (λ made. AreBooked domain.now cycles made.0 made.1.items) }
 {
     let _accepted = domain.cycle_time();
@@ -113,9 +113,9 @@ fn lay_all(
 ) -> Result<Laid, ConductFault>
     requires shares { shares.items ≡ new_shares (length domain.now.bridges) }
     requires offers { AreOffers domain.now offers.now }
-    requires few_offers { length offers.now ≤ 1000000 }
+    requires few_offers { length offers.now ≤ most_rows }
     requires background { AreBackground domain.now background.now }
-    requires few_background { length background.now ≤ 1000000 }
+    requires few_background { length background.now ≤ most_rows }
     ensures { IfOk result (λ laid. AreLaidFor domain.now offers.now background.now laid.workers.items laid.tables.items) }
 {
     let Ok(plan) = compile(alloc, domain) else {
@@ -138,11 +138,11 @@ fn prepare(
     admins: Vec<Vec<Command>>,
 ) -> Result<Prepared, ConductFault>
     requires domain { admission.domain ≡ domain.now }
-    requires short { cycles ≤ 100000 }
+    requires short { cycles ≤ most_cycles }
     requires offers { AreOffers domain.now offers.now }
-    requires few_offers { length offers.now ≤ 1000000 }
+    requires few_offers { length offers.now ≤ most_rows }
     requires background { AreBackground domain.now background.now }
-    requires few_background { length background.now ≤ 1000000 }
+    requires few_background { length background.now ≤ most_rows }
     ensures { IfOk result (IsPrepared domain.now admission.entries offers.now background.now cycles (map (λ c. c.items) admins.items)) }
 {
     let (desk, seats) = open_desk(alloc, admission, admins.len())?;
@@ -179,12 +179,13 @@ fn close_book(book: CycleBook, shares: Vec<Share>) -> Result<Pages, ConductFault
     }
 }
 
-/// An account of a history and pages, or the fault that is told first.
+/// An account of a history and pages, or their fault: of two the one that [`ConductFault`] tells first.
 fn account_of(
     history: Result<History, ConductFault>,
     pages: Result<Pages, ConductFault>,
 ) -> Result<PagedAccount, ConductFault>
-    ensures { IfOk result (λ account. (history ≡ Ok account.history) × (pages ≡ Ok account.pages)) }
+    ensures ok { IfOk result (λ account. (history ≡ Ok account.history) × (pages ≡ Ok account.pages)) }
+    ensures fault { IfErr result (IsFirstOfFaults history pages) }
 {
     match (history, pages) {
         (Ok(history), Ok(pages)) => Ok(PagedAccount { history, pages }),
@@ -267,17 +268,16 @@ pub fn conduct_pages<R: Threads + Wait + Sync, P: Pace>(
 ) -> Result<PagedAccount, ConductFault>
     requires domain { admission.domain ≡ domain.now }
     requires unsealed { seals admission.entries ≡ 0 }
-    requires short { cycles ≤ 100000 }
+    requires short { cycles ≤ most_cycles }
     requires offers { AreOffers domain.now offers.now }
-    requires few_offers { length offers.now ≤ 1000000 }
+    requires few_offers { length offers.now ≤ most_rows }
     requires background { AreBackground domain.now background.now }
-    requires few_background { length background.now ≤ 1000000 }
+    requires few_background { length background.now ≤ most_rows }
     ensures { IfOk result (IsPagedAccount domain.now admission.entries offers.now background.now cycles (map (λ c. c.items) admins.items)) }
 {
     seats_give_the_history();
     bridges_apart_post_the_pages();
     book_of_history_says_the_shift();
-    history_loses_nothing();
     let _accepted = domain.cycle_time();
     let Prepared { desk, book, ready } = prepare(
         alloc, domain, admission, offers, background, cycles, admins,
@@ -310,11 +310,11 @@ pub fn conduct<R: Threads + Wait + Sync, P: Pace>(
 ) -> Result<Account, ConductFault>
     requires domain { admission.domain ≡ domain.now }
     requires unsealed { seals admission.entries ≡ 0 }
-    requires short { cycles ≤ 100000 }
+    requires short { cycles ≤ most_cycles }
     requires offers { AreOffers domain.now offers.now }
-    requires few_offers { length offers.now ≤ 1000000 }
+    requires few_offers { length offers.now ≤ most_rows }
     requires background { AreBackground domain.now background.now }
-    requires few_background { length background.now ≤ 1000000 }
+    requires few_background { length background.now ≤ most_rows }
     ensures { IfOk result (IsAccount domain.now admission.entries offers.now background.now cycles (map (λ c. c.items) admins.items)) }
 {
     gathered_pages_are_the_book();

@@ -17,6 +17,6 @@ mod conducting;
 
 pub use account::{Account, PagedAccount};
 pub use conducting::{conduct, conduct_pages};
-pub use cqf_loops::{Carried, Free, Pace};
-pub use cqf_pipe::{PipeIn, PipeOut, pipe};
-pub use cqf_threads::ConductFault;
+pub use cqf_worker_loops::{Carried, Free, Pace};
+pub use cqf_worker_pipe::{PipeIn, PipeOut, pipe};
+pub use cqf_worker_threads::ConductFault;

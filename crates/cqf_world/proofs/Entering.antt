@@ -11,16 +11,16 @@ use Rattle.cqf_model.specs.Domain.{Domain}
 use Rattle.cqf_model.specs.History.{Act, IsLegalHistory, Recorded, is_seal, seals, table_at, tables_of}
 use Rattle.cqf_model.specs.Run.{Run}
 use Rattle.cqf_laws_history.specs.StateLaws.{SealsAreCounted}
-use Rattle.cqf_laws_definitions.specs.TableLaws.{ClosedTablesStay}
-use Rattle.cqf_laws_pages.specs.BridgeCycle.{IsCompiledNetwork}
+use Rattle.cqf_laws_history.specs.TableLaws.{ClosedTablesStay}
+use Rattle.cqf_laws_cycle.specs.BridgeCycle.{IsCompiledNetwork}
 use Rattle.cqf_admission.specs.declared.entries.Command.{Command}
 use Rattle.cqf_admission.specs.declared.entries.Command.TheVariants.{Admit, Withdraw}
 use Rattle.cqf_admission.specs.Admission.{Administration, Answers, is_entered, reply_of}
 use Rattle.cqf_admission.specs.Tables.{CycleTable}
 use Rattle.cqf_world.specs.declared.parts.Line.{Line}
-use Rattle.cqf_world.specs.declared.parts.Station.{Station}
+use Rattle.cqf_world.specs.declared.parts.Driven.{Driven}
 use Rattle.cqf_admission.specs.Commands.{act_of_command}
-use Rattle.cqf_world.specs.Parts.{IsStation, IsWorld, links_taken}
+use Rattle.cqf_world.specs.Parts.{IsDriven, IsWorld, links_taken}
 use Rattle.cqf_world.specs.World.{WorldState, cycle_of_bridge, sealed_run}
 use Rattle.cqf_world.proofs.Keeping.{given_entries}
 
@@ -29,7 +29,7 @@ pub no_seal : (command : Command) → is_seal (act_of_command command) ≡ false
 no_seal (Admit request) = refl
 no_seal (Withdraw name) = refl
 
-module _ (v : WorldState) (tables : List CycleTable) (stations : List Station) (lines : List Line) (entries : List Recorded) (world : IsWorld v tables stations lines)
+module _ (v : WorldState) (tables : List CycleTable) (driven : List Driven) (lines : List Line) (entries : List Recorded) (world : IsWorld v tables driven lines)
     (legal : IsLegalHistory v.domain entries) (counted : seals entries ≡ seals v.entries)
     (stay : (cycle : ℕ) → cycle < seals v.entries → table_at v.domain entries cycle ≡ table_at v.domain v.entries cycle) where
   -- with more entries, none of which is a Seal, the run is the same
@@ -42,7 +42,7 @@ module _ (v : WorldState) (tables : List CycleTable) (stations : List Station) (
       λ i. record { domain = v.domain; tables = same i; offers = v.offers; background = v.background }
 
   -- so the world stays
-  pub entries_grow : IsWorld (record v { entries = entries }) tables stations lines
+  pub entries_grow : IsWorld (record v { entries = entries }) tables driven lines
   entries_grow = record {
     given = given_entries v entries world.given legal;
     pages = λ bridge cycle page book there is. world.pages bridge cycle page book there
@@ -55,13 +55,13 @@ module _ (v : WorldState) (tables : List CycleTable) (stations : List Station) (
       within_run = omega (arith, r.within_run, counted);
       all_tables = r.all_tables ∙ sym counted;
       table = λ cycle x within. (let t = r.table cycle x within in (t.0, t.1 ∙ sym (stay cycle (omega (arith, within, r.all_tables)))));
-      all_stations = r.all_stations;
+      all_driven = r.all_driven;
       given_are = r.given_are;
       sent_are = r.sent_are;
-      station = λ bridge s inside.
-          subst (λ (n : ℕ). IsStation (sealed_run (record v { entries = entries })) n r.net bridge (cycle_of_bridge v bridge) (links_taken v bridge) (get_or stations bridge s)) (sym counted)
-          (subst (λ (run : Run). IsStation run (seals v.entries) r.net bridge (cycle_of_bridge v bridge) (links_taken v bridge) (get_or stations bridge s)) (sym run_same)
-          (r.station bridge s inside));
+      bridge_driven = λ bridge s inside.
+          subst (λ (n : ℕ). IsDriven (sealed_run (record v { entries = entries })) n r.net bridge (cycle_of_bridge v bridge) (links_taken v bridge) (get_or driven bridge s)) (sym counted)
+          (subst (λ (run : Run). IsDriven run (seals v.entries) r.net bridge (cycle_of_bridge v bridge) (links_taken v bridge) (get_or driven bridge s)) (sym run_same)
+          (r.bridge_driven bridge s inside));
       all_lines = r.all_lines;
       taken_are = r.taken_are;
       line = r.line;
@@ -69,11 +69,11 @@ module _ (v : WorldState) (tables : List CycleTable) (stations : List Station) (
   }
 
 -- what an answered call leaves
-pub called_world : (v : WorldState) (tables : List CycleTable) (stations : List Station) (lines : List Line) (old new : Administration) (seat : ℕ) (act : Act)
-    (result : Result Receipt Refused) → SealsAreCounted → ClosedTablesStay → IsWorld v tables stations lines → v.domain ≡ old.domain → v.entries ≡ old.entries →
+pub called_world : (v : WorldState) (tables : List CycleTable) (driven : List Driven) (lines : List Line) (old new : Administration) (seat : ℕ) (act : Act)
+    (result : Result Receipt Refused) → SealsAreCounted → ClosedTablesStay → IsWorld v tables driven lines → v.domain ≡ old.domain → v.entries ≡ old.entries →
     is_seal act ≡ false → Answers old new seat act result → IsLegalHistory new.domain new.entries →
-    IsWorld (record v { domain = new.domain; entries = new.entries }) tables stations lines
-called_world v tables stations lines old new seat act result counted stay world domain entries not_seal answers legal =
+    IsWorld (record v { domain = new.domain; entries = new.entries }) tables driven lines
+called_world v tables driven lines old new seat act result counted stay world domain entries not_seal answers legal =
     let same_domain : new.domain ≡ v.domain = answers.domain ∙ sym domain in
     elim (cases_Bool (is_entered result)) [
       | inl t ↦
@@ -82,13 +82,13 @@ called_world v tables stations lines old new seat act result counted stay world 
           let more : new.entries ≡ with_it v.entries = is_new ∙ ap with_it (sym entries) in
           let count : seals (with_it v.entries) ≡ seals v.entries =
           counted v.entries seat act (reply_of result) ∙ ap (λ (b : Bool). seals v.entries + (if b then 1 else 0)) not_seal ∙ add-zero (seals v.entries) in
-          subst (λ (d : Domain). IsWorld (record v { domain = d; entries = new.entries }) tables stations lines) (sym same_domain)
-          (subst (λ (es : List Recorded). IsWorld (record v { entries = es }) tables stations lines) (sym more)
-          (entries_grow v tables stations lines (with_it v.entries) world
+          subst (λ (d : Domain). IsWorld (record v { domain = d; entries = new.entries }) tables driven lines) (sym same_domain)
+          (subst (λ (es : List Recorded). IsWorld (record v { entries = es }) tables driven lines) (sym more)
+          (entries_grow v tables driven lines (with_it v.entries) world
           (subst (λ (es : List Recorded). IsLegalHistory v.domain es) more (subst (λ (d : Domain). IsLegalHistory d new.entries) same_domain legal)) count
           (λ cycle within. stay v.domain v.entries seat act (reply_of result) cycle within)))
       | inr f ↦
           let same = answers.unchanged f in
-          subst (λ (d : Domain). IsWorld (record v { domain = d; entries = new.entries }) tables stations lines) (sym same_domain)
-          (subst (λ (es : List Recorded). IsWorld (record v { entries = es }) tables stations lines) (entries ∙ ap (λ (a : Administration). a.entries) (sym same)) world)
+          subst (λ (d : Domain). IsWorld (record v { domain = d; entries = new.entries }) tables driven lines) (sym same_domain)
+          (subst (λ (es : List Recorded). IsWorld (record v { entries = es }) tables driven lines) (entries ∙ ap (λ (a : Administration). a.entries) (sym same)) world)
     ]

@@ -6,15 +6,15 @@ use Rattle.cqf_model.specs.Domain.{bridge_of}
 use Rattle.cqf_model.specs.History.{seals}
 use Rattle.cqf_admission.specs.Tables.{CycleTable}
 use Rattle.cqf_world.specs.declared.parts.Line.{Line}
-use Rattle.cqf_world.specs.declared.parts.Station.{Station}
+use Rattle.cqf_world.specs.declared.parts.Driven.{Driven}
 use Rattle.cqf_world.specs.Events.{MayBeGiven}
-use Rattle.cqf_world.specs.Parts.{IsLine, IsRunning, IsStation, IsWorld, given_of, links_taken, sent_of}
+use Rattle.cqf_world.specs.Parts.{IsLine, IsRunningWorld, IsDriven, IsWorld, given_of, links_taken, sent_of_driven}
 use Rattle.cqf_world.specs.World.{WorldState, cycle_of_bridge, sealed_run}
 use Rattle.cqf_world.proofs.Keeping.{given_counts}
-use Rattle.cqf_world.proofs.Standing.{count_kept, each_with, given_at, station_at}
+use Rattle.cqf_world.proofs.Standing.{count_kept, each_with, given_at, driven_at}
 
--- a station with one more table
-abbrev pub with_table : Station → Station
+-- a driven bridge with one more table
+abbrev pub with_table : Driven → Driven
 with_table s = record {
   bridge = s.bridge;
   agenda = s.agenda;
@@ -26,57 +26,57 @@ with_table s = record {
   taken = s.taken;
 }
 
--- a world with such a station
-abbrev pub world_given : WorldState → List Station → ℕ → Station → WorldState
-world_given w stations bridge s = record {
+-- a world with such a driven bridge
+abbrev pub world_given : WorldState → List Driven → ℕ → Driven → WorldState
+world_given w driven bridge s = record {
   domain = w.domain;
   offers = w.offers;
   background = w.background;
   cycles = w.cycles;
   entries = w.entries;
   pages = w.pages;
-  given = map given_of (set stations bridge (with_table s));
-  sent = map sent_of (set stations bridge (with_table s));
+  given = map given_of (set driven bridge (with_table s));
+  sent = map sent_of_driven (set driven bridge (with_table s));
   taken = w.taken;
   stopped = w.stopped;
 }
 
-module _ (w : WorldState) (tables : List CycleTable) (stations : List Station) (lines : List Line) (is : IsRunning w tables stations lines) where
+module _ (w : WorldState) (tables : List CycleTable) (driven : List Driven) (lines : List Line) (is : IsRunningWorld w tables driven lines) where
   -- a bridge may be given a table where its counts say so
-  pub may_be_given : (bridge : ℕ) (s : Station) → bridge < length stations → s ≡ get_or stations bridge s → s.given ≡ s.posted → s.posted < w.cycles →
+  pub may_be_given : (bridge : ℕ) (s : Driven) → bridge < length driven → s ≡ get_or driven bridge s → s.given ≡ s.posted → s.posted < w.cycles →
       s.posted < length tables → MayBeGiven w bridge
   may_be_given bridge s inside there lacks of_run closed =
-      let st = station_at w tables stations lines is bridge s inside there in
+      let st = driven_at w tables driven lines is bridge s inside there in
       record {
-        inside = omega (arith, inside, is.all_stations);
+        inside = omega (arith, inside, is.all_driven);
         of_run = omega (arith, of_run, st.in_cycle);
-        lacks = given_at w tables stations lines is bridge s inside there ∙ lacks ∙ st.in_cycle;
+        lacks = given_at w tables driven lines is bridge s inside there ∙ lacks ∙ st.in_cycle;
         sealed = omega (arith, closed, st.in_cycle, is.all_tables);
       }
 
   -- and its counts say so where it may be
-  pub counts_given : (bridge : ℕ) (s : Station) → bridge < length stations → s ≡ get_or stations bridge s → MayBeGiven w bridge →
+  pub counts_given : (bridge : ℕ) (s : Driven) → bridge < length driven → s ≡ get_or driven bridge s → MayBeGiven w bridge →
       (s.given ≡ s.posted) × (s.posted < w.cycles) × (s.posted < length tables)
   counts_given bridge s inside there may =
-      let st = station_at w tables stations lines is bridge s inside there in (
-        sym (given_at w tables stations lines is bridge s inside there) ∙ may.lacks ∙ sym st.in_cycle,
+      let st = driven_at w tables driven lines is bridge s inside there in (
+        sym (given_at w tables driven lines is bridge s inside there) ∙ may.lacks ∙ sym st.in_cycle,
         omega (arith, may.of_run, st.in_cycle),
         omega (arith, may.sealed, st.in_cycle, is.all_tables),
       )
 
   -- nothing else changes
-  pub sent_stays : (bridge : ℕ) (s : Station) → s ≡ get_or stations bridge s → map sent_of (set stations bridge (with_table s)) ≡ w.sent
+  pub sent_stays : (bridge : ℕ) (s : Driven) → s ≡ get_or driven bridge s → map sent_of_driven (set driven bridge (with_table s)) ≡ w.sent
   sent_stays bridge s there =
-      count_kept sent_of stations bridge s (with_table s) there refl ∙ sym is.sent_are
+      count_kept sent_of_driven driven bridge s (with_table s) there refl ∙ sym is.sent_are
 
   -- the world goes on so
-  pub goes_on_given : (bridge : ℕ) (s : Station) → bridge < length stations → s ≡ get_or stations bridge s → MayBeGiven w bridge →
-      IsRunning (world_given w stations bridge s) tables (set stations bridge (with_table s)) lines
+  pub goes_on_given : (bridge : ℕ) (s : Driven) → bridge < length driven → s ≡ get_or driven bridge s → MayBeGiven w bridge →
+      IsRunningWorld (world_given w driven bridge s) tables (set driven bridge (with_table s)) lines
   goes_on_given bridge s inside there may =
       let same = sent_stays bridge s there in
-      let st = station_at w tables stations lines is bridge s inside there in
+      let st = driven_at w tables driven lines is bridge s inside there in
       let c = counts_given bridge s inside there may in
-      let with_it : IsStation (sealed_run w) (seals w.entries) is.net bridge (cycle_of_bridge w bridge) (links_taken w bridge) (with_table s) = record {
+      let with_it : IsDriven (sealed_run w) (seals w.entries) is.net bridge (cycle_of_bridge w bridge) (links_taken w bridge) (with_table s) = record {
         in_cycle = st.in_cycle;
         not_behind = st.not_behind;
         with_table = omega (arith, st.with_table, c.0);
@@ -97,52 +97,52 @@ module _ (w : WorldState) (tables : List CycleTable) (stations : List Station) (
         within_run = is.within_run;
         all_tables = is.all_tables;
         table = is.table;
-        all_stations = length-set stations bridge (with_table s) ∙ is.all_stations;
+        all_driven = length-set driven bridge (with_table s) ∙ is.all_driven;
         given_are = refl;
         sent_are = refl;
-        station = each_with (λ k. IsStation (sealed_run w) (seals w.entries) is.net k (cycle_of_bridge w k) (links_taken w k)) stations bridge (with_table s) inside
-            with_it (λ other d in_stations differ. is.station other d in_stations);
+        bridge_driven = each_with (λ k. IsDriven (sealed_run w) (seals w.entries) is.net k (cycle_of_bridge w k) (links_taken w k)) driven bridge (with_table s) inside
+            with_it (λ other d in_driven differ. is.bridge_driven other d in_driven);
         all_lines = is.all_lines;
         taken_are = is.taken_are;
         line = λ link to x ends. subst (λ (sent : List ℕ). IsLine w.domain is.net link (cycle_of_bridge w to) (get_or sent to 0)
             (get_or sent (bridge_of w.domain link) 0) (get_or lines link x)) (sym same) (is.line link to x ends);
       }
 
-module _ (w : WorldState) (tables : List CycleTable) (stations : List Station) (lines : List Line) (bridge place : ℕ) (s : Station) (old : WorldState)
-    (same : w ≡ old) (world : IsWorld w tables stations lines) (old_goes_on : old.stopped ≡ false) (old_may : MayBeGiven old bridge)
-    (at : place ≡ bridge) (there : s ≡ get_or stations place s) where
+module _ (w : WorldState) (tables : List CycleTable) (driven : List Driven) (lines : List Line) (bridge place : ℕ) (s : Driven) (old : WorldState)
+    (same : w ≡ old) (world : IsWorld w tables driven lines) (old_goes_on : old.stopped ≡ false) (old_may : MayBeGiven old bridge)
+    (at : place ≡ bridge) (there : s ≡ get_or driven place s) where
   goes_on : w.stopped ≡ false
   goes_on = subst (λ (v : WorldState). v.stopped ≡ false) (sym same) old_goes_on
 
   may : MayBeGiven w bridge
   may = subst (λ (v : WorldState). MayBeGiven v bridge) (sym same) old_may
 
-  is : IsRunning w tables stations lines
+  is : IsRunningWorld w tables driven lines
   is = world.running goes_on
 
-  inside : bridge < length stations
-  inside = omega (arith, may.inside, is.all_stations)
+  inside : bridge < length driven
+  inside = omega (arith, may.inside, is.all_driven)
 
-  here : s ≡ get_or stations bridge s
-  here = there ∙ ap (λ (k : ℕ). get_or stations k s) at
+  here : s ≡ get_or driven bridge s
+  here = there ∙ ap (λ (k : ℕ). get_or driven k s) at
 
   -- so the world stays one with a table given
-  pub given_world : IsWorld (world_given w stations bridge s) tables (set stations bridge (with_table s)) lines
+  pub given_world : IsWorld (world_given w driven bridge s) tables (set driven bridge (with_table s)) lines
   given_world = record {
     given = given_counts w _ _ w.taken w.stopped world.given;
     pages = world.pages;
     sealed = world.sealed;
-    running = λ still. goes_on_given w tables stations lines is bridge s inside here may;
+    running = λ still. goes_on_given w tables driven lines is bridge s inside here may;
   }
 
   -- and it is the same world but for what was given
-  pub given_alone : world_given w stations bridge s ≡ record old { given = set old.given bridge (cycle_of_bridge old bridge + 1) }
+  pub given_alone : world_given w driven bridge s ≡ record old { given = set old.given bridge (cycle_of_bridge old bridge + 1) }
   given_alone =
-      let st = station_at w tables stations lines is bridge s inside here in
-      let now_given : map given_of (set stations bridge (with_table s)) ≡ set w.given bridge (cycle_of_bridge w bridge + 1) =
-      map-set given_of stations bridge (with_table s)
-      ∙ ap (λ (n : ℕ). set (map given_of stations) bridge (n + 1)) st.in_cycle
+      let st = driven_at w tables driven lines is bridge s inside here in
+      let now_given : map given_of (set driven bridge (with_table s)) ≡ set w.given bridge (cycle_of_bridge w bridge + 1) =
+      map-set given_of driven bridge (with_table s)
+      ∙ ap (λ (n : ℕ). set (map given_of driven) bridge (n + 1)) st.in_cycle
       ∙ ap (λ (ns : List ℕ). set ns bridge (cycle_of_bridge w bridge + 1)) (sym is.given_are) in
-      let still_sent = sent_stays w tables stations lines is bridge s here in
-      subst (λ (v : WorldState). world_given w stations bridge s ≡ record v { given = set v.given bridge (cycle_of_bridge v bridge + 1) }) same
+      let still_sent = sent_stays w tables driven lines is bridge s here in
+      subst (λ (v : WorldState). world_given w driven bridge s ≡ record v { given = set v.given bridge (cycle_of_bridge v bridge + 1) }) same
       (λ i. record w { given = now_given i; sent = still_sent i })

@@ -2,13 +2,13 @@
 use Rattle.std.proofs.Common.{◌≡◌, ℕ, Bool, Err, List, Ok, OnErr, Result, ◌∙◌, refl}
 use Rattle.cqf_model.specs.History.{IsLegalHistory, Recorded}
 use Rattle.cqf_book.specs.Pages.{ArePosted, Posted}
-use Rattle.cqf_world.specs.Parts.{IsGiven}
+use Rattle.cqf_world.specs.Parts.{IsGivenWorld}
 use Rattle.cqf_world.specs.World.{WorldState}
 
 -- what a world was given, with another legal history, and with other pages of its bridges; it hangs on no count
-pub given_as : (w : WorldState) (entries : List Recorded) (pages : Posted) (given sent taken : List ℕ) (stopped : Bool) → IsGiven w →
+pub given_as : (w : WorldState) (entries : List Recorded) (pages : Posted) (given sent taken : List ℕ) (stopped : Bool) → IsGivenWorld w →
     IsLegalHistory w.domain entries → pages.bridges ≡ w.pages.bridges → pages.cycles ≡ w.pages.cycles → ArePosted pages →
-    IsGiven (record w { entries = entries; pages = pages; given = given; sent = sent; taken = taken; stopped = stopped })
+    IsGivenWorld (record w { entries = entries; pages = pages; given = given; sent = sent; taken = taken; stopped = stopped })
 given_as w entries pages given sent taken stopped is legal bridges cycles in_order = record {
   accepted = is.accepted;
   legal = legal;
@@ -21,12 +21,12 @@ given_as w entries pages given sent taken stopped is legal bridges cycles in_ord
 }
 
 -- with other counts alone
-pub given_counts : (w : WorldState) (given sent taken : List ℕ) (stopped : Bool) → IsGiven w →
-    IsGiven (record w { given = given; sent = sent; taken = taken; stopped = stopped })
+pub given_counts : (w : WorldState) (given sent taken : List ℕ) (stopped : Bool) → IsGivenWorld w →
+    IsGivenWorld (record w { given = given; sent = sent; taken = taken; stopped = stopped })
 given_counts w given sent taken stopped is = given_as w w.entries w.pages given sent taken stopped is is.legal refl refl is.in_order
 
 -- with another history alone
-pub given_entries : (w : WorldState) (entries : List Recorded) → IsGiven w → IsLegalHistory w.domain entries → IsGiven (record w { entries = entries })
+pub given_entries : (w : WorldState) (entries : List Recorded) → IsGivenWorld w → IsLegalHistory w.domain entries → IsGivenWorld (record w { entries = entries })
 given_entries w entries is legal = given_as w entries w.pages w.given w.sent w.taken w.stopped is legal refl refl is.in_order
 
 -- what is so in any case is so where a growth was refused

@@ -6,8 +6,8 @@ use Rattle.cqf_model.specs.declared.frames.Background.{Background}
 use Rattle.cqf_model.specs.declared.frames.Offer.{Offer}
 use Rattle.cqf_model.specs.Domain.{Domain}
 use Rattle.cqf_world.specs.declared.parts.Line.{Line}
-use Rattle.cqf_world.specs.declared.parts.Station.{Station}
-use Rattle.cqf_world.specs.Beginning.{AreNewLines, AreNewStations, IsNewStation}
+use Rattle.cqf_world.specs.declared.parts.Driven.{Driven}
+use Rattle.cqf_world.specs.Beginning.{AreNewLines, AreNewDriven, IsNewDriven}
 
 -- each element of a list with one more is what it is to be at its place
 each_of_more : {X : Type 0} (Is : ℕ → X → Type 0) (xs : List X) (x : X) (n : ℕ) → length xs ≡ n → ((k : ℕ) (d : X) → k < n → Is k (get_or xs k d)) → Is n x →
@@ -25,12 +25,12 @@ one_longer : {X : Type 0} (xs : List X) (x : X) (n : ℕ) → length xs ≡ n �
 one_longer xs x n many = length-append xs (x ∷ []) ∙ ap (λ (k : ℕ). k + 1) many
 
 -- a bridge more
-pub one_station : (d : Domain) (offers : List Offer) (background : List Background) (count : ℕ) (stations after : List Station) (s : Station) →
-    AreNewStations d offers background count stations → IsNewStation d offers background count s → after ≡ stations ++ s ∷ [] →
-    AreNewStations d offers background (count + 1) after
-one_station d offers background count stations after s so_far is more = subst (AreNewStations d offers background (count + 1)) (sym more) (record {
-  one_each = one_longer stations s count so_far.one_each;
-  each = each_of_more (IsNewStation d offers background) stations s count so_far.one_each so_far.each is;
+pub one_driven : (d : Domain) (offers : List Offer) (background : List Background) (count : ℕ) (driven after : List Driven) (s : Driven) →
+    AreNewDriven d offers background count driven → IsNewDriven d offers background count s → after ≡ driven ++ s ∷ [] →
+    AreNewDriven d offers background (count + 1) after
+one_driven d offers background count driven after s so_far is more = subst (AreNewDriven d offers background (count + 1)) (sym more) (record {
+  one_each = one_longer driven s count so_far.one_each;
+  each = each_of_more (IsNewDriven d offers background) driven s count so_far.one_each so_far.each is;
 })
 
 -- a link more

@@ -17,28 +17,28 @@ use Rattle.cqf_model.specs.Network.{compiled_lists}
 use Rattle.cqf_model.specs.Run.{Run}
 use Rattle.cqf_model.specs.Table.{table_of}
 use Rattle.cqf_laws_history.specs.HistoryLaws.{ThereAreSoManyTables}
-use Rattle.cqf_laws_pages.specs.Gathered.{offered_for}
-use Rattle.cqf_laws_pages.specs.PageLaws.{on_links_of}
+use Rattle.cqf_laws_cycle.specs.Gathered.{offered_for}
+use Rattle.cqf_laws_cycle.specs.PageLaws.{on_links_of}
 use Rattle.cqf_admission.specs.Tables.{CycleTable}
-use Rattle.cqf_book.specs.Pages.{IsNext, Posted, page_at, page_count, pages_of, with_page}
+use Rattle.cqf_book.specs.Pages.{IsNextPage, Posted, page_at, page_count, pages_of, with_page}
 use Rattle.cqf_book.proofs.Posting.{next_posted}
 use Rattle.cqf_bridge.specs.declared.faults.BridgeFault.{BridgeFault}
 use Rattle.cqf_bridge.specs.declared.faults.BridgeFault.TheVariants.{Memory}
 use Rattle.cqf_bridge.specs.Batch.{LinkBatch}
 use Rattle.cqf_bridge.specs.BridgeState.{BridgeState}
-use Rattle.cqf_bridge.specs.Receiving.{Handed, IsReceiveFault, IsRunOf, ReceivesCycle, links_into}
+use Rattle.cqf_bridge.specs.Receiving.{Handed, IsReceiveFault, IsRunOfBridge, ReceivesCycle, links_into}
 use Rattle.cqf_laws_bridge.specs.Cycles.{GivesTheDrops, OffersAreOfTheBridge, PageFollows, ReceivingFollows, drops_of_cycle}
 use Rattle.cqf_laws_bridge.specs.Follows.{HasSentOfTheNetwork, batch_of, batches_into, handed_in}
 use Rattle.cqf_laws_bridge.specs.NoFaults.{ReceivesButForMemory, RunOfHistoryLosesNothing}
-use Rattle.cqf_laws_course.proofs.LinkNumbers.{link_ending, link_into, link_listed}
+use Rattle.cqf_laws_bridge.proofs.LinkNumbers.{link_ending, link_into, link_listed}
 use Rattle.cqf_world.specs.declared.parts.Line.{Line}
-use Rattle.cqf_world.specs.declared.parts.Station.{Station}
-use Rattle.cqf_agenda.specs.Agenda.{offers_at}
+use Rattle.cqf_world.specs.declared.parts.Driven.{Driven}
+use Rattle.cqf_bridge_turn.specs.Agenda.{offers_listed_at}
 use Rattle.cqf_world.specs.Events.{MayPost, Posts}
-use Rattle.cqf_world.specs.Parts.{IsLine, IsNextToPost, IsPageOf, IsRunAt, IsRunning, IsStation, IsWorld, MayReceiveItsCycle, PostsOut, ReceivesItsCycle, given_of, handed_to, links_taken, sent_of, taken_of}
-use Rattle.cqf_world.specs.World.{ArePagesOfTheBook, WorldState, contents_of_page, cycle_of_bridge, sealed_run, sent_by, taken_from}
+use Rattle.cqf_world.specs.Parts.{IsLine, IsNextToPost, IsPageOf, IsRunAt, IsRunningWorld, IsDriven, IsWorld, MayReceiveItsCycle, PostsOut, ReceivesItsCycle, given_of, handed_to, links_taken, sent_of_driven, taken_of}
+use Rattle.cqf_world.specs.World.{ArePagesOfTheBook, WorldState, contents_posted, cycle_of_bridge, sealed_run, sent_by_driven, taken_from}
 use Rattle.cqf_world.proofs.Keeping.{given_as}
-use Rattle.cqf_world.proofs.Standing.{count_at, count_kept, each_with, sent_at, station_at}
+use Rattle.cqf_world.proofs.Standing.{count_at, count_kept, each_with, sent_at, driven_at}
 
 -- a test keeps no more than there is
 kept_le : (p : ℕ → Bool) (ns : List ℕ) → length (filter p ns) ≤ length ns
@@ -67,25 +67,25 @@ all_kept p (k ∷ ns) each =
     ∙ ap (λ (ms : List ℕ). k ∷ ms) (all_kept p ns (λ m h. each m (contains_later k ns m h)))
 
 -- a bridge that may receive its cycle, and is handed what it has taken and is offered
-module _ (s : Station) (t : CycleTable) (batches : List LinkBatch) (offers : List Offered) (after : BridgeState) (may : MayReceiveItsCycle s t)
-    (are_batches : batches ≡ s.taken.items) (are_offers : offers ≡ offers_at s.agenda s.posted) where
+module _ (s : Driven) (t : CycleTable) (batches : List LinkBatch) (offers : List Offered) (after : BridgeState) (may : MayReceiveItsCycle s t)
+    (are_batches : batches ≡ s.taken.items) (are_offers : offers ≡ offers_listed_at s.agenda s.posted) where
   -- what is so of each run that has these offers is so of each that the cycle is a part of
-  handed_so : (run : Run) → IsRunAt s t run → IsRunOf s.bridge.domain s.bridge.number s.posted t.rows offers run
-  handed_so run at = subst (λ (xs : List Offered). IsRunOf s.bridge.domain s.bridge.number s.posted t.rows xs run) (sym are_offers) at
+  handed_so : (run : Run) → IsRunAt s t run → IsRunOfBridge s.bridge.domain s.bridge.number s.posted t.rows offers run
+  handed_so run at = subst (λ (xs : List Offered). IsRunOfBridge s.bridge.domain s.bridge.number s.posted t.rows xs run) (sym are_offers) at
 
   -- there is such a run
-  pub run_so : (run : Run) × IsRunOf s.bridge.domain s.bridge.number s.posted t.rows offers run
+  pub run_so : (run : Run) × IsRunOfBridge s.bridge.domain s.bridge.number s.posted t.rows offers run
   run_so = (may.run, handed_so may.run may.of_run)
 
   -- it refuses for want of memory alone
-  pub memory_so : (fault : BridgeFault) → ((run : Run) → IsRunOf s.bridge.domain s.bridge.number s.posted t.rows offers run →
+  pub memory_so : (fault : BridgeFault) → ((run : Run) → IsRunOfBridge s.bridge.domain s.bridge.number s.posted t.rows offers run →
       IsReceiveFault run s.bridge after s.posted (record { table_cycle = t.cycle; rows = t.rows; batches = batches }) fault) → fault ≡ Memory
   memory_so fault h = may.memory_alone after fault (λ run at.
       subst (λ (xs : List LinkBatch). IsReceiveFault run s.bridge after s.posted (record { table_cycle = t.cycle; rows = t.rows; batches = xs }) fault) are_batches
       (h run (handed_so run at)))
 
   -- or receives it
-  pub received_so : (drops : List Dropped) → ((run : Run) → IsRunOf s.bridge.domain s.bridge.number s.posted t.rows offers run →
+  pub received_so : (drops : List Dropped) → ((run : Run) → IsRunOfBridge s.bridge.domain s.bridge.number s.posted t.rows offers run →
       ReceivesCycle run s.bridge after s.posted batches drops) → ReceivesItsCycle s (record s { bridge = after }) t drops
   received_so drops h =
       let receives : (run : Run) → IsRunAt s t run → ReceivesCycle run s.bridge after s.posted s.taken.items drops =
@@ -93,20 +93,20 @@ module _ (s : Station) (t : CycleTable) (batches : List LinkBatch) (offers : Lis
       record { receives = receives; number = ap (λ (b : BridgeState). b.number) (receives may.run may.of_run).bridge; same = refl }
 
 -- the page of a bridge that has received its cycle is the next
-pub next_page : (s between : Station) (t : CycleTable) (dropped drops : List Dropped) (page : Page) (pages : Posted) → IsNextToPost pages s →
-    ReceivesItsCycle s between t dropped → IsPageOf between page drops → IsNext pages page
+pub next_page : (s between : Driven) (t : CycleTable) (dropped drops : List Dropped) (page : Page) (pages : Posted) → IsNextToPost pages s →
+    ReceivesItsCycle s between t dropped → IsPageOf between page drops → IsNextPage pages page
 next_page s between t dropped drops page pages next receives is_page =
     let bridge : page.bridge ≡ s.bridge.number = is_page.of_bridge ∙ receives.number in
-    let cycle : page.cycle.0 ≡ s.posted = is_page.of_cycle ∙ ap (λ (k : Station). k.posted) receives.same in
+    let cycle : page.cycle.0 ≡ s.posted = is_page.of_cycle ∙ ap (λ (k : Driven). k.posted) receives.same in
     (omega (arith, next.inside, bridge), omega (arith, next.of_cycles, cycle), cycle ∙ next.next ∙ ap (page_count pages) (sym bridge))
 
-module _ (v : WorldState) (tables : List CycleTable) (stations : List Station) (lines : List Line) (is : IsRunning v tables stations lines) (bridge : ℕ)
-    (s : Station) (inside : bridge < length stations) (here : s ≡ get_or stations bridge s) where
-  st : IsStation (sealed_run v) (seals v.entries) is.net bridge (cycle_of_bridge v bridge) (links_taken v bridge) s
-  st = station_at v tables stations lines is bridge s inside here
+module _ (v : WorldState) (tables : List CycleTable) (driven : List Driven) (lines : List Line) (is : IsRunningWorld v tables driven lines) (bridge : ℕ)
+    (s : Driven) (inside : bridge < length driven) (here : s ≡ get_or driven bridge s) where
+  st : IsDriven (sealed_run v) (seals v.entries) is.net bridge (cycle_of_bridge v bridge) (links_taken v bridge) s
+  st = driven_at v tables driven lines is bridge s inside here
 
-  sent_is : sent_by v bridge ≡ s.sent
-  sent_is = sent_at v tables stations lines is bridge s inside here
+  sent_is : sent_by_driven v bridge ≡ s.sent
+  sent_is = sent_at v tables driven lines is bridge s inside here
 
   taken_length : length s.taken.items ≡ length (links_taken v bridge)
   taken_length = ap length st.taken ∙ length-map (links_taken v bridge) (batch_of v.domain is.net.carried s.posted)
@@ -128,7 +128,7 @@ module _ (v : WorldState) (tables : List CycleTable) (stations : List Station) (
   -- a bridge may post where its counts say so
   pub may_post : (s.sent ≡ s.posted → ⊥) → length s.taken.items ≡ s.incoming → MayPost v bridge
   may_post sent all = record {
-    inside = omega (arith, inside, is.all_stations);
+    inside = omega (arith, inside, is.all_driven);
     has_sent = omega (arith, sent_is, sent, st.not_behind, st.with_table, st.not_ahead, st.in_cycle);
     has_taken = λ link ends.
         (let listed = link_listed v.domain bridge link ends in
@@ -141,7 +141,7 @@ module _ (v : WorldState) (tables : List CycleTable) (stations : List Station) (
   counts_post may =
       (omega (arith, sent_is, may.has_sent, st.in_cycle), taken_length ∙ ap length (all_taken may) ∙ sym st.incoming)
 
-  module _ (accepted : IsWorld v tables stations lines) (may : MayPost v bridge) where
+  module _ (accepted : IsWorld v tables driven lines) (may : MayPost v bridge) where
     sent_it : s.sent ≡ s.posted + 1
     sent_it = (counts_post may).0
 
@@ -158,7 +158,7 @@ module _ (v : WorldState) (tables : List CycleTable) (stations : List Station) (
         ∙ sym (get_or-singles (table_at v.domain v.entries) (seals v.entries) s.posted [] within)
 
     -- the offers are the run's
-    offers_are : offers_at s.agenda s.posted ≡ offered_for v.domain v.offers s.bridge.number s.posted
+    offers_are : offers_listed_at s.agenda s.posted ≡ offered_for v.domain v.offers s.bridge.number s.posted
     offers_are = st.agenda.offers_are s.posted ∙ ap (λ (b : ℕ). offered_for v.domain v.offers b s.posted) (sym st.number)
 
     -- the cycle is a part of the run
@@ -191,11 +191,11 @@ module _ (v : WorldState) (tables : List CycleTable) (stations : List Station) (
           memory_alone = λ after fault h.
               but_for_memory (sealed_run v) (seals v.entries) s.posted is.net s.bridge after fault is.compiled
               (loses v.domain v.entries v.offers v.background (seals v.entries) is.net accepted.given.legal (omega arith) accepted.given.offers accepted.given.background
-              is.compiled) half (sym st.received) within
+              is.compiled) half.of_run.domain (record { not_spent = half.of_run.not_spent; next = (sym st.received, half.turn, refl) }) within
               (subst (λ (k : Handed). IsReceiveFault (sealed_run v) s.bridge after s.posted k fault) handed (h (sealed_run v) (of_run offers t at_cycle)));
         }
 
-    module _ (t : CycleTable) (at_cycle : t ≡ get_or tables s.posted t) (z : Station) (pages_after : Posted) (out : PostsOut s z t v.pages pages_after)
+    module _ (t : CycleTable) (at_cycle : t ≡ get_or tables s.posted t) (z : Driven) (pages_after : Posted) (out : PostsOut s z t v.pages pages_after)
         (offers : OffersAreOfTheBridge) (receiving : ReceivingFollows) where
       abbrev page : Page
       page = out.page
@@ -204,7 +204,7 @@ module _ (v : WorldState) (tables : List CycleTable) (stations : List Station) (
       u = out.between.bridge
 
       z_is : z ≡ record s { bridge = u; posted = s.posted + 1; starts = z.starts; taken = z.taken }
-      z_is = out.same ∙ ap (λ (k : Station). record k { posted = k.posted + 1; starts = z.starts; taken = z.taken }) out.receives.same
+      z_is = out.same ∙ ap (λ (k : Driven). record k { posted = k.posted + 1; starts = z.starts; taken = z.taken }) out.receives.same
 
       g : GivesTheDrops (sealed_run v) s.posted is.net s.bridge u out.drops
       g = receiving (sealed_run v) (seals v.entries) s.posted is.net s.bridge u out.drops (record {
@@ -219,25 +219,25 @@ module _ (v : WorldState) (tables : List CycleTable) (stations : List Station) (
       of_bridge = out.is_page.of_bridge ∙ out.receives.number ∙ st.number
 
       of_cycle : page.cycle.0 ≡ cycle_of_bridge v bridge
-      of_cycle = out.is_page.of_cycle ∙ ap (λ (k : Station). k.posted) out.receives.same ∙ st.in_cycle
+      of_cycle = out.is_page.of_cycle ∙ ap (λ (k : Driven). k.posted) out.receives.same ∙ st.in_cycle
 
       -- the page is the book's
       page_is : PageFollows → (book : Contents) → IsBook (sealed_run v) (compiled_lists v.domain) (seals v.entries) book →
-          contents_of_page page ≡ page_of v.domain bridge s.posted book
+          contents_posted page ≡ page_of v.domain bridge s.posted book
       page_is page_follows book is_book =
-          let starts : page.starts.items ≡ s.starts.items = out.is_page.starts ∙ ap (λ (k : Station). k.starts.items) out.receives.same in
+          let starts : page.starts.items ≡ s.starts.items = out.is_page.starts ∙ ap (λ (k : Driven). k.starts.items) out.receives.same in
           let others : page.background.items ≡ on_links_of v.domain bridge (background_in v.domain is.net.backed s.posted) =
           out.is_page.background ∙ g.background ∙ half.background
           ∙ (λ i. on_links_of v.domain (st.number i) (background_in v.domain is.net.backed (st.received i))) in
           let dropped = out.is_page.dropped ∙ g.are_drops ∙ ap (λ (b : ℕ). drops_of_cycle (sealed_run v) is.net b s.posted) st.number in
           (λ i. record { starts = (starts ∙ st.starts sent_it) i; background = others i; drops = dropped i })
-          ∙ sym (page_follows (sealed_run v) (seals v.entries) s.posted bridge is.net book is.compiled is_book (omega (arith, inside, is.all_stations)) within)
+          ∙ sym (page_follows (sealed_run v) (seals v.entries) s.posted bridge is.net book is.compiled is_book (omega (arith, inside, is.all_driven)) within)
 
       abbrev pages_now : Posted
       pages_now = with_page v.pages page
 
       in_pages : page.bridge < length v.pages.pages
-      in_pages = omega (arith, of_bridge, inside, is.all_stations, accepted.given.of_bridges, accepted.given.in_order.each_bridge)
+      in_pages = omega (arith, of_bridge, inside, is.all_driven, accepted.given.of_bridges, accepted.given.in_order.each_bridge)
 
       -- the pages of the bridge, with one more, and those of another
       pages_here : pages_of pages_now bridge ≡ pages_of v.pages bridge ++ page ∷ []
@@ -275,7 +275,7 @@ module _ (v : WorldState) (tables : List CycleTable) (stations : List Station) (
                   let same : page ≡ other =
                   same_Some page other (sym (slice_get_behind (pages_of v.pages bridge) page [] cycle last) ∙ at) in
                   let is_book = subst (λ (n : ℕ). IsBook (sealed_run v) (compiled_lists v.domain) n book) (count v.domain v.entries (seals v.entries)) of_history.is_book in
-                  ap contents_of_page (sym same) ∙ page_is page_follows book is_book
+                  ap contents_posted (sym same) ∙ page_is page_follows book is_book
                   ∙ (λ i. page_of v.domain (sym e i) ((st.in_cycle ∙ sym last) i) book)
             ]
         | inr differ ↦
@@ -288,9 +288,9 @@ module _ (v : WorldState) (tables : List CycleTable) (stations : List Station) (
           (λ l held. le-ltb (cycle_of_bridge after bridge) (taken_from v l)
           (omega (arith, may.has_taken l (link_into v.domain bridge l held).1, cycle_here)))
 
-      station_posted : IsStation (sealed_run v) (seals v.entries) is.net bridge (cycle_of_bridge after bridge) (links_taken after bridge) z
-      station_posted =
-          subst (IsStation (sealed_run v) (seals v.entries) is.net bridge (cycle_of_bridge after bridge) (links_taken after bridge)) (sym z_is)
+      driven_posted : IsDriven (sealed_run v) (seals v.entries) is.net bridge (cycle_of_bridge after bridge) (links_taken after bridge) z
+      driven_posted =
+          subst (IsDriven (sealed_run v) (seals v.entries) is.net bridge (cycle_of_bridge after bridge) (links_taken after bridge)) (sym z_is)
           (record {
             in_cycle = omega (arith, st.in_cycle, cycle_here);
             not_behind = omega (arith, sent_it);
@@ -309,7 +309,7 @@ module _ (v : WorldState) (tables : List CycleTable) (stations : List Station) (
 
       -- a link into the bridge: a batch of the cycle before was taken from it
       line_posted : (link : ℕ) (x : Line) → enters v.domain link bridge ≡ true →
-          IsLine v.domain is.net link (cycle_of_bridge after bridge) (sent_by v bridge) (sent_by v (bridge_of v.domain link)) (get_or lines link x)
+          IsLine v.domain is.net link (cycle_of_bridge after bridge) (sent_by_driven v bridge) (sent_by_driven v (bridge_of v.domain link)) (get_or lines link x)
       line_posted link x ends =
           let li = is.line link bridge x ends in
           let in_lines : link < length lines = omega (arith, link_ending v.domain bridge link ends, is.all_lines) in
@@ -320,80 +320,80 @@ module _ (v : WorldState) (tables : List CycleTable) (stations : List Station) (
             waiting = li.waiting;
           }
 
-      given_still : map given_of (set stations bridge z) ≡ v.given
-      given_still = count_kept given_of stations bridge s z here (ap given_of z_is) ∙ sym is.given_are
+      given_still : map given_of (set driven bridge z) ≡ v.given
+      given_still = count_kept given_of driven bridge s z here (ap given_of z_is) ∙ sym is.given_are
 
-      sent_still : map sent_of (set stations bridge z) ≡ v.sent
-      sent_still = count_kept sent_of stations bridge s z here (ap sent_of z_is) ∙ sym is.sent_are
+      sent_still : map sent_of_driven (set driven bridge z) ≡ v.sent
+      sent_still = count_kept sent_of_driven driven bridge s z here (ap sent_of_driven z_is) ∙ sym is.sent_are
 
       -- the world goes on
-      pub posted_goes_on : IsRunning after tables (set stations bridge z) lines
+      pub posted_goes_on : IsRunningWorld after tables (set driven bridge z) lines
       posted_goes_on = record {
         net = is.net;
         compiled = is.compiled;
         within_run = is.within_run;
         all_tables = is.all_tables;
         table = is.table;
-        all_stations = length-set stations bridge z ∙ is.all_stations;
+        all_driven = length-set driven bridge z ∙ is.all_driven;
         given_are = sym given_still;
         sent_are = sym sent_still;
-        station = each_with (λ k. IsStation (sealed_run v) (seals v.entries) is.net k (cycle_of_bridge after k) (links_taken after k)) stations bridge z inside
-            station_posted (λ other d in_stations differ.
-            subst (λ (n : ℕ). IsStation (sealed_run v) (seals v.entries) is.net other n
-            (filter (λ l. nat_lt n (taken_from v l)) (links_into v.domain other)) (get_or stations other d)) (cycle_there other differ)
-            (is.station other d in_stations));
+        bridge_driven = each_with (λ k. IsDriven (sealed_run v) (seals v.entries) is.net k (cycle_of_bridge after k) (links_taken after k)) driven bridge z inside
+            driven_posted (λ other d in_driven differ.
+            subst (λ (n : ℕ). IsDriven (sealed_run v) (seals v.entries) is.net other n
+            (filter (λ l. nat_lt n (taken_from v l)) (links_into v.domain other)) (get_or driven other d)) (cycle_there other differ)
+            (is.bridge_driven other d in_driven));
         all_lines = is.all_lines;
         taken_are = is.taken_are;
         line = λ link to x ends. elim (cases_eq to bridge) [
           | inl e ↦
-              subst (λ (k : ℕ). IsLine v.domain is.net link (cycle_of_bridge after k) (sent_by v k) (sent_by v (bridge_of v.domain link)) (get_or lines link x)) (sym e)
+              subst (λ (k : ℕ). IsLine v.domain is.net link (cycle_of_bridge after k) (sent_by_driven v k) (sent_by_driven v (bridge_of v.domain link)) (get_or lines link x)) (sym e)
               (line_posted link x (ap (enters v.domain link) (sym e) ∙ ends))
           | inr differ ↦
-              subst (λ (n : ℕ). IsLine v.domain is.net link n (sent_by v to) (sent_by v (bridge_of v.domain link)) (get_or lines link x)) (cycle_there to differ)
+              subst (λ (n : ℕ). IsLine v.domain is.net link n (sent_by_driven v to) (sent_by_driven v (bridge_of v.domain link)) (get_or lines link x)) (cycle_there to differ)
               (is.line link to x ends)
         ];
       }
 
-module _ (v : WorldState) (tables : List CycleTable) (stations : List Station) (lines : List Line) (old : WorldState) (old_same : v ≡ old)
-    (world : IsWorld v tables stations lines) (old_on : old.stopped ≡ false) (bridge place : ℕ) (s : Station) (at : place ≡ bridge)
-    (at_place : s ≡ get_or stations place s) where
+module _ (v : WorldState) (tables : List CycleTable) (driven : List Driven) (lines : List Line) (old : WorldState) (old_same : v ≡ old)
+    (world : IsWorld v tables driven lines) (old_on : old.stopped ≡ false) (bridge place : ℕ) (s : Driven) (at : place ≡ bridge)
+    (at_place : s ≡ get_or driven place s) where
   on : v.stopped ≡ false
   on = subst (λ (w : WorldState). w.stopped ≡ false) (sym old_same) old_on
 
-  run : IsRunning v tables stations lines
+  run : IsRunningWorld v tables driven lines
   run = world.running on
 
-  here_v : s ≡ get_or stations bridge s
-  here_v = at_place ∙ ap (λ (k : ℕ). get_or stations k s) at
+  here_v : s ≡ get_or driven bridge s
+  here_v = at_place ∙ ap (λ (k : ℕ). get_or driven k s) at
 
-  module _ (there : place < length stations) where
-    inside_v : bridge < length stations
+  module _ (there : place < length driven) where
+    inside_v : bridge < length driven
     inside_v = omega (arith, there, at)
 
     -- a bridge may post where the test says so
     pub may_post_so : (s.sent ≡ s.posted → ⊥) → (length s.taken.items == s.incoming) ≡ true → MayPost old bridge
     may_post_so sent all =
         subst (λ (w : WorldState). MayPost w bridge) old_same
-        (may_post v tables stations lines run bridge s inside_v here_v sent (eqb-true (length s.taken.items) s.incoming all))
+        (may_post v tables driven lines run bridge s inside_v here_v sent (eqb-true (length s.taken.items) s.incoming all))
 
     -- and not where it says no
     pub may_not_post : (length s.taken.items == s.incoming) ≡ false → MayPost old bridge → ⊥
     may_not_post none may =
-        let c = counts_post v tables stations lines run bridge s inside_v here_v (subst (λ (w : WorldState). MayPost w bridge) (sym old_same) may) in
+        let c = counts_post v tables driven lines run bridge s inside_v here_v (subst (λ (w : WorldState). MayPost w bridge) (sym old_same) may) in
         false≢true (sym none ∙ eq-eqb (length s.taken.items) s.incoming c.1)
 
   module _ (old_may : MayPost old bridge) where
     may_v : MayPost v bridge
     may_v = subst (λ (w : WorldState). MayPost w bridge) (sym old_same) old_may
 
-    in_stations : bridge < length stations
-    in_stations = omega (arith, may_v.inside, run.all_stations)
+    in_driven : bridge < length driven
+    in_driven = omega (arith, may_v.inside, run.all_driven)
 
-    of_station : IsStation (sealed_run v) (seals v.entries) run.net bridge (cycle_of_bridge v bridge) (links_taken v bridge) s
-    of_station = station_at v tables stations lines run bridge s in_stations here_v
+    of_driven : IsDriven (sealed_run v) (seals v.entries) run.net bridge (cycle_of_bridge v bridge) (links_taken v bridge) s
+    of_driven = driven_at v tables driven lines run bridge s in_driven here_v
 
     within_v : s.posted < seals v.entries
-    within_v = within v tables stations lines run bridge s in_stations here_v world may_v
+    within_v = within v tables driven lines run bridge s in_driven here_v world may_v
 
     -- the table of its cycle is there
     pub closed_so : s.posted < length tables
@@ -406,9 +406,9 @@ module _ (v : WorldState) (tables : List CycleTable) (stations : List Station) (
     -- its page is the next
     pub next_so : IsNextToPost v.pages s
     next_so = record {
-      inside = omega (arith, of_station.number, in_stations, run.all_stations, world.given.of_bridges);
+      inside = omega (arith, of_driven.number, in_driven, run.all_driven, world.given.of_bridges);
       of_cycles = omega (arith, within_v, run.within_run, world.given.of_cycles);
-      next = of_station.in_cycle ∙ ap (page_count v.pages) (sym of_station.number);
+      next = of_driven.in_cycle ∙ ap (page_count v.pages) (sym of_driven.number);
     }
 
     module _ (t : CycleTable) (tplace : ℕ) (tat : tplace ≡ s.posted) (at_tplace : t ≡ get_or tables tplace t) where
@@ -417,58 +417,58 @@ module _ (v : WorldState) (tables : List CycleTable) (stations : List Station) (
 
       pub may_receive_so : OffersAreOfTheBridge → ReceivesButForMemory → RunOfHistoryLosesNothing → MayReceiveItsCycle s t
       may_receive_so offers but_for_memory loses =
-          may_receive v tables stations lines run bridge s in_stations here_v world may_v offers but_for_memory loses t at_cycle
+          may_receive v tables driven lines run bridge s in_driven here_v world may_v offers but_for_memory loses t at_cycle
 
-      module _ (z : Station) (pages_after : Posted) (out : PostsOut s z t v.pages pages_after) (offers : OffersAreOfTheBridge) (receiving : ReceivingFollows) where
+      module _ (z : Driven) (pages_after : Posted) (out : PostsOut s z t v.pages pages_after) (offers : OffersAreOfTheBridge) (receiving : ReceivingFollows) where
         abbrev now_posted : Posted
         now_posted = with_page v.pages out.page
 
         abbrev world_posted : Posted → WorldState
-        world_posted pages = record v { pages = pages; given = map given_of (set stations bridge z); sent = map sent_of (set stations bridge z); stopped = false }
+        world_posted pages = record v { pages = pages; given = map given_of (set driven bridge z); sent = map sent_of_driven (set driven bridge z); stopped = false }
 
-        runs_on : IsRunning (record v { pages = now_posted }) tables (set stations bridge z) lines
-        runs_on = posted_goes_on v tables stations lines run bridge s in_stations here_v world may_v t at_cycle z pages_after out offers receiving
+        runs_on : IsRunningWorld (record v { pages = now_posted }) tables (set driven bridge z) lines
+        runs_on = posted_goes_on v tables driven lines run bridge s in_driven here_v world may_v t at_cycle z pages_after out offers receiving
 
         is_after : record v { pages = now_posted } ≡ world_posted now_posted
         is_after = λ i. record v { pages = now_posted; given = runs_on.given_are i; sent = runs_on.sent_are i; stopped = on i }
 
         of_cycle_so : out.page.cycle.0 ≡ cycle_of_bridge v bridge
-        of_cycle_so = of_cycle v tables stations lines run bridge s in_stations here_v world may_v t at_cycle z pages_after out offers receiving
+        of_cycle_so = of_cycle v tables driven lines run bridge s in_driven here_v world may_v t at_cycle z pages_after out offers receiving
 
         of_bridge_so : out.page.bridge ≡ bridge
-        of_bridge_so = of_bridge v tables stations lines run bridge s in_stations here_v world may_v t at_cycle z pages_after out offers receiving
+        of_bridge_so = of_bridge v tables driven lines run bridge s in_driven here_v world may_v t at_cycle z pages_after out offers receiving
 
-        is_next : IsNext v.pages out.page
+        is_next : IsNextPage v.pages out.page
         is_next = (
-          omega (arith, of_bridge_so, in_stations, run.all_stations, world.given.of_bridges),
-          omega (arith, of_cycle_so, of_station.in_cycle, within_v, run.within_run, world.given.of_cycles),
+          omega (arith, of_bridge_so, in_driven, run.all_driven, world.given.of_bridges),
+          omega (arith, of_cycle_so, of_driven.in_cycle, within_v, run.within_run, world.given.of_cycles),
           of_cycle_so ∙ ap (page_count v.pages) (sym of_bridge_so),
         )
 
         -- so the world stays one
-        pub posted_world : PageFollows → ThereAreSoManyTables → IsWorld (world_posted pages_after) tables (set stations bridge z) lines
+        pub posted_world : PageFollows → ThereAreSoManyTables → IsWorld (world_posted pages_after) tables (set driven bridge z) lines
         posted_world page_follows count =
-            subst (λ (p : Posted). IsWorld (world_posted p) tables (set stations bridge z) lines) (sym out.posted) (record {
-              given = given_as v v.entries now_posted (map given_of (set stations bridge z)) (map sent_of (set stations bridge z)) v.taken false world.given world.given.legal
+            subst (λ (p : Posted). IsWorld (world_posted p) tables (set driven bridge z) lines) (sym out.posted) (record {
+              given = given_as v v.entries now_posted (map given_of (set driven bridge z)) (map sent_of_driven (set driven bridge z)) v.taken false world.given world.given.legal
                   refl refl (next_posted v.pages out.page world.given.in_order is_next);
-              pages = pages_still v tables stations lines run bridge s in_stations here_v world may_v t at_cycle z pages_after out offers receiving page_follows count;
+              pages = pages_still v tables driven lines run bridge s in_driven here_v world may_v t at_cycle z pages_after out offers receiving page_follows count;
               sealed = λ b. elim (cases_eq b bridge) [
                 | inl e ↦
                     subst (λ (k : ℕ). cycle_of_bridge (record v { pages = now_posted }) k ≤ seals v.entries) (sym e)
                     (omega (
                       arith,
-                      cycle_here v tables stations lines run bridge s in_stations here_v world may_v t at_cycle z pages_after out offers receiving,
+                      cycle_here v tables driven lines run bridge s in_driven here_v world may_v t at_cycle z pages_after out offers receiving,
                       within_v,
-                      of_station.in_cycle,
+                      of_driven.in_cycle,
                     ))
                 | inr differ ↦
                     omega (
                       arith,
-                      cycle_there v tables stations lines run bridge s in_stations here_v world may_v t at_cycle z pages_after out offers receiving b differ,
+                      cycle_there v tables driven lines run bridge s in_driven here_v world may_v t at_cycle z pages_after out offers receiving b differ,
                       world.sealed b,
                     )
               ];
-              running = λ still. subst (λ (w : WorldState). IsRunning w tables (set stations bridge z) lines) is_after runs_on;
+              running = λ still. subst (λ (w : WorldState). IsRunningWorld w tables (set driven bridge z) lines) is_after runs_on;
             })
 
         -- and it is the same but for the page
@@ -482,15 +482,15 @@ module _ (v : WorldState) (tables : List CycleTable) (stations : List Station) (
             })
 
   -- where none is posted, no count changes
-  pub unposted_alone : (z : Station) (pages_after : Posted) → z.given ≡ s.given → z.sent ≡ s.sent → pages_after ≡ v.pages →
-      record v { pages = pages_after; given = map given_of (set stations bridge z); sent = map sent_of (set stations bridge z); stopped = true }
+  pub unposted_alone : (z : Driven) (pages_after : Posted) → z.given ≡ s.given → z.sent ≡ s.sent → pages_after ≡ v.pages →
+      record v { pages = pages_after; given = map given_of (set driven bridge z); sent = map sent_of_driven (set driven bridge z); stopped = true }
       ≡ record old { stopped = true }
   unposted_alone z pages_after given sent pages =
-      subst (λ (w : WorldState). record v { pages = pages_after; given = map given_of (set stations bridge z); sent = map sent_of (set stations bridge z); stopped = true }
+      subst (λ (w : WorldState). record v { pages = pages_after; given = map given_of (set driven bridge z); sent = map sent_of_driven (set driven bridge z); stopped = true }
       ≡ record w { stopped = true }) old_same
       (λ i. record v {
         pages = pages i;
-        given = (count_kept given_of stations bridge s z here_v given ∙ sym run.given_are) i;
-        sent = (count_kept sent_of stations bridge s z here_v sent ∙ sym run.sent_are) i;
+        given = (count_kept given_of driven bridge s z here_v given ∙ sym run.given_are) i;
+        sent = (count_kept sent_of_driven driven bridge s z here_v sent ∙ sym run.sent_are) i;
         stopped = true;
       })

@@ -18,11 +18,11 @@ use Rattle.cqf_model.specs.HistoryBook.{IsBookOfHistory}
 use Rattle.cqf_model.specs.Network.{Network, compiled_lists}
 use Rattle.cqf_model.proofs.Links.{bridge_within}
 use Rattle.cqf_laws_network.specs.NetworkLaws.{IsShorter, LegalNetworkExists, ShorterBookIsTheBeginning, book_before_cycle, drops_before_cycle, starts_before_cycle}
-use Rattle.cqf_laws_pages.specs.BridgeCycle.{IsCompiledNetwork}
-use Rattle.cqf_laws_pages.specs.RunSteps.{LongerRunKeepsItsCycles}
+use Rattle.cqf_laws_cycle.specs.BridgeCycle.{IsCompiledNetwork}
+use Rattle.cqf_laws_cycle.specs.RunSteps.{LongerRunKeepsItsCycles}
 use Rattle.cqf_laws_history.specs.HistoryLaws.{ThereAreSoManyTables}
 use Rattle.cqf_laws_history.specs.StateLaws.{SealsAreCounted, with_entry}
-use Rattle.cqf_laws_definitions.specs.TableLaws.{ClosedTablesStay}
+use Rattle.cqf_laws_history.specs.TableLaws.{ClosedTablesStay}
 use Rattle.cqf_admission.specs.Admission.{Administration}
 use Rattle.cqf_admission.specs.Tables.{CycleTable}
 use Rattle.cqf_book.specs.Pages.{pages_of}
@@ -32,11 +32,11 @@ use Rattle.cqf_bridge.specs.Receiving.{links_into}
 use Rattle.cqf_laws_bridge.specs.Cycles.{starts_of_batch}
 use Rattle.cqf_laws_bridge.specs.Follows.{batch_of}
 use Rattle.cqf_laws_bridge.specs.LongerRuns.{IsLonger, LongerRunIsFollowed, LongerRunIsFollowedHalfway}
-use Rattle.cqf_laws_course.proofs.LinkNumbers.{link_ending, link_into}
+use Rattle.cqf_laws_bridge.proofs.LinkNumbers.{link_ending, link_into}
 use Rattle.cqf_world.specs.declared.parts.Line.{Line}
-use Rattle.cqf_world.specs.declared.parts.Station.{Station}
-use Rattle.cqf_world.specs.Parts.{ClosesCycle, IsRunning, IsStation, IsWorld, links_taken, sent_of, taken_of}
-use Rattle.cqf_world.specs.World.{ArePagesOfTheBook, WorldState, cycle_of_bridge, sealed_run, sent_by, taken_from}
+use Rattle.cqf_world.specs.declared.parts.Driven.{Driven}
+use Rattle.cqf_world.specs.Parts.{ClosesInWorld, IsRunningWorld, IsDriven, IsWorld, links_taken, sent_of_driven, taken_of}
+use Rattle.cqf_world.specs.World.{ArePagesOfTheBook, WorldState, cycle_of_bridge, sealed_run, sent_by_driven, taken_from}
 use Rattle.cqf_world.proofs.Keeping.{given_entries}
 use Rattle.cqf_world.proofs.Standing.{count_at}
 
@@ -52,19 +52,19 @@ page_before d bridge cycle cycles book within =
     (λ x held passes. lt-ltb x.cycle.0 cycles (omega (arith, within, eqb-true x.cycle.0 cycle (and_parts (x.bridge == bridge) (x.cycle.0 == cycle) passes).1)))) in
     λ i. record { starts = starts book.starts i; background = starts book.background i; drops = drops i }
 
-module _ (v : WorldState) (tables : List CycleTable) (stations : List Station) (lines : List Line) (accepted : IsWorld v tables stations lines)
-    (is : IsRunning v tables stations lines) where
+module _ (v : WorldState) (tables : List CycleTable) (driven : List Driven) (lines : List Line) (accepted : IsWorld v tables driven lines)
+    (is : IsRunningWorld v tables driven lines) where
   -- no bridge has sent a cycle that isn't sealed
-  pub sent_sealed : (bridge : ℕ) → bridge < length stations → sent_by v bridge ≤ seals v.entries
+  pub sent_sealed : (bridge : ℕ) → bridge < length driven → sent_by_driven v bridge ≤ seals v.entries
   sent_sealed bridge inside =
-      elim (slice_get_cases stations bridge).1 [
-        | inl s ↦ (let st = is.station bridge s.0 inside in
-            omega (arith, count_at sent_of v.sent stations bridge s.0 is.sent_are inside, st.with_table, st.closed))
+      elim (slice_get_cases driven bridge).1 [
+        | inl s ↦ (let st = is.bridge_driven bridge s.0 inside in
+            omega (arith, count_at sent_of_driven v.sent driven bridge s.0 is.sent_are inside, st.with_table, st.closed))
         | inr s ↦ absurd (omega (arith, s.0, inside))
       ]
 
   -- a link of which a bridge has taken the batch of its cycle: the bridge has sent the cycle
-  pub taken_sent : (bridge l : ℕ) → Contains (links_taken v bridge) l → cycle_of_bridge v bridge < sent_by v bridge
+  pub taken_sent : (bridge l : ℕ) → Contains (links_taken v bridge) l → cycle_of_bridge v bridge < sent_by_driven v bridge
   taken_sent bridge l held =
       let k = contains_from_filter (λ m. nat_lt (cycle_of_bridge v bridge) (taken_from v m)) (links_into v.domain bridge) l held in
       let ends = link_into v.domain bridge l k.0 in
@@ -76,14 +76,14 @@ module _ (v : WorldState) (tables : List CycleTable) (stations : List Station) (
         | inr x ↦ absurd (omega (arith, x.0, inside))
       ]
 
-module _ (v : WorldState) (tables : List CycleTable) (stations : List Station) (lines : List Line) (entries : List Recorded) (table : CycleTable)
-    (world : IsWorld v tables stations lines) (goes_on : v.stopped ≡ false) (legal : IsLegalHistory v.domain entries)
+module _ (v : WorldState) (tables : List CycleTable) (driven : List Driven) (lines : List Line) (entries : List Recorded) (table : CycleTable)
+    (world : IsWorld v tables driven lines) (goes_on : v.stopped ≡ false) (legal : IsLegalHistory v.domain entries)
     (counted : seals entries ≡ seals v.entries + 1)
     (stay : (cycle : ℕ) → cycle < seals v.entries → table_at v.domain entries cycle ≡ table_at v.domain v.entries cycle)
     (of_cycle : table.cycle ≡ seals v.entries) (rows : table.rows ≡ table_at v.domain entries (seals v.entries)) (may : seals v.entries < v.cycles)
     (count : ThereAreSoManyTables) (shorter_book : ShorterBookIsTheBeginning) (exists : LegalNetworkExists) (keeps : LongerRunKeepsItsCycles)
     (longer : LongerRunIsFollowed) (longer_halfway : LongerRunIsFollowedHalfway) where
-  is : IsRunning v tables stations lines
+  is : IsRunningWorld v tables driven lines
   is = world.running goes_on
 
   abbrev more : WorldState
@@ -132,13 +132,13 @@ module _ (v : WorldState) (tables : List CycleTable) (stations : List Station) (
       some.1.legal in
       λ i. record { link = l; cycle = cycle; frames = sym (kept.sends l cycle within) i }
 
-  -- a station follows it
-  station_still : (bridge : ℕ) (s : Station) → bridge < length stations →
-      IsStation (sealed_run more) (seals entries) some.0 bridge (cycle_of_bridge v bridge) (links_taken v bridge) (get_or stations bridge s)
-  station_still bridge s inside =
-      let st = is.station bridge s inside in
-      let x = get_or stations bridge s in
-      let sent = count_at sent_of v.sent stations bridge s is.sent_are inside in
+  -- a driven bridge follows it
+  driven_still : (bridge : ℕ) (s : Driven) → bridge < length driven →
+      IsDriven (sealed_run more) (seals entries) some.0 bridge (cycle_of_bridge v bridge) (links_taken v bridge) (get_or driven bridge s)
+  driven_still bridge s inside =
+      let st = is.bridge_driven bridge s inside in
+      let x = get_or driven bridge s in
+      let sent = count_at sent_of_driven v.sent driven bridge s is.sent_are inside in
       record {
         in_cycle = st.in_cycle;
         not_behind = st.not_behind;
@@ -157,13 +157,13 @@ module _ (v : WorldState) (tables : List CycleTable) (stations : List Station) (
         taken = st.taken
             ∙ map_same (batch_of v.domain is.net.carried x.posted) (batch_of v.domain some.0.carried x.posted) (links_taken v bridge)
             (λ l held. batch_same l x.posted
-            (omega (arith, st.in_cycle, taken_sent v tables stations lines world is bridge l held, sent_sealed v tables stations lines world is bridge inside)));
+            (omega (arith, st.in_cycle, taken_sent v tables driven lines world is bridge l held, sent_sealed v tables driven lines world is bridge inside)));
         incoming = st.incoming;
         agenda = st.agenda;
       }
 
   -- and a world with the table goes on
-  pub sealed_goes_on : IsRunning more (tables ++ table ∷ []) stations lines
+  pub sealed_goes_on : IsRunningWorld more (tables ++ table ∷ []) driven lines
   sealed_goes_on = record {
     net = some.0;
     compiled = some.1;
@@ -180,31 +180,31 @@ module _ (v : WorldState) (tables : List CycleTable) (stations : List Station) (
           let same = get_or-append_right tables (table ∷ []) (length tables) cycle x refl g ∙ ap (λ (k : ℕ). get_or (table ∷ []) k x) first in
           (ap (λ (y : CycleTable). y.cycle) same ∙ of_cycle ∙ sym last, ap (λ (y : CycleTable). y.rows) same ∙ rows ∙ ap (table_at v.domain entries) (sym last))
     ];
-    all_stations = is.all_stations;
+    all_driven = is.all_driven;
     given_are = is.given_are;
     sent_are = is.sent_are;
-    station = station_still;
+    bridge_driven = driven_still;
     all_lines = is.all_lines;
     taken_are = is.taken_are;
     line = λ link to x ends.
         (let li = is.line link to x ends in
         let y = get_or lines link x in
         let from = bridge_of v.domain link in
-        let in_stations : from < length stations =
-        omega (arith, bridge_within v.domain link world.given.accepted (link_ending v.domain to link ends), is.all_stations) in
-        let upto = sent_sealed v tables stations lines world is from in_stations in
+        let in_driven : from < length driven =
+        omega (arith, bridge_within v.domain link world.given.accepted (link_ending v.domain to link ends), is.all_driven) in
+        let upto = sent_sealed v tables driven lines world is from in_driven in
         record {
           at_least = li.at_least;
           at_most = li.at_most;
           not_more = li.not_more;
           waiting = li.waiting
               ∙ same_below (λ k. batch_of v.domain is.net.carried (y.taken + k) link ∷ []) (λ k. batch_of v.domain some.0.carried (y.taken + k) link ∷ [])
-              (sent_by v from - y.taken)
+              (sent_by_driven v from - y.taken)
               (λ k within. ap (λ (b : LinkBatch). b ∷ []) (batch_same link (y.taken + k) (omega (arith, within, upto))));
         });
   }
 
-  pub sealed_world : IsWorld more (tables ++ table ∷ []) stations lines
+  pub sealed_world : IsWorld more (tables ++ table ∷ []) driven lines
   sealed_world = record {
     given = given_entries v entries world.given legal;
     pages = pages_still;
@@ -213,22 +213,22 @@ module _ (v : WorldState) (tables : List CycleTable) (stations : List Station) (
   }
 
 -- what a closed cycle leaves
-pub closed_world : (v : WorldState) (tables after : List CycleTable) (stations : List Station) (lines : List Line) (old new : Administration) (seat : ℕ) (was : WorldState) →
-    IsWorld v tables stations lines → v ≡ was → was.stopped ≡ false → seals was.entries < was.cycles → v.domain ≡ old.domain → v.entries ≡ old.entries →
-    ClosesCycle old new seat tables after → IsLegalHistory new.domain new.entries → SealsAreCounted → ClosedTablesStay → ThereAreSoManyTables →
+pub closed_world : (v : WorldState) (tables after : List CycleTable) (driven : List Driven) (lines : List Line) (old new : Administration) (seat : ℕ) (was : WorldState) →
+    IsWorld v tables driven lines → v ≡ was → was.stopped ≡ false → seals was.entries < was.cycles → v.domain ≡ old.domain → v.entries ≡ old.entries →
+    ClosesInWorld old new seat tables after → IsLegalHistory new.domain new.entries → SealsAreCounted → ClosedTablesStay → ThereAreSoManyTables →
     ShorterBookIsTheBeginning → LegalNetworkExists → LongerRunKeepsItsCycles → LongerRunIsFollowed → LongerRunIsFollowedHalfway →
-    IsWorld (record v { domain = new.domain; entries = new.entries }) after stations lines
-closed_world v tables after stations lines old new seat was world same was_on was_may domain entries closes legal counted stay count shorter_book exists keeps longer
+    IsWorld (record v { domain = new.domain; entries = new.entries }) after driven lines
+closed_world v tables after driven lines old new seat was world same was_on was_may domain entries closes legal counted stay count shorter_book exists keeps longer
     longer_halfway =
     let goes_on = subst (λ (w : WorldState). w.stopped ≡ false) (sym same) was_on in
     let may = subst (λ (w : WorldState). seals w.entries < w.cycles) (sym same) was_may in
     let same_domain : new.domain ≡ v.domain = closes.domain ∙ sym domain in
     let with_it = λ (es : List Recorded). with_entry es seat Seals Sealed in
     let is_more : new.entries ≡ with_it v.entries = closes.entries ∙ ap with_it (sym entries) in
-    subst (λ (d : Domain). IsWorld (record v { domain = d; entries = new.entries }) after stations lines) (sym same_domain)
-    (subst (λ (es : List Recorded). IsWorld (record v { entries = es }) after stations lines) (sym is_more)
-    (subst (λ (ts : List CycleTable). IsWorld (record v { entries = with_it v.entries }) ts stations lines) (sym closes.behind)
-    (sealed_world v tables stations lines (with_it v.entries) closes.table world goes_on
+    subst (λ (d : Domain). IsWorld (record v { domain = d; entries = new.entries }) after driven lines) (sym same_domain)
+    (subst (λ (es : List Recorded). IsWorld (record v { entries = es }) after driven lines) (sym is_more)
+    (subst (λ (ts : List CycleTable). IsWorld (record v { entries = with_it v.entries }) ts driven lines) (sym closes.behind)
+    (sealed_world v tables driven lines (with_it v.entries) closes.table world goes_on
     (subst (λ (es : List Recorded). IsLegalHistory v.domain es) is_more (subst (λ (d : Domain). IsLegalHistory d new.entries) same_domain legal))
     (counted v.entries seat Seals Sealed)
     (λ cycle within. stay v.domain v.entries seat Seals Sealed cycle within)

@@ -5,9 +5,9 @@ use Rattle.std.proofs.lemmas.List.{get_or-map, get_or-set_other, get_or-set_same
 use Rattle.cqf_model.specs.History.{seals}
 use Rattle.cqf_admission.specs.Tables.{CycleTable}
 use Rattle.cqf_world.specs.declared.parts.Line.{Line}
-use Rattle.cqf_world.specs.declared.parts.Station.{Station}
-use Rattle.cqf_world.specs.Parts.{IsRunning, IsStation, given_of, links_taken, sent_of}
-use Rattle.cqf_world.specs.World.{WorldState, cycle_of_bridge, given_to, sealed_run, sent_by}
+use Rattle.cqf_world.specs.declared.parts.Driven.{Driven}
+use Rattle.cqf_world.specs.Parts.{IsRunningWorld, IsDriven, given_of, links_taken, sent_of_driven}
+use Rattle.cqf_world.specs.World.{WorldState, cycle_of_bridge, given_to, sealed_run, sent_by_driven}
 
 module _ {X : Type 0} (count : X → ℕ) where
   -- the count of one part
@@ -35,15 +35,15 @@ each_with {X} P xs k y inside new others other d within = elim (cases_eq other k
       subst (λ (x : X). P other x) (sym (get_or-set_other xs k other y d differ)) (others other d (omega (arith, within, length-set xs k y)) differ)
 ]
 
--- a station at its place, and its counts
-module _ (v : WorldState) (tables : List CycleTable) (stations : List Station) (lines : List Line) (is : IsRunning v tables stations lines) (bridge : ℕ)
-    (s : Station) (inside : bridge < length stations) (here : s ≡ get_or stations bridge s) where
-  pub station_at : IsStation (sealed_run v) (seals v.entries) is.net bridge (cycle_of_bridge v bridge) (links_taken v bridge) s
-  station_at =
-      subst (IsStation (sealed_run v) (seals v.entries) is.net bridge (cycle_of_bridge v bridge) (links_taken v bridge)) (sym here) (is.station bridge s inside)
+-- a driven bridge at its place, and its counts
+module _ (v : WorldState) (tables : List CycleTable) (driven : List Driven) (lines : List Line) (is : IsRunningWorld v tables driven lines) (bridge : ℕ)
+    (s : Driven) (inside : bridge < length driven) (here : s ≡ get_or driven bridge s) where
+  pub driven_at : IsDriven (sealed_run v) (seals v.entries) is.net bridge (cycle_of_bridge v bridge) (links_taken v bridge) s
+  driven_at =
+      subst (IsDriven (sealed_run v) (seals v.entries) is.net bridge (cycle_of_bridge v bridge) (links_taken v bridge)) (sym here) (is.bridge_driven bridge s inside)
 
-  pub sent_at : sent_by v bridge ≡ s.sent
-  sent_at = count_at sent_of v.sent stations bridge s is.sent_are inside ∙ ap sent_of (sym here)
+  pub sent_at : sent_by_driven v bridge ≡ s.sent
+  sent_at = count_at sent_of_driven v.sent driven bridge s is.sent_are inside ∙ ap sent_of_driven (sym here)
 
   pub given_at : given_to v bridge ≡ s.given
-  given_at = count_at given_of v.given stations bridge s is.given_are inside ∙ ap given_of (sym here)
+  given_at = count_at given_of v.given driven bridge s is.given_are inside ∙ ap given_of (sym here)

@@ -13,7 +13,7 @@ use Rattle.cqf_model.specs.History.{IsLegalHistory, seals}
 use Rattle.cqf_model.specs.Network.{Network, compiled_lists}
 use Rattle.cqf_model.specs.Run.{AreBackground, AreOffers}
 use Rattle.cqf_laws_network.specs.NetworkLaws.{LegalNetworkExists}
-use Rattle.cqf_laws_pages.specs.BridgeCycle.{IsCompiledNetwork}
+use Rattle.cqf_laws_cycle.specs.BridgeCycle.{IsCompiledNetwork}
 use Rattle.cqf_admission.specs.Admission.{Administration}
 use Rattle.cqf_admission.specs.Tables.{CycleTable}
 use Rattle.cqf_book.specs.Pages.{ArePosted, Posted, page_count, pages_of}
@@ -21,12 +21,12 @@ use Rattle.cqf_bridge.specs.BridgeState.{BridgeState}
 use Rattle.cqf_bridge.specs.Receiving.{links_into}
 use Rattle.cqf_laws_bridge.specs.Cycles.{NewBridgeFollows}
 use Rattle.cqf_laws_bridge.specs.Follows.{FollowsTheNetwork, batch_of}
-use Rattle.cqf_laws_course.proofs.LinkNumbers.{link_ending}
+use Rattle.cqf_laws_bridge.proofs.LinkNumbers.{link_ending}
 use Rattle.cqf_world.specs.declared.parts.Line.{Line}
-use Rattle.cqf_world.specs.declared.parts.Station.{Station}
-use Rattle.cqf_world.specs.Beginning.{AreNewLines, AreNewStations, IsNewStation, new_world, no_pages}
-use Rattle.cqf_world.specs.Parts.{IsLine, IsRunning, IsStation, IsWorld, given_of, links_taken, sent_of, taken_of, under_way}
-use Rattle.cqf_world.specs.World.{WorldState, cycle_of_bridge, sealed_run, sent_by, taken_from}
+use Rattle.cqf_world.specs.declared.parts.Driven.{Driven}
+use Rattle.cqf_world.specs.Beginning.{AreNewLines, AreNewDriven, IsNewDriven, new_world, no_pages}
+use Rattle.cqf_world.specs.Parts.{IsLine, IsRunningWorld, IsDriven, IsWorld, given_of, links_taken, sent_of_driven, taken_of, under_way}
+use Rattle.cqf_world.specs.World.{WorldState, cycle_of_bridge, sealed_run, sent_by_driven, taken_from}
 
 -- a count that is nothing of each is nothing at each place
 none_of_each : {X : Type 0} (count : X → ℕ) (xs : List X) (n : ℕ) → length xs ≡ n → ((k : ℕ) (x : X) → k < n → count (get_or xs k x) ≡ 0) →
@@ -68,16 +68,16 @@ none_posted bridges cycles few_bridges few_cycles = record {
   ));
 }
 
-module _ (w : WorldState) (stations : List Station) (lines : List Line) (accepted : IsAccepted w.domain) (no_seal : seals w.entries ≡ 0)
+module _ (w : WorldState) (driven : List Driven) (lines : List Line) (accepted : IsAccepted w.domain) (no_seal : seals w.entries ≡ 0)
     (pages : w.pages ≡ no_pages (length w.domain.bridges) w.cycles)
-    (given : w.given ≡ map given_of stations) (sent : w.sent ≡ map sent_of stations) (taken : w.taken ≡ map taken_of lines)
-    (new : AreNewStations w.domain w.offers w.background (length w.domain.bridges) stations) (new_lines : AreNewLines (length w.domain.links) lines) where
+    (given : w.given ≡ map given_of driven) (sent : w.sent ≡ map sent_of_driven driven) (taken : w.taken ≡ map taken_of lines)
+    (new : AreNewDriven w.domain w.offers w.background (length w.domain.bridges) driven) (new_lines : AreNewLines (length w.domain.links) lines) where
   -- nothing was given, sent or taken
   pub none_given : w.given ≡ replicate (length w.domain.bridges) 0
-  none_given = given ∙ none_of_each given_of stations (length w.domain.bridges) new.one_each (λ k s inside. (new.each k s inside).no_table)
+  none_given = given ∙ none_of_each given_of driven (length w.domain.bridges) new.one_each (λ k s inside. (new.each k s inside).no_table)
 
   pub none_sent : w.sent ≡ replicate (length w.domain.bridges) 0
-  none_sent = sent ∙ none_of_each sent_of stations (length w.domain.bridges) new.one_each (λ k s inside. (new.each k s inside).none_sent)
+  none_sent = sent ∙ none_of_each sent_of_driven driven (length w.domain.bridges) new.one_each (λ k s inside. (new.each k s inside).none_sent)
 
   pub none_taken : w.taken ≡ replicate (length w.domain.links) 0
   none_taken = taken ∙ none_of_each taken_of lines (length w.domain.links) new_lines.one_each new_lines.none_taken
@@ -86,7 +86,7 @@ module _ (w : WorldState) (stations : List Station) (lines : List Line) (accepte
   in_cycle_0 bridge =
       ap (λ (p : Posted). page_count p bridge) pages ∙ ap (λ (ps : List Page). length ps) (no_page (length w.domain.bridges) w.cycles bridge)
 
-  sent_none : (bridge : ℕ) → sent_by w bridge ≡ 0
+  sent_none : (bridge : ℕ) → sent_by_driven w bridge ≡ 0
   sent_none bridge = ap (λ (ns : List ℕ). get_or ns bridge 0) none_sent ∙ same_at (length w.domain.bridges) bridge 0
 
   taken_none : (link : ℕ) → taken_from w link ≡ 0
@@ -98,9 +98,9 @@ module _ (w : WorldState) (stations : List Station) (lines : List Line) (accepte
       (λ l held. le-ltb (cycle_of_bridge w bridge) (taken_from w l) (omega (arith, taken_none l)))
 
   -- each bridge follows the network
-  station_begins : (net : Network) → NewBridgeFollows → (bridge : ℕ) (s : Station) → bridge < length w.domain.bridges →
-      IsNewStation w.domain w.offers w.background bridge s → IsStation (sealed_run w) (seals w.entries) net bridge (cycle_of_bridge w bridge) (links_taken w bridge) s
-  station_begins net follows bridge s inside is = record {
+  driven_begins : (net : Network) → NewBridgeFollows → (bridge : ℕ) (s : Driven) → bridge < length w.domain.bridges →
+      IsNewDriven w.domain w.offers w.background bridge s → IsDriven (sealed_run w) (seals w.entries) net bridge (cycle_of_bridge w bridge) (links_taken w bridge) s
+  driven_begins net follows bridge s inside is = record {
     in_cycle = is.none_posted ∙ sym (in_cycle_0 bridge);
     not_behind = omega (arith, is.none_posted);
     with_table = omega (arith, is.none_sent);
@@ -118,10 +118,10 @@ module _ (w : WorldState) (stations : List Station) (lines : List Line) (accepte
 
   -- and nothing is under way
   line_begins : (net : Network) (link bridge : ℕ) (x : Line) → link < length w.domain.links → (get_or lines link x).taken ≡ 0 → (get_or lines link x).waiting.items ≡ [] →
-      IsLine w.domain net link (cycle_of_bridge w bridge) (sent_by w bridge) (sent_by w (bridge_of w.domain link)) (get_or lines link x)
+      IsLine w.domain net link (cycle_of_bridge w bridge) (sent_by_driven w bridge) (sent_by_driven w (bridge_of w.domain link)) (get_or lines link x)
   line_begins net link bridge x inside counted waits =
       let from = bridge_of w.domain link in
-      let none : sent_by w from - (get_or lines link x).taken ≡ 0 = omega (arith, sent_none from) in
+      let none : sent_by_driven w from - (get_or lines link x).taken ≡ 0 = omega (arith, sent_none from) in
       record {
         at_least = omega (arith, in_cycle_0 bridge);
         at_most = omega (arith, counted);
@@ -137,19 +137,19 @@ module _ (w : WorldState) (stations : List Station) (lines : List Line) (accepte
         let n = exists (sealed_run w) (compiled_lists w.domain) (seals w.entries) in
         (n.0, record { accepted = accepted; legal = n.1 })
 
-    begins_running : IsRunning w [] stations lines
+    begins_running : IsRunningWorld w [] driven lines
     begins_running = record {
       net = some.0;
       compiled = some.1;
       within_run = omega (arith, no_seal);
       all_tables = sym no_seal;
       table = λ cycle x inside. absurd (omega (arith, inside));
-      all_stations = new.one_each;
+      all_driven = new.one_each;
       given_are = given;
       sent_are = sent;
-      station = λ bridge s inside.
+      bridge_driven = λ bridge s inside.
           (let within : bridge < length w.domain.bridges = omega (arith, inside, new.one_each) in
-          station_begins some.0 follows bridge (get_or stations bridge s) within (new.each bridge s within));
+          driven_begins some.0 follows bridge (get_or driven bridge s) within (new.each bridge s within));
       all_lines = new_lines.one_each;
       taken_are = taken;
       line = λ link bridge x ends.
@@ -158,7 +158,7 @@ module _ (w : WorldState) (stations : List Station) (lines : List Line) (accepte
     }
 
     -- so it is a world
-    pub begins : IsWorld w [] stations lines
+    pub begins : IsWorld w [] driven lines
     begins = record {
       given = record {
         accepted = accepted;
@@ -177,9 +177,9 @@ module _ (w : WorldState) (stations : List Station) (lines : List Line) (accepte
 
 -- the world of an admission without Seals, which is for the plan's domain
 module _ (a : Administration) (plan at : Domain) (offers : List Offer) (background : List Background) (cycles bridges : ℕ) (pages : Posted)
-    (stations : List Station) (lines : List Line) (same : a.domain ≡ plan) (value : at ≡ plan) (accepted : IsAccepted plan) (no_seal : seals a.entries ≡ 0)
+    (driven : List Driven) (lines : List Line) (same : a.domain ≡ plan) (value : at ≡ plan) (accepted : IsAccepted plan) (no_seal : seals a.entries ≡ 0)
     (many : bridges ≡ length at.bridges) (posted : pages ≡ no_pages bridges cycles)
-    (new : AreNewStations plan offers background (length plan.bridges) stations) (new_lines : AreNewLines (length at.links) lines) where
+    (new : AreNewDriven plan offers background (length plan.bridges) driven) (new_lines : AreNewLines (length at.links) lines) where
   abbrev made : WorldState
   made = record {
     domain = a.domain;
@@ -188,8 +188,8 @@ module _ (a : Administration) (plan at : Domain) (offers : List Offer) (backgrou
     cycles = cycles;
     entries = a.entries;
     pages = pages;
-    given = map given_of stations;
-    sent = map sent_of stations;
+    given = map given_of driven;
+    sent = map sent_of_driven driven;
     taken = map taken_of lines;
     stopped = false;
   }
@@ -200,8 +200,8 @@ module _ (a : Administration) (plan at : Domain) (offers : List Offer) (backgrou
   pages_are : pages ≡ no_pages (length a.domain.bridges) cycles
   pages_are = posted ∙ ap (λ (n : ℕ). no_pages n cycles) (many ∙ ap (λ (d : Domain). length d.bridges) (value ∙ sym same))
 
-  stations_are : AreNewStations a.domain offers background (length a.domain.bridges) stations
-  stations_are = subst (λ (d : Domain). AreNewStations d offers background (length d.bridges) stations) (sym same) new
+  driven_are : AreNewDriven a.domain offers background (length a.domain.bridges) driven
+  driven_are = subst (λ (d : Domain). AreNewDriven d offers background (length d.bridges) driven) (sym same) new
 
   lines_are : AreNewLines (length a.domain.links) lines
   lines_are = subst (λ (d : Domain). AreNewLines (length d.links) lines) (value ∙ sym same) new_lines
@@ -209,9 +209,9 @@ module _ (a : Administration) (plan at : Domain) (offers : List Offer) (backgrou
   -- it is the one that it is to be
   pub is_new : made ≡ new_world a offers background cycles
   is_new =
-      let given = none_given made stations lines own_accepted no_seal pages_are refl refl refl stations_are lines_are in
-      let sent = none_sent made stations lines own_accepted no_seal pages_are refl refl refl stations_are lines_are in
-      let taken = none_taken made stations lines own_accepted no_seal pages_are refl refl refl stations_are lines_are in
+      let given = none_given made driven lines own_accepted no_seal pages_are refl refl refl driven_are lines_are in
+      let sent = none_sent made driven lines own_accepted no_seal pages_are refl refl refl driven_are lines_are in
+      let taken = none_taken made driven lines own_accepted no_seal pages_are refl refl refl driven_are lines_are in
       λ i. record {
         domain = a.domain;
         offers = offers;
@@ -227,9 +227,9 @@ module _ (a : Administration) (plan at : Domain) (offers : List Offer) (backgrou
 
   -- and it is a world
   pub is_world : IsLegalHistory a.domain a.entries → AreOffers plan offers → AreBackground plan background → cycles ≤ 100000 → LegalNetworkExists → NewBridgeFollows →
-      (tables : List CycleTable) → tables ≡ [] → IsWorld made tables stations lines
+      (tables : List CycleTable) → tables ≡ [] → IsWorld made tables driven lines
   is_world legal are_offers are_background few exists follows tables none =
-      subst (λ (ts : List CycleTable). IsWorld made ts stations lines) (sym none)
-      (begins made stations lines own_accepted no_seal pages_are refl refl refl stations_are lines_are legal
+      subst (λ (ts : List CycleTable). IsWorld made ts driven lines) (sym none)
+      (begins made driven lines own_accepted no_seal pages_are refl refl refl driven_are lines_are legal
       (subst (λ (d : Domain). AreOffers d offers) (sym same) are_offers) (subst (λ (d : Domain). AreBackground d background) (sym same) are_background)
       few refl exists follows)

@@ -15,21 +15,21 @@ use Rattle.cqf_model.specs.Domain.{Domain, bridge_of, enters, leaves}
 use Rattle.cqf_model.specs.History.{seals}
 use Rattle.cqf_model.specs.Network.{Network}
 use Rattle.cqf_model.specs.Traffic.{Carried}
-use Rattle.cqf_laws_pages.specs.Gathered.{backed_for}
+use Rattle.cqf_laws_cycle.specs.Gathered.{backed_for}
 use Rattle.cqf_admission.specs.Tables.{CycleTable}
 use Rattle.cqf_bridge.specs.Batch.{LinkBatch}
 use Rattle.cqf_bridge.specs.BridgeState.{AreBackedOf, IsNextToSend, SendsCycle, links_from}
 use Rattle.cqf_laws_bridge.specs.Cycles.{BackgroundIsOfTheBridge, GivesTheBatches, SendingFollows, starts_of_batch}
 use Rattle.cqf_laws_bridge.specs.Follows.{batch_of, batches_from}
-use Rattle.cqf_laws_course.proofs.LinkNumbers.{link_ending}
+use Rattle.cqf_laws_bridge.proofs.LinkNumbers.{link_ending}
 use Rattle.cqf_world.specs.declared.parts.Line.{Line}
-use Rattle.cqf_world.specs.declared.parts.Station.{Station}
-use Rattle.cqf_agenda.specs.Agenda.{background_at}
+use Rattle.cqf_world.specs.declared.parts.Driven.{Driven}
+use Rattle.cqf_bridge_turn.specs.Agenda.{background_at}
 use Rattle.cqf_world.specs.Events.{MayStep}
-use Rattle.cqf_world.specs.Parts.{AreComing, IsLine, IsRunning, IsStation, IsWorld, SendsItsCycle, SendsOut, given_of, links_taken, sent_of, taken_of, under_way}
-use Rattle.cqf_world.specs.World.{WorldState, cycle_of_bridge, sealed_run, sent_by}
+use Rattle.cqf_world.specs.Parts.{AreComing, IsLine, IsRunningWorld, IsDriven, IsWorld, SendsItsCycle, SendsOut, given_of, links_taken, sent_of_driven, taken_of, under_way}
+use Rattle.cqf_world.specs.World.{WorldState, cycle_of_bridge, sealed_run, sent_by_driven}
 use Rattle.cqf_world.proofs.Keeping.{given_counts}
-use Rattle.cqf_world.proofs.Standing.{count_kept, each_with, given_at, sent_at, station_at}
+use Rattle.cqf_world.proofs.Standing.{count_kept, each_with, given_at, sent_at, driven_at}
 
 -- what a bridge sends on a link that leaves it
 sent_on : (d : Domain) (carried : Carried) (bridge cycle l : ℕ) → l < length d.links →
@@ -64,21 +64,21 @@ one_longer d net link from upto le =
     let n : suc (upto - from) ≡ upto + 1 - from = omega (arith, le) in
     ap (λ (c : ℕ). under_way d net link from (upto - from) ++ batch_of d net.carried c link ∷ []) (sym e) ∙ ap (under_way d net link from) n
 
-module _ (v : WorldState) (tables : List CycleTable) (stations : List Station) (lines : List Line) (is : IsRunning v tables stations lines) (bridge : ℕ)
-    (s : Station) (inside : bridge < length stations) (here : s ≡ get_or stations bridge s) where
-  st : IsStation (sealed_run v) (seals v.entries) is.net bridge (cycle_of_bridge v bridge) (links_taken v bridge) s
-  st = station_at v tables stations lines is bridge s inside here
+module _ (v : WorldState) (tables : List CycleTable) (driven : List Driven) (lines : List Line) (is : IsRunningWorld v tables driven lines) (bridge : ℕ)
+    (s : Driven) (inside : bridge < length driven) (here : s ≡ get_or driven bridge s) where
+  st : IsDriven (sealed_run v) (seals v.entries) is.net bridge (cycle_of_bridge v bridge) (links_taken v bridge) s
+  st = driven_at v tables driven lines is bridge s inside here
 
-  sent_is : sent_by v bridge ≡ s.sent
-  sent_is = sent_at v tables stations lines is bridge s inside here
+  sent_is : sent_by_driven v bridge ≡ s.sent
+  sent_is = sent_at v tables driven lines is bridge s inside here
 
   given_is : get_or v.given bridge 0 ≡ s.given
-  given_is = given_at v tables stations lines is bridge s inside here
+  given_is = given_at v tables driven lines is bridge s inside here
 
   -- a bridge may send its cycle where its counts say so
   pub may_step : (s.given ≡ s.posted → ⊥) → s.sent ≡ s.posted → MayStep v bridge
   may_step given sent = record {
-    inside = omega (arith, inside, is.all_stations);
+    inside = omega (arith, inside, is.all_driven);
     has_table = omega (arith, given_is, given, sent, st.with_table, st.not_ahead, st.in_cycle);
     not_sent = omega (arith, sent_is, sent, st.in_cycle);
   }
@@ -101,8 +101,8 @@ module _ (v : WorldState) (tables : List CycleTable) (stations : List Station) (
     frames_are : background_at s.agenda s.posted ≡ backed_for v.domain v.background s.bridge.number s.posted
     frames_are = st.agenda.background_are s.posted ∙ ap (λ (b : ℕ). backed_for v.domain v.background b s.posted) (sym st.number)
 
-    module _ (z : Station) (w : List Line) (out : SendsOut v.domain s z lines w) (sending : SendingFollows) where
-      abbrev u : Station
+    module _ (z : Driven) (w : List Line) (out : SendsOut v.domain s z lines w) (sending : SendingFollows) where
+      abbrev u : Driven
       u = out.between
 
       abbrev batches : List LinkBatch
@@ -115,7 +115,7 @@ module _ (v : WorldState) (tables : List CycleTable) (stations : List Station) (
       coming = out.coming
 
       z_is : z ≡ record s { bridge = u.bridge; starts = u.starts; sent = s.posted + 1 }
-      z_is = out.counted ∙ ap (λ (k : Station). record k { sent = s.posted + 1 }) out.sends.same
+      z_is = out.counted ∙ ap (λ (k : Driven). record k { sent = s.posted + 1 }) out.sends.same
 
       g : GivesTheBatches (sealed_run v) s.posted is.net s.bridge u.bridge [] batches
       g = sending (sealed_run v) (seals v.entries) s.posted is.net s.bridge u.bridge [] batches (record {
@@ -129,34 +129,34 @@ module _ (v : WorldState) (tables : List CycleTable) (stations : List Station) (
       batches_are : batches ≡ batches_from v.domain is.net.carried bridge s.posted
       batches_are = g.batches ∙ ap (λ (b : ℕ). batches_from v.domain is.net.carried b s.posted) st.number
 
-      abbrev stations_after : List Station
-      stations_after = set stations bridge z
+      abbrev driven_after : List Driven
+      driven_after = set driven bridge z
 
       abbrev after : WorldState
-      after = record v { sent = map sent_of stations_after }
+      after = record v { sent = map sent_of_driven driven_after }
 
-      sent_here : sent_by after bridge ≡ s.posted + 1
+      sent_here : sent_by_driven after bridge ≡ s.posted + 1
       sent_here =
-          ap (λ (ns : List ℕ). get_or ns bridge 0) (map-set sent_of stations bridge z)
-          ∙ get_or-set_same (map sent_of stations) bridge (sent_of z) 0 (omega (arith, inside, length-map stations sent_of))
-          ∙ ap sent_of z_is
+          ap (λ (ns : List ℕ). get_or ns bridge 0) (map-set sent_of_driven driven bridge z)
+          ∙ get_or-set_same (map sent_of_driven driven) bridge (sent_of_driven z) 0 (omega (arith, inside, length-map driven sent_of_driven))
+          ∙ ap sent_of_driven z_is
 
-      sent_there : (other : ℕ) → (other ≡ bridge → ⊥) → sent_by after other ≡ sent_by v other
+      sent_there : (other : ℕ) → (other ≡ bridge → ⊥) → sent_by_driven after other ≡ sent_by_driven v other
       sent_there other differ =
-          ap (λ (ns : List ℕ). get_or ns other 0) (map-set sent_of stations bridge z)
-          ∙ get_or-set_other (map sent_of stations) bridge other (sent_of z) 0 differ
+          ap (λ (ns : List ℕ). get_or ns other 0) (map-set sent_of_driven driven bridge z)
+          ∙ get_or-set_other (map sent_of_driven driven) bridge other (sent_of_driven z) 0 differ
           ∙ ap (λ (ns : List ℕ). get_or ns other 0) (sym is.sent_are)
 
-      no_less : (other : ℕ) → sent_by v other ≤ sent_by after other
+      no_less : (other : ℕ) → sent_by_driven v other ≤ sent_by_driven after other
       no_less other = elim (cases_eq other bridge) [
-        | inl e ↦ subst (λ (k : ℕ). sent_by v k ≤ sent_by after k) (sym e) (omega (arith, sent_here, sent_is, (counts_step may).1))
+        | inl e ↦ subst (λ (k : ℕ). sent_by_driven v k ≤ sent_by_driven after k) (sym e) (omega (arith, sent_here, sent_is, (counts_step may).1))
         | inr differ ↦ omega (arith, sent_there other differ)
       ]
 
       -- the bridge that sent
-      station_sent : IsStation (sealed_run v) (seals v.entries) is.net bridge (cycle_of_bridge v bridge) (links_taken v bridge) z
-      station_sent =
-          subst (IsStation (sealed_run v) (seals v.entries) is.net bridge (cycle_of_bridge v bridge) (links_taken v bridge)) (sym z_is)
+      driven_sent : IsDriven (sealed_run v) (seals v.entries) is.net bridge (cycle_of_bridge v bridge) (links_taken v bridge) z
+      driven_sent =
+          subst (IsDriven (sealed_run v) (seals v.entries) is.net bridge (cycle_of_bridge v bridge) (links_taken v bridge)) (sym z_is)
           (record {
             in_cycle = st.in_cycle;
             not_behind = omega arith;
@@ -175,7 +175,7 @@ module _ (v : WorldState) (tables : List CycleTable) (stations : List Station) (
 
       -- a link
       line_coming : (link to : ℕ) (x : Line) → enters v.domain link to ≡ true →
-          IsLine v.domain is.net link (cycle_of_bridge v to) (sent_by after to) (sent_by after (bridge_of v.domain link)) (get_or w link x)
+          IsLine v.domain is.net link (cycle_of_bridge v to) (sent_by_driven after to) (sent_by_driven after (bridge_of v.domain link)) (get_or w link x)
       line_coming link to x ends =
           let li = is.line link to x ends in
           let from = bridge_of v.domain link in
@@ -187,132 +187,132 @@ module _ (v : WorldState) (tables : List CycleTable) (stations : List Station) (
           ∙ ap (λ (ns : List ℕ). get_or ns link 0) coming.counts
           ∙ get_or-map taken_of lines link x 0 in_lines in
           let put = coming.behind link to x ends ∙ ap (λ (ys : List LinkBatch). ys ++ filter (λ (b : LinkBatch). b.link == link) batches) li.waiting
-          ∙ ap (λ (bs : List LinkBatch). under_way v.domain is.net link before.taken (sent_by v from - before.taken) ++ filter (λ (b : LinkBatch). b.link == link) bs) batches_are
-          ∙ ap (λ (bs : List LinkBatch). under_way v.domain is.net link before.taken (sent_by v from - before.taken) ++ bs)
+          ∙ ap (λ (bs : List LinkBatch). under_way v.domain is.net link before.taken (sent_by_driven v from - before.taken) ++ filter (λ (b : LinkBatch). b.link == link) bs) batches_are
+          ∙ ap (λ (bs : List LinkBatch). under_way v.domain is.net link before.taken (sent_by_driven v from - before.taken) ++ bs)
           (sent_on v.domain is.net.carried bridge s.posted link in_links
           ∙ ap (λ (b : Bool). if b then batch_of v.domain is.net.carried s.posted link ∷ [] else []) (leaves_one v.domain link bridge in_links)) in
-          let waiting : (get_or w link x).waiting.items ≡ under_way v.domain is.net link before.taken (sent_by after from - before.taken) = elim (cases_eq from bridge) [
+          let waiting : (get_or w link x).waiting.items ≡ under_way v.domain is.net link before.taken (sent_by_driven after from - before.taken) = elim (cases_eq from bridge) [
             | inl e ↦
-                let old : sent_by v from ≡ s.posted = ap (sent_by v) e ∙ sent_is ∙ (counts_step may).1 in
-                let new : s.posted + 1 ≡ sent_by after from = sym (ap (sent_by after) e ∙ sent_here) in
+                let old : sent_by_driven v from ≡ s.posted = ap (sent_by_driven v) e ∙ sent_is ∙ (counts_step may).1 in
+                let new : s.posted + 1 ≡ sent_by_driven after from = sym (ap (sent_by_driven after) e ∙ sent_here) in
                 put
-                ∙ ap (λ (b : Bool). under_way v.domain is.net link before.taken (sent_by v from - before.taken) ++ (if b then batch_of v.domain is.net.carried s.posted link ∷ [] else []))
+                ∙ ap (λ (b : Bool). under_way v.domain is.net link before.taken (sent_by_driven v from - before.taken) ++ (if b then batch_of v.domain is.net.carried s.posted link ∷ [] else []))
                 (eq-eqb from bridge e)
                 ∙ ap (λ (n : ℕ). under_way v.domain is.net link before.taken (n - before.taken) ++ batch_of v.domain is.net.carried s.posted link ∷ []) old
                 ∙ one_longer v.domain is.net link before.taken s.posted (omega (arith, li.not_more, old))
                 ∙ ap (λ (n : ℕ). under_way v.domain is.net link before.taken (n - before.taken)) new
             | inr differ ↦
                 put
-                ∙ ap (λ (b : Bool). under_way v.domain is.net link before.taken (sent_by v from - before.taken) ++ (if b then batch_of v.domain is.net.carried s.posted link ∷ [] else []))
+                ∙ ap (λ (b : Bool). under_way v.domain is.net link before.taken (sent_by_driven v from - before.taken) ++ (if b then batch_of v.domain is.net.carried s.posted link ∷ [] else []))
                 (ne_eqb from bridge differ)
-                ∙ append-nil (under_way v.domain is.net link before.taken (sent_by v from - before.taken))
+                ∙ append-nil (under_way v.domain is.net link before.taken (sent_by_driven v from - before.taken))
                 ∙ ap (λ (n : ℕ). under_way v.domain is.net link before.taken (n - before.taken)) (sym (sent_there from differ))
           ] in
           record {
             at_least = omega (arith, same_count, li.at_least);
             at_most = omega (arith, same_count, li.at_most, no_less to);
             not_more = omega (arith, same_count, li.not_more, no_less from);
-            waiting = waiting ∙ ap (λ (n : ℕ). under_way v.domain is.net link n (sent_by after from - n)) (sym same_count);
+            waiting = waiting ∙ ap (λ (n : ℕ). under_way v.domain is.net link n (sent_by_driven after from - n)) (sym same_count);
           }
 
       -- the world goes on
-      pub sent_goes_on : IsRunning after tables stations_after w
+      pub sent_goes_on : IsRunningWorld after tables driven_after w
       sent_goes_on = record {
         net = is.net;
         compiled = is.compiled;
         within_run = is.within_run;
         all_tables = is.all_tables;
         table = is.table;
-        all_stations = length-set stations bridge z ∙ is.all_stations;
-        given_are = is.given_are ∙ sym (count_kept given_of stations bridge s z here (ap given_of z_is));
+        all_driven = length-set driven bridge z ∙ is.all_driven;
+        given_are = is.given_are ∙ sym (count_kept given_of driven bridge s z here (ap given_of z_is));
         sent_are = refl;
-        station = each_with (λ k. IsStation (sealed_run v) (seals v.entries) is.net k (cycle_of_bridge v k) (links_taken v k)) stations bridge z inside
-            station_sent (λ other d in_stations differ. is.station other d in_stations);
+        bridge_driven = each_with (λ k. IsDriven (sealed_run v) (seals v.entries) is.net k (cycle_of_bridge v k) (links_taken v k)) driven bridge z inside
+            driven_sent (λ other d in_driven differ. is.bridge_driven other d in_driven);
         all_lines = coming.as_many ∙ is.all_lines;
         taken_are = is.taken_are ∙ sym coming.counts;
         line = line_coming;
       }
 
-module _ (v : WorldState) (tables : List CycleTable) (stations : List Station) (lines : List Line) (old : WorldState) (old_same : v ≡ old)
-    (world : IsWorld v tables stations lines) (old_on : old.stopped ≡ false) (bridge place : ℕ) (s : Station) (old_may : MayStep old bridge) (at : place ≡ bridge)
-    (at_place : s ≡ get_or stations place s) where
+module _ (v : WorldState) (tables : List CycleTable) (driven : List Driven) (lines : List Line) (old : WorldState) (old_same : v ≡ old)
+    (world : IsWorld v tables driven lines) (old_on : old.stopped ≡ false) (bridge place : ℕ) (s : Driven) (old_may : MayStep old bridge) (at : place ≡ bridge)
+    (at_place : s ≡ get_or driven place s) where
   on : v.stopped ≡ false
   on = subst (λ (w : WorldState). w.stopped ≡ false) (sym old_same) old_on
 
-  run : IsRunning v tables stations lines
+  run : IsRunningWorld v tables driven lines
   run = world.running on
 
   may_v : MayStep v bridge
   may_v = subst (λ (w : WorldState). MayStep w bridge) (sym old_same) old_may
 
-  inside_v : bridge < length stations
-  inside_v = omega (arith, may_v.inside, run.all_stations)
+  inside_v : bridge < length driven
+  inside_v = omega (arith, may_v.inside, run.all_driven)
 
-  here_v : s ≡ get_or stations bridge s
-  here_v = at_place ∙ ap (λ (k : ℕ). get_or stations k s) at
+  here_v : s ≡ get_or driven bridge s
+  here_v = at_place ∙ ap (λ (k : ℕ). get_or driven k s) at
 
   -- the bridge may be called
   pub next_so : IsNextToSend s.bridge s.posted
-  next_so = next v tables stations lines run bridge s inside_v here_v may_v
+  next_so = next v tables driven lines run bridge s inside_v here_v may_v
 
   pub goes_on_so : s.bridge.spent ≡ false
-  goes_on_so = not_spent v tables stations lines run bridge s inside_v here_v may_v
+  goes_on_so = not_spent v tables driven lines run bridge s inside_v here_v may_v
 
   pub early_so : s.posted < 100000
-  early_so = early v tables stations lines run bridge s inside_v here_v may_v world.given.few_cycles
+  early_so = early v tables driven lines run bridge s inside_v here_v may_v world.given.few_cycles
 
   pub backed_so : BackgroundIsOfTheBridge → AreBackedOf s.bridge.domain s.bridge.number s.posted (background_at s.agenda s.posted)
   backed_so of_bridge =
-      let c = counts_step v tables stations lines run bridge s inside_v here_v may_v in
-      let x = station_at v tables stations lines run bridge s inside_v here_v in
-      subst (AreBackedOf s.bridge.domain s.bridge.number s.posted) (sym (frames_are v tables stations lines run bridge s inside_v here_v may_v))
+      let c = counts_step v tables driven lines run bridge s inside_v here_v may_v in
+      let x = driven_at v tables driven lines run bridge s inside_v here_v in
+      subst (AreBackedOf s.bridge.domain s.bridge.number s.posted) (sym (frames_are v tables driven lines run bridge s inside_v here_v may_v))
       (of_bridge s.bridge.domain (sealed_run v) s.bridge.number s.posted (x.follows c.1).of_run.domain world.given.background)
 
-  module _ (z : Station) (w : List Line) (out : SendsOut v.domain s z lines w) (sending : SendingFollows) where
+  module _ (z : Driven) (w : List Line) (out : SendsOut v.domain s z lines w) (sending : SendingFollows) where
     abbrev world_sent : WorldState
     world_sent = record v {
-      given = map given_of (set stations bridge z);
-      sent = map sent_of (set stations bridge z);
+      given = map given_of (set driven bridge z);
+      sent = map sent_of_driven (set driven bridge z);
       taken = map taken_of w;
       stopped = false;
     }
 
-    runs_on : IsRunning (record v { sent = map sent_of (set stations bridge z) }) tables (set stations bridge z) w
-    runs_on = sent_goes_on v tables stations lines run bridge s inside_v here_v may_v z w out sending
+    runs_on : IsRunningWorld (record v { sent = map sent_of_driven (set driven bridge z) }) tables (set driven bridge z) w
+    runs_on = sent_goes_on v tables driven lines run bridge s inside_v here_v may_v z w out sending
 
-    is_after : record v { sent = map sent_of (set stations bridge z) } ≡ world_sent
-    is_after = λ i. record v { given = runs_on.given_are i; sent = map sent_of (set stations bridge z); taken = runs_on.taken_are i; stopped = on i }
+    is_after : record v { sent = map sent_of_driven (set driven bridge z) } ≡ world_sent
+    is_after = λ i. record v { given = runs_on.given_are i; sent = map sent_of_driven (set driven bridge z); taken = runs_on.taken_are i; stopped = on i }
 
     -- so the world stays one
-    pub sent_world : IsWorld world_sent tables (set stations bridge z) w
+    pub sent_world : IsWorld world_sent tables (set driven bridge z) w
     sent_world = record {
       given = given_counts v _ _ _ false world.given;
       pages = world.pages;
       sealed = world.sealed;
-      running = λ still. subst (λ (k : WorldState). IsRunning k tables (set stations bridge z) w) is_after runs_on;
+      running = λ still. subst (λ (k : WorldState). IsRunningWorld k tables (set driven bridge z) w) is_after runs_on;
     }
 
     -- and it is the same but for what was sent
     pub sent_alone : world_sent ≡ record old { sent = set old.sent bridge (cycle_of_bridge old bridge + 1) }
     sent_alone =
-        let x = station_at v tables stations lines run bridge s inside_v here_v in
-        let is_sent : sent_of z ≡ cycle_of_bridge v bridge + 1 =
-        ap sent_of (z_is v tables stations lines run bridge s inside_v here_v may_v z w out sending) ∙ ap (λ (n : ℕ). n + 1) x.in_cycle in
-        let now_sent : map sent_of (set stations bridge z) ≡ set v.sent bridge (cycle_of_bridge v bridge + 1) =
-        map-set sent_of stations bridge z ∙ (λ i. set (sym run.sent_are i) bridge (is_sent i)) in
+        let x = driven_at v tables driven lines run bridge s inside_v here_v in
+        let is_sent : sent_of_driven z ≡ cycle_of_bridge v bridge + 1 =
+        ap sent_of_driven (z_is v tables driven lines run bridge s inside_v here_v may_v z w out sending) ∙ ap (λ (n : ℕ). n + 1) x.in_cycle in
+        let now_sent : map sent_of_driven (set driven bridge z) ≡ set v.sent bridge (cycle_of_bridge v bridge + 1) =
+        map-set sent_of_driven driven bridge z ∙ (λ i. set (sym run.sent_are i) bridge (is_sent i)) in
         subst (λ (k : WorldState). world_sent ≡ record k { sent = set k.sent bridge (cycle_of_bridge k bridge + 1) }) old_same
         (sym is_after ∙ (λ i. record v { sent = now_sent i }))
 
   -- where it isn't, no count changes
-  pub unsent_alone : (z : Station) (w : List Line) → z.given ≡ s.given → z.sent ≡ s.sent → map taken_of w ≡ map taken_of lines →
-      record v { given = map given_of (set stations bridge z); sent = map sent_of (set stations bridge z); taken = map taken_of w; stopped = true }
+  pub unsent_alone : (z : Driven) (w : List Line) → z.given ≡ s.given → z.sent ≡ s.sent → map taken_of w ≡ map taken_of lines →
+      record v { given = map given_of (set driven bridge z); sent = map sent_of_driven (set driven bridge z); taken = map taken_of w; stopped = true }
       ≡ record old { stopped = true }
   unsent_alone z w given sent counts =
-      subst (λ (k : WorldState). record v { given = map given_of (set stations bridge z); sent = map sent_of (set stations bridge z); taken = map taken_of w; stopped = true }
+      subst (λ (k : WorldState). record v { given = map given_of (set driven bridge z); sent = map sent_of_driven (set driven bridge z); taken = map taken_of w; stopped = true }
       ≡ record k { stopped = true }) old_same
       (λ i. record v {
-        given = (count_kept given_of stations bridge s z here_v given ∙ sym run.given_are) i;
-        sent = (count_kept sent_of stations bridge s z here_v sent ∙ sym run.sent_are) i;
+        given = (count_kept given_of driven bridge s z here_v given ∙ sym run.given_are) i;
+        sent = (count_kept sent_of_driven driven bridge s z here_v sent ∙ sym run.sent_are) i;
         taken = (counts ∙ sym run.taken_are) i;
         stopped = true;
       })

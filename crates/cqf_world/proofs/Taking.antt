@@ -17,15 +17,15 @@ use Rattle.cqf_admission.specs.Tables.{CycleTable}
 use Rattle.cqf_bridge.specs.Batch.{LinkBatch}
 use Rattle.cqf_bridge.specs.Receiving.{links_into}
 use Rattle.cqf_laws_bridge.specs.Follows.{batch_of}
-use Rattle.cqf_laws_course.proofs.LinkNumbers.{link_ending, link_into, link_listed, links_ascend}
+use Rattle.cqf_laws_bridge.proofs.LinkNumbers.{link_ending, link_into, link_listed, links_ascend}
 use Rattle.cqf_world.specs.declared.parts.Line.{Line}
-use Rattle.cqf_world.specs.declared.parts.Station.{Station}
+use Rattle.cqf_world.specs.declared.parts.Driven.{Driven}
 use Rattle.cqf_world.specs.Events.{MayTake}
-use Rattle.cqf_world.specs.Parts.{IsLine, IsRunning, IsStation, IsWorld, Moves, given_of, links_taken, sent_of, taken_of, under_way}
-use Rattle.cqf_world.specs.World.{WorldState, cycle_of_bridge, sealed_run, sent_by, taken_from}
+use Rattle.cqf_world.specs.Parts.{IsLine, IsRunningWorld, IsDriven, IsWorld, Moves, given_of, links_taken, sent_of_driven, taken_of, under_way}
+use Rattle.cqf_world.specs.World.{WorldState, cycle_of_bridge, sealed_run, sent_by_driven, taken_from}
 use Rattle.cqf_world.proofs.Keeping.{given_counts}
 use Rattle.cqf_world.proofs.Inboxes.{before, end_inside, insert_map, kept_more, same_parts}
-use Rattle.cqf_world.proofs.Standing.{count_at, count_kept, each_with, sent_at, station_at}
+use Rattle.cqf_world.proofs.Standing.{count_at, count_kept, each_with, sent_at, driven_at}
 
 -- a node is one bridge
 one_node : (n : Node) (a b : ℕ) → node_is n a ≡ true → node_is n b ≡ true → a ≡ b
@@ -43,28 +43,28 @@ one_end d l a b p q = elim (slice_get_cases d.links l).1 [
       absurd (cc (none, p))
 ]
 
-module _ (v : WorldState) (tables : List CycleTable) (stations : List Station) (lines : List Line) (is : IsRunning v tables stations lines) (link bridge : ℕ)
-    (s : Station) (x : Line) (ends : enters v.domain link bridge ≡ true) (inside : bridge < length stations) (here : s ≡ get_or stations bridge s)
+module _ (v : WorldState) (tables : List CycleTable) (driven : List Driven) (lines : List Line) (is : IsRunningWorld v tables driven lines) (link bridge : ℕ)
+    (s : Driven) (x : Line) (ends : enters v.domain link bridge ≡ true) (inside : bridge < length driven) (here : s ≡ get_or driven bridge s)
     (there : x ≡ get_or lines link x) where
   in_lines : link < length lines
   in_lines = omega (arith, link_ending v.domain bridge link ends, is.all_lines)
 
-  st : IsStation (sealed_run v) (seals v.entries) is.net bridge (cycle_of_bridge v bridge) (links_taken v bridge) s
-  st = station_at v tables stations lines is bridge s inside here
+  st : IsDriven (sealed_run v) (seals v.entries) is.net bridge (cycle_of_bridge v bridge) (links_taken v bridge) s
+  st = driven_at v tables driven lines is bridge s inside here
 
-  li : IsLine v.domain is.net link (cycle_of_bridge v bridge) (sent_by v bridge) (sent_by v (bridge_of v.domain link)) x
-  li = subst (IsLine v.domain is.net link (cycle_of_bridge v bridge) (sent_by v bridge) (sent_by v (bridge_of v.domain link))) (sym there) (is.line link bridge x ends)
+  li : IsLine v.domain is.net link (cycle_of_bridge v bridge) (sent_by_driven v bridge) (sent_by_driven v (bridge_of v.domain link)) x
+  li = subst (IsLine v.domain is.net link (cycle_of_bridge v bridge) (sent_by_driven v bridge) (sent_by_driven v (bridge_of v.domain link))) (sym there) (is.line link bridge x ends)
 
-  sent_is : sent_by v bridge ≡ s.sent
-  sent_is = sent_at v tables stations lines is bridge s inside here
+  sent_is : sent_by_driven v bridge ≡ s.sent
+  sent_is = sent_at v tables driven lines is bridge s inside here
 
   taken_is : taken_from v link ≡ x.taken
   taken_is = count_at taken_of v.taken lines link x is.taken_are in_lines ∙ ap taken_of (sym there)
 
   -- so many batches are under way
-  waiting_is : length x.waiting.items ≡ sent_by v (bridge_of v.domain link) - x.taken
+  waiting_is : length x.waiting.items ≡ sent_by_driven v (bridge_of v.domain link) - x.taken
   waiting_is = ap length li.waiting
-      ∙ length-singles (λ (k : ℕ). batch_of v.domain is.net.carried (x.taken + k) link) (sent_by v (bridge_of v.domain link) - x.taken)
+      ∙ length-singles (λ (k : ℕ). batch_of v.domain is.net.carried (x.taken + k) link) (sent_by_driven v (bridge_of v.domain link) - x.taken)
 
   -- a batch may be taken where the counts say so
   pub may_take : (s.sent ≡ s.posted → ⊥) → x.taken ≡ s.posted → 0 < length x.waiting.items → MayTake v link
@@ -80,11 +80,11 @@ module _ (v : WorldState) (tables : List CycleTable) (stations : List Station) (
   pub counts_taken : MayTake v link → (s.sent ≡ s.posted + 1) × (x.taken ≡ s.posted) × (0 < length x.waiting.items)
   counts_taken may =
       let e = one_end v.domain link may.bridge bridge may.ends ends in
-      let has_sent = subst (λ (b : ℕ). sent_by v b ≡ cycle_of_bridge v b + 1) e may.has_sent in
+      let has_sent = subst (λ (b : ℕ). sent_by_driven v b ≡ cycle_of_bridge v b + 1) e may.has_sent in
       let not_taken = subst (λ (b : ℕ). taken_from v link ≡ cycle_of_bridge v b) e may.not_taken in
       (omega (arith, sent_is, has_sent, st.in_cycle), omega (arith, taken_is, not_taken, st.in_cycle), omega (arith, may.under_way, taken_is, waiting_is))
 
-  module _ (may : MayTake v link) (y : Line) (z : Station) (batch : LinkBatch) (popped : x.waiting.items ≡ batch ∷ y.waiting.items) (counted : y.taken ≡ x.taken + 1)
+  module _ (may : MayTake v link) (y : Line) (z : Driven) (batch : LinkBatch) (popped : x.waiting.items ≡ batch ∷ y.waiting.items) (counted : y.taken ≡ x.taken + 1)
       (same : z ≡ record s { taken = z.taken }) (put : z.taken.items ≡ insert s.taken.items (length (filter (λ (b : LinkBatch). nat_lt b.link batch.link) s.taken.items)) batch) where
     -- the batch is the network's of the bridge's cycle
     one_fewer : (n : ℕ) → under_way v.domain is.net link x.taken (suc n) ≡ batch_of v.domain is.net.carried x.taken link ∷ under_way v.domain is.net link (x.taken + 1) n
@@ -102,15 +102,15 @@ module _ (v : WorldState) (tables : List CycleTable) (stations : List Station) (
 
     -- so many stay under way
     left : ℕ
-    left = sent_by v (bridge_of v.domain link) - x.taken - 1
+    left = sent_by_driven v (bridge_of v.domain link) - x.taken - 1
 
     parts : (batch ≡ batch_of v.domain is.net.carried x.taken link) × (y.waiting.items ≡ under_way v.domain is.net link (x.taken + 1) left)
     unfolding left
     parts =
-        let some : sent_by v (bridge_of v.domain link) - x.taken ≡ suc (sent_by v (bridge_of v.domain link) - x.taken - 1) = omega (arith, c.2, waiting_is) in
+        let some : sent_by_driven v (bridge_of v.domain link) - x.taken ≡ suc (sent_by_driven v (bridge_of v.domain link) - x.taken - 1) = omega (arith, c.2, waiting_is) in
         same_parts batch (batch_of v.domain is.net.carried x.taken link) y.waiting.items
-        (under_way v.domain is.net link (x.taken + 1) (sent_by v (bridge_of v.domain link) - x.taken - 1))
-        (sym popped ∙ li.waiting ∙ ap (under_way v.domain is.net link x.taken) some ∙ one_fewer (sent_by v (bridge_of v.domain link) - x.taken - 1))
+        (under_way v.domain is.net link (x.taken + 1) (sent_by_driven v (bridge_of v.domain link) - x.taken - 1))
+        (sym popped ∙ li.waiting ∙ ap (under_way v.domain is.net link x.taken) some ∙ one_fewer (sent_by_driven v (bridge_of v.domain link) - x.taken - 1))
 
     abbrev after : WorldState
     after = record v { taken = map taken_of (set lines link y) }
@@ -161,13 +161,13 @@ module _ (v : WorldState) (tables : List CycleTable) (stations : List Station) (
         ∙ sym (insert_map f kept (before link kept) link)
         ∙ ap (map f) (sym one_more)
 
-    abbrev stations_after : List Station
-    stations_after = set stations bridge z
+    abbrev driven_after : List Driven
+    driven_after = set driven bridge z
 
     -- the bridge that took it
-    station_taken : IsStation (sealed_run v) (seals v.entries) is.net bridge (cycle_of_bridge v bridge) (links_taken after bridge) z
-    station_taken =
-        subst (IsStation (sealed_run v) (seals v.entries) is.net bridge (cycle_of_bridge v bridge) (links_taken after bridge)) (sym same)
+    driven_taken : IsDriven (sealed_run v) (seals v.entries) is.net bridge (cycle_of_bridge v bridge) (links_taken after bridge) z
+    driven_taken =
+        subst (IsDriven (sealed_run v) (seals v.entries) is.net bridge (cycle_of_bridge v bridge) (links_taken after bridge)) (sym same)
         (record {
           in_cycle = st.in_cycle;
           not_behind = st.not_behind;
@@ -185,7 +185,7 @@ module _ (v : WorldState) (tables : List CycleTable) (stations : List Station) (
         })
 
     -- and the link
-    line_taken : IsLine v.domain is.net link (cycle_of_bridge v bridge) (sent_by v bridge) (sent_by v (bridge_of v.domain link)) y
+    line_taken : IsLine v.domain is.net link (cycle_of_bridge v bridge) (sent_by_driven v bridge) (sent_by_driven v (bridge_of v.domain link)) y
     unfolding left
     line_taken = record {
       at_least = omega (arith, counted, li.at_least);
@@ -193,57 +193,57 @@ module _ (v : WorldState) (tables : List CycleTable) (stations : List Station) (
       not_more = omega (arith, counted, c.2, waiting_is);
       waiting = parts.1
           ∙ (λ i. under_way v.domain is.net link (sym counted i)
-          ((let e : sent_by v (bridge_of v.domain link) - x.taken - 1 ≡ sent_by v (bridge_of v.domain link) - y.taken = omega (arith, counted) in e) i));
+          ((let e : sent_by_driven v (bridge_of v.domain link) - x.taken - 1 ≡ sent_by_driven v (bridge_of v.domain link) - y.taken = omega (arith, counted) in e) i));
     }
 
     -- and the world goes on
-    pub taken_goes_on : IsRunning after tables stations_after (set lines link y)
+    pub taken_goes_on : IsRunningWorld after tables driven_after (set lines link y)
     taken_goes_on = record {
       net = is.net;
       compiled = is.compiled;
       within_run = is.within_run;
       all_tables = is.all_tables;
       table = is.table;
-      all_stations = length-set stations bridge z ∙ is.all_stations;
-      given_are = is.given_are ∙ sym (count_kept given_of stations bridge s z here (ap given_of same));
-      sent_are = is.sent_are ∙ sym (count_kept sent_of stations bridge s z here (ap sent_of same));
-      station = each_with (λ k. IsStation (sealed_run v) (seals v.entries) is.net k (cycle_of_bridge v k) (links_taken after k)) stations bridge z inside
-          station_taken (λ other d in_stations differ.
-          subst (λ (ls : List ℕ). IsStation (sealed_run v) (seals v.entries) is.net other (cycle_of_bridge v other) ls (get_or stations other d))
-          (sym (others_same other differ)) (is.station other d in_stations));
+      all_driven = length-set driven bridge z ∙ is.all_driven;
+      given_are = is.given_are ∙ sym (count_kept given_of driven bridge s z here (ap given_of same));
+      sent_are = is.sent_are ∙ sym (count_kept sent_of_driven driven bridge s z here (ap sent_of_driven same));
+      bridge_driven = each_with (λ k. IsDriven (sealed_run v) (seals v.entries) is.net k (cycle_of_bridge v k) (links_taken after k)) driven bridge z inside
+          driven_taken (λ other d in_driven differ.
+          subst (λ (ls : List ℕ). IsDriven (sealed_run v) (seals v.entries) is.net other (cycle_of_bridge v other) ls (get_or driven other d))
+          (sym (others_same other differ)) (is.bridge_driven other d in_driven));
       all_lines = length-set lines link y ∙ is.all_lines;
       taken_are = refl;
       line = λ m to d into. elim (cases_eq m link) [
         | inl e ↦
             let to_is : to ≡ bridge = one_end v.domain link to bridge (ap (λ (k : ℕ). enters v.domain k to) (sym e) ∙ into) ends in
-            subst (λ (k : ℕ). IsLine v.domain is.net k (cycle_of_bridge v to) (sent_by v to) (sent_by v (bridge_of v.domain k)) (get_or (set lines link y) k d)) (sym e)
-            (subst (λ (b : ℕ). IsLine v.domain is.net link (cycle_of_bridge v b) (sent_by v b) (sent_by v (bridge_of v.domain link)) (get_or (set lines link y) link d)) (sym to_is)
-            (subst (IsLine v.domain is.net link (cycle_of_bridge v bridge) (sent_by v bridge) (sent_by v (bridge_of v.domain link))) (sym (get_or-set_same lines link y d in_lines))
+            subst (λ (k : ℕ). IsLine v.domain is.net k (cycle_of_bridge v to) (sent_by_driven v to) (sent_by_driven v (bridge_of v.domain k)) (get_or (set lines link y) k d)) (sym e)
+            (subst (λ (b : ℕ). IsLine v.domain is.net link (cycle_of_bridge v b) (sent_by_driven v b) (sent_by_driven v (bridge_of v.domain link)) (get_or (set lines link y) link d)) (sym to_is)
+            (subst (IsLine v.domain is.net link (cycle_of_bridge v bridge) (sent_by_driven v bridge) (sent_by_driven v (bridge_of v.domain link))) (sym (get_or-set_same lines link y d in_lines))
             line_taken))
         | inr differ ↦
-            subst (IsLine v.domain is.net m (cycle_of_bridge v to) (sent_by v to) (sent_by v (bridge_of v.domain m))) (sym (get_or-set_other lines link m y d differ))
+            subst (IsLine v.domain is.net m (cycle_of_bridge v to) (sent_by_driven v to) (sent_by_driven v (bridge_of v.domain m))) (sym (get_or-set_other lines link m y d differ))
             (is.line m to d into)
       ];
     }
 
-module _ (v : WorldState) (tables : List CycleTable) (stations : List Station) (lines : List Line) (old : WorldState) (old_same : v ≡ old)
-    (world : IsWorld v tables stations lines) (old_on : old.stopped ≡ false) (link bridge place lplace : ℕ) (s : Station) (x : Line)
-    (d : Domain) (of_domain : d ≡ v.domain) (ends_d : enters d link bridge ≡ true) (at : place ≡ bridge) (lat : lplace ≡ link) (at_place : s ≡ get_or stations place s)
+module _ (v : WorldState) (tables : List CycleTable) (driven : List Driven) (lines : List Line) (old : WorldState) (old_same : v ≡ old)
+    (world : IsWorld v tables driven lines) (old_on : old.stopped ≡ false) (link bridge place lplace : ℕ) (s : Driven) (x : Line)
+    (d : Domain) (of_domain : d ≡ v.domain) (ends_d : enters d link bridge ≡ true) (at : place ≡ bridge) (lat : lplace ≡ link) (at_place : s ≡ get_or driven place s)
     (at_lplace : x ≡ get_or lines lplace x) where
   on : v.stopped ≡ false
   on = subst (λ (w : WorldState). w.stopped ≡ false) (sym old_same) old_on
 
-  run : IsRunning v tables stations lines
+  run : IsRunningWorld v tables driven lines
   run = world.running on
 
   ends_v : enters v.domain link bridge ≡ true
   ends_v = ap (λ (k : Domain). enters k link bridge) (sym of_domain) ∙ ends_d
 
-  in_stations : bridge < length stations
-  in_stations = omega (arith, end_inside v.domain link bridge world.given.accepted ends_v, run.all_stations)
+  in_driven : bridge < length driven
+  in_driven = omega (arith, end_inside v.domain link bridge world.given.accepted ends_v, run.all_driven)
 
-  here_v : s ≡ get_or stations bridge s
-  here_v = at_place ∙ ap (λ (k : ℕ). get_or stations k s) at
+  here_v : s ≡ get_or driven bridge s
+  here_v = at_place ∙ ap (λ (k : ℕ). get_or driven k s) at
 
   there_v : x ≡ get_or lines link x
   there_v = at_lplace ∙ ap (λ (k : ℕ). get_or lines k x) lat
@@ -251,45 +251,45 @@ module _ (v : WorldState) (tables : List CycleTable) (stations : List Station) (
   -- a batch may be taken where the counts say so
   pub may_so : (s.sent ≡ s.posted → ⊥) → x.taken ≡ s.posted → 0 < length x.waiting.items → MayTake old link
   may_so sent not_taken some =
-      subst (λ (w : WorldState). MayTake w link) old_same (may_take v tables stations lines run link bridge s x ends_v in_stations here_v there_v sent not_taken some)
+      subst (λ (w : WorldState). MayTake w link) old_same (may_take v tables driven lines run link bridge s x ends_v in_driven here_v there_v sent not_taken some)
 
   -- and the counts say so where it may be
   pub counts_so : MayTake old link → (s.sent ≡ s.posted + 1) × (x.taken ≡ s.posted) × (0 < length x.waiting.items)
   counts_so may =
-      counts_taken v tables stations lines run link bridge s x ends_v in_stations here_v there_v (subst (λ (w : WorldState). MayTake w link) (sym old_same) may)
+      counts_taken v tables driven lines run link bridge s x ends_v in_driven here_v there_v (subst (λ (w : WorldState). MayTake w link) (sym old_same) may)
 
   pub few_so : MayTake old link → x.taken < 100000
   few_so may =
       let c = counts_so may in
-      let st = station_at v tables stations lines run bridge s in_stations here_v in
+      let st = driven_at v tables driven lines run bridge s in_driven here_v in
       omega (arith, c.0, c.1, st.with_table, st.closed, run.within_run, world.given.few_cycles)
 
-  module _ (may : MayTake old link) (y : Line) (z : Station) (moves : Moves x y s z) where
+  module _ (may : MayTake old link) (y : Line) (z : Driven) (moves : Moves x y s z) where
     may_v : MayTake v link
     may_v = subst (λ (w : WorldState). MayTake w link) (sym old_same) may
 
     abbrev world_taken : WorldState
     world_taken = record v {
-      given = map given_of (set stations bridge z);
-      sent = map sent_of (set stations bridge z);
+      given = map given_of (set driven bridge z);
+      sent = map sent_of_driven (set driven bridge z);
       taken = map taken_of (set lines link y);
       stopped = false;
     }
 
-    runs_on : IsRunning (record v { taken = map taken_of (set lines link y) }) tables (set stations bridge z) (set lines link y)
+    runs_on : IsRunningWorld (record v { taken = map taken_of (set lines link y) }) tables (set driven bridge z) (set lines link y)
     runs_on =
-        taken_goes_on v tables stations lines run link bridge s x ends_v in_stations here_v there_v may_v y z moves.batch moves.popped moves.counted moves.same moves.put
+        taken_goes_on v tables driven lines run link bridge s x ends_v in_driven here_v there_v may_v y z moves.batch moves.popped moves.counted moves.same moves.put
 
     is_after : record v { taken = map taken_of (set lines link y) } ≡ world_taken
     is_after = λ i. record v { given = runs_on.given_are i; sent = runs_on.sent_are i; taken = map taken_of (set lines link y); stopped = on i }
 
     -- so the world stays one
-    pub taken_world : IsWorld world_taken tables (set stations bridge z) (set lines link y)
+    pub taken_world : IsWorld world_taken tables (set driven bridge z) (set lines link y)
     taken_world = record {
       given = given_counts v _ _ _ false world.given;
       pages = world.pages;
       sealed = world.sealed;
-      running = λ still. subst (λ (w : WorldState). IsRunning w tables (set stations bridge z) (set lines link y)) is_after runs_on;
+      running = λ still. subst (λ (w : WorldState). IsRunningWorld w tables (set driven bridge z) (set lines link y)) is_after runs_on;
     }
 
     -- and it is the same but for what was taken
@@ -304,14 +304,14 @@ module _ (v : WorldState) (tables : List CycleTable) (stations : List Station) (
         (sym is_after ∙ (λ i. record v { taken = now_taken i }))
 
   -- where it can't be moved, no count changes
-  pub refused_alone : (y : Line) (z : Station) → y.taken ≡ x.taken → z ≡ record s { taken = z.taken } →
-      record v { given = map given_of (set stations bridge z); sent = map sent_of (set stations bridge z); taken = map taken_of (set lines link y); stopped = true }
+  pub refused_alone : (y : Line) (z : Driven) → y.taken ≡ x.taken → z ≡ record s { taken = z.taken } →
+      record v { given = map given_of (set driven bridge z); sent = map sent_of_driven (set driven bridge z); taken = map taken_of (set lines link y); stopped = true }
       ≡ record old { stopped = true }
   refused_alone y z counted same =
-      subst (λ (w : WorldState). record v { given = map given_of (set stations bridge z); sent = map sent_of (set stations bridge z); taken = map taken_of (set lines link y); stopped = true } ≡ record w { stopped = true }) old_same
+      subst (λ (w : WorldState). record v { given = map given_of (set driven bridge z); sent = map sent_of_driven (set driven bridge z); taken = map taken_of (set lines link y); stopped = true } ≡ record w { stopped = true }) old_same
       (λ i. record v {
-        given = (count_kept given_of stations bridge s z here_v (ap given_of same) ∙ sym run.given_are) i;
-        sent = (count_kept sent_of stations bridge s z here_v (ap sent_of same) ∙ sym run.sent_are) i;
+        given = (count_kept given_of driven bridge s z here_v (ap given_of same) ∙ sym run.given_are) i;
+        sent = (count_kept sent_of_driven driven bridge s z here_v (ap sent_of_driven same) ∙ sym run.sent_are) i;
         taken = (count_kept taken_of lines link x y there_v counted ∙ sym run.taken_are) i;
         stopped = true;
       })

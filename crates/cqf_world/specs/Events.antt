@@ -12,7 +12,8 @@ use Rattle.cqf_world.specs.declared.events.Applied.{Applied}
 use Rattle.cqf_world.specs.declared.events.Applied.TheVariants.{Done, NotEnabled}
 use Rattle.cqf_world.specs.declared.events.Event.{Event}
 use Rattle.cqf_world.specs.declared.events.Event.TheVariants.{Call, Seal, Give, Step, Take, Post}
-use Rattle.cqf_world.specs.World.{WorldState, cycle_of_bridge, given_to, sent_by, taken_from}
+use Rattle.cqf_world.specs.World.{WorldState, cycle_of_bridge, given_to, sent_by_driven, taken_from}
+use Rattle.cqf_model.specs.Limits.{most_calls}
 
 -- a bridge lacks the table of its cycle, which is one of the run's and sealed
 pub record MayBeGiven (w : WorldState) (bridge : ℕ) : Type 0 where
@@ -25,26 +26,26 @@ pub record MayBeGiven (w : WorldState) (bridge : ℕ) : Type 0 where
 pub record MayStep (w : WorldState) (bridge : ℕ) : Type 0 where
   pub inside : bridge < length w.domain.bridges
   pub has_table : given_to w bridge ≡ cycle_of_bridge w bridge + 1
-  pub not_sent : sent_by w bridge ≡ cycle_of_bridge w bridge
+  pub not_sent : sent_by_driven w bridge ≡ cycle_of_bridge w bridge
 
 -- the link ends in a bridge that has sent its cycle and hasn't taken the link's batch of it, and a batch is under way: the bridge that
 -- the link leaves has sent more cycles than were taken from the link
 pub record MayTake (w : WorldState) (link : ℕ) : Type 0 where
   pub bridge : ℕ
   pub ends : enters w.domain link bridge ≡ true
-  pub has_sent : sent_by w bridge ≡ cycle_of_bridge w bridge + 1
+  pub has_sent : sent_by_driven w bridge ≡ cycle_of_bridge w bridge + 1
   pub not_taken : taken_from w link ≡ cycle_of_bridge w bridge
-  pub under_way : taken_from w link < sent_by w (bridge_of w.domain link)
+  pub under_way : taken_from w link < sent_by_driven w (bridge_of w.domain link)
 
 -- the bridge has sent its cycle, and taken the cycle's batch of each link that ends in it
 pub record MayPost (w : WorldState) (bridge : ℕ) : Type 0 where
   pub inside : bridge < length w.domain.bridges
-  pub has_sent : sent_by w bridge ≡ cycle_of_bridge w bridge + 1
+  pub has_sent : sent_by_driven w bridge ≡ cycle_of_bridge w bridge + 1
   pub has_taken : (link : ℕ) → enters w.domain link bridge ≡ true → taken_from w link ≡ cycle_of_bridge w bridge + 1
 
 -- when an event may happen. None is enabled after a growth was refused, or where the domain lacks the bridge or the link
 abbrev pub MayHappen : WorldState → Event → Type 0
-MayHappen w (Call seat command) = calls w.entries < 100000
+MayHappen w (Call seat command) = calls w.entries < most_calls
 MayHappen w (Seal seat) = seals w.entries < w.cycles
 MayHappen w (Give bridge) = MayBeGiven w bridge
 MayHappen w (Step bridge) = MayStep w bridge
@@ -75,7 +76,7 @@ Happens old new (Post bridge) = Posts old new bridge
 
 -- the answer to an event: it isn't enabled, and nothing is changed; or it is, and is done, or a growth was refused, after which nothing
 -- is enabled
-abbrev pub Answers : WorldState → WorldState → Event → Result Applied AllocError → Type 0
-Answers old new event (Ok NotEnabled) = (¬ IsEnabled old event) × (new ≡ old)
-Answers old new event (Ok Done) = IsEnabled old event × Happens old new event
-Answers old new event (Err refused) = IsEnabled old event × (new ≡ record old { stopped = true })
+abbrev pub AnswersEvent : WorldState → WorldState → Event → Result Applied AllocError → Type 0
+AnswersEvent old new event (Ok NotEnabled) = (¬ IsEnabled old event) × (new ≡ old)
+AnswersEvent old new event (Ok Done) = IsEnabled old event × Happens old new event
+AnswersEvent old new event (Err refused) = IsEnabled old event × (new ≡ record old { stopped = true })

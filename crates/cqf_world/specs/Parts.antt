@@ -12,28 +12,29 @@ use Rattle.cqf_laws_history.specs.StateLaws.{with_entry}
 use Rattle.cqf_admission.specs.Admission.{Administration}
 use Rattle.cqf_model.specs.Network.{Network}
 use Rattle.cqf_model.specs.Run.{AreBackground, AreOffers, Run}
-use Rattle.cqf_laws_pages.specs.BridgeCycle.{IsCompiledNetwork}
+use Rattle.cqf_laws_cycle.specs.BridgeCycle.{IsCompiledNetwork}
 use Rattle.cqf_admission.specs.Tables.{CycleTable}
 use Rattle.cqf_book.specs.Pages.{ArePosted, Posted, page_count, with_page}
 use Rattle.cqf_bridge.specs.declared.faults.BridgeFault.{BridgeFault}
 use Rattle.cqf_bridge.specs.declared.faults.BridgeFault.TheVariants.{Memory}
 use Rattle.cqf_bridge.specs.Batch.{LinkBatch}
 use Rattle.cqf_bridge.specs.BridgeState.{BridgeState, SendsCycle}
-use Rattle.cqf_bridge.specs.Receiving.{Handed, IsReceiveFault, IsRunOf, ReceivesCycle, links_into}
+use Rattle.cqf_bridge.specs.Receiving.{Handed, IsReceiveFault, IsRunOfBridge, ReceivesCycle, links_into}
 use Rattle.cqf_laws_bridge.specs.Cycles.{starts_of_batch}
 use Rattle.cqf_laws_bridge.specs.Follows.{FollowsTheNetwork, HasSentOfTheNetwork, batch_of, batches_from}
 use Rattle.cqf_world.specs.declared.parts.Line.{Line}
-use Rattle.cqf_world.specs.declared.parts.Station.{Station}
-use Rattle.cqf_agenda.specs.Agenda.{IsAgendaOf, background_at, offers_at}
-use Rattle.cqf_world.specs.World.{ArePagesOfTheBook, WorldState, cycle_of_bridge, sealed_run, sent_by, taken_from}
+use Rattle.cqf_world.specs.declared.parts.Driven.{Driven}
+use Rattle.cqf_bridge_turn.specs.Agenda.{IsAgendaOf, background_at, offers_listed_at}
+use Rattle.cqf_world.specs.World.{ArePagesOfTheBook, WorldState, cycle_of_bridge, sealed_run, sent_by_driven, taken_from}
+use Rattle.cqf_model.specs.Limits.{most_cycles}
 
 -- what a world was given: an accepted domain, a legal history, offers and background frames of the domain, and pages of its bridges
-pub record IsGiven (w : WorldState) : Type 0 where
+pub record IsGivenWorld (w : WorldState) : Type 0 where
   pub accepted : IsAccepted w.domain
   pub legal : IsLegalHistory w.domain w.entries
   pub offers : AreOffers w.domain w.offers
   pub background : AreBackground w.domain w.background
-  pub few_cycles : w.cycles ≤ 100000
+  pub few_cycles : w.cycles ≤ most_cycles
   pub of_bridges : w.pages.bridges ≡ length w.domain.bridges
   pub of_cycles : w.pages.cycles ≡ w.cycles
   pub in_order : ArePosted w.pages
@@ -44,7 +45,7 @@ links_taken w bridge = filter (λ l. nat_lt (cycle_of_bridge w bridge) (taken_fr
 
 -- a bridge with what it was given, in one of its cycles: it may have the cycle's table, and may have sent the cycle with the table. It
 -- follows the network, and halfway has sent as it does, and keeps what it sent for its page; and it has taken the network's batches
-pub record IsStation (run : Run) (sealed : ℕ) (net : Network) (bridge cycle : ℕ) (links : List ℕ) (s : Station) : Type 0 where
+pub record IsDriven (run : Run) (sealed : ℕ) (net : Network) (bridge cycle : ℕ) (links : List ℕ) (s : Driven) : Type 0 where
   pub in_cycle : s.posted ≡ cycle
   pub not_behind : s.posted ≤ s.sent
   pub with_table : s.sent ≤ s.given
@@ -71,43 +72,43 @@ pub record IsLine (d : Domain) (net : Network) (link cycle sent sent_from : ℕ)
   pub not_more : x.taken ≤ sent_from
   pub waiting : x.waiting.items ≡ under_way d net link x.taken (sent_from - x.taken)
 
--- the counts of a station and of a line
-abbrev pub given_of : Station → ℕ
+-- the counts of a driven bridge and of a line
+abbrev pub given_of : Driven → ℕ
 given_of s = s.given
 
-abbrev pub sent_of : Station → ℕ
-sent_of s = s.sent
+abbrev pub sent_of_driven : Driven → ℕ
+sent_of_driven s = s.sent
 
 abbrev pub taken_of : Line → ℕ
 taken_of x = x.taken
 
 -- a world that goes on
-pub record IsRunning (w : WorldState) (tables : List CycleTable) (stations : List Station) (lines : List Line) : Type 0 where
+pub record IsRunningWorld (w : WorldState) (tables : List CycleTable) (driven : List Driven) (lines : List Line) : Type 0 where
   pub net : Network
   pub compiled : IsCompiledNetwork (sealed_run w) (seals w.entries) net
   pub within_run : seals w.entries ≤ w.cycles
   pub all_tables : length tables ≡ seals w.entries
   pub table : (cycle : ℕ) (x : CycleTable) → cycle < length tables →
       ((slice_index_or tables cycle x).cycle ≡ cycle) × ((slice_index_or tables cycle x).rows ≡ table_at w.domain w.entries cycle)
-  pub all_stations : length stations ≡ length w.domain.bridges
-  pub given_are : w.given ≡ map given_of stations
-  pub sent_are : w.sent ≡ map sent_of stations
-  pub station : (bridge : ℕ) (s : Station) → bridge < length stations →
-      IsStation (sealed_run w) (seals w.entries) net bridge (cycle_of_bridge w bridge) (links_taken w bridge) (slice_index_or stations bridge s)
+  pub all_driven : length driven ≡ length w.domain.bridges
+  pub given_are : w.given ≡ map given_of driven
+  pub sent_are : w.sent ≡ map sent_of_driven driven
+  pub bridge_driven : (bridge : ℕ) (s : Driven) → bridge < length driven →
+      IsDriven (sealed_run w) (seals w.entries) net bridge (cycle_of_bridge w bridge) (links_taken w bridge) (slice_index_or driven bridge s)
   pub all_lines : length lines ≡ length w.domain.links
   pub taken_are : w.taken ≡ map taken_of lines
   pub line : (link bridge : ℕ) (x : Line) → enters w.domain link bridge ≡ true →
-      IsLine w.domain net link (cycle_of_bridge w bridge) (sent_by w bridge) (sent_by w (bridge_of w.domain link)) (slice_index_or lines link x)
+      IsLine w.domain net link (cycle_of_bridge w bridge) (sent_by_driven w bridge) (sent_by_driven w (bridge_of w.domain link)) (slice_index_or lines link x)
 
 -- what a world keeps: its pages are those of the book, and, as long as no growth was refused, what it holds follows the network
-pub record IsWorld (w : WorldState) (tables : List CycleTable) (stations : List Station) (lines : List Line) : Type 0 where
-  pub given : IsGiven w
+pub record IsWorld (w : WorldState) (tables : List CycleTable) (driven : List Driven) (lines : List Line) : Type 0 where
+  pub given : IsGivenWorld w
   pub pages : ArePagesOfTheBook w
   pub sealed : (bridge : ℕ) → cycle_of_bridge w bridge ≤ seals w.entries
-  pub running : w.stopped ≡ false → IsRunning w tables stations lines
+  pub running : w.stopped ≡ false → IsRunningWorld w tables driven lines
 
 -- a cycle is closed: the Seal is entered, and the cycle's table goes behind the others
-pub record ClosesCycle (old new : Administration) (seat : ℕ) (before after : List CycleTable) : Type 0 where
+pub record ClosesInWorld (old new : Administration) (seat : ℕ) (before after : List CycleTable) : Type 0 where
   pub domain : new.domain ≡ old.domain
   pub entries : new.entries ≡ with_entry old.entries seat Seals Sealed
   pub table : CycleTable
@@ -116,16 +117,16 @@ pub record ClosesCycle (old new : Administration) (seat : ℕ) (before after : L
   pub behind : after ≡ before ++ table ∷ []
 
 -- the oldest batch under way on a link goes to the bridge, where it stands by number of link
-pub record Moves (line line_after : Line) (station station_after : Station) : Type 0 where
+pub record Moves (line line_after : Line) (bridge_driven driven_after : Driven) : Type 0 where
   pub batch : LinkBatch
   pub popped : line.waiting.items ≡ batch ∷ line_after.waiting.items
   pub counted : line_after.taken ≡ line.taken + 1
-  pub same : station_after ≡ record station { taken = station_after.taken }
-  pub put : station_after.taken.items
-      ≡ insert station.taken.items (length (filter (λ (b : LinkBatch). nat_lt b.link batch.link) station.taken.items)) batch
+  pub same : driven_after ≡ record bridge_driven { taken = driven_after.taken }
+  pub put : driven_after.taken.items
+      ≡ insert bridge_driven.taken.items (length (filter (λ (b : LinkBatch). nat_lt b.link batch.link) bridge_driven.taken.items)) batch
 
 -- a bridge sends its cycle, with its background frames of the cycle, and keeps the starts of its batches' frames
-pub record SendsItsCycle (before after : Station) (batches : List LinkBatch) : Type 0 where
+pub record SendsItsCycle (before after : Driven) (batches : List LinkBatch) : Type 0 where
   pub sends : SendsCycle before.bridge after.bridge before.posted (background_at before.agenda before.posted) [] batches
   pub starts : after.starts.items ≡ flat_map starts_of_batch batches
   pub same : after ≡ record before { bridge = after.bridge; starts = after.starts }
@@ -139,36 +140,36 @@ pub record AreComing (d : Domain) (batches : List LinkBatch) (before after : Lis
       ≡ (slice_index_or before link x).waiting.items ++ filter (λ (b : LinkBatch). b.link == link) batches
 
 -- a bridge sends its cycle, and its batches come onto the links
-pub record SendsOut (d : Domain) (before after : Station) (lines lines_after : List Line) : Type 0 where
-  pub between : Station
+pub record SendsOut (d : Domain) (before after : Driven) (lines lines_after : List Line) : Type 0 where
+  pub between : Driven
   pub batches : List LinkBatch
   pub sends : SendsItsCycle before between batches
   pub coming : AreComing d batches lines lines_after
   pub counted : after ≡ record between { sent = before.posted + 1 }
 
 -- what a bridge is handed to receive its cycle: a table, and the batches that it has taken
-abbrev pub handed_to : Station → CycleTable → Handed
+abbrev pub handed_to : Driven → CycleTable → Handed
 handed_to s table = record { table_cycle = table.cycle; rows = table.rows; batches = s.taken.items }
 
 -- a run of which a bridge's cycle is a part, with the table, and with what the bridge is offered in the cycle
-abbrev pub IsRunAt : Station → CycleTable → Run → Type 0
-IsRunAt s table run = IsRunOf s.bridge.domain s.bridge.number s.posted table.rows (offers_at s.agenda s.posted) run
+abbrev pub IsRunAt : Driven → CycleTable → Run → Type 0
+IsRunAt s table run = IsRunOfBridge s.bridge.domain s.bridge.number s.posted table.rows (offers_listed_at s.agenda s.posted) run
 
 -- a bridge may receive its cycle with the table: there is such a run, and for no cause but want of memory does it refuse to
-pub record MayReceiveItsCycle (s : Station) (table : CycleTable) : Type 0 where
+pub record MayReceiveItsCycle (s : Driven) (table : CycleTable) : Type 0 where
   pub run : Run
   pub of_run : IsRunAt s table run
   pub memory_alone : (after : BridgeState) (fault : BridgeFault) →
       ((r : Run) → IsRunAt s table r → IsReceiveFault r s.bridge after s.posted (handed_to s table) fault) → fault ≡ Memory
 
 -- a bridge receives its cycle, with the table, with what it is offered in the cycle, and with the batches that it has taken
-pub record ReceivesItsCycle (before after : Station) (table : CycleTable) (drops : List Dropped) : Type 0 where
+pub record ReceivesItsCycle (before after : Driven) (table : CycleTable) (drops : List Dropped) : Type 0 where
   pub receives : (run : Run) → IsRunAt before table run → ReceivesCycle run before.bridge after.bridge before.posted before.taken.items drops
   pub number : after.bridge.number ≡ before.bridge.number
   pub same : after ≡ record before { bridge = after.bridge }
 
 -- the page of a bridge that has received its cycle, with what was dropped
-pub record IsPageOf (s : Station) (page : Page) (drops : List Dropped) : Type 0 where
+pub record IsPageOf (s : Driven) (page : Page) (drops : List Dropped) : Type 0 where
   pub of_bridge : page.bridge ≡ s.bridge.number
   pub of_cycle : page.cycle.0 ≡ s.posted
   pub starts : page.starts.items ≡ s.starts.items
@@ -176,14 +177,14 @@ pub record IsPageOf (s : Station) (page : Page) (drops : List Dropped) : Type 0 
   pub dropped : page.drops.items ≡ drops
 
 -- the page of a bridge's cycle is the next of the bridge
-pub record IsNextToPost (pages : Posted) (s : Station) : Type 0 where
+pub record IsNextToPost (pages : Posted) (s : Driven) : Type 0 where
   pub inside : s.bridge.number < pages.bridges
   pub of_cycles : s.posted < pages.cycles
   pub next : s.posted ≡ page_count pages s.bridge.number
 
 -- a bridge receives its cycle, and posts its page; of the next cycle it has taken nothing
-pub record PostsOut (before after : Station) (table : CycleTable) (pages pages_after : Posted) : Type 0 where
-  pub between : Station
+pub record PostsOut (before after : Driven) (table : CycleTable) (pages pages_after : Posted) : Type 0 where
+  pub between : Driven
   pub drops : List Dropped
   pub page : Page
   pub receives : ReceivesItsCycle before between table drops

@@ -32,8 +32,8 @@ cycle_of_bridge w bridge = page_count w.pages bridge
 abbrev pub given_to : WorldState → ℕ → ℕ
 given_to w bridge = slice_index_or w.given bridge 0
 
-abbrev pub sent_by : WorldState → ℕ → ℕ
-sent_by w bridge = slice_index_or w.sent bridge 0
+abbrev pub sent_by_driven : WorldState → ℕ → ℕ
+sent_by_driven w bridge = slice_index_or w.sent bridge 0
 
 abbrev pub taken_from : WorldState → ℕ → ℕ
 taken_from w link = slice_index_or w.taken link 0
@@ -43,10 +43,10 @@ abbrev pub sealed_run : WorldState → Run
 sealed_run w = run_of_history w.domain w.entries w.offers w.background (seals w.entries)
 
 -- a page as a book has it
-abbrev pub contents_of_page : Page → Contents
-contents_of_page page = record { starts = page.starts.items; background = page.background.items; drops = page.drops.items }
+abbrev pub contents_posted : Page → Contents
+contents_posted page = record { starts = page.starts.items; background = page.background.items; drops = page.drops.items }
 
 -- each page that was posted is that page of the one-thread book of the history over the Seals made
 abbrev pub ArePagesOfTheBook : WorldState → Type 0
 ArePagesOfTheBook w = (bridge cycle : ℕ) (page : Page) (book : Contents) → page_at w.pages bridge cycle ≡ Some page →
-    IsBookOfHistory w.domain w.entries w.offers w.background (seals w.entries) book → contents_of_page page ≡ page_of w.domain bridge cycle book
+    IsBookOfHistory w.domain w.entries w.offers w.background (seals w.entries) book → contents_posted page ≡ page_of w.domain bridge cycle book

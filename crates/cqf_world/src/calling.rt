@@ -3,7 +3,8 @@ ghost use Rattle.std.specs.Prelude.{◌≡◌, ◌<◌, OnErr, OnOk};
 ghost use Rattle.cqf_model.specs.History.{seals};
 ghost use Rattle.cqf_admission.specs.Admission.{Answers};
 ghost use Rattle.cqf_admission.specs.Commands.{act_of_command};
-ghost use Rattle.cqf_world.specs.Parts.{ClosesCycle};
+ghost use Rattle.cqf_world.specs.Parts.{ClosesInWorld};
+ghost use Rattle.cqf_model.specs.Limits.{most_cycles};
 
 use cqf_admission::{Admission, Command, SealFault, Table};
 use cqf_model::{Receipt, Refused};
@@ -30,8 +31,8 @@ pub(crate) fn close_cycle(
     tables: &mut Vec<Table>,
     seat: u16,
 ) -> Result<(), Memory>
-    requires { seals admission.old.entries < 100000 }
-    ensures ok { OnOk result (ClosesCycle admission.old admission.new seat tables.old.items tables.new.items) }
+    requires { seals admission.old.entries < most_cycles }
+    ensures ok { OnOk result (ClosesInWorld admission.old admission.new seat tables.old.items tables.new.items) }
     ensures err { OnErr result (admission.new ≡ admission.old) }
 {
     tables.reserve(1)?;

@@ -4,8 +4,9 @@ ghost use Rattle.std.specs.List.{insert};
 ghost use Rattle.cqf_model.specs.Domain.{enters};
 ghost use Rattle.cqf_bridge.specs.Batch.{LinkBatch};
 ghost use Rattle.cqf_world.specs.Parts.{Moves};
+ghost use Rattle.cqf_model.specs.Limits.{most_cycles};
 
-use crate::parts::{Line, Station};
+use crate::parts::{Driven, Line};
 use cqf_bridge::Batch;
 use cqf_model::Node;
 use cqf_topology::Domain;
@@ -59,17 +60,17 @@ pub(crate) fn is_quiet(line: &Line) -> bool
 }
 
 /// Moves the oldest batch under way on a link to the bridge in which it ends. There is one.
-pub(crate) fn move_batch(line: &mut Line, station: &mut Station) -> Result<(), Memory>
+pub(crate) fn move_batch(line: &mut Line, bridge_driven: &mut Driven) -> Result<(), Memory>
     requires some { 0 < length line.old.waiting.items }
-    requires few { line.old.taken < 100000 }
-    ensures ok { OnOk result (Moves line.old line.new station.old station.new) }
+    requires few { line.old.taken < most_cycles }
+    ensures ok { OnOk result (Moves line.old line.new bridge_driven.old bridge_driven.new) }
     ensures err_line { OnErr result (line.new.taken ≡ line.old.taken) }
-    ensures err_station { OnErr result (station.new ≡ record station.old { taken = station.new.taken }) }
+    ensures err_driven { OnErr result (bridge_driven.new ≡ record bridge_driven.old { taken = bridge_driven.new.taken }) }
 {
     let Some(batch) = line.waiting.pop_front() else {
         unreachable!()
     };
-    put_in(&mut station.taken, batch)?;
+    put_in(&mut bridge_driven.taken, batch)?;
     line.taken += 1;
     Ok(())
 }

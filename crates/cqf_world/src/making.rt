@@ -1,10 +1,10 @@
 //! What a world holds at its beginning.
 ghost use Rattle.std.specs.Prelude.{◌≡◌, ◌^◌, ◌<◌, IfOk, length};
-ghost use Rattle.cqf_world.specs.Beginning.{AreNewLines, AreNewStations, IsNewStation};
+ghost use Rattle.cqf_world.specs.Beginning.{AreNewLines, AreNewDriven, IsNewDriven};
 
-use crate::parts::{Line, Station};
-use cqf_agenda::Agenda;
+use crate::parts::{Driven, Line};
 use cqf_bridge::{Bridge, incoming_links};
+use cqf_bridge_turn::Agenda;
 use cqf_compile::Plan;
 use cqf_model::{Background, Offer};
 use cqf_topology::Domain;
@@ -13,20 +13,20 @@ use std::alloc::Global;
 use std::collections::VecDeque;
 
 /// A bridge of the plan that has done nothing.
-fn new_station(
+fn new_driven(
     alloc: Global,
     plan: &Plan,
     offers: &[Offer],
     background: &[Background],
     bridge: u8,
-) -> Result<Station, Memory>
+) -> Result<Driven, Memory>
     requires inside { bridge < length plan.now.bridges }
     requires few_offers { length offers.now < 2 ^ 32 }
     requires few_background { length background.now < 2 ^ 32 }
-    ensures { IfOk result (IsNewStation plan.now offers.now background.now bridge) }
+    ensures { IfOk result (IsNewDriven plan.now offers.now background.now bridge) }
 {
     let domain = plan.domain();
-    Ok(Station {
+    Ok(Driven {
         bridge: Bridge::new(alloc, plan, bridge)?,
         agenda: Agenda::new(alloc, domain, offers, background, bridge)?,
         incoming: incoming_links(domain, bridge).len(),
@@ -39,22 +39,22 @@ fn new_station(
 }
 
 /// The bridges of the plan, which have done nothing, by number.
-pub(crate) fn new_stations(
+pub(crate) fn new_driven_bridges(
     alloc: Global,
     plan: &Plan,
     offers: &[Offer],
     background: &[Background],
-) -> Result<Vec<Station>, Memory>
+) -> Result<Vec<Driven>, Memory>
     requires few_offers { length offers.now < 2 ^ 32 }
     requires few_background { length background.now < 2 ^ 32 }
-    ensures { IfOk result (λ stations.
-        AreNewStations plan.now offers.now background.now (length plan.now.bridges) stations.items) }
+    ensures { IfOk result (λ driven.
+        AreNewDriven plan.now offers.now background.now (length plan.now.bridges) driven.items) }
 {
-    let mut stations = Vec::new(alloc);
+    let mut driven = Vec::new(alloc);
     for bridge in 0..plan.domain().bridges() {
-        stations.push(new_station(alloc, plan, offers, background, bridge)?)?;
+        driven.push(new_driven(alloc, plan, offers, background, bridge)?)?;
     }
-    Ok(stations)
+    Ok(driven)
 }
 
 /// The links of a domain, by number, with no batch under way.

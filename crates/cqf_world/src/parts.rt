@@ -1,13 +1,13 @@
 //! What a world holds for its bridges and its links.
 
-use cqf_agenda::Agenda;
 use cqf_bridge::{Batch, Bridge};
+use cqf_bridge_turn::Agenda;
 use cqf_model::Started;
 use std::collections::VecDeque;
 
 /// A bridge, with what it was given and has taken.
 #[derive(Debug, Drop)]
-pub(crate) struct Station {
+pub(crate) struct Driven {
     pub(crate) bridge: Bridge,
     pub(crate) agenda: Agenda,
     /// How many links end in it.

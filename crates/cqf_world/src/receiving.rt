@@ -1,14 +1,15 @@
 //! A bridge receives its cycle, and its page is posted.
 ghost use Rattle.std.specs.Prelude.{◌≡◌, ◌<◌, IfOk, OnErr, OnOk, false};
-ghost use Rattle.cqf_book.specs.Pages.{IsNext, with_page};
+ghost use Rattle.cqf_book.specs.Pages.{IsNextPage, with_page};
 ghost use Rattle.cqf_world.specs.Parts.{IsNextToPost, IsPageOf, MayReceiveItsCycle, PostsOut, ReceivesItsCycle};
+ghost use Rattle.cqf_model.specs.Limits.{most_cycles};
 
-use crate::parts::Station;
+use crate::parts::Driven;
 use cqf_admission::Table;
 use cqf_book::{PageFault, Pages};
 use cqf_bridge::BridgeFault;
+use cqf_bridge_turn::page_with;
 use cqf_model::{Dropped, Page};
-use cqf_paging::page_with;
 use cqf_units::{Cycle, Memory};
 use std::alloc::{AllocError, Global};
 use std::mem::replace;
@@ -17,21 +18,23 @@ use std::mem::replace;
 /// that are dropped at it.
 fn receive_cycle(
     alloc: Global,
-    station: &mut Station,
+    bridge_driven: &mut Driven,
     table: &Table,
 ) -> Result<Vec<Dropped>, Memory>
-    requires early { station.old.posted < 100000 }
-    requires may { MayReceiveItsCycle station.old table.now }
-    ensures ok { IfOk result (λ drops. ReceivesItsCycle station.old station.new table.now drops.items) }
-    ensures given { station.new.given ≡ station.old.given }
-    ensures sent { station.new.sent ≡ station.old.sent }
+    requires may { MayReceiveItsCycle bridge_driven.old table.now }
+    ensures ok { IfOk result (λ drops. ReceivesItsCycle bridge_driven.old bridge_driven.new table.now drops.items) }
+    ensures given { bridge_driven.new.given ≡ bridge_driven.old.given }
+    ensures sent { bridge_driven.new.sent ≡ bridge_driven.old.sent }
 {
-    let cycle = Cycle(station.posted);
-    let offers = station.agenda.offers(cycle);
-    match station
-        .bridge
-        .receive(alloc, cycle, table, station.taken.as_slice(), offers)
-    {
+    let cycle = Cycle(bridge_driven.posted);
+    let offers = bridge_driven.agenda.offers(cycle);
+    match bridge_driven.bridge.receive(
+        alloc,
+        cycle,
+        table,
+        bridge_driven.taken.as_slice(),
+        offers,
+    ) {
         Ok(drops) => Ok(drops),
         Err(fault) => match fault {
             BridgeFault::Memory => Err(AllocError),
@@ -41,17 +44,23 @@ fn receive_cycle(
 }
 
 /// The page of the cycle that a bridge has received: the starts that it has kept, its background frames, and what was dropped.
-fn make_page(alloc: Global, station: &mut Station, drops: Vec<Dropped>) -> Result<Page, Memory>
-    ensures ok { IfOk result (λ page. IsPageOf station.old page drops.items) }
-    ensures same { station.new ≡ record station.old { starts = station.new.starts } }
+fn make_page(alloc: Global, bridge_driven: &mut Driven, drops: Vec<Dropped>) -> Result<Page, Memory>
+    ensures ok { IfOk result (λ page. IsPageOf bridge_driven.old page drops.items) }
+    ensures same { bridge_driven.new ≡ record bridge_driven.old { starts = bridge_driven.new.starts } }
 {
-    let starts = replace(&mut station.starts, Vec::new(alloc));
-    page_with(alloc, &station.bridge, Cycle(station.posted), starts, drops)
+    let starts = replace(&mut bridge_driven.starts, Vec::new(alloc));
+    page_with(
+        alloc,
+        &bridge_driven.bridge,
+        Cycle(bridge_driven.posted),
+        starts,
+        drops,
+    )
 }
 
 /// Posts a page that is the next of its bridge.
 fn put_page(pages: &mut Pages, page: Page) -> Result<(), Memory>
-    requires { IsNext pages.old page }
+    requires { IsNextPage pages.old page }
     ensures ok { OnOk result (pages.new ≡ with_page pages.old page) }
     ensures err { OnErr result (pages.new ≡ pages.old) }
 {
@@ -67,22 +76,22 @@ fn put_page(pages: &mut Pages, page: Page) -> Result<(), Memory>
 /// Receives the cycle of a bridge, and posts its page. The bridge is then in its next cycle, of which it has taken no batch yet.
 pub(crate) fn post_page(
     alloc: Global,
-    station: &mut Station,
+    bridge_driven: &mut Driven,
     table: &Table,
     pages: &mut Pages,
 ) -> Result<(), Memory>
-    requires early { station.old.posted < 100000 }
-    requires may { MayReceiveItsCycle station.old table.now }
-    requires next { IsNextToPost pages.old station.old }
-    ensures ok { OnOk result (PostsOut station.old station.new table.now pages.old pages.new) }
-    ensures err_given { OnErr result (station.new.given ≡ station.old.given) }
-    ensures err_sent { OnErr result (station.new.sent ≡ station.old.sent) }
+    requires early { bridge_driven.old.posted < most_cycles }
+    requires may { MayReceiveItsCycle bridge_driven.old table.now }
+    requires next { IsNextToPost pages.old bridge_driven.old }
+    ensures ok { OnOk result (PostsOut bridge_driven.old bridge_driven.new table.now pages.old pages.new) }
+    ensures err_given { OnErr result (bridge_driven.new.given ≡ bridge_driven.old.given) }
+    ensures err_sent { OnErr result (bridge_driven.new.sent ≡ bridge_driven.old.sent) }
     ensures err_pages { OnErr result (pages.new ≡ pages.old) }
 {
-    let drops = receive_cycle(alloc, station, table)?;
-    let page = make_page(alloc, station, drops)?;
+    let drops = receive_cycle(alloc, bridge_driven, table)?;
+    let page = make_page(alloc, bridge_driven, drops)?;
     put_page(pages, page)?;
-    station.taken.clear();
-    station.posted += 1;
+    bridge_driven.taken.clear();
+    bridge_driven.posted += 1;
     Ok(())
 }

@@ -1,38 +1,42 @@
 //! A bridge sends its cycle, and its batches come onto the links.
 ghost use Rattle.std.specs.Prelude.{◌≡◌, ◌<◌, IfOk, OnErr, OnOk, false, length, map};
 ghost use Rattle.cqf_bridge.specs.BridgeState.{AreBackedOf, IsNextToSend};
-ghost use Rattle.cqf_agenda.specs.Agenda.{background_at};
+ghost use Rattle.cqf_bridge_turn.specs.Agenda.{background_at};
 ghost use Rattle.cqf_world.specs.Parts.{AreComing, SendsItsCycle, SendsOut, taken_of};
+ghost use Rattle.cqf_model.specs.Limits.{most_cycles};
 
 use crate::inbox::bridge_at_end;
-use crate::parts::{Line, Station};
+use crate::parts::{Driven, Line};
 use cqf_bridge::{Batch, BridgeFault};
-use cqf_paging::starts_of;
+use cqf_bridge_turn::starts_of;
 use cqf_topology::Domain;
 use cqf_units::{Cycle, Memory};
 use std::alloc::{AllocError, Global};
 
 /// Sends the cycle of a bridge, which keeps what its links send of streams' frames for its page. The batches are what it sends.
-pub(crate) fn send_cycle(alloc: Global, station: &mut Station) -> Result<Vec<Batch>, Memory>
-    requires early { station.old.posted < 100000 }
-    requires next { IsNextToSend station.old.bridge station.old.posted }
-    requires goes_on { station.old.bridge.spent ≡ false }
-    requires backed { AreBackedOf station.old.bridge.domain station.old.bridge.number station.old.posted
-        (background_at station.old.agenda station.old.posted) }
-    ensures ok { IfOk result (λ batches. SendsItsCycle station.old station.new batches.items) }
-    ensures given { station.new.given ≡ station.old.given }
-    ensures sent { station.new.sent ≡ station.old.sent }
-    ensures posted { station.new.posted ≡ station.old.posted }
+pub(crate) fn send_cycle(alloc: Global, bridge_driven: &mut Driven) -> Result<Vec<Batch>, Memory>
+    requires early { bridge_driven.old.posted < most_cycles }
+    requires next { IsNextToSend bridge_driven.old.bridge bridge_driven.old.posted }
+    requires goes_on { bridge_driven.old.bridge.spent ≡ false }
+    requires backed { AreBackedOf bridge_driven.old.bridge.domain bridge_driven.old.bridge.number bridge_driven.old.posted
+        (background_at bridge_driven.old.agenda bridge_driven.old.posted) }
+    ensures ok { IfOk result (λ batches. SendsItsCycle bridge_driven.old bridge_driven.new batches.items) }
+    ensures given { bridge_driven.new.given ≡ bridge_driven.old.given }
+    ensures sent { bridge_driven.new.sent ≡ bridge_driven.old.sent }
+    ensures posted { bridge_driven.new.posted ≡ bridge_driven.old.posted }
 {
-    let cycle = Cycle(station.posted);
+    let cycle = Cycle(bridge_driven.posted);
     let mut batches = Vec::new(alloc);
-    let background = station.agenda.background(cycle);
-    match station.bridge.send(alloc, cycle, background, &mut batches) {
+    let background = bridge_driven.agenda.background(cycle);
+    match bridge_driven
+        .bridge
+        .send(alloc, cycle, background, &mut batches)
+    {
         Ok(()) => {}
         Err(BridgeFault::Memory) => return Err(AllocError),
         Err(_) => unreachable!(),
     }
-    station.starts = starts_of(alloc, batches.as_slice())?;
+    bridge_driven.starts = starts_of(alloc, batches.as_slice())?;
     Ok(batches)
 }
 
@@ -59,22 +63,22 @@ pub(crate) fn put_all(
 pub(crate) fn send_all(
     alloc: Global,
     domain: &Domain,
-    station: &mut Station,
+    bridge_driven: &mut Driven,
     lines: &mut Vec<Line>,
 ) -> Result<(), Memory>
     requires as_many { length lines.old.items ≡ length domain.now.links }
-    requires early { station.old.posted < 100000 }
-    requires next { IsNextToSend station.old.bridge station.old.posted }
-    requires goes_on { station.old.bridge.spent ≡ false }
-    requires backed { AreBackedOf station.old.bridge.domain station.old.bridge.number station.old.posted
-        (background_at station.old.agenda station.old.posted) }
-    ensures ok { OnOk result (SendsOut domain.now station.old station.new lines.old.items lines.new.items) }
-    ensures err_station { OnErr result (station.new.given ≡ station.old.given) }
-    ensures err_sent { OnErr result (station.new.sent ≡ station.old.sent) }
+    requires early { bridge_driven.old.posted < most_cycles }
+    requires next { IsNextToSend bridge_driven.old.bridge bridge_driven.old.posted }
+    requires goes_on { bridge_driven.old.bridge.spent ≡ false }
+    requires backed { AreBackedOf bridge_driven.old.bridge.domain bridge_driven.old.bridge.number bridge_driven.old.posted
+        (background_at bridge_driven.old.agenda bridge_driven.old.posted) }
+    ensures ok { OnOk result (SendsOut domain.now bridge_driven.old bridge_driven.new lines.old.items lines.new.items) }
+    ensures err_driven { OnErr result (bridge_driven.new.given ≡ bridge_driven.old.given) }
+    ensures err_sent { OnErr result (bridge_driven.new.sent ≡ bridge_driven.old.sent) }
     ensures err_lines { OnErr result (map taken_of lines.new.items ≡ map taken_of lines.old.items) }
 {
-    let batches = send_cycle(alloc, station)?;
+    let batches = send_cycle(alloc, bridge_driven)?;
     put_all(domain, lines, batches)?;
-    station.sent = station.posted + 1;
+    bridge_driven.sent = bridge_driven.posted + 1;
     Ok(())
 }

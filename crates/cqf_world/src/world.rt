@@ -5,13 +5,14 @@ ghost use Rattle.cqf_model.specs.History.{seals};
 ghost use Rattle.cqf_model.specs.Run.{AreBackground, AreOffers};
 ghost use Rattle.cqf_world.specs.Beginning.{new_world};
 ghost use Rattle.cqf_world.specs.World.{ArePagesOfTheBook};
-ghost use Rattle.cqf_world.specs.Events.{Answers, Happens, IsEnabled, MayBeGiven, MayPost, MayStep, MayTake};
+ghost use Rattle.cqf_world.specs.Events.{AnswersEvent, Happens, IsEnabled, MayBeGiven, MayPost, MayStep, MayTake};
+ghost use Rattle.cqf_model.specs.Limits.{most_calls, most_cycles, most_rows};
 
 use crate::calling::{ask, close_cycle};
 use crate::events::{Applied, Event};
 use crate::inbox::{bridge_at_end, is_quiet, move_batch};
-use crate::making::{new_lines, new_stations};
-use crate::parts::{Line, Station};
+use crate::making::{new_driven_bridges, new_lines};
+use crate::parts::{Driven, Line};
 use crate::receiving::post_page;
 use crate::sending::send_all;
 use cqf_admission::{Admission, Command, Table};
@@ -21,10 +22,9 @@ use cqf_laws_bridge::{
     history_loses_nothing, longer_run_is_followed, new_bridge_follows, no_other_fault,
     page_follows, receiving_follows, sending_follows,
 };
-use cqf_laws_definitions::closed_tables_stay;
-use cqf_laws_history::{state_follows_history, tables_are_orderly};
+use cqf_laws_cycle::longer_run_keeps_its_cycles;
+use cqf_laws_history::{closed_tables_stay, state_follows_history, tables_are_orderly};
 use cqf_laws_network::{legal_network_exists, shorter_book_is_the_beginning};
-use cqf_laws_pages::longer_run_keeps_its_cycles;
 use cqf_model::{Background, Offer, Refused};
 use cqf_units::Memory;
 use std::alloc::{AllocError, Global};
@@ -45,7 +45,7 @@ pub struct World<'a> {
     /// By cycle.
     tables: Vec<Table>,
     /// By number of bridge.
-    stations: Vec<Station>,
+    driven: Vec<Driven>,
     /// By number of link.
     lines: Vec<Line>,
     pages: Pages,
@@ -55,7 +55,7 @@ pub struct World<'a> {
 
 impl<'a> Model for World<'a> {
     ghost use Rattle.std.specs.Prelude.{map};
-    ghost use Rattle.cqf_world.specs.Parts.{IsWorld, given_of, sent_of, taken_of};
+    ghost use Rattle.cqf_world.specs.Parts.{IsWorld, given_of, sent_of_driven, taken_of};
     ghost use Rattle.cqf_world.specs.World.{WorldState};
 
     ghost Value = { WorldState };
@@ -67,8 +67,8 @@ impl<'a> Model for World<'a> {
       cycles = w.cycles;
       entries = w.admission.entries;
       pages = w.pages;
-      given = map given_of w.stations.items;
-      sent = map sent_of w.stations.items;
+      given = map given_of w.driven.items;
+      sent = map sent_of_driven w.driven.items;
       taken = map taken_of w.lines.items;
       stopped = w.stopped;
     } };
@@ -80,11 +80,11 @@ impl<'a> Model for World<'a> {
       cycles = w.cycles;
       entries = w.admission.entries;
       pages = w.pages;
-      given = map given_of w.stations.items;
-      sent = map sent_of w.stations.items;
+      given = map given_of w.driven.items;
+      sent = map sent_of_driven w.driven.items;
       taken = map taken_of w.lines.items;
       stopped = w.stopped;
-    }) w.tables.items w.stations.items w.lines.items };
+    }) w.tables.items w.driven.items w.lines.items };
 }
 
 impl<'a> World<'a> {
@@ -102,10 +102,10 @@ impl<'a> World<'a> {
         requires domain { admission.domain ≡ plan.now }
         requires no_seal { seals admission.entries ≡ 0 }
         requires offers { AreOffers plan.now offers.now }
-        requires few_offers { length offers.now ≤ 1000000 }
+        requires few_offers { length offers.now ≤ most_rows }
         requires background { AreBackground plan.now background.now }
-        requires few_background { length background.now ≤ 1000000 }
-        requires few_cycles { cycles ≤ 100000 }
+        requires few_background { length background.now ≤ most_rows }
+        requires few_cycles { cycles ≤ most_cycles }
         ensures { IfOk result (λ world. world ≡ new_world admission offers.now background.now cycles) }
     {
         new_bridge_follows();
@@ -119,7 +119,7 @@ impl<'a> World<'a> {
             cycles,
             admission,
             tables: Vec::new(alloc),
-            stations: new_stations(alloc, plan, offers, background)?,
+            driven: new_driven_bridges(alloc, plan, offers, background)?,
             lines: new_lines(alloc, domain)?,
             pages: Pages::new(alloc, domain.bridges(), cycles)?,
             stopped: false,
@@ -150,11 +150,11 @@ impl World<'_> {
         ensures yes { result ≡ true → MayBeGiven self.now bridge }
         ensures no { result ≡ false → ¬ MayBeGiven self.now bridge }
     {
-        let Some(station) = self.stations.get(usize::from(bridge)) else {
+        let Some(bridge_driven) = self.driven.get(usize::from(bridge)) else {
             return false;
         };
-        let cycle = station.posted;
-        if station.given != cycle || cycle >= self.cycles {
+        let cycle = bridge_driven.posted;
+        if bridge_driven.given != cycle || cycle >= self.cycles {
             return false;
         }
         (cycle as usize) < self.tables.len()
@@ -166,14 +166,14 @@ impl World<'_> {
         requires may { MayBeGiven self.old bridge }
         ensures { Happens self.old self.new (Event.Give bridge) }
     {
-        let station = &mut self.stations[usize::from(bridge)];
-        station.given = station.posted + 1;
+        let bridge_driven = &mut self.driven[usize::from(bridge)];
+        bridge_driven.given = bridge_driven.posted + 1;
     }
 
     /// Makes an administrator's call.
     fn call(&mut self, seat: u16, command: &Command) -> Result<(), Memory>
         requires goes_on { self.old.stopped ≡ false }
-        requires may { calls self.old.entries < 100000 }
+        requires may { calls self.old.entries < most_calls }
         ensures ok { OnOk result (Happens self.old self.new (Event.Call seat command.now)) }
         ensures err { OnErr result (self.new ≡ record self.old { stopped = true }) }
     {
@@ -222,9 +222,9 @@ impl World<'_> {
         let Some(bridge) = bridge_at_end(self.admission.domain(), link) else {
             return false;
         };
-        let station = &self.stations[usize::from(bridge)];
+        let bridge_driven = &self.driven[usize::from(bridge)];
         let line = &self.lines[usize::from(link)];
-        if station.sent == station.posted || line.taken != station.posted {
+        if bridge_driven.sent == bridge_driven.posted || line.taken != bridge_driven.posted {
             return false;
         }
         !is_quiet(line)
@@ -241,9 +241,9 @@ impl World<'_> {
             unreachable!()
         };
         self.stopped = true;
-        let station = &mut self.stations[usize::from(bridge)];
+        let bridge_driven = &mut self.driven[usize::from(bridge)];
         let line = &mut self.lines[usize::from(link)];
-        move_batch(line, station)?;
+        move_batch(line, bridge_driven)?;
         self.stopped = false;
         Ok(())
     }
@@ -254,13 +254,13 @@ impl World<'_> {
         ensures yes { result ≡ true → MayStep self.now bridge }
         ensures no { result ≡ false → ¬ MayStep self.now bridge }
     {
-        let Some(station) = self.stations.get(usize::from(bridge)) else {
+        let Some(bridge_driven) = self.driven.get(usize::from(bridge)) else {
             return false;
         };
-        if station.given == station.posted {
+        if bridge_driven.given == bridge_driven.posted {
             return false;
         }
-        station.sent == station.posted
+        bridge_driven.sent == bridge_driven.posted
     }
 
     /// Sends it.
@@ -273,11 +273,11 @@ impl World<'_> {
         new_bridge_follows();
         sending_follows();
         self.stopped = true;
-        let station = &mut self.stations[usize::from(bridge)];
+        let bridge_driven = &mut self.driven[usize::from(bridge)];
         send_all(
             self.alloc,
             self.admission.domain(),
-            station,
+            bridge_driven,
             &mut self.lines,
         )?;
         self.stopped = false;
@@ -290,13 +290,13 @@ impl World<'_> {
         ensures yes { result ≡ true → MayPost self.now bridge }
         ensures no { result ≡ false → ¬ MayPost self.now bridge }
     {
-        let Some(station) = self.stations.get(usize::from(bridge)) else {
+        let Some(bridge_driven) = self.driven.get(usize::from(bridge)) else {
             return false;
         };
-        if station.sent == station.posted {
+        if bridge_driven.sent == bridge_driven.posted {
             return false;
         }
-        station.taken.as_slice().len() == station.incoming
+        bridge_driven.taken.as_slice().len() == bridge_driven.incoming
     }
 
     /// Receives it, and posts the page.
@@ -313,17 +313,17 @@ impl World<'_> {
         no_other_fault();
         page_follows();
         self.stopped = true;
-        let station = &mut self.stations[usize::from(bridge)];
-        let table = &self.tables[station.posted as usize];
-        post_page(self.alloc, station, table, &mut self.pages)?;
+        let bridge_driven = &mut self.driven[usize::from(bridge)];
+        let table = &self.tables[bridge_driven.posted as usize];
+        post_page(self.alloc, bridge_driven, table, &mut self.pages)?;
         self.stopped = false;
         Ok(())
     }
 
     /// Whether there may be a call more.
     fn may_call(&self) -> bool
-        ensures yes { result ≡ true → calls self.now.entries < 100000 }
-        ensures no { result ≡ false → 100000 ≤ calls self.now.entries }
+        ensures yes { result ≡ true → calls self.now.entries < most_calls }
+        ensures no { result ≡ false → most_calls ≤ calls self.now.entries }
     {
         let sealed = self.admission.next_cycle().0 as usize;
         self.admission.history().len() < MOST_CALLS + sealed
@@ -380,8 +380,12 @@ impl World<'_> {
     /// [`Applied::NotEnabled`] where it may not, as for a bridge or a link that the domain lacks; then nothing is changed, and no
     /// memory was taken. `Memory` where a growth is refused: the history and the pages are as they were, and no event may happen
     /// any more.
+    ///
+    /// What a page that one bridge posts means for another is a law: each bridge stands where its own lists say, whatever turns the
+    /// others take, and once it has its table and its batches it receives its cycle, but for want of memory
+    /// (`halfway` and `receives` of [`cqf_laws_bridge::bridges_go_on`]).
     pub fn apply(&mut self, event: Event) -> Result<Applied, Memory>
-        ensures { Answers self.old self.new event result }
+        ensures { AnswersEvent self.old self.new event result }
     {
         if !self.is_enabled(&event) {
             return Ok(Applied::NotEnabled);

@@ -2,7 +2,7 @@ use Rattle.std.proofs.Common.{◌+◌, ◌-◌, ◌/◌, ◌<◌, ◌≤◌, Lis
 use Rattle.std.specs.Arc.{arc_value}
 use Rattle.std.proofs.lemmas.List.{length-map}
 use Rattle.cqf_model.specs.declared.topology.Row.{Row}
-use Rattle.cqf_admission.specs.Rows.{end_of}
+use Rattle.cqf_admission.specs.Rows.{end_of_row}
 use Rattle.cqf_admission.proofs.EndingLemmas.{behind_it, up_to_it}
 use Rattle.cqf_admission.proofs.MappedRows.{mapped_at}
 use Rattle.cqf_admission.proofs.held.place_among.Goals as goal
@@ -15,7 +15,7 @@ loop-low-preserved-then-end_of-end c =
     let below : middle < c.loop-low.high = omega (arith, c.loop-low-test.true) in
     let inside : middle < length rows =
     omega (arith, below, c.loop-low.invariant.1, length-map c.args.ending.now (λ row. arc_value row)) in
-    let later : c.args.end ≤ end_of row = omega (arith, c.if-end_of-end.true, c.end_of.ensures, ap (λ (r : Row). end_of r) c.deref.ensures) in (
+    let later : c.args.end ≤ end_of_row row = omega (arith, c.if-end_of-end.true, c.end_of.ensures, ap (λ (r : Row). end_of_row r) c.deref.ensures) in (
       omega (arith, below),
       c.loop-low.invariant.1,
       up_to_it rows middle (middle + 1) c.args.end row c.requires inside
@@ -31,7 +31,7 @@ loop-low-preserved c =
     let below : middle < c.loop-low.high = omega (arith, c.loop-low-test.true) in
     let inside : middle < length rows =
     omega (arith, below, c.loop-low.invariant.1, length-map c.args.ending.now (λ row. arc_value row)) in
-    let ends : end_of row ≤ c.args.end = omega (arith, c.if-end_of-end.false, c.end_of.ensures, ap (λ (r : Row). end_of r) c.deref.ensures) in (
+    let ends : end_of_row row ≤ c.args.end = omega (arith, c.if-end_of-end.false, c.end_of.ensures, ap (λ (r : Row). end_of_row r) c.deref.ensures) in (
       omega arith,
       omega (arith, below, c.loop-low.invariant.1),
       c.loop-low.invariant.2,

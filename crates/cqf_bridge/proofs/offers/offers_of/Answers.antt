@@ -1,7 +1,7 @@
 use Rattle.std.proofs.Common.{List, arith, rules, subst}
 use Rattle.std.proofs.lemmas.List.Sorted.{IsNonDecreasingBy-from_sort_by_key, answers_always}
 use Rattle.cqf_model.specs.declared.frames.Offered.{Offered}
-use Rattle.cqf_laws_pages.specs.Gathered.{IsInOrderOf}
+use Rattle.cqf_laws_cycle.specs.Gathered.{IsInOrderOf}
 use Rattle.cqf_bridge.proofs.InOrder.{brought_in_order}
 use Rattle.cqf_bridge.proofs.Offering.{instant_of_offer, offer_at, offers_at}
 use Rattle.cqf_bridge.proofs.offers.offers_of.Goals as goal

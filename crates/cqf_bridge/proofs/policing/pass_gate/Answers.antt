@@ -2,7 +2,7 @@ use Rattle.std.proofs.Common.{◌∙◌, ◌+◌, None, Some, ap, arith, sym}
 use Rattle.std.proofs.lemmas.Bool.{cond-false, cond-true}
 use Rattle.cqf_model.specs.StreamGate.{gate_class}
 use Rattle.cqf_gates.specs.StreamGate.{Gate, lets_pass}
-use Rattle.cqf_stream_gates.specs.Gates.{gate_in}
+use Rattle.cqf_bridge_gates.specs.Gates.{gate_in}
 use Rattle.cqf_bridge.specs.Taking.{class_in, passes_by, received_as}
 use Rattle.cqf_bridge.proofs.Verdicts.{gate_entries, gate_last, went_by_gate, word_class, word_over}
 use Rattle.cqf_bridge.proofs.policing.pass_gate.Goals as goal
@@ -15,8 +15,8 @@ pass-requires c =
       gate_last c.args.domain.now.cycle_time (x.at + 1) c.args.gates.now c.args.row.now.no c.args.row.now.octets (omega arith) c.requires.kept,
     )
 
-pub returns-in-Class : goal.returns-in-Class
-returns-in-Class c =
+pub returns-in-Class-clause-passes : goal.returns-in-Class-clause-passes
+returns-in-Class-clause-passes c =
     let d = c.args.domain.now in
     let x = received_as c.args.frame.now in
     let row = c.args.row.now in
@@ -27,8 +27,8 @@ returns-in-Class c =
     c.requires.kept c.requires.in_cycle c.in_ok-class.ensures.after c.gate_counts_cycles.ensures (Some c.in-Class.class)
     (ap Some (w.1 ∙ entries) ∙ sym (cond-true (passes_by d.cycle_time c.args.gates.now x row) (Some (class_in d x row)) None w.0))
 
-pub returns-in-OverOctets : goal.returns-in-OverOctets
-returns-in-OverOctets c =
+pub returns-in-OverOctets-clause-passes : goal.returns-in-OverOctets-clause-passes
+returns-in-OverOctets-clause-passes c =
     let d = c.args.domain.now in
     let x = received_as c.args.frame.now in
     let row = c.args.row.now in

@@ -9,15 +9,15 @@ use Rattle.cqf_bridge.specs.Taking.{PassesGate, class_in, passes_by, received_as
 use Rattle.cqf_bridge.proofs.Verdicts.{class_given, none_given, polices_none, polices_row, verdict_at_edge}
 use Rattle.cqf_bridge.proofs.policing.police_offer.Goals as goal
 
-pub returns-in_default : goal.returns-in_default
-returns-in_default c =
+pub returns-in_default-clause-polices : goal.returns-in_default-clause-polices
+returns-in_default-clause-polices c =
     let v = verdict_at_edge c.args.domain.now c.args.table.now.rows c.args.number c.args.cycle.0 c.args.gates.now (received_as c.args.frame.now)
     c.args.name.now None c.requires.way (ap option_copied (sym c.in_default.is) ∙ c.row_named.ensures.found) in
     polices_none c.args.domain.now c.args.table.now.rows c.args.number c.args.cycle.0 (received_as c.args.frame.now) c.args.gates.now _ (Dropped Unknown)
     (sym v) tt (λ number. refl) c.requires.kept refl
 
-pub returns-in-Some-refused : goal.returns-in-Some-refused
-returns-in-Some-refused c =
+pub returns-in-Some-refused-clause-polices : goal.returns-in-Some-refused-clause-polices
+returns-in-Some-refused-clause-polices c =
     let d = c.args.domain.now in
     let x = received_as c.args.frame.now in
     let row = c.in-Some.row.now in
@@ -28,15 +28,15 @@ returns-in-Some-refused c =
     polices_none d c.args.table.now.rows c.args.number c.args.cycle.0 x c.args.gates.now _ (Dropped c.in-Some-refused.reason)
     (sym v) tt (λ number. refl) c.requires.kept refl
 
-pub returns-in-Some-2 : goal.returns-in-Some-2
-returns-in-Some-2 c =
+pub returns-in-Some-2-clause-polices : goal.returns-in-Some-2-clause-polices
+returns-in-Some-2-clause-polices c =
     let d = c.args.domain.now in
     let rows = c.args.table.now.rows in
     let x = received_as c.args.frame.now in
     let row = c.in-Some.row.now in
     let passes = passes_by d.cycle_time c.args.gates.now x in
     let found = ap option_copied (sym c.in-Some.is) ∙ c.row_named.ensures.found in
-    let p : PassesGate d c.args.cycle.0 x row c.args.gates.now c.pass_gate.new.gates (Some c.in-Some-2.class) = rw c.in-Some-2.is at c.in_ok-class.ensures in
+    let p : PassesGate d c.args.cycle.0 x row c.args.gates.now c.pass_gate.new.gates (Some c.in-Some-2.class) = rw c.in-Some-2.is at c.in_ok-class.ensures.passes in
     let w = class_given (passes row) c.in-Some-2.class (class_in d x row) p.decided in
     let v = verdict_at_edge d rows c.args.number c.args.cycle.0 c.args.gates.now x c.args.name.now (Some row) c.requires.way found
     ∙ c.refused.ensures passes ∙ ap (λ o. verdict_unless o (passes row) row) c.in_default-refused.is
@@ -45,15 +45,15 @@ returns-in-Some-2 c =
     (find_member (λ r. is_text r.name c.args.name.now) rows row (sym found)).0 (Some c.in-Some-2.class) p (GoesOn c.in-Some.row c.in-Some-2.class) (sym v) w.1
     (λ number. ap (λ (b : Bool). is_queued_of number (verdict_if b row)) w.0)
 
-pub returns-in-None : goal.returns-in-None
-returns-in-None c =
+pub returns-in-None-clause-polices : goal.returns-in-None-clause-polices
+returns-in-None-clause-polices c =
     let d = c.args.domain.now in
     let rows = c.args.table.now.rows in
     let x = received_as c.args.frame.now in
     let row = c.in-Some.row.now in
     let passes = passes_by d.cycle_time c.args.gates.now x in
     let found = ap option_copied (sym c.in-Some.is) ∙ c.row_named.ensures.found in
-    let p : PassesGate d c.args.cycle.0 x row c.args.gates.now c.pass_gate.new.gates None = rw c.in-None.is at c.in_ok-class.ensures in
+    let p : PassesGate d c.args.cycle.0 x row c.args.gates.now c.pass_gate.new.gates None = rw c.in-None.is at c.in_ok-class.ensures.passes in
     let over = none_given (passes row) (class_in d x row) p.decided in
     let v = verdict_at_edge d rows c.args.number c.args.cycle.0 c.args.gates.now x c.args.name.now (Some row) c.requires.way found
     ∙ c.refused.ensures passes ∙ ap (λ o. verdict_unless o (passes row) row) c.in_default-refused.is

@@ -1,11 +1,12 @@
 use Rattle.std.proofs.Common.{sym, ap, ◌∙◌, ◌++◌, map, length}
 use Rattle.cqf_admission.specs.Admission.{recorded_of}
 use Rattle.cqf_desk.specs.Closing.{tables_by}
-use Rattle.cqf_desk.proofs.Steps.{closes_none, no_tables}
+use Rattle.std.proofs.lemmas.List.{nil_from_length}
+use Rattle.cqf_desk.proofs.Steps.{closes_none}
 use Rattle.cqf_desk.proofs.closing.has_its_tables.Goals as goal
 
 pub returns-then-not-has_seal : goal.returns-then-not-has_seal
 returns-then-not-has_seal c = λ _.
-    no_tables c.args.seat.now.tables (ap length (sym c.tables-tables.ensures) ∙ c.if-tables-eq0.true)
+    nil_from_length c.args.seat.now.tables (ap length (sym c.tables-tables.ensures) ∙ c.if-tables-eq0.true)
     ∙ sym (closes_none c.args.opening.now c.args.rest.now c.number-number.result (sym c.has_seal.ensures ∙ c.if-not-has_seal.true))
     ∙ ap (tables_by c.args.opening.now.domain (c.args.opening.now.entries ++ map recorded_of c.args.rest.now) (length c.args.opening.now.entries)) c.number-number.ensures

@@ -1,6 +1,6 @@
 use Rattle.std.proofs.Common.{subst, sym}
 use Rattle.cqf_model.specs.Domain.{Domain}
-use Rattle.cqf_laws_pages.specs.Gathered.{backed_for}
+use Rattle.cqf_laws_cycle.specs.Gathered.{backed_for}
 use Rattle.cqf_bridge.specs.BridgeState.{AreBackedOf}
 use Rattle.cqf_laws_bridge.proofs.Beginning.{backed_is_of_bridge, new_follows}
 use Rattle.cqf_laws_bridge.proofs.cycles.new_bridge_follows.Goals as goal

@@ -1,7 +1,6 @@
 use Rattle.std.proofs.Common.{sym, subst, ℕ}
 use Rattle.cqf_model.specs.HistoryBook.{run_of_history}
-use Rattle.cqf_model.specs.Network.{IsLegalNetwork, compiled_lists}
-use Rattle.cqf_laws_bridge.specs.NoFaults.{LosesNothing}
+use Rattle.cqf_model.specs.Network.{IsLegalNetwork, compiled_lists, LosesNothing}
 use Rattle.cqf_laws_bridge.proofs.no_faults.history_loses_nothing.Goals as goal
 
 pub returns-clause-orderly : goal.returns-clause-orderly

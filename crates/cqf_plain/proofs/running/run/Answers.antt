@@ -21,4 +21,4 @@ returns-in-Err-clause-memory_alone c =
 pub returns-in-Ok-clause-promise : goal.returns-in-Ok-clause-promise
 returns-in-Ok-clause-promise c =
     keeps_promise c.args.plan.now c.args.tables.now c.args.offers.now c.args.background.now c.domain-accepted.ensures.accepted c.requires.offers
-    c.requires.background c.book_says_the_shift.ensures c.gates_mean_the_shift.ensures c.tables_are_orderly.ensures.orderly _ c.in-Ok.ensures.book
+    c.requires.background c.book_says_the_shift.ensures c.tables_are_orderly.ensures.orderly _ c.in-Ok.ensures.book

@@ -1,6 +1,6 @@
 use Rattle.std.proofs.Common.{◌++◌, ℕ, List, Vec, Global, Some, codes, subst}
 use Rattle.cqf_model.specs.Book.{contents_of}
-use Rattle.cqf_report.specs.Written.{HasWritten, line_of}
+use Rattle.cqf_report.specs.Written.{HasWritten, line_of_fields}
 use Rattle.cqf_report.specs.Books.{book_header, lines_of_starts, text_of_book}
 use Rattle.cqf_report.proofs.WrittenLemmas.{book-behind, handed-out}
 use Rattle.cqf_report.proofs.books.append_book.Goals as goal
@@ -10,7 +10,7 @@ returns c =
     let d = c.args.domain.now in
     let book = contents_of c.args.book.now in
     let text = c.args.text.items in
-    let header = text ++ line_of book_header in
+    let header = text ++ line_of_fields book_header in
     let starts = header ++ lines_of_starts (codes "start") d book.starts in
     let background = starts ++ lines_of_starts (codes "background") d book.background in
     let Written : List ℕ → Type 0 = λ text. HasWritten (λ (w : Vec ℕ Global). Some w.items) c.write_drops.new.writer text in

@@ -1,5 +1,5 @@
 use Rattle.cqf_report.specs.Arrivals.{arrival_instant, arrival_of}
-use Rattle.cqf_report.specs.BackgroundFrames.{background_instant, background_of}
+use Rattle.cqf_report.specs.BackgroundFrames.{background_instant, background_of_table}
 use Rattle.cqf_report.specs.Offers.{offer_instant, offer_of}
 use Rattle.cqf_report.specs.Table.{in_five, in_four}
 use Rattle.cqf_report.proofs.FirstRows.{tells-first}
@@ -12,4 +12,4 @@ pub returns-clause-offers : goal.returns-clause-offers
 returns-clause-offers c d rows = tells-first (in_four (offer_of d)) offer_instant rows
 
 pub returns-clause-background : goal.returns-clause-background
-returns-clause-background c d rows = tells-first (in_five (background_of d)) background_instant rows
+returns-clause-background c d rows = tells-first (in_five (background_of_table d)) background_instant rows

@@ -1,6 +1,6 @@
 use Rattle.std.proofs.Common.{◌∙◌, length, Ok, All, sym, ap, subst, arith}
 use Rattle.cqf_topology.specs.declared.faults.DomainFault.TheVariants.{Memory}
-use Rattle.cqf_topology.specs.DomainText.{IsNumbered, joined, with_links, with_these}
+use Rattle.cqf_topology.specs.DomainText.{IsNumberedDomain, joined, with_links, with_these}
 use Rattle.cqf_topology.specs.JoinedLink.{HasSmallEnds}
 use Rattle.cqf_topology.proofs.Accepted.{numbered, joined-small, checked-unknown, checked-numbered}
 use Rattle.cqf_topology.proofs.Passed.{passes}
@@ -57,4 +57,4 @@ returns-clause-numbered c =
     let stations = c.args.stations.now.keys in
     let items = c.in_ok-joined.joined.items in
     let n = numbered d bridges stations items c.requires (ap (joined bridges stations) (sym c.links.ensures) ∙ c.in_ok-joined.ensures) in
-    subst (IsNumbered d bridges stations) (sym (c.in_ok-links.ensures ∙ c.as_slice-2.ensures.value)) n
+    subst (IsNumberedDomain d bridges stations) (sym (c.in_ok-links.ensures ∙ c.as_slice-2.ensures.value)) n

@@ -1,16 +1,16 @@
 use Rattle.std.proofs.Common.{◌∙◌, refl, sym}
 use Rattle.toml.specs.View.{items_view}
-use Rattle.cqf_fields.specs.declared.keys.Key.TheVariants.{Links}
-use Rattle.cqf_fields.specs.declared.faults.TomlFault.TheVariants.{Memory}
-use Rattle.cqf_fields.specs.Fields.{tables_from}
-use Rattle.cqf_topology.specs.DomainText.{link_from}
+use Rattle.cqf_topology_fields.specs.declared.keys.Key.TheVariants.{Links}
+use Rattle.cqf_topology_fields.specs.declared.faults.TomlFault.TheVariants.{Memory}
+use Rattle.cqf_topology_fields.specs.Fields.{tables_from}
+use Rattle.cqf_topology.specs.DomainText.{link_read}
 use Rattle.cqf_topology.proofs.Fronts.{read-more, read-fault, read-all}
 use Rattle.cqf_topology.proofs.Refusals.{Gives-residual}
 use Rattle.cqf_topology.proofs.draft.add_links.Goals as goal
 
 pub loop-value-preserved : goal.loop-value-preserved
 loop-value-preserved c =
-    read-more _ (λ values. tables_from Links link_from (items_view values)) (λ value values. refl) c.args.values.now c.loop-value.value-index
+    read-more _ (λ values. tables_from Links link_read (items_view values)) (λ value values. refl) c.args.values.now c.loop-value.value-index
     c.value-item.result c.loop-value-test.true c.value-item.is c.loop-value.links.items c.in_ok-link.link _ (sym c.in_ok-link.ensures)
     c.in_ok-add_link.ensures.added
     ∙ c.loop-value.invariant
@@ -20,11 +20,11 @@ returns-in_err-link c =
     let e = c.in_err-link.field-0.0 in
     Gives-residual Memory e (λ _. c.loop-value.links.items) c.from_residual.result _ c.from_residual.ensures.1
     (λ _. sym c.loop-value.invariant
-    ∙ read-fault _ (λ values. tables_from Links link_from (items_view values)) (λ value values. refl) c.args.values.now c.loop-value.value-index
+    ∙ read-fault _ (λ values. tables_from Links link_read (items_view values)) (λ value values. refl) c.args.values.now c.loop-value.value-index
     c.value-item.result c.loop-value-test.true c.value-item.is c.loop-value.links.items e (sym c.in_err-link.ensures))
 
 pub returns : goal.returns
 returns c =
     sym c.loop-value.invariant
-    ∙ read-all (λ values. tables_from Links link_from (items_view values)) refl c.args.values.now c.loop-value.value-index c.loop-value-test.false
+    ∙ read-all (λ values. tables_from Links link_read (items_view values)) refl c.args.values.now c.loop-value.value-index c.loop-value-test.false
     c.loop-value.links.items

@@ -27,4 +27,4 @@ returns g c =
     (map (λ (v : Vec Command Global). v.items) c.args.admins.items) c.in_ok-desk.field-0 c.in_ok-desk.ensures c.in_ok-ended.ended c.in_ok-ended.ensures.ok
     c.in_ok-account.account c.in_ok-account.ensures c.cycle_time-accepted.ensures.accepted c.requires.unsealed c.requires.offers c.requires.background
     c.seats_give_the_history.ensures.history c.seats_give_the_history.ensures.tables c.bridges_apart_post_the_pages.ensures
-    c.book_of_history_says_the_shift.ensures c.history_loses_nothing.ensures.history
+    c.book_of_history_says_the_shift.ensures

@@ -1,7 +1,7 @@
 use Rattle.std.proofs.Common.{◌≡◌, ◌<◌, ◌∙◌, List, ap, arith, length, map, sym}
 use Rattle.std.specs.Arc.{arc_value}
 use Rattle.cqf_model.specs.declared.topology.Row.{Row}
-use Rattle.cqf_admission.specs.Rows.{HeldRows, end_of, ended, ended_at}
+use Rattle.cqf_admission.specs.Rows.{HeldRows, end_of_row, ended, ended_at}
 use Rattle.cqf_admission.proofs.EndingLemmas.{ending_more, mapped_among}
 use Rattle.cqf_admission.proofs.HeldLemmas.{columns_ended}
 use Rattle.cqf_admission.proofs.MappedRows.{mapped_at, mapped_ended}
@@ -21,8 +21,8 @@ invariant_of-self-2 c =
     let own = c.in_ok-again.ensures ∙ ends ∙ ap (λ (r : Row). ended r c.args.cycle) there in
     let grown = mapped_among (λ row. arc_value row) c.self.inside.ending.items c.insert.new.self.items c.place_among-among.result c.in_ok-again.again
     c.in_ok-insert.ensures.items in
-    let end : c.end_of.result ≡ end_of (arc_value c.in_ok-again.again) =
-    c.end_of.ensures ∙ ap (λ (r : Row). end_of r) (c.deref-2.ensures ∙ sym c.in_ok-again.ensures) in
+    let end : c.end_of.result ≡ end_of_row (arc_value c.in_ok-again.again) =
+    c.end_of.ensures ∙ ap (λ (r : Row). end_of_row r) (c.deref-2.ensures ∙ sym c.in_ok-again.ensures) in
     let before = rw (c.as_slice.ensures.value, end) at c.place_among-among.ensures.before in
     let behind = rw (c.as_slice.ensures.value, end) at c.place_among-among.ensures.behind in
     let names = c.self.inside.names.keys in

@@ -7,7 +7,7 @@ use Rattle.cqf_lists.proofs.Pairs.{pairs_from_map}
 use Rattle.cqf_model.specs.declared.topology.Row.{Row}
 use Rattle.cqf_model.specs.Domain.{is_text}
 use Rattle.cqf_model.specs.Table.{is_held}
-use Rattle.cqf_admission.specs.Rows.{HeldRows, end_of}
+use Rattle.cqf_admission.specs.Rows.{HeldRows, end_of_row}
 use Rattle.cqf_admission.proofs.EndingLemmas.{IsLetGo, goes, held_still, inside, last_of, none_ends, none_ends_yet, not_there}
 use Rattle.cqf_admission.proofs.HeldLemmas.{columns_removed, place_of_name}
 use Rattle.cqf_admission.proofs.MappedRows.{mapped_at, mapped_less}
@@ -38,8 +38,8 @@ returns-then-end_of-from c =
     let so_many = c.loop-left.invariant.5 in
     let is = last_of (λ row. arc_value row) now.ending.items (take (c.loop-left.left - 1) now.ending.items) (c.loop-left.left - 1) c.index-ended.result.now
     (omega (arith, so_many, c.loop-left-test.true)) (omega (arith, so_many)) c.index-ended.ensures refl in
-    let later : c.args.cycle.0 < end_of last =
-    omega (arith, c.if-end_of-from.true, c.from.ensures, c.end_of.ensures, ap (λ (r : Row). end_of r) c.deref.ensures) in
+    let later : c.args.cycle.0 < end_of_row last =
+    omega (arith, c.if-end_of-from.true, c.from.ensures, c.end_of.ensures, ap (λ (r : Row). end_of_row r) c.deref.ensures) in
     none_ends_yet c.args.cycle.0 all _ _ _ last c.loop-left.invariant.4 is later
     ∙ ap (λ (h : HeldRows). filter (λ (row : Row). is_held row c.args.cycle.0) h.rows) c.self.view_is
 
@@ -68,8 +68,8 @@ loop-left-preserved-after-get_index_of c =
     let so_many = c.loop-left.invariant.5 in
     let apart = pairs_from_map (λ (a b : List ℕ). a ≢ b) (λ (r : Row). r.name) rows
     (subst (AllPairs (λ (a b : List ℕ). a ≢ b)) c.loop-left.invariant.0.are_names c.loop-left.invariant.0.apart) in
-    let due : end_of last ≤ cycle =
-    omega (arith, c.if-end_of-from.false, c.from.ensures, c.end_of.ensures, ap (λ (r : Row). end_of r) c.deref.ensures) in
+    let due : end_of_row last ≤ cycle =
+    omega (arith, c.if-end_of-from.false, c.from.ensures, c.end_of.ensures, ap (λ (r : Row). end_of_row r) c.deref.ensures) in
     let found : position (λ (r : Row). is_text r.name last.name) rows ≡ c.get_index_of.result =
     ap (λ (row : Row). position (λ (r : Row). is_text r.name row.name) rows) (sym c.deref-in-loop-left.ensures)
     ∙ sym (c.get_index_of.ensures.index ∙ ap (position (pointwise nat_eq c.deref-in-loop-left.result.now.name)) c.loop-left.invariant.0.are_names

@@ -1,5 +1,5 @@
 use Rattle.std.proofs.Common.{ap, arith, subst, sym}
-use Rattle.cqf_book.specs.Pages.{IsNext, Posted}
+use Rattle.cqf_book.specs.Pages.{IsNextPage, Posted}
 use Rattle.cqf_book.specs.declared.totals.LinkTotals.{LinkTotals}
 use Rattle.cqf_book.proofs.Posting.{next_kept, room_for_next, same_kept}
 use Rattle.cqf_book.proofs.pages.Pages.post.Goals as goal
@@ -22,7 +22,7 @@ invariant_of-self c =
     let bridge = c.from.result in
     let own = c.index_mut-own.result.now in
     let row = c.push.new.self in
-    let next : IsNext posted c.args.page = subst (λ (p : Posted). IsNext p c.args.page) (sym c.self.view_is) c.in_default.ensures.next in
+    let next : IsNextPage posted c.args.page = subst (λ (p : Posted). IsNextPage p c.args.page) (sym c.self.view_is) c.in_default.ensures.next in
     elim c.match-push.branch [
       | in-Ok w ↦ next_kept posted c.args.page frames octets frames_after octets_after bridge own row
           c.self.invariant c.from.ensures next c.index_mut-own.ensures.value

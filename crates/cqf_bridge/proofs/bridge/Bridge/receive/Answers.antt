@@ -1,7 +1,7 @@
 use Rattle.std.proofs.Common.{◌+◌, ◌∙◌, refl, subst, sym, true}
 use Rattle.cqf_bridge.specs.BridgeState.{BridgeState}
-use Rattle.cqf_bridge.specs.Receiving.{CanReceive, Handed, IsReceiveFault, IsRunOf, ReceivesCycle}
-use Rattle.cqf_bridge.proofs.Receives.{bridge_received, cycle_received, next_to_receive, ready_to_receive, stop_is_fault}
+use Rattle.cqf_bridge.specs.Receiving.{CanReceive, Handed, IsReceiveFault, IsRunOfBridge, ReceivesCycle}
+use Rattle.cqf_bridge.proofs.Receives.{bridge_received, cycle_received, early_to_receive, next_to_receive, ready_to_receive, stop_is_fault}
 use Rattle.cqf_bridge.proofs.bridge.Bridge.receive.Goals as goal
 
 pub receive_frames-received-requires-clause-ready :
@@ -18,8 +18,8 @@ invariant_of-self c =
     let b : BridgeState = record { domain = i.domain; number = i.number; sent = i.sent; received = i.received; spent = i.spent; ports = i.ports.items; background = i.background.items } in
     let next = next_to_receive b c.args.cycle.0 c.args.table.now.cycle c.self.invariant.bridge c.if-cycle-self.false c.if-self-2.false (sym c.cycle.ensures ∙ c.if-cycle.false) in
     let run = c.requires.offers.0 in
-    let of_run : IsRunOf b.domain b.number c.args.cycle.0 c.args.table.now.rows c.args.offers.now run =
-    subst (λ (x : BridgeState). IsRunOf x.domain x.number c.args.cycle.0 c.args.table.now.rows c.args.offers.now run) (sym c.self.view_is) c.requires.offers.1 in
+    let of_run : IsRunOfBridge b.domain b.number c.args.cycle.0 c.args.table.now.rows c.args.offers.now run =
+    subst (λ (x : BridgeState). IsRunOfBridge x.domain x.number c.args.cycle.0 c.args.table.now.rows c.args.offers.now run) (sym c.self.view_is) c.requires.offers.1 in
     bridge_received b i.gates c.self.invariant c.if-self.false c.args.cycle.0 c.args.table.now.cycle next c.args.table.now.rows c.args.offers.now c.args.batches.now
     c.receive_frames-received.new.gates c.receive_frames-received.new.ports.items c.in-Ok.drops.items c.in-Ok.ensures.kept run of_run (c.in-Ok.ensures.takes run of_run)
 
@@ -30,8 +30,8 @@ returns-in-Ok-clause-receives c =
     let next = next_to_receive b c.args.cycle.0 c.args.table.now.cycle c.self.invariant.bridge c.if-cycle-self.false c.if-self-2.false (sym c.cycle.ensures ∙ c.if-cycle.false) in
     let after : BridgeState = record b { received = b.received + 1; ports = c.receive_frames-received.new.ports.items } in
     λ run of_old.
-    let of_run : IsRunOf b.domain b.number c.args.cycle.0 c.args.table.now.rows c.args.offers.now run =
-    subst (λ (x : BridgeState). IsRunOf x.domain x.number c.args.cycle.0 c.args.table.now.rows c.args.offers.now run) (sym c.self.view_is) of_old in
+    let of_run : IsRunOfBridge b.domain b.number c.args.cycle.0 c.args.table.now.rows c.args.offers.now run =
+    subst (λ (x : BridgeState). IsRunOfBridge x.domain x.number c.args.cycle.0 c.args.table.now.rows c.args.offers.now run) (sym c.self.view_is) of_old in
     subst (λ (x : BridgeState). ReceivesCycle run x after c.args.cycle.0 c.args.batches.now c.in-Ok.drops.items) c.self.view_is
     (cycle_received b i.gates c.self.invariant c.if-self.false c.args.cycle.0 c.args.table.now.cycle next c.args.table.now.rows c.args.offers.now c.args.batches.now
     c.receive_frames-received.new.gates c.receive_frames-received.new.ports.items c.in-Ok.drops.items c.in-Ok.ensures.kept run of_run (c.in-Ok.ensures.takes run of_run))
@@ -46,8 +46,15 @@ returns-in-Err-clause-fault c =
     record { may = record { not_spent = c.if-self.false; next = next }; batches = c.are_batches.ensures.yes c.if-not-are_batches.false } in
     let after : BridgeState = record b { spent = true; ports = c.receive_frames-received.new.ports.items } in
     λ run of_old.
-    let of_run : IsRunOf b.domain b.number c.args.cycle.0 c.args.table.now.rows c.args.offers.now run =
-    subst (λ (x : BridgeState). IsRunOf x.domain x.number c.args.cycle.0 c.args.table.now.rows c.args.offers.now run) (sym c.self.view_is) of_old in
+    let of_run : IsRunOfBridge b.domain b.number c.args.cycle.0 c.args.table.now.rows c.args.offers.now run =
+    subst (λ (x : BridgeState). IsRunOfBridge x.domain x.number c.args.cycle.0 c.args.table.now.rows c.args.offers.now run) (sym c.self.view_is) of_old in
     subst (λ (x : BridgeState). IsReceiveFault run x after c.args.cycle.0 handed c.in-Err.fault) c.self.view_is
     (stop_is_fault run b after c.args.cycle.0 handed c.in-Err.fault can (record { spent = refl; domain = refl; number = refl; background = refl })
     (c.in-Err.ensures.stops run of_run))
+
+pub receive_frames-received-requires-clause-early : goal.receive_frames-received-requires-clause-early
+receive_frames-received-requires-clause-early c =
+    let i = c.self.inside in
+    let b : BridgeState = record { domain = i.domain; number = i.number; sent = i.sent; received = i.received; spent = i.spent; ports = i.ports.items; background = i.background.items } in
+    let next = next_to_receive b c.args.cycle.0 c.args.table.now.cycle c.self.invariant.bridge c.if-cycle-self.false c.if-self-2.false (sym c.cycle.ensures ∙ c.if-cycle.false) in
+    early_to_receive b i.gates c.self.invariant c.if-self.false c.args.cycle.0 c.args.table.now.cycle next

@@ -1,4 +1,4 @@
-use Rattle.std.proofs.Common.{◌+◌, length, subst, sym, List, []}
+use Rattle.std.proofs.Common.{◌≡◌, ◌+◌, ◌<◌, false, length, subst, sym, List, []}
 use Rattle.cqf_model.specs.declared.frames.Started.{Started}
 use Rattle.cqf_bridge.specs.BridgeState.{AreBackedOf, BridgeState, IsNextToSend, SendsCycle}
 use Rattle.cqf_bridge.specs.Sending.{FirstSend}
@@ -26,7 +26,8 @@ invariant_of-self c =
     subst (λ (xs : List Started). FirstSend b.domain c.args.cycle.0 c.args.background.now (length b.ports) b.ports c.send_ports-sent.new.ports.items
     c.args.batches.now.items c.send_ports-sent.new.batches.items xs c.send_ports-sent.new.started.items) c.new-started.ensures.items c.in-Ok.ensures.sends in
     record {
-      bridge = bridge_behind b c.self.invariant.bridge c.if-self.false c.args.cycle.0 next c.args.background.now frames _ _ _ _ sends;
+      bridge = bridge_behind b c.self.invariant.bridge c.if-self.false c.args.cycle.0 next c.args.background.now frames _ _ _ _ sends
+          (subst (λ (x : BridgeState). x.spent ≡ false → IsNextToSend x c.args.cycle.0 → c.args.cycle.0 < 100000) (sym c.self.view_is) c.requires.early c.if-self.false next);
       gates_kept = c.self.invariant.gates_kept;
     }
 
@@ -44,3 +45,9 @@ returns-in-Ok-clause-sends c =
     let after : BridgeState = record b { sent = b.sent + 1; ports = c.send_ports-sent.new.ports.items; background = c.send_ports-sent.new.started.items } in
     subst (λ (x : BridgeState). SendsCycle x after c.args.cycle.0 c.args.background.now c.args.batches.now.items c.send_ports-sent.new.batches.items) c.self.view_is
     (cycle_sent b c.self.invariant.bridge c.if-self.false c.args.cycle.0 next c.args.background.now frames _ _ _ _ sends)
+
+pub send_ports-sent-requires-clause-early : goal.send_ports-sent-requires-clause-early
+send_ports-sent-requires-clause-early c =
+    let i = c.self.inside in
+    let next : IsNextToSend (record { domain = i.domain; number = i.number; sent = i.sent; received = i.received; spent = i.spent; ports = i.ports.items; background = i.background.items }) c.args.cycle.0 = (c.if-cycle-self.false, c.if-self-2.false) in
+    subst (λ (x : BridgeState). x.spent ≡ false → IsNextToSend x c.args.cycle.0 → c.args.cycle.0 < 100000) (sym c.self.view_is) c.requires.early c.if-self.false next

@@ -1,6 +1,6 @@
-use Rattle.std.proofs.Common.{ℕ, IsErrOf, subst}
+use Rattle.std.proofs.Common.{ℕ, IfErr, IsErrOf, subst}
 use Rattle.cqf_desk.specs.declared.faults.CloseFault.TheVariants.{SeatsDisagree}
-use Rattle.cqf_desk.specs.Closing.{IsOneOrCount}
+use Rattle.cqf_desk.specs.Closing.{IsCloseFault, IsOneOrCount}
 use Rattle.cqf_desk.specs.Desk.{Counter}
 use Rattle.cqf_desk.proofs.desk.Desk.settled.Goals as goal
 
@@ -8,3 +8,7 @@ pub returns-clause-named : goal.returns-clause-named
 returns-clause-named c =
     subst (λ (desk : Counter). (number : ℕ) → IsErrOf c.settle.result (SeatsDisagree number) → IsOneOrCount desk.seats c.args.seats.now number)
     c.self.view_is c.settle.ensures.named
+
+pub returns-clause-fault : goal.returns-clause-fault
+returns-clause-fault c =
+    subst (λ (desk : Counter). IfErr c.settle.result (λ fault. IsCloseFault desk c.args.seats.now fault)) c.self.view_is c.settle.ensures.fault

@@ -1,5 +1,4 @@
-use Rattle.std.proofs.Common.{rules}
-use Rattle.cqf_desk.proofs.Followers.{passes_none, passes_one, passes_through}
+use Rattle.cqf_desk.proofs.Followers.{passes_one}
 use Rattle.cqf_desk.proofs.Longer.{keeps_on}
 use Rattle.cqf_desk.proofs.following.Follower.passes_all.Goals as goal
 

@@ -1,0 +1,108 @@
+-- The figures are those of the streams.
+use Rattle.std.proofs.Common.{◌≡◌, ℕ, ◌+◌, ◌<◌, ◌≤◌, Bool, true, false, cond, not, List, [], ◌∷◌, map, filter, get_or, length, refl, sym, ap, ◌∙◌, arith, inl, inr, zero, suc}
+use Rattle.std.specs.Prelude.{if◌then◌else◌, ◌&&◌}
+use Rattle.std.proofs.lemmas.Bool.{both_ways, cases_Bool}
+use Rattle.std.proofs.lemmas.List.{get_or-map, length-map}
+use Rattle.std.proofs.lemmas.List.Elements.{Contains-get_or}
+use Rattle.std.proofs.lemmas.List.Sums.{sum_by-cons}
+use Rattle.cqf_units.specs.Timing.{cost_of}
+use Rattle.cqf_lists.proofs.Members.{contains_here, contains_later}
+use Rattle.cqf_model.specs.declared.topology.Row.{Row}
+use Rattle.cqf_model.specs.Table.{cost_on, is_held, link_cost, residence}
+use Rattle.cqf_admission.specs.Rows.{part_on}
+use Rattle.cqf_laws_history.proofs.Sound.{held_less}
+use Rattle.cqf_laws_history.specs.LedgerLaws.{ends_in}
+use Rattle.cqf_laws_history.proofs.Ends.{next_by_end}
+use Rattle.cqf_admission_ledger.specs.declared.holdings.Stand.{Stand}
+use Rattle.cqf_admission_ledger.specs.Holdings.{held_cost, held_one, held_part, let_go_if, released}
+use Rattle.cqf_admission_ledger.specs.Streams.{HeldCostIsLinkCost, HeldCountIsLength, LetGoIsNextCycle, stand_of}
+
+pub held_cost_is_link_cost : HeldCostIsLinkCost
+held_cost_is_link_cost number mask [] cycle l parts = refl
+held_cost_is_link_cost number mask (row ∷ rows) cycle l parts =
+    by_flag (is_held row cycle) refl (held_cost_is_link_cost number mask rows cycle l (λ r c. parts r (contains_later row rows r c)))
+  where
+    by_flag : (b : Bool) → is_held row cycle ≡ b → held_cost (map (stand_of number mask cycle) rows) l ≡ link_cost (filter (λ (r : Row). is_held r cycle) rows) l →
+        held_cost (map (stand_of number mask cycle) (row ∷ rows)) l ≡ link_cost (cond (is_held row cycle) (row ∷ filter (λ (r : Row). is_held r cycle) rows)
+        (filter (λ (r : Row). is_held r cycle) rows)) l
+    by_flag true e rest =
+        sum_by-cons (held_part l) (stand_of number mask cycle row) (map (stand_of number mask cycle) rows)
+        ∙ ap (λ (b : Bool). (if b then part_on (mask row) (cost_of row.octets) l else 0) + held_cost (map (stand_of number mask cycle) rows) l) e
+        ∙ ap (λ (n : ℕ). n + held_cost (map (stand_of number mask cycle) rows) l) (parts row (contains_here row rows))
+        ∙ ap (λ (n : ℕ). cost_on row l + n) rest
+        ∙ sym (sum_by-cons (λ (r : Row). cost_on r l) row (filter (λ (r : Row). is_held r cycle) rows))
+        ∙ sym (ap (λ (b : Bool). link_cost (cond b (row ∷ filter (λ (r : Row). is_held r cycle) rows) (filter (λ (r : Row). is_held r cycle) rows)) l) e)
+    by_flag false e rest =
+        sum_by-cons (held_part l) (stand_of number mask cycle row) (map (stand_of number mask cycle) rows)
+        ∙ ap (λ (b : Bool). (if b then part_on (mask row) (cost_of row.octets) l else 0) + held_cost (map (stand_of number mask cycle) rows) l) e
+        ∙ (let none : 0 + held_cost (map (stand_of number mask cycle) rows) l ≡ held_cost (map (stand_of number mask cycle) rows) l = omega arith in none)
+        ∙ rest
+        ∙ sym (ap (λ (b : Bool). link_cost (cond b (row ∷ filter (λ (r : Row). is_held r cycle) rows) (filter (λ (r : Row). is_held r cycle) rows)) l) e)
+
+pub held_count_is_length : HeldCountIsLength
+held_count_is_length number mask [] cycle = refl
+held_count_is_length number mask (row ∷ rows) cycle =
+    sum_by-cons held_one (stand_of number mask cycle row) (map (stand_of number mask cycle) rows)
+    ∙ ap (λ (n : ℕ). (if is_held row cycle then 1 else 0) + n) (held_count_is_length number mask rows cycle)
+    ∙ by_flag (is_held row cycle)
+  where
+    by_flag : (b : Bool) → (if b then 1 else 0) + length (filter (λ (r : Row). is_held r cycle) rows)
+        ≡ length (cond b (row ∷ filter (λ (r : Row). is_held r cycle) rows) (filter (λ (r : Row). is_held r cycle) rows))
+    by_flag true = omega arith
+    by_flag false = omega arith
+
+-- lists that agree at each place are one
+same_at_each : {X : Type 0} (xs ys : List X) → length xs ≡ length ys → ((k : ℕ) (d : X) → k < length ys → get_or xs k d ≡ get_or ys k d) → xs ≡ ys
+same_at_each [] [] long each = refl
+same_at_each [] (y ∷ ys) long each = absurd (omega (arith, long))
+same_at_each (x ∷ xs) [] long each = absurd (omega (arith, long))
+same_at_each {X} (x ∷ xs) (y ∷ ys) long each =
+    ap (λ (z : X). z ∷ xs) (each zero x (omega arith))
+    ∙ ap (λ (zs : List X). y ∷ zs) (same_at_each xs ys (omega (arith, long)) (λ k d low. each (suc k) d (omega (arith, low))))
+
+-- a stream that has begun is held in the next cycle if it is in this one and doesn't end
+held_next : (row : Row) (cycle : ℕ) → row.admitted.0 ≤ cycle → is_held row (cycle + 1) ≡ (is_held row cycle && not (ends_in (cycle + 1) row))
+held_next row cycle begun = elim (cases_Bool (is_held row cycle)) [
+  | inl t ↦ next_by_end row cycle t ∙ sym (ap (λ (b : Bool). b && not (ends_in (cycle + 1) row)) t)
+  | inr f ↦ never f ∙ sym (ap (λ (b : Bool). b && not (ends_in (cycle + 1) row)) f)
+]
+  where
+    never : is_held row cycle ≡ false → is_held row (cycle + 1) ≡ false
+    never f = elim (cases_Bool (is_held row (cycle + 1))) [
+      | inl t ↦ absurd (both_ways (is_held row cycle) f
+          (held_less row (λ number. row.withdrawn) (λ number. row.withdrawn) cycle (cycle + 1) (omega arith) begun (inr refl) t))
+      | inr g ↦ g
+    ]
+
+pub let_go_is_next_cycle : LetGoIsNextCycle
+let_go_is_next_cycle number mask rows cycle slot after begun lists gone =
+    same_at_each after (map (stand_of number mask (cycle + 1)) rows)
+    (gone.as_many ∙ length-map rows (stand_of number mask cycle) ∙ sym (length-map rows (stand_of number mask (cycle + 1)))) each
+  where
+    each : (k : ℕ) (d : Stand) → k < length (map (stand_of number mask (cycle + 1)) rows) →
+        get_or after k d ≡ get_or (map (stand_of number mask (cycle + 1)) rows) k d
+    each k d low =
+        gone.each k d (omega (arith, inside, length-map rows (stand_of number mask cycle)))
+        ∙ ap (let_go_if slot k) (get_or-map (stand_of number mask cycle) rows k (first rows inside) d inside)
+        ∙ ap (λ (b : Bool). if b then released (stand_of number mask cycle row) else stand_of number mask cycle row) (lists k (first rows inside) inside)
+        ∙ by_flags (is_held row cycle) (ends_in (cycle + 1) row)
+        ∙ ap (with_flag row) (sym (held_next row cycle (begun row (Contains-get_or rows k (first rows inside) inside))))
+        ∙ sym (get_or-map (stand_of number mask (cycle + 1)) rows k (first rows inside) d inside)
+      where
+        inside : k < length rows
+        inside = omega (arith, low, length-map rows (stand_of number mask (cycle + 1)))
+
+        first : (xs : List Row) → k < length xs → Row
+        first [] h = absurd (omega (arith, h))
+        first (x ∷ xs) h = x
+
+        row : Row
+        row = get_or rows k (first rows inside)
+
+        with_flag : Row → Bool → Stand
+        with_flag r b = record { name = number r.name; cost = cost_of r.octets; mask = mask r; residence = residence r; withdrawn = r.withdrawn; held = b }
+
+        by_flags : (held ends : Bool) → (if held && ends then with_flag row false else with_flag row held) ≡ with_flag row (held && not ends)
+        by_flags true true = refl
+        by_flags true false = refl
+        by_flags false ends = refl

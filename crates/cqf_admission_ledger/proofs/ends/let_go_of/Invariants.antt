@@ -1,0 +1,11 @@
+-- Those that were taken are let go of.
+use Rattle.std.proofs.Common.{◌≡◌}
+use Rattle.cqf_admission_ledger.proofs.LetGo.{AreTaken}
+use Rattle.cqf_admission_ledger.proofs.ends.let_go_of.Given as goal
+
+abbrev pub invariant-loop-number : goal.invariant-loop-number
+invariant-loop-number l =
+    AreTaken l.initial.slot.items l.initial.holdings.rows l.slot.items l.holdings.rows × (l.holdings.names ≡ l.initial.holdings.names)
+
+abbrev pub decreases-loop-number : goal.decreases-loop-number
+decreases-loop-number l = goal.left-loop-number l

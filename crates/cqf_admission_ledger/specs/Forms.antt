@@ -1,0 +1,115 @@
+-- What is known of requests by themselves, and what they are beside the figures.
+use Rattle.std.specs.Prelude.{ℕ, ◌≡◌, ◌-◌, ◌≤◌, ◌<◌, ◌⊎◌, ⊤, List, All, Bool, true, ◌==◌, ◌&&◌, find, is_some, length, nat_le, nat_lt}
+use Rattle.std.specs.Prelude.{Option, Some, None, Result, Ok, Err, slice_index_or}
+use Rattle.std.specs.List.{list_any, position_or_len}
+use Rattle.cqf_lists.specs.Lists.{or_else}
+use Rattle.cqf_units.specs.Timing.{cost_of}
+use Rattle.cqf_model.specs.declared.history.Refused.{Refused}
+use Rattle.cqf_model.specs.declared.history.Refused.TheVariants.{AlreadyWithdrawn, BudgetShort, NameHeld, NotHeld, TooManyStreams}
+use Rattle.cqf_model.specs.declared.topology.Row.{Row}
+use Rattle.cqf_model.specs.Domain.{Domain, budget}
+use Rattle.cqf_model.specs.History.{Asked, refused_at, refused_if}
+use Rattle.cqf_model.specs.Table.{links_of, residence}
+use Rattle.cqf_laws_history.specs.StateLaws.{granted_row}
+use Rattle.cqf_topology.specs.declared.streams.Request.{Request}
+use Rattle.cqf_admission_requests.specs.Names.{has_name}
+use Rattle.cqf_admission.specs.Judging.{form_refusal}
+use Rattle.cqf_admission.specs.Rows.{mask_of}
+use Rattle.cqf_admission_ledger.specs.declared.forms.Form.{Form}
+use Rattle.cqf_admission_ledger.specs.declared.forms.Form.TheVariants.{Bad, Good, Unseen}
+use Rattle.cqf_admission_ledger.specs.declared.forms.Judgement.{Judgement}
+use Rattle.cqf_admission_ledger.specs.declared.holdings.Stand.{Stand}
+use Rattle.cqf_admission_ledger.specs.Holdings.{IsFree, IsHolder, held_cost, held_count}
+
+-- the number of a name: the place of the first request of it, and behind all where none has it
+abbrev pub number_of_form : List Request → List ℕ → ℕ
+number_of_form requests name = position_or_len (has_name name) requests
+
+-- a request of good form, and what its stream is by it
+pub record IsJudgementOf (d : Domain) (requests : List Request) (asked : Asked) (judgement : Judgement) : Type 0 where
+  pub none : form_refusal d asked ≡ None
+  pub numbered : judgement.name ≡ number_of_form requests asked.name
+  pub known : judgement.name < length requests
+  pub costs : judgement.cost ≡ cost_of asked.octets
+  pub masked : judgement.mask ≡ mask_of (granted_row d 0 0 asked)
+  pub resides : judgement.residence ≡ residence (granted_row d 0 0 asked)
+  pub linked : judgement.links.items ≡ links_of (granted_row d 0 0 asked)
+  pub most_octets : asked.octets ≤ 60000
+
+-- a request of good form, and its row as that of number 0 and of cycle 0
+pub record IsRowOfGoodForm (d : Domain) (asked : Asked) (row : Row) : Type 0 where
+  pub none : form_refusal d asked ≡ None
+  pub most_octets : asked.octets ≤ 60000
+  pub is : row ≡ granted_row d 0 0 asked
+
+-- what is known of a request's form is so
+abbrev pub IsFormOf : Domain → List Request → Asked → Form → Type 0
+IsFormOf d requests asked Unseen = ⊤
+IsFormOf d requests asked (Bad refused) = form_refusal d asked ≡ Some refused
+IsFormOf d requests asked (Good judgement) = IsJudgementOf d requests asked judgement
+
+-- of none anything is known
+abbrev pub AreUnseen : List Form → Type 0
+AreUnseen forms = (place : ℕ) → place < length forms → slice_index_or forms place Unseen ≡ Unseen
+
+-- and it is known
+abbrev pub IsSeen : Form → Type 0
+IsSeen Unseen = ⊥
+IsSeen (Bad refused) = ⊤
+IsSeen (Good judgement) = ⊤
+
+-- the form can be weighed: it is known, and of good form its name has a number and its links are the domain's
+abbrev pub CanBeWeighed : Domain → ℕ → Form → Type 0
+CanBeWeighed d names Unseen = ⊥
+CanBeWeighed d names (Bad refused) = ⊤
+CanBeWeighed d names (Good judgement) = (judgement.name < names) × All (λ (l : ℕ). l < length d.links) judgement.links.items
+
+-- whether a name is held, what a link has left beside those that are held, and which links have too little for a cost
+abbrev pub is_taken : List Stand → ℕ → Bool
+is_taken stands name = list_any (λ (stand : Stand). stand.held && (stand.name == name)) stands
+
+abbrev pub left_by : Domain → List Stand → ℕ → ℕ
+left_by d stands l = budget d l - held_cost stands l
+
+abbrev pub stand_short : Domain → List Stand → ℕ → List ℕ → Option Refused
+stand_short d stands cost links = refused_at (λ l. BudgetShort l (left_by d stands l)) (find (λ l. nat_lt (left_by d stands l) cost) links)
+
+-- why a stream of a name, a cost and these links is refused for what is held
+abbrev pub stand_refusal : Domain → List Stand → ℕ → ℕ → List ℕ → Option Refused
+stand_refusal d stands name cost links =
+    or_else (refused_if (is_taken stands name) NameHeld)
+    (or_else (refused_if (nat_le 1024 (held_count stands)) TooManyStreams) (stand_short d stands cost links))
+
+-- the stream of a request of good form, as it is held
+abbrev pub stand_by : Judgement → Stand
+stand_by judgement = record {
+  name = judgement.name;
+  cost = judgement.cost;
+  mask = judgement.mask;
+  residence = judgement.residence;
+  withdrawn = None;
+  held = true;
+}
+
+-- to weigh a form gives the stream, or the first reason against it
+abbrev pub WeighsGood : Domain → List Stand → Judgement → Result Stand Refused → Type 0
+WeighsGood d stands judgement (Ok stand) =
+    (stand ≡ stand_by judgement) × (stand_refusal d stands judgement.name judgement.cost judgement.links.items ≡ None)
+WeighsGood d stands judgement (Err refused) = stand_refusal d stands judgement.name judgement.cost judgement.links.items ≡ Some refused
+
+abbrev pub Weighs : Domain → List Stand → Form → Result Stand Refused → Type 0
+Weighs d stands Unseen result = ⊥
+Weighs d stands (Bad reason) result = result ≡ Err reason
+Weighs d stands (Good judgement) result = WeighsGood d stands judgement result
+
+-- a look for the stream of a name that isn't withdrawn gives its number, or why there is none
+abbrev pub IsOpenFormAt : List Stand → ℕ → ℕ → Type 0
+IsOpenFormAt stands name number = IsHolder stands name number × ((d : Stand) → (slice_index_or stands number d).withdrawn ≡ None)
+
+abbrev pub IsEndedAt : List Stand → ℕ → ℕ → Type 0
+IsEndedAt stands name number = IsHolder stands name number × ((d : Stand) → is_some (slice_index_or stands number d).withdrawn ≡ true)
+
+abbrev pub FindsOpenForm : List Stand → ℕ → ℕ → Result ℕ Refused → Type 0
+FindsOpenForm stands names name (Ok number) = IsOpenFormAt stands name number
+FindsOpenForm stands names name (Err refused) =
+    ((refused ≡ NotHeld) × ((names ≤ name) ⊎ IsFree stands name)) ⊎ ((refused ≡ AlreadyWithdrawn) × (number : ℕ) × IsEndedAt stands name number)

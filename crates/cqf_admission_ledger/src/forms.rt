@@ -1,0 +1,189 @@
+//! What requests are by themselves, each looked over once.
+ghost use Rattle.std.specs.Prelude.{◌≡◌, ◌≤◌, Contains, IfOk, OnOk, fold, length};
+ghost use Rattle.cqf_model.specs.Table.{links_of, residence};
+ghost use Rattle.cqf_admission.specs.Asking.{asked_of};
+ghost use Rattle.cqf_admission.specs.Rows.{mask_of, with_link};
+ghost use Rattle.cqf_admission_ledger.specs.Forms.{AreUnseen, IsFormOf, IsRowOfGoodForm, IsSeen};
+
+use cqf_admission::judge;
+use cqf_admission_requests::Names;
+use cqf_admission_trees::count_places;
+use cqf_model::{Refused, Row};
+use cqf_topology::{Domain, Request};
+use cqf_units::{Cycle, Memory, Octets, cost};
+use std::alloc::{AllocError, Global};
+
+/// A request of good form.
+#[derive(Drop)]
+pub(crate) struct Judgement {
+    /// The place of the first request of its name.
+    pub name: usize,
+    /// What its stream costs of each link of its tree, in octets a cycle.
+    pub cost: u32,
+    /// The mask of these links.
+    pub mask: u64,
+    /// For how many cycles behind its withdrawal the stream is held on.
+    pub residence: u8,
+    /// The links, in the order of the tree.
+    pub links: Vec<u8>,
+}
+
+/// What is known of a request's form.
+#[derive(Drop)]
+pub(crate) enum Form {
+    /// It wasn't looked at yet.
+    Unseen,
+    /// The first reason against it.
+    Bad(Refused),
+    /// There is none.
+    Good(Judgement),
+}
+
+/// A mask with the bit of a link more, where it isn't beyond 63.
+fn with_bit(mask: u64, link: u8) -> u64
+    ensures { result ≡ with_link mask link }
+{
+    if link < 64 { mask | 1 << link } else { mask }
+}
+
+/// The mask of some links.
+fn mask_of_links(links: &[u8]) -> u64
+    ensures { result ≡ fold with_link 0 links.now }
+{
+    let mut mask = 0;
+    for link in links {
+        mask = with_bit(mask, *link);
+    }
+    mask
+}
+
+/// What a stream is by its row, with the number of its name and its cost.
+fn judgement_of(alloc: Global, name: usize, cost: Octets, row: &Row) -> Result<Judgement, Memory>
+    ensures name { IfOk result (λ judgement. judgement.name ≡ name) }
+    ensures cost { IfOk result (λ judgement. judgement.cost ≡ cost.0) }
+    ensures mask { IfOk result (λ judgement. judgement.mask ≡ mask_of row.now) }
+    ensures residence { IfOk result (λ judgement. judgement.residence ≡ residence row.now) }
+    ensures links { IfOk result (λ judgement. judgement.links.items ≡ links_of row.now) }
+{
+    let links = row.links();
+    let mask = mask_of_links(links.as_slice());
+    let residence = row.residence();
+    Ok(Judgement {
+        name,
+        cost: cost.0,
+        mask,
+        residence,
+        links: Vec::from_slice(alloc, links.as_slice())?,
+    })
+}
+
+/// Looks a request over.
+///
+/// # Errors
+/// Where a growth is refused, or no `usize` can count the places of its branches.
+pub(crate) fn look_over(
+    alloc: Global,
+    domain: &Domain,
+    names: &Names<'_>,
+    request: &Request,
+) -> Result<Form, Memory>
+    requires { Contains names.now request.now }
+    ensures seen { IfOk result IsSeen }
+    ensures form { IfOk result (λ form. IsFormOf domain.now names.now (asked_of request.now) form) }
+{
+    if count_places(request.paths.as_slice()).is_none() {
+        return Err(AllocError);
+    }
+    let Some(name) = names.place_of(request.name.as_str()) else {
+        unreachable!();
+    };
+    match judge(domain, request) {
+        Ok(judged) => {
+            let row = Row {
+                no: 0,
+                name: judged.name,
+                octets: request.octets,
+                tree: judged.tree,
+                admitted: Cycle(0),
+                withdrawn: None,
+            };
+            Ok(Form::Good(judgement_of(alloc, name, judged.cost, &row)?))
+        }
+        Err(refused) => Ok(Form::Bad(refused)),
+    }
+}
+
+/// The form of a request by its row, as that of number 0 and of cycle 0.
+fn form_by_row(
+    alloc: Global,
+    _domain: &Domain,
+    names: &Names<'_>,
+    request: &Request,
+    row: &Row,
+) -> Result<Form, Memory>
+    requires among { Contains names.now request.now }
+    requires row { IsRowOfGoodForm _domain.now (asked_of request.now) row.now }
+    requires most { row.now.octets ≤ 60000 }
+    ensures { IfOk result (IsFormOf _domain.now names.now (asked_of request.now)) }
+{
+    let Some(name) = names.place_of(request.name.as_str()) else {
+        unreachable!();
+    };
+    let judgement = judgement_of(alloc, name, cost(Octets(row.octets)), row)?;
+    Ok(Form::Good(judgement))
+}
+
+/// Takes a request's form from its row, as that of number 0 and of cycle 0.
+///
+/// # Errors
+/// Where a growth is refused.
+pub(crate) fn take_over(
+    alloc: Global,
+    domain: &Domain,
+    names: &Names<'_>,
+    request: &Request,
+    row: &Row,
+    form: &mut Form,
+) -> Result<(), Memory>
+    requires among { Contains names.now request.now }
+    requires known { IsFormOf domain.now names.now (asked_of request.now) form.old }
+    requires row { IsRowOfGoodForm domain.now (asked_of request.now) row.now }
+    ensures { IsFormOf domain.now names.now (asked_of request.now) form.new }
+{
+    *form = form_by_row(alloc, domain, names, request, row)?;
+    Ok(())
+}
+
+/// Sees to it that a request's form is known.
+///
+/// # Errors
+/// As [`look_over`].
+pub(crate) fn see(
+    alloc: Global,
+    domain: &Domain,
+    names: &Names<'_>,
+    request: &Request,
+    form: &mut Form,
+) -> Result<(), Memory>
+    requires among { Contains names.now request.now }
+    requires known { IsFormOf domain.now names.now (asked_of request.now) form.old }
+    ensures form { IsFormOf domain.now names.now (asked_of request.now) form.new }
+    ensures seen { OnOk result (IsSeen form.new) }
+{
+    if let Form::Unseen = form {
+        *form = look_over(alloc, domain, names, request)?;
+    }
+    Ok(())
+}
+
+/// So many requests that weren't looked at yet, unless memory runs out.
+pub(crate) fn unseen(alloc: Global, requests: usize) -> Result<Vec<Form>, Memory>
+    ensures many { IfOk result (λ forms. length forms.items ≡ requests) }
+    ensures unseen { IfOk result (λ forms. AreUnseen forms.items) }
+{
+    let mut forms = Vec::with_capacity(alloc, requests)?;
+    for _ in 0..requests {
+        forms.push(Form::Unseen)?;
+    }
+    Ok(forms)
+}

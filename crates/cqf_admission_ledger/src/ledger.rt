@@ -1,0 +1,278 @@
+//! The administration of streams by figures, over requests and a script that stand elsewhere.
+ghost use Rattle.std.specs.Prelude.{◌≡◌, ◌≤◌, ◌<◌, ◌+◌, [], map, length, IfOk};
+ghost use Rattle.cqf_model.specs.Domain.{budget};
+ghost use Rattle.cqf_model.specs.History.{Admits, IsLegalHistory, Withdraws, seals};
+ghost use Rattle.cqf_model.specs.Table.{link_cost};
+ghost use Rattle.cqf_admission_requests.specs.declared.orders.What.TheVariants.{Withdraw};
+ghost use Rattle.cqf_admission_requests.specs.Orders.{StandsIn, request_at, word_at};
+ghost use Rattle.cqf_admission.specs.Asking.{asked_of};
+ghost use Rattle.cqf_admission.specs.Admission.{Answers, EndsOne, HoldsOneMore, held_of};
+ghost use Rattle.cqf_admission_ledger.specs.Forms.{IsRowOfGoodForm};
+ghost use Rattle.cqf_admission_ledger.specs.Ledger.{ClosesCycle, recorded_in};
+ghost use Rattle.cqf_admission_ledger.specs.Running.{AreThere};
+
+use crate::forms::{Form, see, take_over, unseen};
+use crate::holdings::Holdings;
+use crate::logs::{Logged, enter};
+use crate::slots::{Slots, slot_of};
+use crate::weighing::{find_open, know_domain, taken_of, weigh};
+use cqf_admission::{MOST_CALLS, MOST_SEALS, SealFault};
+use cqf_admission_requests::{Names, What, word_of};
+use cqf_laws_history::{state_follows_history, streams_follow_history};
+use cqf_model::{Receipt, Refused, Reply, Row};
+use cqf_topology::{Domain, Request};
+use cqf_units::{Cycle, Memory, Octets};
+use std::alloc::Global;
+use std::marker::Model;
+
+/// An admission controller over a domain, with its log of calls (profile). It answers as `cqf_admission`'s `Admission`
+/// does, but copies no request and makes no table: a call takes a time that grows with its own request's tree, and a Seal one
+/// that grows with the streams that end in it.
+#[derive(Drop)]
+pub struct Ledger<'s> {
+    alloc: Global,
+    domain: &'s Domain,
+    requests: &'s [Request],
+    script: &'s [u8],
+    names: Names<'s>,
+    /// By place, what is known of each request's form.
+    forms: Vec<Form>,
+    holdings: Holdings,
+    slots: Slots,
+    log: Vec<Logged>,
+    sealed: u32,
+}
+
+impl<'s> Model for Ledger<'s> {
+    ghost use Rattle.std.specs.Prelude.{◌≡◌, length, map};
+    ghost use Rattle.cqf_admission.specs.Asking.{asked_of};
+    ghost use Rattle.cqf_admission_ledger.specs.Ledger.{Kept, recorded_in};
+    ghost use Rattle.cqf_admission_ledger.specs.Running.{AreForms, AreOf, AreThere};
+
+    ghost Value = { Kept };
+
+    ghost view = { λ l. record {
+      administration = record {
+        domain = l.domain.now;
+        entries = map (recorded_in (map asked_of l.requests.now) l.script.now) l.log.items;
+      };
+      requests = map asked_of l.requests.now;
+      script = l.script.now;
+    } };
+
+    ghost invariant = { λ l. AreOf l.domain.now l.requests.now (map (recorded_in (map asked_of l.requests.now) l.script.now) l.log.items)
+        l.holdings.rows l.slots l.sealed
+        × AreForms l.domain.now l.requests.now l.forms.items
+        × (l.names ≡ l.requests.now)
+        × (l.holdings.names ≡ length l.requests.now)
+        × AreThere (map asked_of l.requests.now) l.script.now l.log.items };
+}
+
+impl<'s> Ledger<'s> {
+    /// A ledger for a domain, over these requests and a script's text, with an empty log.
+    ///
+    /// # Errors
+    /// Where a growth is refused.
+    pub fn new(
+        alloc: Global,
+        domain: &'s Domain,
+        requests: &'s [Request],
+        script: &'s [u8],
+    ) -> Result<Ledger<'s>, Memory>
+        ensures domain { IfOk result (λ l. l.administration.domain ≡ domain.now) }
+        ensures begins { IfOk result (λ l. l.administration.entries ≡ []) }
+        ensures requests { IfOk result (λ l. l.requests ≡ map asked_of requests.now) }
+        ensures script { IfOk result (λ l. l.script ≡ script.now) }
+    {
+        let names = Names::new(alloc, requests)?;
+        let forms = unseen(alloc, requests.len())?;
+        let holdings = Holdings::new(alloc, requests.len())?;
+        let slots = Slots::new(alloc)?;
+        Ok(Ledger {
+            alloc,
+            domain,
+            requests,
+            script,
+            names,
+            forms,
+            holdings,
+            slots,
+            log: Vec::new(alloc),
+            sealed: 0,
+        })
+    }
+
+    /// All entries, in order.
+    pub fn log(&self) -> &[Logged]
+        ensures entries { map (recorded_in self.now.requests self.now.script) result.now ≡ self.now.administration.entries }
+        ensures legal { IsLegalHistory self.now.administration.domain self.now.administration.entries }
+        ensures there { AreThere self.now.requests self.now.script result.now }
+    {
+        self.log.as_slice()
+    }
+
+    /// All entries, in order, of a ledger that is over. It takes no memory.
+    pub fn into_log(self) -> Vec<Logged>
+        ensures entries { map (recorded_in self.entry.requests self.entry.script) result.items ≡ self.entry.administration.entries }
+        ensures legal { IsLegalHistory self.entry.administration.domain self.entry.administration.entries }
+        ensures there { AreThere self.entry.requests self.entry.script result.items }
+    {
+        self.log
+    }
+
+    /// The next cycle to be closed to changes: the number of Seals so far. A call has its effect from this cycle on.
+    pub fn next_cycle(&self) -> Cycle
+        ensures { result.0 ≡ seals self.now.administration.entries }
+    {
+        Cycle(self.sealed)
+    }
+
+    /// Asks for the stream of the request at this place. Where it is granted, the receipt has its number and the cycle from
+    /// which it is live; it is held, with its costs and its name, from then on.
+    ///
+    /// Refused with `HistoryFull`, before all else, where 100,000 entries aren't Seals; with `Memory` where a growth is
+    /// refused; then with the first reason that is due, in this order: `BadName`, `BadOctets`, `UnknownNode`,
+    /// `BrokenPath`, `LoopingPath`, `NotATree`, each over all branches before the next, `NameHeld`, `TooManyStreams` (1,024
+    /// are held), `BudgetShort`. `HistoryFull` and `Memory` change nothing; each other call enters the log with its answer
+    /// (profile).
+    pub fn admit(&mut self, seat: u16, place: usize) -> Result<Receipt, Refused>
+        requires { place < length self.old.requests }
+        ensures requests { self.new.requests ≡ self.old.requests }
+        ensures script { self.new.script ≡ self.old.script }
+        ensures answers { Answers self.old.administration self.new.administration seat (Admits (request_at self.old.requests place)) result }
+        ensures held { HoldsOneMore self.old.administration self.new.administration (request_at self.old.requests place) result }
+    {
+        if self.log.len() - self.sealed as usize >= MOST_CALLS {
+            return Err(Refused::HistoryFull);
+        }
+        if self.log.reserve(1).is_err() {
+            return Err(Refused::Memory);
+        }
+        if self.holdings.reserve().is_err() {
+            return Err(Refused::Memory);
+        }
+        let request = &self.requests[place];
+        let form = &mut self.forms[place];
+        let Ok(()) = see(self.alloc, self.domain, &self.names, request, form) else {
+            return Err(Refused::Memory);
+        };
+        state_follows_history();
+        streams_follow_history();
+        know_domain(self.domain);
+        let effect = Cycle(self.sealed);
+        match weigh(self.domain, &self.holdings, &self.forms[place]) {
+            Ok(stand) => {
+                let no = self.holdings.len();
+                let receipt = Receipt { no, effect };
+                self.holdings.push(stand);
+                enter(
+                    &mut self.log,
+                    seat,
+                    What::Admit(place),
+                    Reply::Accepted(receipt),
+                );
+                Ok(receipt)
+            }
+            Err(refused) => {
+                enter(
+                    &mut self.log,
+                    seat,
+                    What::Admit(place),
+                    Reply::Refused(refused),
+                );
+                Err(refused)
+            }
+        }
+    }
+
+    /// Takes what the request at this place is by itself from somebody who found its row, so that no call looks it over again.
+    ///
+    /// # Errors
+    /// Where a growth is refused.
+    pub fn learn(&mut self, place: usize, row: &Row) -> Result<(), Memory>
+        requires there { place < length self.old.requests }
+        requires row { IsRowOfGoodForm self.old.administration.domain (request_at self.old.requests place) row.now }
+        ensures { self.new ≡ self.old }
+    {
+        let alloc = self.alloc;
+        let request = &self.requests[place];
+        let form = &mut self.forms[place];
+        take_over(alloc, self.domain, &self.names, request, row, form)
+    }
+
+    /// Withdraws the stream whose name stands in the script, from a place on and of so many octets. The receipt has its
+    /// number and the first cycle in which it is live no more. It is held on for as many cycles as its deepest link is deep.
+    ///
+    /// Refused with `HistoryFull` and `Memory` as [`Ledger::admit`], then with `NotHeld` where no held stream has the name,
+    /// and `AlreadyWithdrawn` (profile).
+    pub fn withdraw(&mut self, seat: u16, from: usize, octets: u8) -> Result<Receipt, Refused>
+        requires { StandsIn self.old.requests self.old.script (Withdraw from octets) }
+        ensures requests { self.new.requests ≡ self.old.requests }
+        ensures script { self.new.script ≡ self.old.script }
+        ensures answers { Answers self.old.administration self.new.administration seat (Withdraws (word_at self.old.script from octets)) result }
+        ensures held { EndsOne self.old.administration self.new.administration result }
+    {
+        if self.log.len() - self.sealed as usize >= MOST_CALLS {
+            return Err(Refused::HistoryFull);
+        }
+        if self.log.reserve(1).is_err() {
+            return Err(Refused::Memory);
+        }
+        state_follows_history();
+        streams_follow_history();
+        let effect = Cycle(self.sealed);
+        let what = What::Withdraw { from, octets };
+        let word = word_of(self.script, from, octets);
+        match find_open(&self.names, &self.holdings, word) {
+            Ok(number) => {
+                let slot = slot_of(self.sealed, self.holdings.stand(number).residence);
+                let Ok(()) = self.slots.put(slot, number) else {
+                    return Err(Refused::Memory);
+                };
+                self.holdings.end(number, effect);
+                let receipt = Receipt { no: number, effect };
+                enter(&mut self.log, seat, what, Reply::Accepted(receipt));
+                Ok(receipt)
+            }
+            Err(refused) => {
+                enter(&mut self.log, seat, what, Reply::Refused(refused));
+                Err(refused)
+            }
+        }
+    }
+
+    /// Closes the next cycle to changes, and gives its number.
+    ///
+    /// Refused with `CyclesSpent` after 100,000 Seals, and with `Memory`; neither changes anything (profile).
+    pub fn seal(&mut self, seat: u16) -> Result<Cycle, SealFault>
+        ensures requests { self.new.requests ≡ self.old.requests }
+        ensures script { self.new.script ≡ self.old.script }
+        ensures closes { ClosesCycle self.old.administration self.new.administration seat result }
+    {
+        if self.sealed >= MOST_SEALS {
+            return Err(SealFault::CyclesSpent);
+        }
+        if self.log.reserve(1).is_err() {
+            return Err(SealFault::Memory);
+        }
+        state_follows_history();
+        let cycle = Cycle(self.sealed);
+        let slot = (self.sealed + 1) % 32;
+        self.slots.empty(slot as usize, &mut self.holdings);
+        self.sealed += 1;
+        enter(&mut self.log, seat, What::Seal, Reply::Sealed);
+        Ok(cycle)
+    }
+
+    /// What the streams that are held in the next cycle cost of a link, in octets a cycle: never more than its budget
+    /// (profile).
+    pub fn held_on(&self, link: u8) -> Octets
+        requires { link < length self.now.administration.domain.links }
+        ensures held { result.0 ≡ link_cost (held_of self.now.administration) link }
+        ensures within { result.0 ≤ budget self.now.administration.domain link }
+    {
+        state_follows_history();
+        know_domain(self.domain);
+        Octets(taken_of(self.domain, &self.holdings, link))
+    }
+}

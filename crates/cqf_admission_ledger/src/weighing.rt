@@ -1,0 +1,125 @@
+//! Why streams are refused for what is held, and which of them can be withdrawn.
+ghost use Rattle.std.specs.Prelude.{◌≡◌, ◌+◌, ◌<◌, ◌≤◌, ◌^◌, ℕ, All, IfOk, length};
+ghost use Rattle.cqf_model.specs.Domain.{IsAccepted, budget};
+ghost use Rattle.cqf_admission.specs.Rows.{part_on};
+ghost use Rattle.cqf_admission_ledger.specs.Forms.{CanBeWeighed, FindsOpenForm, Weighs, left_by, number_of_form, stand_by, stand_refusal, stand_short};
+ghost use Rattle.cqf_admission_ledger.specs.Holdings.{held_cost};
+
+use crate::forms::{Form, Judgement};
+use crate::holdings::{Holdings, Stand};
+use cqf_admission::MOST_STREAMS;
+use cqf_admission_requests::Names;
+use cqf_model::Refused;
+use cqf_topology::Domain;
+use cqf_units::budget;
+
+/// A domain is accepted.
+pub(crate) fn know_domain(domain: &Domain)
+    ensures { IsAccepted domain.now }
+{
+    let _ = domain.cycle_time();
+}
+
+/// What the held streams take of a link's budget, in octets a cycle.
+pub(crate) fn taken_of(domain: &Domain, holdings: &Holdings, link: u8) -> u32
+    requires inside { link < length domain.now.links }
+    requires within { held_cost holdings.now.rows link ≤ budget domain.now link }
+    ensures { result ≡ held_cost holdings.now.rows link }
+{
+    let rate = domain.link(link).rate;
+    let most = budget(domain.cycle_time(), domain.guard(), rate);
+    let taken = holdings.cost_on(link);
+    prove!(taken <= u64::from(most.0));
+    taken as u32
+}
+
+/// What a link has left of its budget beside the held streams, in octets a cycle.
+fn left_of(domain: &Domain, holdings: &Holdings, link: u8) -> u32
+    requires inside { link < length domain.now.links }
+    requires within { held_cost holdings.now.rows link ≤ budget domain.now link }
+    ensures { result ≡ left_by domain.now holdings.now.rows link }
+{
+    let rate = domain.link(link).rate;
+    let most = budget(domain.cycle_time(), domain.guard(), rate);
+    let taken = holdings.cost_on(link);
+    most.0 - taken as u32
+}
+
+/// Why some links have no room for a cost beside the held streams: the first that has less left, if one has.
+fn short_of(domain: &Domain, holdings: &Holdings, cost: u32, links: &[u8]) -> Option<Refused>
+    requires inside { All (λ link. link < length domain.now.links) links.now }
+    requires within { (l : ℕ) → l < length domain.now.links → held_cost holdings.now.rows l ≤ budget domain.now l }
+    ensures { result ≡ stand_short domain.now holdings.now.rows cost links.now }
+{
+    for link in links {
+        let link = *link;
+        let left = left_of(domain, holdings, link);
+        if left < cost {
+            return Some(Refused::BudgetShort { link, left });
+        }
+    }
+    None
+}
+
+/// The first reason against a stream for what is held.
+fn refusal_of(domain: &Domain, holdings: &Holdings, judgement: &Judgement) -> Option<Refused>
+    requires named { judgement.now.name < holdings.now.names }
+    requires inside { All (λ link. link < length domain.now.links) judgement.now.links.items }
+    requires within { (l : ℕ) → l < length domain.now.links → held_cost holdings.now.rows l ≤ budget domain.now l }
+    ensures { result ≡ stand_refusal domain.now holdings.now.rows judgement.now.name judgement.now.cost judgement.now.links.items }
+{
+    if holdings.holder(judgement.name).is_some() {
+        return Some(Refused::NameHeld);
+    }
+    if holdings.count() >= MOST_STREAMS {
+        return Some(Refused::TooManyStreams);
+    }
+    short_of(domain, holdings, judgement.cost, judgement.links.as_slice())
+}
+
+/// The stream of a request of good form, as it is held.
+fn stand_of(judgement: &Judgement) -> Stand
+    ensures { result ≡ stand_by judgement.now }
+{
+    Stand {
+        name: judgement.name,
+        cost: judgement.cost,
+        mask: judgement.mask,
+        residence: judgement.residence,
+        withdrawn: None,
+        held: true,
+    }
+}
+
+/// The stream of a request, or the first reason against it: for its form, or else for what is held.
+pub(crate) fn weigh(domain: &Domain, holdings: &Holdings, form: &Form) -> Result<Stand, Refused>
+    requires can { CanBeWeighed domain.now holdings.now.names form.now }
+    requires within { (l : ℕ) → l < length domain.now.links → held_cost holdings.now.rows l ≤ budget domain.now l }
+    ensures { Weighs domain.now holdings.now.rows form.now result }
+{
+    match form {
+        Form::Unseen => unreachable!(),
+        Form::Bad(refused) => Err(*refused),
+        Form::Good(judgement) => match refusal_of(domain, holdings, judgement) {
+            Some(refused) => Err(refused),
+            None => Ok(stand_of(judgement)),
+        },
+    }
+}
+
+/// The number of the held stream of a name that isn't withdrawn, or why there is none.
+pub(crate) fn find_open(names: &Names<'_>, holdings: &Holdings, word: &str) -> Result<u32, Refused>
+    requires { holdings.now.names ≡ length names.now }
+    ensures { FindsOpenForm holdings.now.rows (length names.now) (number_of_form names.now word.now) result }
+{
+    let Some(name) = names.place_of(word) else {
+        return Err(Refused::NotHeld);
+    };
+    let Some(number) = holdings.holder(name) else {
+        return Err(Refused::NotHeld);
+    };
+    if holdings.stand(number).withdrawn.is_some() {
+        return Err(Refused::AlreadyWithdrawn);
+    }
+    Ok(number)
+}

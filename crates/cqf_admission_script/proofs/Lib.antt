@@ -1,0 +1,6 @@
+mod OrderLemmas
+mod NamePlaces
+mod ReadLines
+mod Words
+mod Few
+mod ByLine

@@ -1,4 +1,0 @@
-pub mod Frames
-pub mod Feeding
-pub mod Sending
-pub mod History

@@ -1,0 +1,4 @@
+mod Cutting
+mod InCycles
+mod Listing
+mod Paged

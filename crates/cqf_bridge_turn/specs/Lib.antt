@@ -1,0 +1,3 @@
+pub mod Agenda
+-- what the inner functions say
+pub mod Picking

@@ -1,3 +1,0 @@
-pub mod CompileLemmas
-pub mod ConfigPieces
-mod Planned

@@ -1,2 +1,0 @@
-pub mod CompileOutput
-pub mod ConfigTold

@@ -1,5 +1,0 @@
-use Rattle.cqf_deliveries.proofs.Arrived.{are_the_shift}
-use Rattle.cqf_deliveries.proofs.laws.arrivals_are_the_shift.Goals as goal
-
-pub returns : goal.returns
-returns c run streams book says = are_the_shift run streams book says

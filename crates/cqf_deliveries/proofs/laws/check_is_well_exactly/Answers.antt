@@ -1,5 +1,0 @@
-use Rattle.cqf_deliveries.proofs.Well.{is_well_exactly}
-use Rattle.cqf_deliveries.proofs.laws.check_is_well_exactly.Goals as goal
-
-pub returns : goal.returns
-returns c run streams book says = is_well_exactly run streams book says

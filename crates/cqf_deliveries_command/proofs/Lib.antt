@@ -1,6 +1,0 @@
-mod Planned
-mod InTime
-mod Passing
-mod Later
-mod Judged
-mod Told

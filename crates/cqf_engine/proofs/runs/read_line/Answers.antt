@@ -1,7 +1,0 @@
-use Rattle.std.proofs.Common.{map}
-use Rattle.cqf_engine.proofs.RunLemmas.{EndsWords-told}
-use Rattle.cqf_engine.proofs.runs.read_line.Goals as goal
-
-pub returns-in-Err-clause-err : goal.returns-in-Err-clause-err
-returns-in-Err-clause-err c = EndsWords-told (map (λ word. word.now) c.args.words.now) c.in-Err.stop c.stop_of_line.result
-    c.in-Err.ensures.err c.stop_of_line.ensures.status c.stop_of_line.ensures.memory

@@ -1,6 +1,0 @@
--- The words so far stand in the list.
-use Rattle.std.proofs.Common.{◌≡◌}
-use Rattle.cqf_engine.proofs.runs.split_words.Given as goal
-
-abbrev pub invariant-loop-word : goal.invariant-loop-word
-invariant-loop-word l = l.words.items ≡ l.yielded

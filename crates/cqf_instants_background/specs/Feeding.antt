@@ -1,0 +1,80 @@
+-- What the port of a link is given, so that it starts the link's background frames: these, and the streams' frames of the link,
+-- each from the instant on at which it starts.
+use Rattle.std.specs.Prelude.{ℕ, ◌≡◌, ◌<◌, ◌==◌, ◌++◌, Bool, List, [], ◌∷◌, filter, length, map, not, slice_index_or}
+use Rattle.std.specs.Global.{Global}
+use Rattle.std.specs.declared.vec.Vec.{Vec}
+use Rattle.cqf_model.specs.declared.frames.Backed.{Backed}
+use Rattle.cqf_model.specs.declared.frames.Sent.{Sent}
+use Rattle.cqf_model.specs.declared.frames.Started.{Started}
+use Rattle.cqf_model.specs.declared.ports.Arrival.{Arrival}
+use Rattle.cqf_model.specs.Domain.{Domain, cycle_of}
+use Rattle.cqf_model.specs.Network.{QueuedFrame, arrivals_of, backed_frame}
+use Rattle.cqf_laws_cycle.specs.Beside.{is_of_stream}
+use Rattle.cqf_laws_cycle.specs.Compiled.{open_class}
+
+-- an arrival that comes at another instant
+abbrev pub retimed : ℕ → Arrival → Arrival
+retimed t x = record { at = record { 0 = t }; class = x.class; octets = x.octets; frame = x.frame }
+
+-- a stream's frame that comes when it starts, with the class that its cycle sends
+abbrev pub arrival_of_start : Started → Arrival
+arrival_of_start s = record { at = s.start; class = open_class s.cycle.0; octets = s.octets; frame = s.frame }
+
+-- the same of one that a link carries
+abbrev pub arrival_of_sent : Domain → Sent → Arrival
+arrival_of_sent d x = record { at = x.start; class = open_class (cycle_of d x.start.0); octets = x.octets; frame = x.frame }
+
+-- a background frame as its port gets it
+abbrev pub arrival_of_frame : Backed → Arrival
+arrival_of_frame x = (backed_frame x).arrival
+
+-- a start is on the link
+abbrev pub is_start_on : ℕ → Started → Bool
+is_start_on link s = s.link == link
+
+-- a background frame is on the link
+abbrev pub is_frame_on : ℕ → Backed → Bool
+is_frame_on link x = x.background.link == link
+
+-- what the port of a link is given of streams' frames
+abbrev pub streams_fed_on : ℕ → List Started → List Arrival
+streams_fed_on link starts = map arrival_of_start (filter (is_start_on link) starts)
+
+-- and of background frames
+abbrev pub frames_fed_on : ℕ → List Backed → List Arrival
+frames_fed_on link frames = map arrival_of_frame (filter (is_frame_on link) frames)
+
+-- what it is given in all: the background frames and then the streams'; nothing where there is no background frame, since then
+-- none starts
+abbrev pub fed : List Arrival → List Arrival → List Arrival
+fed [] streams = []
+fed (x ∷ frames) streams = x ∷ frames ++ streams
+
+-- a frame of no stream
+abbrev pub is_background : QueuedFrame → Bool
+is_background x = not (is_of_stream x)
+
+-- the background frames among what comes to a port
+abbrev pub backs_among : List QueuedFrame → List Arrival
+backs_among queued = arrivals_of (filter is_background queued)
+
+-- what some lists hold
+abbrev pub lists_of_frames : List (Vec Arrival Global) → List (List Arrival)
+lists_of_frames lists = map (λ (list : Vec Arrival Global). list.items) lists
+
+-- a list for each of so many links from 0 on, with what its port is given of these background frames and starts
+pub record AreFed (frames : List Backed) (starts : List Started) (links : ℕ) (lists : List (List Arrival)) : Type 0 where
+  pub one_each : length lists ≡ links
+  pub each : (link : ℕ) (none : List Arrival) → link < links → slice_index_or lists link none ≡ fed (frames_fed_on link frames) (streams_fed_on link starts)
+
+-- the lists with an arrival more behind those of a link
+pub record FeedsArrival (before after : List (List Arrival)) (link : ℕ) (arrival : Arrival) : Type 0 where
+  pub as_many : length after ≡ length before
+  pub own : (none : List Arrival) → slice_index_or after link none ≡ slice_index_or before link none ++ arrival ∷ []
+  pub others : (other : ℕ) (none : List Arrival) → (other ≡ link → ⊥) → slice_index_or after other none ≡ slice_index_or before other none
+
+-- the lists with a start more: behind what its link's port is given, where that is anything
+pub record AddsStart (before after : List (List Arrival)) (start : Started) : Type 0 where
+  pub as_many : length after ≡ length before
+  pub each : (link : ℕ) (none : List Arrival) → link < length before →
+      slice_index_or after link none ≡ fed (slice_index_or before link none) (streams_fed_on link (start ∷ []))

@@ -1,0 +1,52 @@
+//! The rows that have begun, and the last of each name among them.
+ghost use Rattle.std.specs.Prelude.{◌≡◌, ◌≤◌, IfOk, length, nat_eq};
+ghost use Rattle.std.specs.Cmp.Lexicographic.{pointwise};
+ghost use Rattle.indexmap.specs.IndexMap.{get};
+ghost use Rattle.cqf_instants_coverage.specs.Begun.{HasBegun, IsInForce, LeadsToLast};
+
+use cqf_model::Row;
+use cqf_units::{Cycle, Memory, Name};
+use indexmap::IndexMap;
+
+/// Notes each row that has begun by a cycle as the last of its name, from a place on, and gives the place of the first that
+/// hasn't.
+pub(crate) fn begin(
+    rows: &[Row],
+    from: usize,
+    last: &mut IndexMap<Name, usize>,
+    cycle: Cycle,
+) -> Result<usize, Memory>
+    requires within { from ≤ length rows.now }
+    requires leads { LeadsToLast rows.now from (λ name. get (pointwise nat_eq) last.old name) }
+    ensures { IfOk result (λ to. HasBegun rows.now from to cycle.0 (λ name. get (pointwise nat_eq) last.new name)) }
+{
+    for place in from..rows.len() {
+        let row = &rows[place];
+        if row.admitted.0 > cycle.0 {
+            return Ok(place);
+        }
+        last.insert(row.name.copied(), place)?;
+    }
+    Ok(rows.len())
+}
+
+/// The place of the row of a name that is in force in a cycle, where the last of each name is known of those that have begun.
+pub(crate) fn find_in_force(
+    rows: &[Row],
+    begun: usize,
+    last: &IndexMap<Name, usize>,
+    name: &Name,
+    cycle: Cycle,
+) -> Option<usize>
+    requires within { begun ≤ length rows.now }
+    requires leads { LeadsToLast rows.now begun (λ name. get (pointwise nat_eq) last.now name) }
+    ensures { IsInForce rows.now begun name.now cycle.0 result }
+{
+    let place = *last.get(name)?;
+    prove!(place < rows.len());
+    if rows[place].is_held(cycle) {
+        Some(place)
+    } else {
+        None
+    }
+}

@@ -1,0 +1,181 @@
+//! What becomes of offers, in their order.
+ghost use Rattle.std.specs.Prelude.{◌≡◌, ◌≤◌, ◌<◌, ◌^◌, ◌&&◌, IfOk, List, None, length, nat_eq, replicate};
+ghost use Rattle.std.specs.List.{list_any};
+ghost use Rattle.std.specs.Cmp.Lexicographic.{pointwise};
+ghost use Rattle.indexmap.specs.IndexMap.{get};
+ghost use Rattle.cqf_model.specs.Domain.{leaves};
+ghost use Rattle.cqf_model.specs.History.{IsLegalHistory, Recorded, streams_of};
+ghost use Rattle.cqf_model.specs.Run.{AreOffers};
+ghost use Rattle.cqf_model.specs.Table.{begins_at, same_way};
+ghost use Rattle.cqf_laws_report.specs.Judged.{StandInOrder};
+ghost use Rattle.cqf_instants_coverage.specs.Begun.{LeadsToLast};
+ghost use Rattle.cqf_instants_coverage.specs.Coverage.{AreJudged, IsJudged, used_behind, used_in};
+
+use crate::begun::{begin, find_in_force};
+use cqf_laws_report::{counters_step, offers_stand_in_order, rows_follow, rows_say_the_tables};
+use cqf_model::{Hop, Offer, Reason, Row};
+use cqf_topology::Domain;
+use cqf_units::{Cycle, Memory, Name, cycle_of};
+use indexmap::IndexMap;
+use std::alloc::Global;
+
+/// What becomes of an offer at its edge.
+#[derive(Clone, Copy, Debug, PartialEq, Eq)]
+pub enum Judgement {
+    /// The row at this place covers it.
+    Covered(usize),
+    /// It is dropped, for this reason.
+    Dropped(Reason),
+}
+
+/// What covered offers have used of a row's octets in a cycle, the last in which one used some.
+#[derive(Clone, Copy, Debug)]
+pub(crate) struct Used {
+    pub(crate) cycle: u32,
+    pub(crate) octets: u32,
+}
+
+/// Whether a link leaves a bridge. A link that the domain lacks doesn't.
+fn leaves(domain: &Domain, link: u8, bridge: u8) -> bool
+    ensures { result ≡ leaves domain.now link bridge }
+{
+    link < domain.links() && domain.link(link).from == bridge
+}
+
+/// Whether a hop is the first of its tree at a bridge.
+fn begins(domain: &Domain, hop: &Hop, bridge: u8) -> bool
+    ensures { result ≡ (same_way hop.now.from None && leaves domain.now hop.now.link bridge) }
+{
+    match hop.from {
+        None => leaves(domain, hop.link, bridge),
+        Some(_) => false,
+    }
+}
+
+/// Whether one of some hops is.
+fn one_begins(domain: &Domain, hops: &[Hop], bridge: u8) -> bool
+    ensures { result ≡ list_any (λ hop. same_way hop.from None && leaves domain.now hop.link bridge) hops.now }
+{
+    hops.iter().any(|hop| begins(domain, hop, bridge))
+}
+
+/// Whether a stream begins at a bridge.
+fn begins_at(domain: &Domain, row: &Row, bridge: u8) -> bool
+    ensures { result ≡ begins_at domain.now row.now bridge }
+{
+    one_begins(domain, row.tree.as_slice(), bridge)
+}
+
+/// What is used of a row in a cycle behind an offer that it covers, of which so much is used before, or the first reason
+/// against the offer.
+fn used_behind(
+    domain: &Domain,
+    row: &Row,
+    cycle: Cycle,
+    used: u32,
+    offer: &Offer,
+) -> Result<u32, Reason>
+    ensures { result ≡ used_behind domain.now row.now cycle.0 used offer.now }
+{
+    if !row.live(cycle) {
+        return Err(Reason::Withdrawn);
+    }
+    if !begins_at(domain, row, offer.bridge) {
+        return Err(Reason::OtherBridge);
+    }
+    let (most, asked) = (
+        u64::from(row.octets),
+        u64::from(used) + u64::from(offer.octets),
+    );
+    if asked > most {
+        return Err(Reason::Octets);
+    }
+    Ok(asked as u32)
+}
+
+/// What is used of a row in a cycle.
+fn octets_in(used: &Used, cycle: Cycle) -> u32
+    ensures { result ≡ used_in cycle.0 used.now }
+{
+    if used.cycle == cycle.0 {
+        used.octets
+    } else {
+        0
+    }
+}
+
+/// Judges an offer of a cycle, and counts what it uses.
+fn judge(
+    domain: &Domain,
+    rows: &[Row],
+    begun: usize,
+    last: &IndexMap<Name, usize>,
+    used: &mut Vec<Used>,
+    cycle: Cycle,
+    offer: &Offer,
+) -> Judgement
+    requires within { begun ≤ length rows.now }
+    requires leads { LeadsToLast rows.now begun (λ name. get (pointwise nat_eq) last.now name) }
+    requires counters { length used.old.items ≡ length rows.now }
+    ensures { IsJudged domain.now rows.now begun cycle.0 offer.now used.old.items used.new.items result }
+{
+    let Some(place) = find_in_force(rows, begun, last, &offer.stream, cycle) else {
+        return Judgement::Dropped(Reason::Unknown);
+    };
+    let before = octets_in(&used[place], cycle);
+    match used_behind(domain, &rows[place], cycle, before, offer) {
+        Err(reason) => Judgement::Dropped(reason),
+        Ok(octets) => {
+            used[place] = Used {
+                cycle: cycle.0,
+                octets,
+            };
+            Judgement::Covered(place)
+        }
+    }
+}
+
+/// A counter for each of so many rows, of which nothing is used.
+fn no_use(alloc: Global, rows: usize) -> Result<Vec<Used>, Memory>
+    ensures { IfOk result (λ used. used.items ≡ replicate rows (record { cycle = 0; octets = 0 })) }
+{
+    Ok(vec![in alloc; Used {
+        cycle: 0,
+        octets: 0
+    }; rows]?)
+}
+
+/// What becomes of each of some offers of a domain, by the rows that were ever granted in it, in order of number: the row of
+/// the offer's name that is held in the offer's cycle covers it, where it is live, begins at the offer's bridge, and has the
+/// octets left that the covered offers before it in this cycle leave; else it is dropped, for the first of these reasons
+/// (profile). Of a cycle that the history hasn't closed nothing is said. The time grows with the rows and the offers.
+///
+/// # Errors
+/// Where a growth is refused.
+pub fn cover(
+    alloc: Global,
+    domain: &Domain,
+    rows: &[Row],
+    offers: &[Offer],
+) -> Result<Vec<Judgement>, Memory>
+    requires offers { AreOffers domain.now offers.now }
+    requires order { StandInOrder offers.now }
+    ensures { IfOk result (λ judgements. (entries : List Recorded) → IsLegalHistory domain.now entries → streams_of domain.now entries ≡ rows.now →
+        AreJudged domain.now entries rows.now offers.now (length offers.now) judgements.items) }
+{
+    rows_say_the_tables();
+    rows_follow();
+    offers_stand_in_order();
+    counters_step();
+    let cycle_time = domain.cycle_time();
+    let mut last = IndexMap::new(alloc);
+    let mut used = no_use(alloc, rows.len())?;
+    let mut judgements = Vec::with_capacity(alloc, offers.len())?;
+    let mut begun = 0;
+    for offer in offers {
+        let cycle = cycle_of(offer.at, cycle_time);
+        begun = begin(rows, begun, &mut last, cycle)?;
+        judgements.push(judge(domain, rows, begun, &last, &mut used, cycle, offer))?;
+    }
+    Ok(judgements)
+}

@@ -1,0 +1,54 @@
+//! The trees of streams, one behind the other.
+ghost use Rattle.std.specs.Prelude.{◌≡◌, ◌+◌, ◌<◌, ◌≤◌, ◌^◌, ◌&&◌, All, IfOk, length, nat_lt};
+ghost use Rattle.cqf_instants_layout.specs.Laid.{AreLaid, HaveLowLinks, LaysStream, is_live_below};
+ghost use Rattle.cqf_model.specs.Limits.{most_calls};
+
+use cqf_instants::Branch;
+use cqf_instants_branches::{Group, lay_tree};
+use cqf_model::Row;
+use cqf_units::Memory;
+use std::alloc::Global;
+
+/// Whether a stream is live in one of the first cycles, of so many.
+fn is_live_below(row: &Row, cycles: u32) -> bool
+    ensures { result ≡ is_live_below cycles row.now }
+{
+    row.admitted.0 < cycles && row.live(row.admitted)
+}
+
+/// Lays a stream's tree behind the branches, where the stream is live in one of the first cycles.
+fn lay_stream(row: &Row, cycles: u32, branches: &mut Vec<Branch>) -> Result<Group, Memory>
+    requires links { All (λ hop. hop.link < 64) row.now.tree.items }
+    requires room { length branches.old.items + 4224 < 2 ^ 32 }
+    ensures { IfOk result (λ group. LaysStream cycles row.now branches.old.items branches.new.items group) }
+{
+    if is_live_below(row, cycles) {
+        lay_tree(row.tree.as_slice(), branches)
+    } else {
+        Ok(Group { first: 0, many: 0 })
+    }
+}
+
+/// Lays the trees of some streams one behind the other, of those that are live in one of the first cycles, of so many; no frame
+/// goes by another's. Gives the hops, and for each stream, by place, where those from the edge stand. There are at most 100,000
+/// streams, whose links have numbers below 64. The time grows with the hops.
+///
+/// # Errors
+/// Where a growth is refused.
+pub fn lay_streams(
+    alloc: Global,
+    cycles: u32,
+    rows: &[Row],
+) -> Result<(Vec<Branch>, Vec<Group>), Memory>
+    requires few { length rows.now ≤ most_calls }
+    requires links { HaveLowLinks rows.now }
+    ensures { IfOk result (λ laid. AreLaid cycles rows.now (length rows.now) laid.0.items laid.1.items) }
+{
+    let mut branches = Vec::new(alloc);
+    let mut groups = Vec::with_capacity(alloc, rows.len())?;
+    for row in rows {
+        let group = lay_stream(row, cycles, &mut branches)?;
+        groups.push(group)?;
+    }
+    Ok((branches, groups))
+}

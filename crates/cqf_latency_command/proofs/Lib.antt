@@ -1,3 +1,0 @@
-mod Granted
-mod Listed
-mod Lines

@@ -1,8 +1,0 @@
--- The costs of the links so far.
-use Rattle.std.proofs.Common.{◌≡◌, ◌∷◌, []}
-use Rattle.cqf_lists.specs.Lists.{each_below}
-use Rattle.cqf_model.specs.Table.{link_cost}
-use Rattle.cqf_latency_command.proofs.costs.link_costs.Given as goal
-
-abbrev pub invariant-loop-link : goal.invariant-loop-link
-invariant-loop-link l = l.costs.items ≡ each_below (λ link. link_cost l.rows link ∷ []) l.link

@@ -1,4 +1,0 @@
-pub mod LatencyText
-pub mod LatencyOutput
-pub mod LatencyInput
-pub mod ToldLaws

@@ -1,2 +1,0 @@
-pub mod LinkNumbers
-mod Going

@@ -1,2 +1,0 @@
-pub mod Courses
-pub mod CourseLaws

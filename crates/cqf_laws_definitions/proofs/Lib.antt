@@ -1,4 +1,0 @@
-pub mod Verdicts
-pub mod Closed
-mod Streams
-mod Backgrounds

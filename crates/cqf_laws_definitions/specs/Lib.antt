@@ -1,5 +1,0 @@
-pub mod TrafficLaws
-pub mod TableLaws
-pub mod TimingLaws
-pub mod TreeLaws
-pub mod BackgroundLaws

@@ -1,0 +1,83 @@
+-- Where a stream goes, and what it costs.
+use Rattle.std.proofs.Common.{◌≡◌, ℕ, Bool, true, false, List, Option, Some, None, refl, ap, ◌∙◌, inl, inr, subst, ◌≤◌}
+use Rattle.std.specs.Prelude.{[], ◌∷◌, ◌==◌, if◌then◌else◌, filter, map, Contains}
+use Rattle.std.specs.List.{flat_map, list_any}
+use Rattle.std.proofs.lemmas.Bool.{cases_Bool, eq-eqb, eqb-false, eqb-true}
+use Rattle.cqf_units.specs.Timing.{cost_of}
+use Rattle.cqf_lists.proofs.EachOnce.{once_apart, once_covers, once_from}
+use Rattle.cqf_lists.proofs.Members.{any_member, contains_filter, contains_from_filter, contains_from_map, contains_map, member_any}
+use Rattle.cqf_model.proofs.Links.{same_way_true}
+use Rattle.cqf_model.specs.declared.topology.Hop.{Hop}
+use Rattle.cqf_model.specs.Domain.{bridge_of, leaves}
+use Rattle.cqf_model.specs.Network.{queued_frame}
+use Rattle.cqf_model.specs.Table.{IsHop, bridges_of, goes_to, links_of, residence, same_way}
+use Rattle.cqf_model.specs.Traffic.{came_by}
+use Rattle.cqf_model.proofs.Residence.{depth_within_residence, residence_met}
+use Rattle.cqf_laws_history.specs.TrafficLaws.{FramesGoToNoOtherPort}
+use Rattle.cqf_laws_history.specs.TreeLaws.{FramesGoOnByTheirTree, FramesGoOnWhereALinkLeaves, GatesStandWhereLinksLeave, LeadsOn, OneGateABridge}
+use Rattle.cqf_laws_history.specs.TreeLaws.{ResidenceIsTheGreatestDepth, StreamsCostNothingElsewhere}
+
+-- a number that is none of some isn't found among them
+not_among : (l : ℕ) (xs : List ℕ) → ¬ Contains xs l → list_any (λ k. k == l) xs ≡ false
+not_among l xs none = elim (cases_Bool (list_any (λ k. k == l) xs)) [
+  | inr f ↦ f
+  | inl t ↦ (let w = any_member (λ k. k == l) xs t in absurd (none (subst (λ (k : ℕ). Contains xs k) (eqb-true w.0 l w.2) w.1)))
+]
+
+-- a frame goes to no port whose hop doesn't follow
+pub no_other_port : FramesGoToNoOtherPort
+no_other_port d received row l none =
+    ap (λ (b : Bool). flat_map (λ (x : Unit {0}). if b then queued_frame d received row ∷ [] else []) (tt ∷ []))
+    (not_among l (goes_to row (came_by received.way)) none)
+
+-- a stream costs nothing of a link that it doesn't go by
+pub costs_nothing : StreamsCostNothingElsewhere
+costs_nothing row link none = ap (λ (b : Bool). if b then cost_of row.octets else 0) (not_among link (links_of row) none)
+
+-- a way is the same as itself
+itself : (a : Option ℕ) → same_way a a ≡ true
+itself None = refl
+itself (Some l) = eq-eqb l l refl
+
+-- a frame goes on where its tree does
+pub goes_on_by_tree : FramesGoOnByTheirTree
+goes_on_by_tree row way link = (
+  λ c.
+      let w = contains_from_map (λ (hop : Hop). hop.link) (filter (λ (hop : Hop). same_way hop.from way) row.tree.items) link c in
+      let k = contains_from_filter (λ (hop : Hop). same_way hop.from way) row.tree.items w.0 w.1 in
+      record { hop = w.0; of_tree = k.0; comes_by = same_way_true w.0.from way k.1; is_link = w.2 },
+  λ (leads : LeadsOn row way link).
+      let same : same_way leads.hop.from way ≡ true = ap (λ (o : Option ℕ). same_way o way) leads.comes_by ∙ itself way in
+      let kept = contains_filter (λ (hop : Hop). same_way hop.from way) row.tree.items leads.hop leads.of_tree same in
+      subst (λ (l : ℕ). Contains (goes_to row way) l) leads.is_link
+      (contains_map (λ (hop : Hop). hop.link) (filter (λ (hop : Hop). same_way hop.from way) row.tree.items) leads.hop kept),
+)
+
+-- a frame goes on from a bridge where a link that it goes on by leaves it
+pub goes_on_where_leaves : FramesGoOnWhereALinkLeaves
+goes_on_where_leaves d row way bridge = (
+  λ t. any_member (λ l. leaves d l bridge) (goes_to row way) t,
+  λ w. member_any (λ l. leaves d l bridge) (goes_to row way) w.0 w.1 w.2,
+)
+
+-- a stream has a gate where a link of its tree leaves
+pub gates_where_links_leave : GatesStandWhereLinksLeave
+gates_where_links_leave d row bridge = (
+  λ c. contains_from_map (bridge_of d) (links_of row) bridge (once_from (λ a b. a == b) (map (bridge_of d) (links_of row)) bridge c),
+  λ w.
+      let there = contains_map (bridge_of d) (links_of row) w.0 w.1 in
+      let kept = once_covers (λ a b. a == b) (λ a. eq-eqb a a refl) (map (bridge_of d) (links_of row)) (bridge_of d w.0) there in
+      subst (λ (b : ℕ). Contains (bridges_of d row) b) (eqb-true kept.0 (bridge_of d w.0) kept.2 ∙ w.2) kept.1,
+)
+
+-- and one gate a bridge
+pub one_gate : OneGateABridge
+one_gate d row i j e l m = eqb-false _ _ (once_apart (λ a b. a == b) (map (bridge_of d) (links_of row)) i j e l m)
+
+-- the residence is the greatest depth
+pub greatest_depth : ResidenceIsTheGreatestDepth
+greatest_depth row = record {
+  none_deeper = λ depth link (hop : IsHop row depth link).
+      subst (λ (k : ℕ). k ≤ residence row) hop.is_depth (depth_within_residence row hop.hop hop.of_tree);
+  some_so_deep = residence_met row;
+}

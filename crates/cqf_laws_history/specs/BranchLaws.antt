@@ -1,0 +1,76 @@
+-- Laws about which branches are refused as no tree, told by pairs of branches, in a planner's words.
+use Rattle.std.specs.Prelude.{ℕ, true, false, ◌≡◌, ◌≢◌, ◌≤◌, ◌<◌, ◌↔◌, List, length, take, slice_get, Some, None, AllPairs, Contains}
+use Rattle.cqf_units.specs.Name.{is_name}
+use Rattle.cqf_model.specs.declared.history.Refused.TheVariants.{NotATree}
+use Rattle.cqf_model.specs.declared.topology.Row.{Row}
+use Rattle.cqf_model.specs.Domain.{Domain, node_named}
+use Rattle.cqf_model.specs.History.{Asked, Branch, is_broken_at, is_loop_at, make_a_tree, refusal_of}
+
+-- two branches part at a place: they have the same nodes before it, and there both go on, each to another node
+pub record PartAt (xs ys : Branch) (place : ℕ) : Type 0 where
+  pub alike : take place xs ≡ take place ys
+  pub first_goes_on : place < length xs
+  pub second_goes_on : place < length ys
+  pub differ : slice_get xs place ≢ slice_get ys place
+
+-- a node stands in a branch at a place or behind it
+pub record StandsFrom (branch : Branch) (place : ℕ) (name : List ℕ) : Type 0 where
+  pub stand : ℕ
+  pub behind : place ≤ stand
+  pub is : slice_get branch stand ≡ Some name
+
+-- two branches make one tree: they begin with one node at least that is the same, then part, and from there on no node of the
+-- one is a node of the other
+pub record MakeOneTree (xs ys : Branch) : Type 0 where
+  pub parting : ℕ
+  pub begin_alike : 0 < parting
+  pub part_there : PartAt xs ys parting
+  pub apart : (name : List ℕ) → StandsFrom xs parting name → ¬ StandsFrom ys parting name
+
+-- that is what the definition tests, whatever the branches
+abbrev pub PairsAreTested : Type 0
+PairsAreTested = (xs ys : Branch) → make_a_tree xs ys ≡ true ↔ MakeOneTree xs ys
+
+-- no refusal fits a request that comes before that for branches which are no tree: its stream's name and octets are in order,
+-- it has a branch, each node is known, and each branch is whole and has no loop
+pub record HasNoEarlierFault (d : Domain) (asked : Asked) : Type 0 where
+  pub named : is_name asked.name ≡ true
+  pub least_octets : 64 ≤ asked.octets
+  pub most_octets : asked.octets ≤ 60000
+  pub some_branch : 0 < length asked.paths
+  pub known : (branch : Branch) (name : List ℕ) → Contains asked.paths branch → Contains branch name → node_named d name ≢ None
+  pub whole : (branch : Branch) (place : ℕ) → Contains asked.paths branch → place ≤ length branch → is_broken_at d branch place ≡ false
+  pub simple : (branch : Branch) (place : ℕ) → Contains asked.paths branch → place ≤ length branch → is_loop_at d branch place ≡ false
+
+-- two branches begin with one node, are not the same, and each node that stands in both has the same nodes before it in both: so
+-- no node that the one has behind another beginning is in the other
+pub record HaveTheirBeginningsOnce (xs ys : Branch) : Type 0 where
+  pub begin : slice_get xs 0 ≡ slice_get ys 0
+  pub differ : xs ≢ ys
+  pub same_before : (i j : ℕ) (name : List ℕ) → slice_get xs i ≡ Some name → slice_get ys j ≡ Some name → take i xs ≡ take j ys
+
+-- of two branches of such a request it is the same to say so
+abbrev pub PairsHaveTheirBeginnings : Type 0
+PairsHaveTheirBeginnings = (d : Domain) (asked : Asked) (xs ys : Branch) → HasNoEarlierFault d asked → Contains asked.paths xs → Contains asked.paths ys →
+    MakeOneTree xs ys ↔ HaveTheirBeginningsOnce xs ys
+
+-- a branch is the first that makes no tree with one before it: each two branches before it make one
+pub record IsFirstStray (paths : List Branch) (place : ℕ) : Type 0 where
+  pub branch : Branch
+  pub here : slice_get paths place ≡ Some branch
+  pub earlier : ℕ
+  pub before : earlier < place
+  pub other : Branch
+  pub there : slice_get paths earlier ≡ Some other
+  pub no_tree : ¬ MakeOneTree other branch
+  pub first : (i j : ℕ) (xs ys : Branch) → i < j → j < place → slice_get paths i ≡ Some xs → slice_get paths j ≡ Some ys → MakeOneTree xs ys
+
+-- a request is refused for a branch just where no earlier refusal fits and the branch is the first such
+abbrev pub RefusedAsNoTree : Type 0
+RefusedAsNoTree = (d : Domain) (rows : List Row) (asked : Asked) (place : ℕ) →
+    refusal_of d rows asked ≡ Some (NotATree place) ↔ (HasNoEarlierFault d asked × IsFirstStray asked.paths place)
+
+-- so where no earlier refusal fits, a request is refused for no branch just where each two of its branches make one tree
+abbrev pub TreesAreMadeOfPairs : Type 0
+TreesAreMadeOfPairs = (d : Domain) (rows : List Row) (asked : Asked) → HasNoEarlierFault d asked →
+    ((place : ℕ) → refusal_of d rows asked ≢ Some (NotATree place)) ↔ AllPairs MakeOneTree asked.paths

@@ -1,0 +1,70 @@
+-- A link's lane: what is brought together in one cycle to go on by the link in the next, sorted by one number for each frame.
+use Rattle.std.specs.Prelude.{ℕ, ◌≡◌, ◌+◌, ◌*◌, ◌-◌, ◌<◌, ◌++◌, ◌==◌, true, false, if◌then◌else◌, List, [], ◌∷◌, Contains, filter, length, map}
+use Rattle.std.specs.List.{flat_map, list_any}
+use Rattle.std.specs.List.Sorted.{IsNonDecreasingBy, IsPermutation}
+use Rattle.cqf_lists.specs.Lists.{each_below}
+use Rattle.cqf_model.specs.declared.frames.Offered.{Offered}
+use Rattle.cqf_model.specs.declared.frames.Sent.{Sent}
+use Rattle.cqf_model.specs.declared.topology.Row.{Row}
+use Rattle.cqf_model.specs.Book.{batch}
+use Rattle.cqf_model.specs.Domain.{bridge_of, enters}
+use Rattle.cqf_model.specs.Network.{Network, queued_frame, queued_in}
+use Rattle.cqf_model.specs.Run.{Run}
+use Rattle.cqf_model.specs.Shift.{IsCovered}
+use Rattle.cqf_model.specs.Table.{goes_to, table_of}
+use Rattle.cqf_model.specs.Traffic.{Carried, Received, came_by, numbered, offer_received, sent_received}
+use Rattle.cqf_laws_shift.specs.Run.{IsLegalRun}
+use Rattle.cqf_laws_cycle.specs.Gathered.{is_offered_in}
+use Rattle.cqf_laws_instants.specs.QueueLaws.{behind, goes_by}
+use Rattle.cqf_laws_instants.specs.TakenLaws.{AreItsBatches, source_of}
+
+-- what goes on by a link of the frames that another brings to its bridge
+abbrev pub lane_from : Run → Carried → ℕ → ℕ → List Received
+lane_from run batches l m = let d = run.domain in
+    if enters d m (bridge_of d l)
+    then map (sent_received d m) (filter (λ (sent : Sent). goes_by run l (sent_received d m sent)) (batches m))
+    else []
+
+-- and of the offers of the cycle, by place
+abbrev pub lane_offers : Run → ℕ → ℕ → List Received
+lane_offers run l cycle =
+    map offer_received
+    (filter (λ (x : Offered). goes_by run l (offer_received x)) (filter (is_offered_in run.domain (bridge_of run.domain l) cycle) (numbered run.offers)))
+
+-- the links' frames by number of link, each link's as it sent them, and then the offers
+abbrev pub lane_of : Run → Carried → ℕ → ℕ → List Received
+lane_of run batches l cycle = each_below (lane_from run batches l) (length run.domain.links) ++ lane_offers run l cycle
+
+-- a frame's key in a cycle that begins at an instant: when it is whole, its source and its number, in one number
+abbrev pub key_of : ℕ → Received → ℕ
+key_of begins x = ((x.at - begins) * 128 + source_of x.way) * 1048576 + x.frame
+
+-- sorted by these keys in whatever way, a lane is what the cycle queues to the link
+abbrev pub LaneIsQueued : Type 0
+LaneIsQueued = (run : Run) (net : Network) (l cycle : ℕ) (batches : Carried) (sorted : List Received) →
+    IsLegalRun run net → cycle < length run.tables → length run.offers < 1048576 →
+    AreItsBatches run net (bridge_of run.domain l) cycle batches →
+    IsPermutation (lane_of run batches l cycle) sorted → IsNonDecreasingBy (key_of (cycle * run.domain.cycle_time)) sorted →
+    queued_in run net.carried l cycle ≡ flat_map (behind run l) sorted
+
+-- a frame goes on by a link just where a row's tree has it behind the way that the frame came, and is then queued with the row
+pub record GoesByTree (run : Run) (l : ℕ) (x : Received) (row : Row) : Type 0 where
+  pub goes : goes_by run l x ≡ list_any (λ next. next == l) (goes_to row (came_by x.way))
+  pub queued : behind run l x ≡ (if list_any (λ next. next == l) (goes_to row (came_by x.way)) then queued_frame run.domain x row ∷ [] else [])
+
+-- so does one that a link brings, by its stream's row, as any table has it
+abbrev pub RelayedGoByTheirTree : Type 0
+RelayedGoByTheirTree = (run : Run) (net : Network) (l m cycle table : ℕ) (sent : Sent) (row : Row) →
+    IsLegalRun run net → cycle < length run.tables → enters run.domain m (bridge_of run.domain l) ≡ true →
+    Contains (batch run.domain net.carried m cycle) sent → Contains (table_of run.tables table) row → row.no ≡ sent.stream →
+    GoesByTree run l (sent_received run.domain m sent) row
+
+-- and an offer, by the row that covers it
+abbrev pub CoveredGoByTheirTree : Type 0
+CoveredGoByTheirTree = (run : Run) (l : ℕ) (x : Offered) (row : Row) → x.offer.bridge ≡ bridge_of run.domain l → IsCovered run x row →
+    GoesByTree run l (offer_received x) row
+
+-- and an offer that none covers goes on by none
+abbrev pub UncoveredGoNowhere : Type 0
+UncoveredGoNowhere = (run : Run) (l : ℕ) (x : Offered) → x.offer.bridge ≡ bridge_of run.domain l → Contains (numbered run.offers) x →
+    ((row : Row) → ¬ IsCovered run x row) → goes_by run l (offer_received x) ≡ false

@@ -1,0 +1,45 @@
+-- In which order a bridge takes the frames of a cycle, said of the frames alone, and which of them go on by a link.
+use Rattle.std.specs.Prelude.{ℕ, ◌≡◌, ◌<◌, ◌⊎◌, AllPairs, Bool, true, List, filter}
+use Rattle.std.specs.List.Sorted.{IsPermutation}
+use Rattle.cqf_model.specs.Book.{batch}
+use Rattle.cqf_model.specs.Domain.{enters}
+use Rattle.cqf_model.specs.Network.{Network}
+use Rattle.cqf_model.specs.Run.{Run}
+use Rattle.cqf_model.specs.Traffic.{AtEdge, Carried, Received, Relayed, Way}
+use Rattle.cqf_laws_cycle.specs.BridgeCycle.{IsCompiledNetwork, received_in}
+use Rattle.cqf_laws_cycle.specs.Gathered.{gathered_in}
+
+-- the number of the link that a frame came by. An offer stands behind every link, of which a domain has at most 64
+abbrev pub source_of : Way → ℕ
+source_of (AtEdge name) = 64
+source_of (Relayed m number) = m
+
+-- a frame is taken before another: it is whole sooner, or at one instant it came by a link of a lower number, or by one
+-- source it has the lower number itself
+abbrev pub IsTakenBefore : Received → Received → Type 0
+IsTakenBefore a b =
+    (a.at < b.at)
+    ⊎ ((a.at ≡ b.at)
+    × ((source_of a.way < source_of b.way) ⊎ ((source_of a.way ≡ source_of b.way) × (a.frame < b.frame))))
+
+-- what comes to a bridge in a cycle is in this order, and no two of its frames tie
+abbrev pub CycleIsTakenInOrder : Type 0
+CycleIsTakenInOrder = (run : Run) (cycles cycle bridge : ℕ) (net : Network) →
+    IsCompiledNetwork run cycles net → AllPairs IsTakenBefore (received_in run net.carried bridge cycle)
+
+-- no frame stands before one that is taken before it
+abbrev pub StandAsTaken : List Received → Type 0
+StandAsTaken sorted = AllPairs (λ (a b : Received). ¬ IsTakenBefore b a) sorted
+
+-- the links carry to the bridge what they send in the cycle
+abbrev pub AreItsBatches : Run → Network → ℕ → ℕ → Carried → Type 0
+AreItsBatches run net bridge cycle batches =
+    (m : ℕ) → enters run.domain m bridge ≡ true → batches m ≡ batch run.domain net.carried m cycle
+
+-- so of the frames that are gathered for a bridge in a cycle, those that pass a test, brought into this order in whatever
+-- way, stand as they are taken
+abbrev pub SortedIsTaken : Type 0
+SortedIsTaken = (run : Run) (cycles cycle bridge : ℕ) (net : Network) (batches : Carried) (passes : Received → Bool) (sorted : List Received) →
+    IsCompiledNetwork run cycles net → AreItsBatches run net bridge cycle batches →
+    IsPermutation (filter passes (gathered_in run batches bridge cycle)) sorted → StandAsTaken sorted →
+    sorted ≡ filter passes (received_in run net.carried bridge cycle)

@@ -1,8 +1,0 @@
-use Rattle.cqf_laws_pages.proofs.Gathering.{background_in_order, ports_background}
-use Rattle.cqf_laws_pages.proofs.bridges.background_comes_in_order.Goals as goal
-
-pub returns-clause-sorted : goal.returns-clause-sorted
-returns-clause-sorted c = background_in_order
-
-pub returns-clause-ports : goal.returns-clause-ports
-returns-clause-ports c = ports_background

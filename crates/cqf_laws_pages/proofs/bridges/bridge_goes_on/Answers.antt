@@ -1,5 +1,0 @@
-use Rattle.cqf_laws_pages.proofs.Continued.{goes_on}
-use Rattle.cqf_laws_pages.proofs.bridges.bridge_goes_on.Goals as goal
-
-pub returns : goal.returns
-returns c = goes_on

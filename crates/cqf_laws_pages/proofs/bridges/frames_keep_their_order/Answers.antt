@@ -1,5 +1,0 @@
-use Rattle.cqf_laws_pages.proofs.Batches.{frames_in_order}
-use Rattle.cqf_laws_pages.proofs.bridges.frames_keep_their_order.Goals as goal
-
-pub returns : goal.returns
-returns c = frames_in_order

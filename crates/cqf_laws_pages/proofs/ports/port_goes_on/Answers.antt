@@ -1,8 +1,0 @@
-use Rattle.cqf_laws_pages.proofs.Continued.{port_goes_on, queued_in_cycle}
-use Rattle.cqf_laws_pages.proofs.ports.port_goes_on.Goals as goal
-
-pub returns-clause-queued : goal.returns-clause-queued
-returns-clause-queued c = queued_in_cycle
-
-pub returns-clause-goes_on : goal.returns-clause-goes_on
-returns-clause-goes_on c = port_goes_on

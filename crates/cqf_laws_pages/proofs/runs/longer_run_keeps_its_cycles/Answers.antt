@@ -1,6 +1,0 @@
-use Rattle.cqf_laws_pages.proofs.Steps.{cycles_kept}
-use Rattle.cqf_laws_pages.proofs.runs.longer_run_keeps_its_cycles.Goals as goal
-
-pub returns : goal.returns
-returns c =
-    cycles_kept c.shorter_run_is_the_beginning.ensures.only c.the_past_alone_matters.ensures.bridges c.the_past_alone_matters.ensures.ports

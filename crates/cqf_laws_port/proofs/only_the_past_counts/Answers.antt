@@ -1,5 +1,0 @@
-use Rattle.cqf_laws_port.proofs.Settled.{past_counts}
-use Rattle.cqf_laws_port.proofs.only_the_past_counts.Goals as goal
-
-pub returns : goal.returns
-returns c = past_counts

@@ -1,2 +1,0 @@
-pub mod GateLaws
-pub mod PortLaws

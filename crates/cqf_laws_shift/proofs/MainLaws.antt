@@ -1,0 +1,268 @@
+-- The gates mean the shift.
+use Rattle.std.proofs.Common.{◌≡◌, ℕ, zero, suc, ◌+◌, ◌*◌, ◌/◌, ◌<◌, ◌≤◌, ◌⊎◌, ◌∷◌, [], ◌++◌, List, Bool, true, false, Option, Some, None, inl, inr, sym, ap}
+use Rattle.std.proofs.Common.{◌∙◌, subst, arith, refl, All, AllPairs, Contains, sum_by, length, eq-eqb, eqb-true, ◌==◌, ◌&&◌, if◌then◌else◌, le_trans, le_of_eq, ne_eqb}
+use Rattle.std.proofs.lemmas.Bool.{cases_Bool, cases_lt, cond-true, cond-false, and_from}
+use Rattle.std.proofs.lemmas.List.Elements.{All-contains}
+use Rattle.cqf_units.specs.Timing.{wire_of, cost_of}
+use Rattle.cqf_model.specs.declared.frames.Offered.{Offered}
+use Rattle.cqf_model.specs.declared.frames.Sent.{Sent}
+use Rattle.cqf_model.specs.declared.topology.Row.{Row}
+use Rattle.cqf_model.specs.Domain.{Domain, cycle_of, bridge_of}
+use Rattle.cqf_model.specs.Run.{Run, end_of_run}
+use Rattle.cqf_model.specs.Table.{crosses, table_of, row_of, row_named, link_cost}
+use Rattle.cqf_model.specs.Traffic.{Way, AtEdge, Carried, Received, Policed, police_all, verdict_by, whole_at, within_gate, came_by, offer_received}
+use Rattle.cqf_model.specs.Network.{IsLost, IsLoss}
+use Rattle.cqf_model.specs.Shift.{InShift}
+use Rattle.cqf_model.specs.Promise.{IsDecided, LeavesInTurn, MeansTheShift, wire_in_cycle}
+use Rattle.cqf_laws_shift.specs.Alone.{IsRunAlone}
+use Rattle.cqf_laws_shift.specs.MainLaw.{GatesMeanTheShift}
+use Rattle.cqf_laws_shift.specs.Run.{RunBesideIsRunAlone}
+use Rattle.cqf_units.proofs.Cycles.{cycle_from, cycle_upto}
+use Rattle.cqf_lists.proofs.Members.{contains_here, contains_none, all_from_members, find_member, find_some}
+use Rattle.cqf_lists.proofs.Pairs.{pairs_none}
+use Rattle.cqf_lists.proofs.Sums.{sum_none, sum_le_members, sum_grouped}
+use Rattle.cqf_laws_shift.proofs.Came.{came, came_how, policed, queued}
+use Rattle.cqf_laws_shift.proofs.Costs.{tested_wire_within_cost}
+use Rattle.cqf_laws_shift.proofs.CycleLaws.{CycleLaws}
+use Rattle.cqf_laws_shift.proofs.Decided.{edge_is_covered, is_decided, offered_judged}
+use Rattle.cqf_laws_shift.proofs.Edges.{gate_is_reservation}
+use Rattle.cqf_laws_shift.proofs.Fed.{before_end, facts, least, some_time}
+use Rattle.cqf_laws_shift.proofs.Policing.{has_come}
+use Rattle.cqf_laws_shift.proofs.Runs.{fed, place_timed, sends_one, sent_for, sent_timed, start_due}
+use Rattle.cqf_laws_shift.proofs.SentSums.{of_stream, sent_counts, sent_within}
+use Rattle.cqf_laws_shift.proofs.Apart.{sents_apart}
+use Rattle.cqf_laws_shift.proofs.Octets.{sent_octets}
+use Rattle.cqf_laws_shift.proofs.Shifts.{sent_in_shift, shift_is_sent}
+use Rattle.cqf_laws_shift.proofs.Singles.{sent_once}
+use Rattle.cqf_laws_shift.proofs.Trees.{hop_crosses, hop_within, same_hop}
+use Rattle.cqf_laws_shift.proofs.Verdicts.{edge_no_loss, queued_no_loss}
+use Rattle.cqf_laws_shift.proofs.Ways.{covered_member, on_way, queued_member, relayed_goes_on, row_stays, same_stream}
+
+module _ (laws : CycleLaws) (run : Run) (carried : Carried) (alone : IsRunAlone run carried) where
+  -- the run's domain
+  abbrev d : Domain
+  d = run.domain
+
+  -- a link that the domain lacks sends nothing
+  the_link : (link : ℕ) (sent : Sent) → Contains (carried link) sent → link < length run.domain.links
+  the_link link sent c = elim (cases_lt link (length d.links)) [
+    | inl inside ↦ inside
+    | inr past ↦ absurd (contains_none sent (subst (λ z. Contains z sent) (alone.legal.no_others link past) c))
+  ]
+
+  -- what a link sends in a cycle is within what the streams held in it cost
+  loads : (link cycle : ℕ) → link < length d.links → cycle < length run.tables → wire_in_cycle d carried link cycle ≤ link_cost (table_of run.tables cycle) link
+  loads link cycle is_link in_run = sum_grouped added of_row bound (carried link) (table_of run.tables cycle) has within
+    where
+      added : Sent → ℕ
+      added sent = if cycle_of d sent.start.0 == cycle then wire_of sent.octets else 0
+
+      counts : Row → Sent → Bool
+      counts row sent = (cycle_of d sent.start.0 == cycle) && (sent.stream == row.no)
+
+      of_row : Sent → Row → ℕ
+      of_row sent row = if crosses row link then (if counts row sent then wire_of sent.octets else 0) else 0
+
+      bound : Row → ℕ
+      bound row = if crosses row link then cost_of row.octets else 0
+
+      has : (sent : Sent) → Contains (carried link) sent →
+          ((row : Row) × Contains (table_of run.tables cycle) row × (added sent ≤ of_row sent row)) ⊎ (added sent ≡ 0)
+      has sent c = elim (cases_Bool (cycle_of d sent.start.0 == cycle)) [
+        | inl t ↦
+            let s = sent_timed laws run carried alone link is_link sent c in
+            let way = on_way laws run carried alone (bridge_of d link) s.0.p s.0.row link s.0.inside s.0.verdict s.0.goes in
+            let is : cycle ≡ cycle_of d way.x.offer.at.0 + way.depth = omega (arith, eqb-true (cycle_of d sent.start.0) cycle t, s.1.cycle, way.cycle) in
+            let late = row_stays laws run carried alone way.x way.first_row cycle way.covered (omega (arith, is))
+            (omega (arith, is, hop_within way.first_row way.depth link way.at_depth)) in_run in
+            let row = late.0 in
+            let tree = (same_stream laws run carried alone cycle (cycle_of d way.x.offer.at.0) row way.first_row late.2
+            (covered_member laws run carried alone way.x way.first_row way.covered) late.3).tree in
+            let on = hop_crosses row way.depth link (same_hop way.first_row row way.depth link (sym tree) way.at_depth) in
+            let number : sent.stream ≡ row.no = s.0.stream ∙ way.number ∙ sym late.3 in
+            let counted = and_from (cycle_of d sent.start.0 == cycle) (sent.stream == row.no) t (eq-eqb sent.stream row.no number) in
+            let value : of_row sent row ≡ wire_of sent.octets = cond-true (crosses row link) (if counts row sent then wire_of sent.octets else 0) 0 on
+            ∙ cond-true (counts row sent) (wire_of sent.octets) 0 counted in
+            inl (row, late.2, le_of_eq (cond-true (cycle_of d sent.start.0 == cycle) (wire_of sent.octets) 0 t ∙ sym value))
+        | inr u ↦ inr (cond-false (cycle_of d sent.start.0 == cycle) (wire_of sent.octets) 0 u)
+      ]
+
+      none_short : All (λ (sent : Sent). 64 ≤ sent.octets) (carried link)
+      none_short = all_from_members (λ (sent : Sent). 64 ≤ sent.octets) (carried link) (λ sent c.
+          let s = fed laws run carried alone link is_link sent c in
+          let enough = All-contains (λ (p : Policed). 64 ≤ p.received.octets) (policed run carried (end_of_run run) (bridge_of d link)) s.p
+          (least laws run carried alone.planned (fed laws run carried alone) (bridge_of d link)) s.inside in
+          omega (arith, enough, s.octets))
+
+      -- of a stream of the cycle's table, no more octets than its reservation
+      octets_within : (row : Row) → Contains (table_of run.tables cycle) row →
+          sum_by (sent_counts laws run carried alone link is_link (of_stream row.no) cycle) (carried link) ≤ row.octets
+      octets_within row c = in_cycle cycle refl
+        where
+          no_row : (before : ℕ) → cycle ≡ before + 1 → (found : Option Row) → row_of (table_of run.tables before) row.no ≡ found →
+              sum_by (sent_counts laws run carried alone link is_link (of_stream row.no) cycle) (carried link) ≤ row.octets
+          no_row before is (Some prev) found =
+              let member = find_member (λ (z : Row). z.no == row.no) (table_of run.tables before) prev found in
+              let number : prev.no ≡ row.no = eqb-true prev.no row.no member.1 in
+              let same = (same_stream laws run carried alone before cycle prev row member.0 c number).octets in
+              let limit = sent_within laws run carried alone link is_link before prev member.0 in
+              let here = subst (λ z. sum_by (sent_counts laws run carried alone link is_link (of_stream prev.no) z) (carried link) ≤ prev.octets)
+              (sym is) limit in
+              omega (
+                arith,
+                same,
+                subst (λ z. sum_by (sent_counts laws run carried alone link is_link (of_stream z) cycle)
+                    (carried link) ≤ prev.octets) number here,
+              )
+          no_row before is None found =
+              let none = sum_none (sent_counts laws run carried alone link is_link (of_stream row.no) cycle) (carried link)
+              (λ sent m. not_counted before is found sent m) in
+              omega (arith, none)
+            where
+              not_counted : (before : ℕ) → cycle ≡ before + 1 → row_of (table_of run.tables before) row.no ≡ None → (sent : Sent) →
+                  Contains (carried link) sent → sent_counts laws run carried alone link is_link (of_stream row.no) cycle sent ≡ 0
+              not_counted before is found sent m = elim (cases_Bool (cycle_of d sent.start.0 == cycle)) [
+                | inl t ↦ elim (cases_Bool (sent.stream == row.no)) [
+                  | inl e ↦
+                      let s = sent_timed laws run carried alone link is_link sent m in
+                      let at : cycle_of d s.0.p.received.at ≡ before = omega (arith, eqb-true (cycle_of d sent.start.0) cycle t, s.1.cycle, is) in
+                      let member = queued_member laws run carried alone (bridge_of d link) s.0.p s.0.row s.0.inside s.0.verdict in
+                      let number : s.0.row.no ≡ row.no = sym s.0.stream ∙ eqb-true sent.stream row.no e in
+                      let some = find_some (λ (z : Row). z.no == row.no) (table_of run.tables before) s.0.row
+                      (subst (λ z. Contains (table_of run.tables z) s.0.row) at member) (eq-eqb s.0.row.no row.no number) in
+                      absurd (two_ways some.0 (sym found ∙ some.1))
+                  | inr u ↦ cond-true (cycle_of d sent.start.0 == cycle) (if sent.stream == row.no then sent.octets else 0) 0 t
+                      ∙ cond-false (sent.stream == row.no) sent.octets 0 u
+                ]
+                | inr u ↦ cond-false (cycle_of d sent.start.0 == cycle) (if sent.stream == row.no then sent.octets else 0) 0 u
+              ]
+                where
+                  two_ways : (r : Row) → None ≡ Some r → ⊥
+                  two_ways r e = cc
+
+          in_cycle : (c : ℕ) → cycle ≡ c → sum_by (sent_counts laws run carried alone link is_link (of_stream row.no) cycle) (carried link) ≤ row.octets
+          in_cycle zero is =
+              let none = sum_none (sent_counts laws run carried alone link is_link (of_stream row.no) cycle) (carried link) (λ sent m.
+              let s = sent_timed laws run carried alone link is_link sent m in
+              cond-false (cycle_of d sent.start.0 == cycle) (if sent.stream == row.no then sent.octets else 0) 0
+              (ne_eqb (cycle_of d sent.start.0) cycle (λ e. absurd (omega (arith, e, is, s.1.cycle))))) in
+              omega (arith, none)
+          in_cycle (suc before) is = no_row before (omega (arith, is)) (row_of (table_of run.tables before) row.no) refl
+
+      within : (row : Row) → Contains (table_of run.tables cycle) row → sum_by (λ sent. of_row sent row) (carried link) ≤ bound row
+      within row c = elim (cases_Bool (crosses row link)) [
+        | inl t ↦
+            let inner = sum_le_members (λ sent. of_row sent row) (λ sent. if counts row sent then wire_of sent.octets else 0) (carried link)
+            (λ sent m. le_of_eq (cond-true (crosses row link) (if counts row sent then wire_of sent.octets else 0) 0 t)) in
+            let flat = sum_le_members (λ sent. if counts row sent then sent.octets else 0)
+            (sent_counts laws run carried alone link is_link (of_stream row.no) cycle) (carried link)
+            (λ sent m. nested (cycle_of d sent.start.0 == cycle) (sent.stream == row.no) sent.octets) in
+            let cost = tested_wire_within_cost (counts row) (λ (sent : Sent). sent.octets) (carried link) row.octets none_short
+            (le_trans flat (octets_within row c)) in
+            omega (arith, inner, cost, cond-true (crosses row link) (cost_of row.octets) 0 t)
+        | inr u ↦
+            let none = sum_none (λ sent. of_row sent row) (carried link)
+            (λ sent m. cond-false (crosses row link) (if counts row sent then wire_of sent.octets else 0) 0 u) in
+            omega (arith, none)
+      ]
+        where
+          nested : (a b : Bool) (v : ℕ) → (if a && b then v else 0) ≤ (if a then (if b then v else 0) else 0)
+          nested true b v = le_of_eq refl
+          nested false b v = omega arith
+
+  -- nothing is lost inside
+  none_lost : (bridge : ℕ) (p : Policed) → IsLost run carried (length run.tables) bridge p → ⊥
+  none_lost bridge p lost =
+      elim (came_how run carried (end_of_run run) bridge p.received
+      (has_come d run.tables bridge (came run carried (end_of_run run) bridge) (policed run carried (end_of_run run) bridge)
+      (facts laws run carried alone.planned bridge) p lost.came)) [
+        | inl r ↦ let on = relayed_goes_on laws run carried alone bridge p lost.came r in queued_no_loss p.verdict on.0 on.1 lost.lost
+        | inr o ↦
+            let b = (facts laws run carried alone.planned bridge).behind p lost.came in
+            let earlier = [] ++ police_all d run.tables bridge [] b.before in
+            let way : b.x.way ≡ AtEdge o.offered.offer.stream = ap (λ (z : Policed). z.received.way) (sym b.is) ∙ ap (λ (z : Received). z.way) (sym o.is) in
+            at_edge (table_of run.tables (cycle_of d b.x.at)) (cycle_of d b.x.at) (λ r. within_gate d earlier r b.x) b.x.way o.offered.offer.stream way
+            (subst IsLoss (ap (λ (z : Policed). z.verdict) b.is) lost.lost)
+      ]
+    where
+      at_edge : (table : List Row) (cycle : ℕ) (fits : Row → Bool) (way : Way) (name : List ℕ) → way ≡ AtEdge name →
+          IsLoss (verdict_by d table bridge cycle fits way) → ⊥
+      at_edge table cycle fits way name is lost =
+          edge_no_loss d bridge cycle fits (row_named table name) (subst (λ z. IsLoss (verdict_by d table bridge cycle fits z)) is lost)
+
+  -- each frame that came by no link is an offer's, with the verdict that the definitions say
+  edge_only : (bridge : ℕ) (p : Policed) → Contains (policed run carried (end_of_run run) bridge) p → came_by p.received.way ≡ None → (x : Offered) ×
+      (x.offer.bridge ≡ bridge) × (offer_received x ≡ p.received) × IsDecided run x p.verdict
+  edge_only bridge p c way =
+      elim (came_how run carried (end_of_run run) bridge p.received
+      (has_come d run.tables bridge (came run carried (end_of_run run) bridge) (policed run carried (end_of_run run) bridge)
+      (facts laws run carried alone.planned bridge) p c)) [
+        | inl r ↦ absurd (two_ways r.m (sym way ∙ ap (λ (z : Received). came_by z.way) (sym r.is)))
+        | inr o ↦
+            let verdict = offered_judged (gate_is_reservation laws.counts) run carried (end_of_run run)
+            (some_time laws run carried alone.planned) alone.planned.orderly bridge p c o in
+            (o.offered, o.here, o.is, subst (IsDecided run o.offered) (sym verdict) (is_decided run o.offered o.inside))
+      ]
+    where
+      two_ways : (m : ℕ) → None ≡ Some m → ⊥
+      two_ways m e = cc
+
+  -- each frame leaves in its turn
+  in_turn : (link : ℕ) (sent : Sent) → Contains (carried link) sent → LeavesInTurn d link (queued run carried (end_of_run run) link) sent
+  in_turn link sent c =
+      let is_link = the_link link sent c in
+      let s = sent_for laws run carried alone link is_link sent c in
+      let one = sends_one laws run carried alone link s.0.place sent.start.0 s.0.in_queue in
+      record {
+        place = s.0.place;
+        in_queue = s.0.in_queue;
+        start = start_due laws run carried alone link is_link s.0.place sent.start.0 s.1;
+        is = subst (λ z. Contains z sent) (sym one) (subst (λ z. Contains (z ∷ []) sent) (sym s.0.is) (contains_here sent []));
+        cycle = place_timed laws run carried alone link is_link s.0.place sent.start.0 s.1;
+      }
+
+  -- so many cycles behind its offer, within one
+  latency : (link : ℕ) (sent : Sent) → Contains (carried link) sent → (shift : InShift run (length run.tables) sent.frame link (cycle_of d sent.start.0)) →
+      (shift.x.offer.at.0 + shift.depth * d.cycle_time < whole_at d link sent + d.cycle_time) ×
+      (whole_at d link sent < shift.x.offer.at.0 + (shift.depth + 1) * d.cycle_time)
+  latency link sent c shift =
+      let t = (sent_timed laws run carried alone link (the_link link sent c) sent c).1 in
+      within d.cycle_time shift.x.offer.at.0 (whole_at d link sent) shift.depth (some_time laws run carried alone.planned) (t.whole ∙ shift.is_cycle)
+    where
+      within : (n at whole depth : ℕ) → 0 < n → whole / n ≡ at / n + depth → (at + depth * n < whole + n) × (whole < at + (depth + 1) * n)
+      within n at whole depth some cycle =
+          let scaled = ap (λ z. z * n) cycle in
+          (omega (arith, scaled, cycle_from n whole, cycle_upto n at some), omega (arith, scaled, cycle_upto n whole some, cycle_from n at))
+
+  -- no two that a link carries are of one frame
+  apart : (link : ℕ) → AllPairs (λ (a b : Sent). a.frame ≡ b.frame → ⊥) (carried link)
+  apart link = elim (cases_lt link (length d.links)) [
+    | inl inside ↦ sents_apart laws run carried alone link inside
+    | inr past ↦ subst (AllPairs (λ (a b : Sent). a.frame ≡ b.frame → ⊥)) (sym (alone.legal.no_others link past)) (pairs_none (λ (a b : Sent). a.frame ≡ b.frame → ⊥))
+  ]
+
+  -- the main law for streams' frames alone
+  pub alone_means_the_shift : MeansTheShift run carried
+  alone_means_the_shift = record {
+    edge = λ x inside in_run. edge_is_covered (gate_is_reservation laws.counts) run carried (end_of_run run) x
+        (some_time laws run carried alone.planned) alone.planned.orderly inside (before_end laws run carried alone.planned x.offer.at.0 in_run);
+    edge_only = edge_only;
+    only = λ frame link cycle l. subst (λ z. InShift run (length run.tables) z link cycle) l.is_frame
+        (subst (λ z. InShift run (length run.tables) l.sent.frame link z) l.is_cycle
+        (sent_in_shift laws run carried alone link (the_link link l.sent l.is_sent) l.sent l.is_sent));
+    each = λ frame link cycle s. let r = shift_is_sent laws run carried alone frame link cycle s in
+        record { sent = r.sent; is_sent = r.inside; is_frame = r.is_frame; is_cycle = r.is_cycle };
+    once = λ link a b ca cb. sent_once laws run carried alone link (the_link link a ca) a b ca cb;
+    apart = apart;
+    octets = λ link sent x c inside frames. sent_octets laws run carried alone link (the_link link sent c) sent c x inside frames;
+    none_lost = none_lost;
+    loads = loads;
+    costs = λ link cycle is_link. alone.planned.orderly.loads cycle link is_link;
+    in_turn = in_turn;
+    whole = λ link sent c. (sent_timed laws run carried alone link (the_link link sent c) sent c).1.whole;
+    latency = latency;
+  }
+
+-- the main law
+pub gates_mean_the_shift : CycleLaws → RunBesideIsRunAlone → GatesMeanTheShift
+gates_mean_the_shift laws beside run net legal = alone_means_the_shift laws run net.carried (beside run net legal)

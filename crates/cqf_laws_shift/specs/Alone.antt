@@ -1,0 +1,35 @@
+-- A run of streams' frames alone: what the main law is proved of. Beside background frames each port sends of the streams
+-- just what it would send of them alone, so a legal run beside any background is one of these.
+use Rattle.std.specs.Prelude.{ℕ, ◌≡◌, ◌<◌, ◌≤◌, List, [], length}
+use Rattle.std.specs.List.{flat_map}
+use Rattle.cqf_model.specs.declared.frames.Sent.{Sent}
+use Rattle.cqf_model.specs.Domain.{Domain, IsAccepted, octet_time_of}
+use Rattle.cqf_model.specs.GateList.{port_list}
+use Rattle.cqf_model.specs.Port.{AreLegal, Transmission}
+use Rattle.cqf_model.specs.Run.{AreOffers, Run, end_of_run}
+use Rattle.cqf_model.specs.Table.{AreOrderly}
+use Rattle.cqf_model.specs.Traffic.{Carried}
+use Rattle.cqf_model.specs.Network.{QueuedFrame, arrivals_of, queued_before, sent_of}
+
+-- a port under the compiled gate list sends what is demanded for the streams' frames that are queued to it, and those alone
+pub record SendsAlone (d : Domain) (end l : ℕ) (queued : List QueuedFrame) (sents : List Sent) : Type 0 where
+  pub starts : List Transmission
+  pub legal : AreLegal (record { entries = port_list d.cycle_time d.guard; octet_time = octet_time_of d l }) (arrivals_of queued) end starts
+  pub are_sent : sents ≡ flat_map (sent_of queued) starts
+
+-- each link does so up to the end of the run, and a link that the domain lacks sends nothing
+pub record IsLegalAlone (run : Run) (carried : Carried) : Type 0 where
+  pub sends : (l : ℕ) → l < length run.domain.links →
+      SendsAlone run.domain (end_of_run run) l (queued_before run carried l (end_of_run run)) (carried l)
+  pub no_others : (l : ℕ) → length run.domain.links ≤ l → carried l ≡ []
+
+-- an accepted domain, the tables of a history, and offers of Ethernet's sizes at its bridges
+pub record IsPlanned (run : Run) : Type 0 where
+  pub accepted : IsAccepted run.domain
+  pub orderly : AreOrderly run.domain run.tables
+  pub offered : AreOffers run.domain run.offers
+
+-- a legal run of such
+pub record IsRunAlone (run : Run) (carried : Carried) : Type 0 where
+  pub planned : IsPlanned run
+  pub legal : IsLegalAlone run carried

@@ -1,0 +1,44 @@
+-- The edge: what the stream gates of a bridge decide there is what the reservations alone decide.
+use Rattle.std.specs.Prelude.{true, ℕ, ◌≡◌, ◌+◌, ◌<◌, List, ◌==◌, ◌&&◌, if◌then◌else◌, nat_le, sum_by, Contains}
+use Rattle.cqf_model.specs.declared.frames.Offered.{Offered}
+use Rattle.cqf_model.specs.declared.topology.Row.{Row}
+use Rattle.cqf_model.specs.Domain.{Domain, cycle_of}
+use Rattle.cqf_model.specs.Run.{Run}
+use Rattle.cqf_model.specs.Table.{AreOrderly, is_live, table_of}
+use Rattle.cqf_model.specs.Traffic.{Carried, Received, Policed, Verdict, is_queued_of, numbered}
+use Rattle.cqf_model.specs.Traffic.{within_gate}
+use Rattle.cqf_model.specs.Promise.{IsPolicedAs}
+use Rattle.cqf_model.specs.Shift.{IsCovered, offer_cycle, offers_before, taken_by}
+
+-- the octets of a row's frames in a cycle that went on, among the frames before
+abbrev pub octets_before : Domain → ℕ → ℕ → List Policed → ℕ
+octets_before d number cycle earlier =
+    sum_by (λ (p : Policed). if is_queued_of number p.verdict && (cycle_of d p.received.at == cycle) then p.received.octets else 0) earlier
+
+-- behind whatever came before, the gate of a reservation lets a frame pass exactly where so many octets are left of the
+-- reservation in the frame's cycle
+abbrev pub GateIsReservation : Type 0
+GateIsReservation = (d : Domain) (earlier : List Policed) (row : Row) (x : Received) → 0 < d.cycle_time →
+    within_gate d earlier row x ≡ nat_le (octets_before d row.no (cycle_of d x.at) earlier + x.octets) row.octets
+
+-- at any bridge, whatever the links bring, what becomes of each offer is what the reservations decide, reasons included
+abbrev pub EdgeIsCovered : Type 0
+EdgeIsCovered = (run : Run) (carried : Carried) (end : ℕ) (x : Offered) → 0 < run.domain.cycle_time → AreOrderly run.domain run.tables →
+    Contains (numbered run.offers) x → x.offer.at.0 < end → (verdict : Verdict) × IsPolicedAs run carried end x verdict
+
+-- the row covers the offer in this cycle
+pub record IsCoveredIn (run : Run) (row : Row) (cycle : ℕ) (x : Offered) : Type 0 where
+  pub covered : IsCovered run x row
+  pub in_cycle : offer_cycle run.domain x ≡ cycle
+
+-- a count of the octets of the offers that a row covers in a cycle, and of no others
+pub record CountsCovered (run : Run) (row : Row) (cycle : ℕ) (counts : Offered → ℕ) : Type 0 where
+  pub covered : (x : Offered) → IsCoveredIn run row cycle x → counts x ≡ x.offer.octets
+  pub others : (x : Offered) → Contains (numbered run.offers) x → ¬ IsCoveredIn run row cycle x → counts x ≡ 0
+
+-- what is taken of a reservation before an offer is the octets of the covered offers before it: the one number by which
+-- "covered" is defined is the sum over those that are covered
+abbrev pub TakenIsCovered : Type 0
+TakenIsCovered = (run : Run) (row : Row) (cycle : ℕ) (x : Offered) (counts : Offered → ℕ) → AreOrderly run.domain run.tables →
+    Contains (table_of run.tables cycle) row → is_live row cycle ≡ true → Contains (numbered run.offers) x → CountsCovered run row cycle counts →
+    taken_by run.domain row cycle (offers_before run.offers x) ≡ sum_by counts (offers_before run.offers x)

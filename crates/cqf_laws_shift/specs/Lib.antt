@@ -1,0 +1,7 @@
+pub mod Cost
+pub mod Edge
+pub mod Alone
+pub mod Run
+pub mod Books
+pub mod MainLaw
+pub mod BookOfHistory

@@ -1,6 +1,0 @@
--- The streams so far are laid.
-use Rattle.cqf_layout.specs.Laid.{AreLaid}
-use Rattle.cqf_layout.proofs.laying.lay_streams.Given as goal
-
-abbrev pub invariant-loop-row : goal.invariant-loop-row
-invariant-loop-row l = AreLaid l.cycles l.rows l.row-index l.branches.items l.groups.items

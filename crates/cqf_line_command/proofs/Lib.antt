@@ -1,3 +1,0 @@
-mod LineText
-mod LineRuns
-mod LineTables

@@ -1,4 +1,0 @@
-mod Listed
-mod Fits
-mod PlanFits
-mod Loading

@@ -1,5 +1,0 @@
-use Rattle.cqf_load_command.proofs.Listed.{none_listed}
-use Rattle.cqf_load_command.proofs.listing.Listing.new.Goals as goal
-
-pub invariant_of-result : goal.invariant_of-result
-invariant_of-result c = rw (c.new.ensures.empty, c.new-2.ensures.items) none_listed

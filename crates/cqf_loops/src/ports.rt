@@ -1,8 +1,0 @@
-//! Ends of pipes, by link.
-
-/// An end of a pipe, with the number of the link whose batches go through it, by the domain, from 0.
-#[derive(Drop)]
-pub struct Port<P> {
-    pub link: u8,
-    pub pipe: P,
-}

@@ -1,0 +1,107 @@
+-- What the network of a run and its book promise, cycle by cycle (profile).
+use Rattle.std.specs.Prelude.{None, ℕ, ◌≡◌, ◌≢◌, ◌+◌, ◌*◌, ◌<◌, ◌≤◌, List, length, sum_by, AllPairs, Contains, if◌then◌else◌, ◌==◌}
+use Rattle.cqf_units.specs.Timing.{wire_of}
+use Rattle.cqf_model.specs.declared.frames.Dropped.{Dropped}
+use Rattle.cqf_model.specs.declared.frames.Offered.{Offered}
+use Rattle.cqf_model.specs.declared.frames.Sent.{Sent}
+use Rattle.cqf_model.specs.declared.frames.Started.{Started}
+use Rattle.cqf_model.specs.Book.{Contents}
+use Rattle.cqf_model.specs.Domain.{Domain, cycle_of, octet_time_of, budget}
+use Rattle.cqf_model.specs.Network.{IsLost, QueuedFrame, arrivals_of, queued_before, sent_of}
+use Rattle.cqf_model.specs.Run.{Run, end_of_run}
+use Rattle.cqf_model.specs.Shift.{InShift, IsCovered, IsUncovered, offer_cycle}
+use Rattle.cqf_model.specs.Table.{table_of, link_cost}
+use Rattle.cqf_model.specs.Traffic.{Carried, Policed, Verdict, Queued, DroppedFor, LacksRow, ExceedsGate, came_by, numbered, offer_received}
+use Rattle.cqf_model.specs.Traffic.{policed_before, whole_at}
+use Rattle.cqf_model.specs.Turn.{due, cycle_of_place}
+
+-- what a verdict on an offer has to be: it goes on where it is covered, with the row that covers it, and else it is dropped
+-- for the first reason that fits
+abbrev pub IsDecided : Run → Offered → Verdict → Type 0
+IsDecided run x (Queued row) = IsCovered run x row
+IsDecided run x (DroppedFor reason) = IsUncovered run x reason
+IsDecided run x LacksRow = ⊥
+IsDecided run x ExceedsGate = ⊥
+
+-- an offer comes to its bridge before the end, and the gates there give it this verdict, which is so
+pub record IsPolicedAs (run : Run) (carried : Carried) (end : ℕ) (x : Offered) (verdict : Verdict) : Type 0 where
+  pub come : Contains (policed_before run carried x.offer.bridge end) (record { received = offer_received x; verdict = verdict })
+  pub decided : IsDecided run x verdict
+
+-- the frame leaves on the link in the cycle
+pub record LeavesIn (d : Domain) (carried : Carried) (frame link cycle : ℕ) : Type 0 where
+  pub sent : Sent
+  pub is_sent : Contains (carried link) sent
+  pub is_frame : sent.frame ≡ frame
+  pub is_cycle : cycle_of d sent.start.0 ≡ cycle
+
+-- the frame leaves on the link as the one at this place of all streams' frames that were queued to it: in the cycle after
+-- that one's, when those that came before it in its own cycle have left
+pub record LeavesInTurn (d : Domain) (link : ℕ) (queued : List QueuedFrame) (sent : Sent) : Type 0 where
+  pub place : ℕ
+  pub in_queue : place < length queued
+  pub start : sent.start.0 ≡ due d.cycle_time (octet_time_of d link) (arrivals_of queued) place
+  pub is : Contains (sent_of queued (place, sent.start.0)) sent
+  pub cycle : cycle_of d sent.start.0 ≡ cycle_of_place d.cycle_time (arrivals_of queued) place + 1
+
+-- what a link sends of streams' frames in a cycle, in octets of the wire
+abbrev pub wire_in_cycle : Domain → Carried → ℕ → ℕ → ℕ
+wire_in_cycle d carried link cycle = sum_by (λ (sent : Sent). if cycle_of d sent.start.0 == cycle then wire_of sent.octets else 0) (carried link)
+
+-- what a run's links carry of streams' frames is what its shift says
+pub record MeansTheShift (run : Run) (carried : Carried) : Type 0 where
+  -- what passes the gates at the edge is what the reservations cover, and each other offer has the same reason
+  pub edge : (x : Offered) → Contains (numbered run.offers) x → offer_cycle run.domain x < length run.tables →
+      (verdict : Verdict) × IsPolicedAs run carried (end_of_run run) x verdict
+  -- and nothing else is offered there: each frame that came by no link is one of the offers at this bridge, with its verdict
+  pub edge_only : (bridge : ℕ) (p : Policed) → Contains (policed_before run carried bridge (end_of_run run)) p → came_by p.received.way ≡ None →
+      (x : Offered) × (x.offer.bridge ≡ bridge) × (offer_received x ≡ p.received) × IsDecided run x p.verdict
+  -- the frames leave as the shift says, each once
+  pub only : (frame link cycle : ℕ) → LeavesIn run.domain carried frame link cycle → InShift run (length run.tables) frame link cycle
+  pub each : (frame link cycle : ℕ) → InShift run (length run.tables) frame link cycle → LeavesIn run.domain carried frame link cycle
+  pub once : (link : ℕ) (a b : Sent) → Contains (carried link) a → Contains (carried link) b → a.frame ≡ b.frame → a ≡ b
+  -- so no frame is on a link twice: of any two that it carries, one behind the other, the numbers differ
+  pub apart : (link : ℕ) → AllPairs (λ (a b : Sent). a.frame ≢ b.frame) (carried link)
+  -- and each has the octets of the offer of its number
+  pub octets : (link : ℕ) (sent : Sent) (x : Offered) → Contains (carried link) sent → Contains (numbered run.offers) x →
+      sent.frame ≡ x.frame → sent.octets ≡ x.offer.octets
+  -- nothing is lost inside
+  pub none_lost : (bridge : ℕ) (policed : Policed) → ¬ IsLost run carried (length run.tables) bridge policed
+  -- what a link sends of streams' frames in a cycle is within what the streams held in it cost, and that is within its budget
+  pub loads : (link cycle : ℕ) → link < length run.domain.links → cycle < length run.tables →
+      wire_in_cycle run.domain carried link cycle ≤ link_cost (table_of run.tables cycle) link
+  pub costs : (link cycle : ℕ) → link < length run.domain.links → link_cost (table_of run.tables cycle) link ≤ budget run.domain link
+  -- each frame starts behind those that came before it in their cycle, and is whole in the next node in its cycle
+  pub in_turn : (link : ℕ) (sent : Sent) → Contains (carried link) sent →
+      LeavesInTurn run.domain link (queued_before run carried link (end_of_run run)) sent
+  pub whole : (link : ℕ) (sent : Sent) → Contains (carried link) sent → cycle_of run.domain (whole_at run.domain link sent) ≡ cycle_of run.domain sent.start.0
+  -- behind a link of a depth that is more than one cycle time less than so many after its offer, and less than one more
+  pub latency : (link : ℕ) (sent : Sent) → Contains (carried link) sent →
+      (shift : InShift run (length run.tables) sent.frame link (cycle_of run.domain sent.start.0)) →
+      (shift.x.offer.at.0 + shift.depth * run.domain.cycle_time < whole_at run.domain link sent + run.domain.cycle_time)
+      × (whole_at run.domain link sent < shift.x.offer.at.0 + (shift.depth + 1) * run.domain.cycle_time)
+
+-- the drop is of an offer of the run that isn't covered, at its bridge, in its cycle, with the first reason that fits
+pub record IsOfUncovered (run : Run) (dropped : Dropped) : Type 0 where
+  pub x : Offered
+  pub uncovered : IsUncovered run x dropped.reason
+  pub within_run : dropped.cycle.0 < length run.tables
+  pub cycle : dropped.cycle.0 ≡ offer_cycle run.domain x
+  pub bridge : dropped.bridge ≡ x.offer.bridge
+  pub frame : dropped.frame ≡ x.frame
+  pub octets : dropped.octets ≡ x.offer.octets
+
+-- the starts are exactly the shift, each once, and the drops exactly the offers that aren't covered, each once
+pub record SaysTheShift (run : Run) (book : Contents) : Type 0 where
+  pub only : (s : Started) → Contains book.starts s → InShift run (length run.tables) s.frame s.link s.cycle.0
+  pub each : (frame link cycle : ℕ) → InShift run (length run.tables) frame link cycle →
+      (s : Started) × Contains book.starts s × (s.frame ≡ frame) × (s.link ≡ link) × (s.cycle.0 ≡ cycle)
+  pub only_drops : (x : Dropped) → Contains book.drops x → IsOfUncovered run x
+  pub each_drop : (x : Dropped) → IsOfUncovered run x → Contains book.drops x
+  -- no frame is on a link twice: any two starts, one behind the other, are of two frames or on two links
+  pub once_each : AllPairs (λ (a b : Started). a.frame ≡ b.frame → a.link ≢ b.link) book.starts
+  -- and each start has the octets of the offer of its number
+  pub octets : (s : Started) (x : Offered) → Contains book.starts s → Contains (numbered run.offers) x → s.frame ≡ x.frame →
+      s.octets ≡ x.offer.octets
+  -- nor is an offer dropped twice: any two drops are of two frames
+  pub once_dropped : AllPairs (λ (a b : Dropped). a.frame ≢ b.frame) book.drops

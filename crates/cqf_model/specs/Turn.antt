@@ -1,0 +1,27 @@
+-- When a stream's frame is due at a port: in its turn, one cycle behind the frame's own (profile).
+use Rattle.std.specs.Prelude.{ℕ, ◌+◌, ◌*◌, Bool, List, take, sum_by, if◌then◌else◌, nat_le, ◌==◌}
+use Rattle.cqf_units.specs.Timing.{wire_of, cycle_at}
+use Rattle.cqf_model.specs.declared.ports.Arrival.{Arrival}
+use Rattle.cqf_model.specs.Port.{instant_of}
+
+-- whether an arrival is a stream's frame: it has class 6 or 7, and a background frame one of 0 to 5
+abbrev pub is_streams : Arrival → Bool
+is_streams a = nat_le 6 a.class
+
+-- what a stream's frame of a cycle takes of the wire, in octets: one of another cycle and a background frame count for
+-- nothing
+abbrev pub wire_in : ℕ → ℕ → Arrival → ℕ
+wire_in cycle_time cycle a = if cycle_at cycle_time a.at.0 == cycle then (if is_streams a then wire_of a.octets else 0) else 0
+
+-- what the streams' frames of a cycle take
+abbrev pub load : ℕ → ℕ → List Arrival → ℕ
+load cycle_time cycle arrivals = sum_by (wire_in cycle_time cycle) arrivals
+
+-- the cycle of the arrival at a place
+abbrev pub cycle_of_place : ℕ → List Arrival → ℕ → ℕ
+cycle_of_place cycle_time arrivals place = cycle_at cycle_time (instant_of arrivals place)
+
+-- when a stream's frame is due: in the next cycle, behind the streams' frames that came before it in its own
+abbrev pub due : ℕ → ℕ → List Arrival → ℕ → ℕ
+due cycle_time octet_time arrivals place = let cycle = cycle_of_place cycle_time arrivals place in
+    (cycle + 1) * cycle_time + octet_time * load cycle_time cycle (take place arrivals)

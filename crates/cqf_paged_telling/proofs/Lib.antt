@@ -1,3 +1,0 @@
-mod Stretches
-mod Places
-mod Lines

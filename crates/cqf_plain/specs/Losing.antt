@@ -1,0 +1,58 @@
+-- Which frame is lost inside.
+use Rattle.std.specs.Prelude.{ℕ, ◌≡◌, ◌+◌, ◌≤◌, ◌<◌, [], Contains, List, Option, Some, None, length, take}
+use Rattle.cqf_model.specs.declared.topology.Row.{Row}
+use Rattle.cqf_model.specs.Domain.{Domain}
+use Rattle.cqf_model.specs.Network.{IsLoss, Network}
+use Rattle.cqf_model.specs.Run.{Run}
+use Rattle.cqf_model.specs.Table.{table_of}
+use Rattle.cqf_model.specs.Traffic.{Policed, Received, police_all}
+use Rattle.cqf_laws_cycle.specs.BridgeCycle.{policed_of}
+use Rattle.cqf_bridge_gates.specs.declared.gates.KeptGate.{KeptGate}
+use Rattle.cqf_bridge_gates.specs.Gates.{AreKept, HaveCounted}
+use Rattle.cqf_plain.specs.declared.faults.RunFault.{RunFault}
+use Rattle.cqf_plain.specs.declared.faults.RunFault.TheVariants.{WrongTables, Inside, Memory}
+use Rattle.cqf_plain.specs.Driven.{FirstLoseNothing}
+use Rattle.cqf_plain.specs.Run.{IsFirstLoss}
+
+-- the frame of this number is the first that is lost among some, or where there is no number none is
+pub record IsFirstLost (policed : List Policed) (frame : ℕ) : Type 0 where
+  pub x : Policed
+  pub first : IsFirstLoss policed x
+  pub is_frame : x.received.frame ≡ frame
+
+abbrev pub NoneIsLost : List Policed → Type 0
+NoneIsLost policed = (p : Policed) → Contains policed p → ¬ IsLoss p.verdict
+
+abbrev pub IsLossFound : List Policed → Option ℕ → Type 0
+IsLossFound policed None = NoneIsLost policed
+IsLossFound policed (Some frame) = IsFirstLost policed frame
+
+-- frames that were policed, none of which is lost: the gates have counted them, and each was called no later than the next frame
+pub record IsPolicing (d : Domain) (bridge cycle : ℕ) (rows : List Row) (frames : List Received) (count : ℕ) (gates : List KeptGate) : Type 0 where
+  pub kept : (t : ℕ) → ((y : Received) → Contains (take count frames) y → y.at ≤ t) → AreKept d.cycle_time (t + 1) gates
+  pub counted : (tables : List (List Row)) → table_of tables cycle ≡ rows →
+      HaveCounted d.cycle_time cycle rows (police_all d tables bridge [] (take count frames)) gates
+  pub none_lost : (tables : List (List Row)) → table_of tables cycle ≡ rows → NoneIsLost (police_all d tables bridge [] (take count frames))
+
+-- the frame is lost in the cycle at the bridge, which loses none before it
+abbrev pub IsLostAt : Run → Network → ℕ → ℕ → ℕ → Type 0
+IsLostAt run net cycle bridge frame = IsFirstLost (policed_of run net.carried bridge cycle) frame
+
+-- why a bridge doesn't receive the cycle
+abbrev pub IsStopAt : Run → Network → ℕ → ℕ → RunFault → Type 0
+IsStopAt run net cycle bridge WrongTables = ⊥
+IsStopAt run net cycle bridge (Inside frame) = IsLostAt run net cycle bridge frame
+IsStopAt run net cycle bridge Memory = Unit {0}
+
+-- the frame is the first that is lost in the cycle
+pub record IsLostAmong (run : Run) (net : Network) (cycle frame : ℕ) : Type 0 where
+  pub bridge : ℕ
+  pub inside : bridge < length run.domain.bridges
+  pub lost : IsLostAt run net cycle bridge frame
+  pub none_lower : FirstLoseNothing run net cycle bridge
+
+-- why the bridges don't all receive it
+abbrev pub IsStopIn : Run → Network → ℕ → RunFault → Type 0
+IsStopIn run net cycle WrongTables = ⊥
+IsStopIn run net cycle (Inside frame) = IsLostAmong run net cycle frame
+IsStopIn run net cycle Memory = Unit {0}

@@ -1,0 +1,140 @@
+//! Which frame is lost inside, where a bridge doesn't take what came to it.
+ghost use Rattle.std.specs.Prelude.{◌≡◌, ◌+◌, ◌++◌, ◌∷◌, ◌<◌, ℕ, [], Contains, List, IfOk, OnOk, false, map, true};
+ghost use Rattle.std.specs.List.Sorted.{IsNonDecreasingBy};
+ghost use Rattle.cqf_model.specs.declared.topology.Row.{Row as ARow};
+ghost use Rattle.cqf_model.specs.Domain.{cycle_of};
+ghost use Rattle.cqf_model.specs.Network.{IsLoss, Network};
+ghost use Rattle.cqf_model.specs.Run.{Run};
+ghost use Rattle.cqf_model.specs.Table.{table_of};
+ghost use Rattle.cqf_model.specs.Traffic.{Policed, Received, offer_received, police, police_all, sent_received};
+ghost use Rattle.cqf_laws_cycle.specs.BridgeCycle.{policed_of};
+ghost use Rattle.cqf_laws_cycle.specs.Gathered.{IsInOrderOf};
+ghost use Rattle.cqf_bridge.specs.Batch.{LinkBatch};
+ghost use Rattle.cqf_bridge.specs.Taking.{CanGather, gathered_by, received_as};
+ghost use Rattle.cqf_bridge_gates.specs.Gates.{AreKept, HaveCounted};
+ghost use Rattle.cqf_plain.specs.Driven.{HasCome, IsCycleOf, IsTableOf};
+ghost use Rattle.cqf_plain.specs.Losing.{IsLossFound};
+ghost use Rattle.cqf_model.specs.Limits.{most_cycles};
+
+use crate::driven::Driven;
+use cqf_admission::Table;
+use cqf_bridge::{Batch, Incoming, Outcome, StreamGates, bring_in_order, gather_offers, police};
+use cqf_laws_bridge::verdicts_are_the_runs;
+use cqf_laws_cycle::{cycle_brings_its_batches, frames_are_taken_in_order};
+use cqf_model::Offered;
+use cqf_topology::Domain;
+use cqf_units::Memory;
+use std::alloc::Global;
+
+/// Puts the frames of a batch behind others, in order of start.
+fn gather_batch(domain: &Domain, batch: &Batch, frames: &mut Vec<Incoming>) -> Result<(), Memory>
+    requires { CanGather domain.now batch.now }
+    ensures { OnOk result (map received_as frames.new.items
+        ≡ map received_as frames.old.items ++ map (sent_received domain.now batch.now.link) batch.now.frames) }
+{
+    for place in 0..batch.len() {
+        frames.push(Incoming::by_link(domain, batch.link(), batch.get(place)))?;
+    }
+    Ok(())
+}
+
+/// The frames of batches and the offers, in the order in which a bridge takes them.
+fn in_order(
+    alloc: Global,
+    domain: &Domain,
+    batches: &[Batch],
+    offers: &[Offered],
+) -> Result<Vec<Incoming>, Memory>
+    requires { (b : LinkBatch) → Contains batches.now b → CanGather domain.now b }
+    ensures { IfOk result (λ frames. IsInOrderOf (λ (x : Received). x.at) (gathered_by domain.now batches.now offers.now) (map received_as frames.items)) }
+{
+    let mut frames = Vec::new(alloc);
+    for batch in batches {
+        gather_batch(domain, batch, &mut frames)?;
+    }
+    gather_offers(offers, &mut frames)?;
+    bring_in_order(&mut frames)?;
+    Ok(frames)
+}
+
+/// Whether a frame is lost, behind those that the gates have counted.
+fn is_lost(
+    domain: &Domain,
+    number: u8,
+    table: &Table,
+    frame: &Incoming,
+    gates: &mut StreamGates,
+) -> Result<bool, Memory>
+    requires in_cycle { cycle_of domain.now frame.now.at.0 ≡ table.now.cycle }
+    requires kept { AreKept domain.now.cycle_time (frame.now.at.0 + 1) gates.old }
+    ensures kept { OnOk result (AreKept domain.now.cycle_time (frame.now.at.0 + 1) gates.new) }
+    ensures counted { OnOk result ((tables : List (List ARow)) (policed : List Policed) → table_of tables table.now.cycle ≡ table.now.rows →
+        HaveCounted domain.now.cycle_time table.now.cycle table.now.rows policed gates.old →
+        HaveCounted domain.now.cycle_time table.now.cycle table.now.rows
+        (policed ++ police domain.now tables number policed (received_as frame.now) ∷ []) gates.new) }
+    ensures yes { IfOk result (λ lost. (tables : List (List ARow)) (policed : List Policed) → table_of tables table.now.cycle ≡ table.now.rows →
+        HaveCounted domain.now.cycle_time table.now.cycle table.now.rows policed gates.old →
+        lost ≡ true → IsLoss (police domain.now tables number policed (received_as frame.now)).verdict) }
+    ensures no { IfOk result (λ lost. (tables : List (List ARow)) (policed : List Policed) → table_of tables table.now.cycle ≡ table.now.rows →
+        HaveCounted domain.now.cycle_time table.now.cycle table.now.rows policed gates.old →
+        lost ≡ false → ¬ IsLoss (police domain.now tables number policed (received_as frame.now)).verdict) }
+{
+    match police(domain, number, table.cycle(), table, frame, gates)? {
+        Outcome::GoesOn(_, _) => Ok(false),
+        Outcome::Dropped(_) => Ok(false),
+        Outcome::LacksRow => Ok(true),
+        Outcome::ExceedsGate => Ok(true),
+    }
+}
+
+/// The number of the first frame that is lost among those of a cycle at a bridge, which stand in the order in which they are taken.
+fn lost_among(
+    alloc: Global,
+    domain: &Domain,
+    number: u8,
+    table: &Table,
+    frames: &[Incoming],
+) -> Result<Option<u32>, Memory>
+    requires in_cycle { (x : Received) → Contains (map received_as frames.now) x → cycle_of domain.now x.at ≡ table.now.cycle }
+    requires ordered { IsNonDecreasingBy (λ (x : Received). x.at) (map received_as frames.now) }
+    ensures { IfOk result (λ found. (tables : List (List ARow)) → table_of tables table.now.cycle ≡ table.now.rows →
+        IsLossFound (police_all domain.now tables number [] (map received_as frames.now)) found) }
+{
+    let mut gates = StreamGates::new(alloc);
+    for frame in frames {
+        if is_lost(domain, number, table, frame, &mut gates)? {
+            return Ok(Some(frame.frame));
+        }
+    }
+    Ok(None)
+}
+
+/// The number of the first frame, in the order in which they are taken, that is lost at a bridge in the cycle of a table, of those
+/// that have come to it and are offered there; none where all go on or are dropped.
+pub(crate) fn first_lost(
+    alloc: Global,
+    driven: &Driven,
+    table: &Table,
+) -> Result<Option<u32>, Memory>
+    requires early { table.now.cycle < most_cycles }
+    requires part { (run : Run) × (net : Network) × (bridge : ℕ) × IsCycleOf run net table.now.cycle × IsTableOf run table.now
+        × HasCome run net table.now.cycle bridge driven.now }
+    ensures { IfOk result (λ found. (run : Run) (net : Network) (bridge : ℕ) → IsCycleOf run net table.now.cycle → IsTableOf run table.now →
+        HasCome run net table.now.cycle bridge driven.now → IsLossFound (policed_of run net.carried bridge table.now.cycle) found) }
+{
+    verdicts_are_the_runs();
+    cycle_brings_its_batches();
+    frames_are_taken_in_order();
+    let domain = driven.bridge.domain();
+    let _time = domain.cycle_time();
+    let offers = driven.agenda.offers(table.cycle());
+    let frames = in_order(alloc, domain, driven.inbox.as_slice(), offers)?;
+    let found = lost_among(
+        alloc,
+        domain,
+        driven.bridge.number(),
+        table,
+        frames.as_slice(),
+    )?;
+    Ok(found)
+}

@@ -1,0 +1,100 @@
+//! The bridges receive a cycle.
+ghost use Rattle.std.specs.Prelude.{◌≡◌, ◌+◌, ◌++◌, ◌<◌, ℕ, IfErr, IfOk, OnOk, length};
+ghost use Rattle.cqf_model.specs.Network.{Network};
+ghost use Rattle.cqf_model.specs.Run.{Run};
+ghost use Rattle.cqf_laws_bridge.specs.Verdicts.{LosesNothingIn};
+ghost use Rattle.cqf_plain.specs.Driven.{AllStandBefore, AllStandHalfway, FirstLoseNothing, HasCome, IsCycleOf, IsTableOf, ReceivesOne, StandsHalfway, all_of, drops_of_first};
+ghost use Rattle.cqf_plain.specs.Losing.{IsStopAt, IsStopIn};
+ghost use Rattle.cqf_model.specs.Limits.{most_cycles};
+
+use crate::RunFault;
+use crate::driven::Driven;
+use crate::losing::first_lost;
+use cqf_admission::Table;
+use cqf_bridge::BridgeFault;
+use cqf_laws_bridge::{new_bridge_follows, receiving_follows, verdicts_are_the_runs};
+use cqf_model::Dropped;
+use cqf_units::Memory;
+use std::alloc::Global;
+
+/// Why a bridge didn't take what came to it in the cycle of a table, where that wasn't for want of memory: a frame is lost.
+fn why_lost(alloc: Global, driven: &Driven, table: &Table) -> RunFault
+    requires early { table.now.cycle < most_cycles }
+    requires part { (run : Run) × (net : Network) × (bridge : ℕ) × IsCycleOf run net table.now.cycle × IsTableOf run table.now
+        × HasCome run net table.now.cycle bridge driven.now × (¬ LosesNothingIn run net bridge table.now.cycle) }
+    ensures { (run : Run) (net : Network) (bridge : ℕ) → IsCycleOf run net table.now.cycle → IsTableOf run table.now →
+        HasCome run net table.now.cycle bridge driven.now → IsStopAt run net table.now.cycle bridge result }
+{
+    match first_lost(alloc, driven, table) {
+        Ok(Some(frame)) => RunFault::Inside(frame),
+        Ok(None) => unreachable!(),
+        Err(_) => RunFault::Memory,
+    }
+}
+
+/// A bridge receives the cycle of a table, with what has come to it and is offered there. The drops come by frame.
+fn receive_one(alloc: Global, driven: &mut Driven, table: &Table) -> Result<Vec<Dropped>, RunFault>
+    requires early { table.now.cycle < most_cycles }
+    requires part { (run : Run) × (net : Network) × (bridge : ℕ) × IsCycleOf run net table.now.cycle × IsTableOf run table.now
+        × StandsHalfway run net table.now.cycle (all_of run net table.now.cycle) bridge driven.old }
+    ensures receives { IfOk result (λ drops. (run : Run) (net : Network) (bridge : ℕ) → IsCycleOf run net table.now.cycle → IsTableOf run table.now →
+        StandsHalfway run net table.now.cycle (all_of run net table.now.cycle) bridge driven.old →
+        ReceivesOne run net table.now.cycle bridge driven.new drops.items) }
+    ensures stops { IfErr result (λ fault. (run : Run) (net : Network) (bridge : ℕ) → IsCycleOf run net table.now.cycle → IsTableOf run table.now →
+        StandsHalfway run net table.now.cycle (all_of run net table.now.cycle) bridge driven.old → IsStopAt run net table.now.cycle bridge fault) }
+{
+    new_bridge_follows();
+    receiving_follows();
+    verdicts_are_the_runs();
+    let cycle = table.cycle();
+    let offers = driven.agenda.offers(cycle);
+    match driven
+        .bridge
+        .receive(alloc, cycle, table, driven.inbox.as_slice(), offers)
+    {
+        Ok(drops) => {
+            driven.inbox.clear();
+            Ok(drops)
+        }
+        Err(fault) => match fault {
+            BridgeFault::Memory => Err(RunFault::Memory),
+            _ => Err(why_lost(alloc, driven, table)),
+        },
+    }
+}
+
+/// All bridges receive the cycle of a table, in order of number, each with what has come to it and is offered there. The drops go
+/// behind those that are listed.
+pub(crate) fn receive_all(
+    alloc: Global,
+    bridges: &mut Vec<Driven>,
+    table: &Table,
+    drops: &mut Vec<Dropped>,
+) -> Result<(), RunFault>
+    requires early { table.now.cycle < most_cycles }
+    requires part { (run : Run) × (net : Network) × IsCycleOf run net table.now.cycle × IsTableOf run table.now
+        × AllStandHalfway run net table.now.cycle (all_of run net table.now.cycle) bridges.old.items }
+    ensures before { OnOk result ((run : Run) (net : Network) → IsCycleOf run net table.now.cycle → IsTableOf run table.now →
+        AllStandHalfway run net table.now.cycle (all_of run net table.now.cycle) bridges.old.items →
+        AllStandBefore run net (table.now.cycle + 1) bridges.new.items) }
+    ensures dropped { OnOk result ((run : Run) (net : Network) → IsCycleOf run net table.now.cycle → IsTableOf run table.now →
+        AllStandHalfway run net table.now.cycle (all_of run net table.now.cycle) bridges.old.items →
+        drops.new.items ≡ drops.old.items ++ drops_of_first run net table.now.cycle (length run.domain.bridges)) }
+    ensures none_lost { OnOk result ((run : Run) (net : Network) → IsCycleOf run net table.now.cycle → IsTableOf run table.now →
+        AllStandHalfway run net table.now.cycle (all_of run net table.now.cycle) bridges.old.items →
+        FirstLoseNothing run net table.now.cycle (length run.domain.bridges)) }
+    ensures stops { IfErr result (λ fault. (run : Run) (net : Network) → IsCycleOf run net table.now.cycle → IsTableOf run table.now →
+        AllStandHalfway run net table.now.cycle (all_of run net table.now.cycle) bridges.old.items → IsStopIn run net table.now.cycle fault) }
+{
+    for place in 0..bridges.len() {
+        let dropped = match receive_one(alloc, &mut bridges[place], table) {
+            Ok(dropped) => dropped,
+            Err(fault) => return Err(fault),
+        };
+        match drops.extend_from_slice(dropped.as_slice()) {
+            Ok(()) => {}
+            Err(_) => return Err(RunFault::Memory),
+        }
+    }
+    Ok(())
+}

@@ -1,2 +1,0 @@
-pub mod PortOutput
-pub mod PortTold

@@ -1,0 +1,427 @@
+-- From what each step of a run says to what the run comes to.
+use Rattle.std.proofs.Common.{◌≡◌, ◌≢◌, ◌⊎◌, ◌≤◌, ◌∙◌, ℕ, zero, suc, List, [], ◌∷◌, Bool, true, false, Option, Some, None, length, arith, codes, inl, inr, sym, subst, refl}
+use Rattle.std.specs.Str.{IsUtf8}
+use Rattle.std.specs.Io.KnownBytes.{IsAtEnd, Keeps}
+use Rattle.cqf_program_stop.specs.Stops.{EndsWith, line_of}
+use Rattle.clap.specs.Words.{Row, Text, first_of, subcommand_of}
+use Rattle.cqf_program_words.specs.Words.{EndsWords, IsJob, IsJobOf, IsNumberIn, Mean, cqf_app}
+use Rattle.cqf_program_engine.specs.Edge.{IsHeard, Marks, Reading}
+use Rattle.cqf_program_press.specs.Edge.{HasTold, Writing}
+use Rattle.cqf_program_engine.specs.Run.{first_line, input_of, version_line, words_of, AskForVersion, Ends, EndsByStatus, EndsFaulty, EndsInput, EndsRead, HandsOver, HasCause, HasFault, HasRun, IsBehindWords, IsEnd, IsFailure, IsInputFault, IsOutput, IsOutputFault, IsRefusal, EndsByRunFault, IsStopped, IsToldOutput, IsTooLongInput, IsWithin, TellsStop, TellsFaultAlone}
+use Rattle.cqf_program_threads.specs.ThreadsOutput.{EndsThreads, IsThreadsOutput}
+use Rattle.cqf_program_press.proofs.EdgeLemmas.{Appends-whole}
+use Rattle.cqf_program_stop.specs.declared.stops.Stop.{Stop}
+use Rattle.cqf_program_engine.specs.declared.heard.Broken.{Broken}
+use Rattle.cqf_program_engine.specs.declared.heard.Broken.TheVariants.{Memory, Fault}
+use Rattle.cqf_program_words.specs.declared.words.Job.{Job}
+use Rattle.cqf_program_words.specs.declared.words.Job.TheVariants.{Check, Compile, Deliveries, Latency, Line, Load, Port, Report, Run}
+
+-- words that mean no job, as they are given
+HasCause-given : (words : List (List ℕ)) (bytes : List ℕ) (stop : Stop) → words ≢ [] → EndsWords words stop → HasCause words bytes stop
+HasCause-given [] bytes stop some e = absurd (some refl)
+HasCause-given (word ∷ words) bytes stop some e = record {
+  answered = λ zero_is. inl (e.help zero_is);
+  refused = λ one. absurd (elim e.statuses [ inl zero_is ↦ omega arith | inr other ↦ elim other [ inl two ↦ omega arith | inr three ↦ omega arith ] ]);
+  misused = λ two. record { status = two; short = λ none. absurd (some none); cause = inr ((λ none. absurd (some none)), e.mistake two, e.no_job (λ three. omega arith)) };
+  memory = e.memory;
+  failed = λ four. absurd (elim e.statuses [ inl zero_is ↦ omega arith | inr other ↦ elim other [ inl two ↦ omega arith | inr three ↦ omega arith ] ]);
+}
+
+-- words that mean no job stop the run before anything is read
+pub IsStopped-by_words : (words : List (List ℕ)) (input : Reading) (stop : Stop) → words ≢ [] → input.failed ≡ false → EndsWords words stop
+    → IsStopped words input stop
+IsStopped-by_words words input stop some sound e =
+    let few : stop.status ≤ 3 = elim e.statuses [ inl zero_is ↦ omega arith | inr other ↦ elim other [ inl two ↦ omega arith | inr three ↦ omega arith ] ] in
+    record {
+      statuses = omega arith;
+      cause = λ _. HasCause-given words input.bytes stop some e;
+      fault = λ four. absurd (omega arith);
+      sound = λ _. sound;
+      whole = λ one. absurd (elim e.statuses [ inl zero_is ↦ omega arith | inr other ↦ elim other [ inl two ↦ omega arith | inr three ↦ omega arith ] ]);
+      at_end = λ none _. absurd (some none);
+    }
+
+-- the version, which was asked for, stops the run before anything is read
+pub IsStopped-by_version : (words : List (List ℕ)) (input : Reading) (stop : Stop) → words ≢ [] → input.failed ≡ false → AskForVersion words
+    → EndsWith 0 version_line stop → IsStopped words input stop
+IsStopped-by_version words input stop some sound asks e = record {
+  statuses = elim e.statuses [ inl zero_is ↦ omega arith | inr three ↦ omega arith ];
+  cause = λ _. record {
+    answered = λ zero_is. inr (asks, e.line_is zero_is);
+    refused = λ one. absurd (elim e.statuses [ inl zero_is ↦ omega arith | inr three ↦ omega arith ]);
+    misused = λ two. absurd (elim e.statuses [ inl zero_is ↦ omega arith | inr three ↦ omega arith ]);
+    memory = e.memory;
+    failed = λ four. absurd (elim e.statuses [ inl zero_is ↦ omega arith | inr three ↦ omega arith ]);
+  };
+  fault = λ four. absurd (elim e.statuses [ inl zero_is ↦ omega arith | inr three ↦ omega arith ]);
+  sound = λ _. sound;
+  whole = λ one. absurd (elim e.statuses [ inl zero_is ↦ omega arith | inr three ↦ omega arith ]);
+  at_end = λ none _. absurd (some none);
+}
+
+-- words that mean no job end so too where the stop is told otherwise
+pub EndsWords-told : (words : List Text) (stop told : Stop) → EndsWords words stop → (told.status ≡ stop.status) ⊎ (told.status ≡ 3)
+    → (told.status ≡ 3 → told.text.items ≡ []) → EndsWords words told
+EndsWords-told words stop told e (inl same) memory = record {
+  statuses = elim e.statuses [ inl zero_is ↦ inl (same ∙ zero_is) | inr other ↦ inr (elim other [ inl two ↦ inl (same ∙ two) | inr three ↦ inr (same ∙ three) ]) ];
+  no_job = λ known. e.no_job (λ three. known (same ∙ three));
+  help = λ zero_is. e.help (sym same ∙ zero_is);
+  mistake = λ two. e.mistake (sym same ∙ two);
+  memory = memory;
+}
+EndsWords-told words stop told e (inr three) memory = record {
+  statuses = inr (inr three);
+  no_job = λ known. absurd (known three);
+  help = λ zero_is. absurd (omega arith);
+  mistake = λ two. absurd (omega arith);
+  memory = memory;
+}
+
+-- words of the first line that mean no job stop it too
+pub HasCause-by_line : (bytes : List ℕ) (stop : Stop) → length bytes ≤ 67108864 → IsUtf8 (first_line bytes) → EndsWords (words_of [] bytes) stop
+    → HasCause [] bytes stop
+HasCause-by_line bytes stop short text e = record {
+  answered = λ zero_is. inl (e.help zero_is);
+  refused = λ one. absurd (elim e.statuses [ inl zero_is ↦ omega arith | inr other ↦ elim other [ inl two ↦ omega arith | inr three ↦ omega arith ] ]);
+  misused = λ two. record { status = two; short = λ none. short; cause = inr ((λ none. text), e.mistake two, e.no_job (λ three. omega arith)) };
+  memory = e.memory;
+  failed = λ four. absurd (elim e.statuses [ inl zero_is ↦ omega arith | inr other ↦ elim other [ inl two ↦ omega arith | inr three ↦ omega arith ] ]);
+}
+
+-- a first line that isn't text stops it
+pub HasCause-by_bytes : (bytes : List ℕ) (stop : Stop) → length bytes ≤ 67108864 → ¬ IsUtf8 (first_line bytes)
+    → EndsWith 2 (line_of (codes "cqf: words")) stop → HasCause [] bytes stop
+HasCause-by_bytes bytes stop short no_text e = record {
+  answered = λ zero_is. absurd (elim e.statuses [ inl two ↦ omega arith | inr three ↦ omega arith ]);
+  refused = λ one. absurd (elim e.statuses [ inl two ↦ omega arith | inr three ↦ omega arith ]);
+  misused = λ two. record { status = two; short = λ none. short; cause = inl (refl, no_text, e.line_is two) };
+  memory = e.memory;
+  failed = λ four. absurd (elim e.statuses [ inl two ↦ omega arith | inr three ↦ omega arith ]);
+}
+
+-- a read that was broken off ends the input
+pub EndsInput-broken : (input : Reading) (before : Bool) (cause : Broken) (stop : Stop) → Marks before input.failed cause → EndsRead cause stop
+    → EndsInput input stop
+EndsInput-broken input before Memory stop marks ended = inr (inr ended)
+EndsInput-broken input before Fault stop marks ended = elim ended.statuses [
+  | inl four ↦ inr (inl (four, record { failed = marks; line = ended.line_is four }))
+  | inr three ↦ inr (inr (three, ended.memory three))
+]
+
+-- more bytes than the program reads end it
+pub EndsInput-long : (input : Reading) (stop : Stop) → IsTooLongInput input.bytes → input.failed ≡ false → EndsWith 1 (line_of (codes "cqf: input too long")) stop
+    → EndsInput input stop
+EndsInput-long input stop long sound ended = elim ended.statuses [
+  | inl one ↦ inl (one, record { long = long; sound = sound; line = ended.line_is one })
+  | inr three ↦ inr (inr (three, ended.memory three))
+]
+
+-- a read that ends before the input does stops it
+pub IsStopped-by_input : (words : List (List ℕ)) (input : Reading) (stop : Stop) → EndsInput input stop → (words ≢ [] → (job : Job) × Mean words job)
+    → IsStopped words input stop
+IsStopped-by_input words input stop (inl e) means =
+    let one : stop.status ≡ 1 = e.0 in
+    record {
+      statuses = omega arith;
+      cause = λ _. record {
+        answered = λ zero_is. absurd (omega arith);
+        refused = λ _. record { status = one; length_first = inl (e.1.long, e.1.line, means) };
+        misused = λ two. absurd (omega arith);
+        memory = λ three. absurd (omega arith);
+        failed = λ four. absurd (omega arith);
+      };
+      fault = λ four. absurd (omega arith);
+      sound = λ few. e.1.sound;
+      whole = λ _. inl e.1.long;
+      at_end = λ _ either. absurd (elim either [ inl zero_is ↦ omega arith | inr two ↦ omega arith ]);
+    }
+IsStopped-by_input words input stop (inr (inl e)) means =
+    let four : stop.status ≡ 4 = e.0 in
+    record {
+      statuses = omega arith;
+      cause = λ not_four. absurd (not_four four);
+      fault = λ _. inl (e.1.failed, e.1.line);
+      sound = λ few. absurd (omega arith);
+      whole = λ one. absurd (omega arith);
+      at_end = λ _ either. absurd (elim either [ inl zero_is ↦ omega arith | inr two ↦ omega arith ]);
+    }
+IsStopped-by_input words input stop (inr (inr e)) means =
+    let three : stop.status ≡ 3 = e.0 in
+    record {
+      statuses = omega arith;
+      cause = λ _. record {
+        answered = λ zero_is. absurd (omega arith);
+        refused = λ one. absurd (omega arith);
+        misused = λ two. absurd (omega arith);
+        memory = λ _. e.1;
+        failed = λ four. absurd (omega arith);
+      };
+      fault = λ four. absurd (omega arith);
+      sound = λ few. absurd (omega arith);
+      whole = λ one. absurd (omega arith);
+      at_end = λ _ either. absurd (elim either [ inl zero_is ↦ omega arith | inr two ↦ omega arith ]);
+    }
+
+-- a cause stops it, once all is read
+pub IsStopped-by_cause : (words : List (List ℕ)) (input : Reading) (stop : Stop) → input.failed ≡ false → IsAtEnd input.after → stop.status ≤ 4
+    → HasCause words input.bytes stop → IsStopped words input stop
+IsStopped-by_cause words input stop sound at_end few cause = record {
+  statuses = few;
+  cause = λ _. cause;
+  fault = λ four. inr (sound, at_end, cause.failed four);
+  sound = λ _. sound;
+  whole = λ _. inr at_end;
+  at_end = λ _ _. at_end;
+}
+
+-- a refused input has status 1 or 3
+refusal_statuses : (job : Job) (input : List ℕ) (stop : Stop) → IsRefusal job input stop → (stop.status ≡ 1) ⊎ (stop.status ≡ 3)
+refusal_statuses (Port until rate) input stop h = h.statuses
+refusal_statuses (Line cycles) input stop h = h.statuses
+refusal_statuses (Compile format) input stop h = h.statuses
+refusal_statuses Load input stop h = h.statuses
+refusal_statuses (Latency strict) input stop h = h.statuses
+refusal_statuses (Run cycles threads) input stop h = h.statuses
+refusal_statuses (Report cycles) input stop h = h.statuses
+refusal_statuses (Deliveries cycles) input stop h = h.statuses
+refusal_statuses (Check cycles) input stop h = h.statuses
+
+-- a refused input with status 3 is told with no text
+refusal_memory : (job : Job) (input : List ℕ) (stop : Stop) → IsRefusal job input stop → stop.status ≡ 3 → stop.text.items ≡ []
+refusal_memory (Port until rate) input stop h = h.memory
+refusal_memory (Line cycles) input stop h = h.memory
+refusal_memory (Compile format) input stop h = h.memory
+refusal_memory Load input stop h = h.memory
+refusal_memory (Latency strict) input stop h = h.memory
+refusal_memory (Run cycles threads) input stop h = h.memory
+refusal_memory (Report cycles) input stop h = h.memory
+refusal_memory (Deliveries cycles) input stop h = h.memory
+refusal_memory (Check cycles) input stop h = h.memory
+
+-- a job that fails has status 4
+failure_status : (job : Job) (input : List ℕ) (stop : Stop) → IsFailure job input stop → stop.status ≡ 4
+failure_status (Port until rate) input stop h = absurd h
+failure_status (Line cycles) input stop h = absurd h
+failure_status (Compile format) input stop h = absurd h
+failure_status Load input stop h = absurd h
+failure_status (Latency strict) input stop h = absurd h
+failure_status (Run cycles true) input stop h = h.0
+failure_status (Run cycles false) input stop h = absurd h
+failure_status (Report cycles) input stop h = absurd h
+failure_status (Deliveries cycles) input stop h = absurd h
+failure_status (Check cycles) input stop h = absurd h
+
+-- a job that ends without its output has a status of at most 4
+pub end_few : (job : Job) (input : List ℕ) (stop : Stop) → IsEnd job input stop → stop.status ≤ 4
+end_few job input stop (inl h) = elim (refusal_statuses job input stop h) [ inl one ↦ omega arith | inr three ↦ omega arith ]
+end_few job input stop (inr h) = let four : stop.status ≡ 4 = failure_status job input stop h in omega arith
+
+-- the end of a run on threads is that of its job
+pub IsEnd-threads : (cycles : ℕ) (job : Job) (input : List ℕ) (stop : Stop) → job ≡ Run cycles true → EndsThreads cycles input stop → IsEnd job input stop
+IsEnd-threads cycles job input stop same e =
+    let of_run : IsEnd (Run cycles true) input stop = elim e.statuses [
+      | inl one ↦ inl (record { statuses = inl one; line = e.refused; memory = e.memory })
+      | inr other ↦ elim other [
+        | inl three ↦ inl (record { statuses = inr three; line = e.refused; memory = e.memory })
+        | inr four ↦ inr (four, e.fault four)
+      ]
+    ] in
+    subst (λ (j : Job). IsEnd j input stop) (sym same) of_run
+
+-- its output is that of its job
+pub IsOutput-threads : (cycles : ℕ) (job : Job) (input output : List ℕ) → job ≡ Run cycles true → IsThreadsOutput cycles input output → IsOutput job input output
+IsOutput-threads cycles job input output same h = subst (λ (j : Job). IsOutput j input output) (sym same) h
+
+-- its number of cycles is within its limit
+pub threads_within : (cycles : ℕ) (job : Job) → job ≡ Run cycles true → IsWithin job → cycles ≤ 100000
+threads_within cycles job same h = subst (λ (j : Job). IsWithin j) same h
+
+-- an input that is refused stops it
+HasCause-by_refusal : (words : List (List ℕ)) (bytes : List ℕ) (job : Job) (stop : Stop) → length bytes ≤ 67108864
+    → (words ≡ [] → IsUtf8 (first_line bytes)) → Mean (words_of words bytes) job → IsRefusal job (input_of words bytes) stop → HasCause words bytes stop
+HasCause-by_refusal words bytes job stop short text means h =
+    let statuses = refusal_statuses job (input_of words bytes) stop h in
+    record {
+      answered = λ zero_is. absurd (elim statuses [ inl one ↦ omega arith | inr three ↦ omega arith ]);
+      refused = λ one. record { status = one; length_first = inr (short, text, (job, means, h)) };
+      misused = λ two. absurd (elim statuses [ inl one ↦ omega arith | inr three ↦ omega arith ]);
+      memory = refusal_memory job (input_of words bytes) stop h;
+      failed = λ four. absurd (elim statuses [ inl one ↦ omega arith | inr three ↦ omega arith ]);
+    }
+
+-- a job that fails stops it
+HasCause-by_failure : (words : List (List ℕ)) (bytes : List ℕ) (job : Job) (stop : Stop) → length bytes ≤ 67108864
+    → (words ≡ [] → IsUtf8 (first_line bytes)) → Mean (words_of words bytes) job → IsFailure job (input_of words bytes) stop → HasCause words bytes stop
+HasCause-by_failure words bytes job stop short text means h =
+    let four : stop.status ≡ 4 = failure_status job (input_of words bytes) stop h in
+    record {
+      answered = λ zero_is. absurd (omega arith);
+      refused = λ one. absurd (omega arith);
+      misused = λ two. absurd (omega arith);
+      memory = λ three. absurd (omega arith);
+      failed = λ _. record { short = short; text = text; job = job; means = means; fails = h };
+    }
+
+-- a job that ends without its output stops it
+pub HasCause-by_end : (words : List (List ℕ)) (bytes : List ℕ) (job : Job) (stop : Stop) → length bytes ≤ 67108864
+    → (words ≡ [] → IsUtf8 (first_line bytes)) → Mean (words_of words bytes) job → IsEnd job (input_of words bytes) stop → HasCause words bytes stop
+HasCause-by_end words bytes job stop short text means (inl h) = HasCause-by_refusal words bytes job stop short text means h
+HasCause-by_end words bytes job stop short text means (inr h) = HasCause-by_failure words bytes job stop short text means h
+
+-- words that are given are the run's
+means_given : (words : List (List ℕ)) (bytes : List ℕ) (job : Job) → words ≢ [] → Mean words job → Mean (words_of words bytes) job
+means_given [] bytes job some means = absurd (some refl)
+means_given (word ∷ words) bytes job some means = means
+
+-- and all bytes are the input
+input_given : (words : List (List ℕ)) (bytes : List ℕ) → words ≢ [] → bytes ≡ input_of words bytes
+input_given [] bytes some = absurd (some refl)
+input_given (word ∷ words) bytes some = refl
+
+-- a job that ends without its output stops a run of words that are given
+pub IsStopped-by_given : (words : List (List ℕ)) (input : Reading) (job : Job) (stop : Stop) → words ≢ [] → input.failed ≡ false → IsAtEnd input.after
+    → length input.bytes ≤ 67108864 → Mean words job → IsEnd job input.bytes stop → IsStopped words input stop
+IsStopped-by_given words input job stop some sound at_end short means h =
+    IsStopped-by_cause words input stop sound at_end (end_few job input.bytes stop h)
+    (HasCause-by_end words input.bytes job stop short (λ none. absurd (some none)) (means_given words input.bytes job some means)
+    (subst (λ (bytes : List ℕ). IsEnd job bytes stop) (input_given words input.bytes some) h))
+
+-- a run of words that are given is done
+pub HasRun-given : (words : List (List ℕ)) (input : Reading) (output : List ℕ) (job : Job) → words ≢ [] → input.failed ≡ false → IsAtEnd input.after
+    → length input.bytes ≤ 67108864 → Mean words job → IsOutput job input.bytes output → HasRun words input output
+HasRun-given words input output job some sound at_end short means h = record {
+  is_done = record {
+    short = short;
+    text = λ none. absurd (some none);
+    job = job;
+    means = means_given words input.bytes job some means;
+    is_output = subst (λ (bytes : List ℕ). IsOutput job bytes output) (input_given words input.bytes some) h;
+  };
+  at_end = at_end;
+  sound = sound;
+}
+
+-- a run that hands over what it has for its output ends with that, or with the output's fault
+Ends-told : (words : List (List ℕ)) (input : Reading) (output faults : Writing) (text : List ℕ) (status : ℕ) → IsHeard input → IsBehindWords words input
+    → IsToldOutput words input text → input.failed ≡ false → HandsOver text output faults status → Ends words input output faults status
+Ends-told words input output faults text status heard behind_words is_output sound h = record {
+  heard = heard;
+  behind_words = behind_words;
+  by_status = elim h.statuses [
+    | inl none ↦ inl (
+      none,
+      record {
+        text = text;
+        is_output = is_output;
+        written = Appends-whole output text h.told (h.done none).0;
+        clean = (h.done none).1;
+        sound = sound;
+        accepted = (h.done none).0;
+      },
+    )
+    | inr four ↦ inr (inr (inr (inr (
+      four,
+      inr (inl (record {
+        refused = (h.fault four).0;
+        sound = sound;
+        text = text;
+        is_output = is_output;
+        told = h.told;
+        line = (h.fault four).1;
+      })),
+    ))))
+  ];
+}
+
+-- a run that is done ends with its output
+pub Ends-ran : (words : List (List ℕ)) (input : Reading) (output faults : Writing) (text : List ℕ) (status : ℕ) → IsHeard input → IsBehindWords words input
+    → HasRun words input text → HandsOver text output faults status → Ends words input output faults status
+Ends-ran words input output faults text status heard behind_words ran h =
+    Ends-told words input output faults text status heard behind_words (inl (ran.is_done, ran.at_end)) ran.sound h
+
+-- a run that is stopped with status 4 ends with the fault of the reader, or of the run
+fault_told : (words : List (List ℕ)) (input : Reading) (output faults : Writing) (stop : Stop) → HasFault words input stop
+    → TellsFaultAlone stop.text.items output faults → EndsFaulty words input output faults
+fault_told words input output faults stop (inl h) told = inl (record {
+  failed = h.0;
+  told = subst (λ text. TellsFaultAlone text output faults) h.1 told;
+})
+fault_told words input output faults stop (inr h) told = inr (inr (record { sound = h.0; at_end = h.1; stop = stop; failed = h.2; told = told }))
+
+-- a status that isn't 0 or 3 is one of the other three
+statuses_of : (status : ℕ) → status ≢ 0 → status ≢ 3 → status ≤ 4 → (status ≡ 1) ⊎ ((status ≡ 2) ⊎ (status ≡ 4))
+statuses_of zero some known few = absurd (some refl)
+statuses_of (suc zero) some known few = inl refl
+statuses_of (suc (suc zero)) some known few = inr (inl refl)
+statuses_of (suc (suc (suc zero))) some known few = absurd (known refl)
+statuses_of (suc (suc (suc (suc status)))) some known few = inr (inr (omega (arith, few)))
+
+-- the one case of a run that is stopped by its own line
+barred_by_status : (words : List (List ℕ)) (input : Reading) (output faults : Writing) (stop : Stop) → IsStopped words input stop → stop.status ≢ 0
+    → stop.status ≢ 3 → TellsFaultAlone stop.text.items output faults → EndsByStatus words input output faults stop.status
+barred_by_status words input output faults stop s no_help known told = elim (statuses_of stop.status no_help known s.statuses) [
+  | inl one ↦ inr (inl (
+    one,
+    record {
+      stop = stop;
+      refused = (s.cause (λ four. omega arith)).refused one;
+      told = told;
+      whole = s.whole one;
+      sound = s.sound (omega arith);
+    },
+  ))
+  | inr (inl two) ↦ inr (inr (inl (
+    two,
+    record {
+      stop = stop;
+      misused = (s.cause (λ four. omega arith)).misused two;
+      told = told;
+      at_end = λ none. s.at_end none (inr two);
+      sound = s.sound (omega arith);
+    },
+  )))
+  | inr (inr four) ↦ inr (inr (inr (inr (four, fault_told words input output faults stop (s.fault four) told))))
+]
+
+-- a run that is stopped ends as it was stopped
+pub Ends-stopped : (words : List (List ℕ)) (input : Reading) (output faults : Writing) (stop : Stop) (status : ℕ) → IsHeard input → IsBehindWords words input
+    → IsStopped words input stop → TellsStop stop output faults status → Ends words input output faults status
+Ends-stopped words input output faults stop status heard behind_words s (inl t) =
+    Ends-told words input output faults stop.text.items status heard behind_words
+    (inr ((s.cause (λ four. omega (arith, t.0))).answered t.0, (λ none. s.at_end none (inl t.0)))) (s.sound (omega (arith, t.0))) t.1
+Ends-stopped words input output faults stop status heard behind_words s (inr (inl t)) = record {
+  heard = heard;
+  behind_words = behind_words;
+  by_status = inr (inr (inr (inl (t.1, t.2))));
+}
+Ends-stopped words input output faults stop status heard behind_words s (inr (inr t)) = record {
+  heard = heard;
+  behind_words = behind_words;
+  by_status = subst (λ (given : ℕ). EndsByStatus words input output faults given) (sym t.2) (barred_by_status words input output faults stop s t.0 t.1 t.3);
+}
+
+-- a number that a text writes is at most the greatest
+number_within : (least most number : ℕ) (text : Option Text) → IsNumberIn least most number text → number ≤ most
+number_within least most number None is = absurd is
+number_within least most number (Some text) is = is.3
+
+-- the numbers of a job that words mean are within their limits
+job_within : (job : Job) (name : Text) (rows : List Row) → IsJobOf job name rows → IsWithin job
+job_within (Port until rate) name rows is = number_within 1 100000000 until (first_of (codes "until") rows) is.1
+job_within (Line cycles) name rows is = number_within 1 100000 cycles (first_of (codes "cycles") rows) is.1
+job_within (Compile format) name rows is = tt
+job_within Load name rows is = tt
+job_within (Latency strict) name rows is = tt
+job_within (Run cycles threads) name rows is = number_within 1 100000 cycles (first_of (codes "cycles") rows) is.1
+job_within (Report cycles) name rows is = number_within 1 100000 cycles (first_of (codes "cycles") rows) is.1
+job_within (Deliveries cycles) name rows is = number_within 1 100000 cycles (first_of (codes "cycles") rows) is.1
+job_within (Check cycles) name rows is = number_within 1 100000 cycles (first_of (codes "cycles") rows) is.1
+
+-- the numbers of a job that options give are within their ranges
+found_within : (job : Job) (found : Option (Text × List Row)) → IsJob job found → IsWithin job
+found_within job None is = absurd is
+found_within job (Some command) is = job_within job command.0 command.1 is
+
+-- so are those of a job that words mean
+pub IsWithin-means : (words : List Text) (job : Job) → Mean words job → IsWithin job
+IsWithin-means words job means = found_within job (subcommand_of cqf_app words) means.read

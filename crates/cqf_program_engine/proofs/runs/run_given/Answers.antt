@@ -1,0 +1,33 @@
+use Rattle.std.proofs.Common.{List, ℕ, map, subst}
+use Rattle.std.proofs.lemmas.Result.{IfErr-weaker, IfOk-weaker}
+use Rattle.cqf_program_engine.specs.Edge.{reading}
+use Rattle.cqf_program_engine.specs.Run.{IsEnd, IsOutput}
+use Rattle.cqf_program_engine.proofs.RunLemmas.{HasRun-given, IsStopped-by_given, IsStopped-by_words, IsWithin-means}
+use Rattle.cqf_program_engine.proofs.runs.run_given.Goals as goal
+
+pub returns-in-Err-clause-err : goal.returns-in-Err-clause-err
+returns-in-Err-clause-err g c = IsStopped-by_words (map (λ word. word.now) c.args.words.now) (reading g.R.Read.remaining c.args.input.now c.args.input.now)
+    c.in-Err.stop c.requires.given c.requires.unheard.sound c.in-Err.ensures.err
+
+pub returns-clause-ok : goal.returns-clause-ok
+returns-clause-ok g c = IfOk-weaker c.output_of.result _ _
+    (λ output told. (
+      told.0,
+      told.1,
+      HasRun-given (map (λ word. word.now) c.args.words.now)
+          (reading g.R.Read.remaining c.args.input.now c.read_input.new.input) told.0 c.in-Ok.job
+          c.requires.given c.in_default.ensures.sound c.in_default.ensures.end c.in_default.ensures.short c.in-Ok.ensures.ok
+          (subst (λ (input : List ℕ). IsOutput c.in-Ok.job input told.0) c.bytes.ensures told.2),
+    ))
+    c.output_of.ensures.ok
+
+pub output_of-requires-after_bounds : goal.output_of-requires-after_bounds
+output_of-requires-after_bounds g c = λ _ _. IsWithin-means (map (λ word. word.now) c.args.words.now) c.in-Ok.job c.in-Ok.ensures.ok
+
+pub returns-clause-err : goal.returns-clause-err
+returns-clause-err g c = IfErr-weaker c.output_of.result _ _
+    (λ stop h. IsStopped-by_given (map (λ word. word.now) c.args.words.now)
+    (reading g.R.Read.remaining c.args.input.now c.read_input.new.input) c.in-Ok.job stop
+    c.requires.given c.in_default.ensures.sound c.in_default.ensures.end c.in_default.ensures.short c.in-Ok.ensures.ok
+    (subst (λ (input : List ℕ). IsEnd c.in-Ok.job input stop) c.bytes.ensures h))
+    c.output_of.ensures.err

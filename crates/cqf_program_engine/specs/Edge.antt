@@ -1,0 +1,44 @@
+-- The program's edge: what a reader gave.
+use Rattle.std.specs.Prelude.{ℕ, ◌≡◌, ◌≤◌, ◌++◌, List, [], Bool, true, false, Option, length}
+use Rattle.std.specs.Io.KnownBytes.{Consumes}
+use Rattle.cqf_program_engine.specs.declared.heard.Broken.{Broken}
+use Rattle.cqf_program_engine.specs.declared.heard.Broken.TheVariants.{Memory, Fault}
+use Rattle.cqf_program_engine.specs.declared.heard.Heard.{Heard}
+
+-- reads gave some bytes, which stand behind those that were there: no more than so many in all
+pub record HasRead (before after : Option (List ℕ)) (old new : List ℕ) (most : ℕ) : Type 0 where
+  pub given : List ℕ
+  pub taken : Consumes before after given
+  pub kept : new ≡ old ++ given
+  pub few : length new ≤ most
+
+-- whether a read failed, from what broke it off
+abbrev pub Marks : Bool → Bool → Broken → Type 0
+Marks old new Memory = new ≡ old
+Marks old new Fault = new ≡ true
+
+-- what a reader gave: the bytes that are known of it before and after, those that it gave, and whether a read failed
+pub record Reading : Type 0 where
+  pub before : Option (List ℕ)
+  pub after : Option (List ℕ)
+  pub bytes : List ℕ
+  pub failed : Bool
+
+-- that of a reader, before and after it was heard
+abbrev pub reading : {R : Type 0} → (R → Option (List ℕ)) → Heard R → Heard R → Reading
+reading remaining old new = record {
+  before = remaining old.reader;
+  after = remaining new.reader;
+  bytes = new.bytes;
+  failed = new.failed;
+}
+
+-- no read of it was tried yet, as far as it is remembered
+pub record IsUnheard {R : Type 0} (heard : Heard R) : Type 0 where
+  pub nothing : heard.bytes ≡ []
+  pub sound : heard.failed ≡ false
+
+-- these bytes were taken from the reader and no others, at most one more than the program reads
+pub record IsHeard (input : Reading) : Type 0 where
+  pub taken : Consumes input.before input.after input.bytes
+  pub few : length input.bytes ≤ 67108865

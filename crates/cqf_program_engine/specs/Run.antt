@@ -1,0 +1,322 @@
+-- What a run of the program comes to, for the words that it is given and the bytes that its reader has (profile).
+use Rattle.std.specs.Prelude.{ℕ, ◌≡◌, ◌≢◌, ◌⊎◌, ◌≤◌, ◌<◌, ◌==◌, ◌++◌, Bool, true, false, List, [], ◌∷◌, Ok, ⊤, codes, length}
+use Rattle.std.specs.Io.KnownBytes.{Appends, IsAtEnd, Keeps}
+use Rattle.std.specs.List.{slice_split, before_first, after_first}
+use Rattle.std.specs.Str.{IsUtf8}
+use Rattle.cqf_text.specs.Lines.{is_line_feed}
+use Rattle.cqf_program_engine.specs.declared.heard.Broken.{Broken}
+use Rattle.cqf_program_engine.specs.declared.heard.Broken.TheVariants.{Memory, Fault}
+use Rattle.cqf_program_engine.specs.Edge.{IsHeard, Reading}
+use Rattle.cqf_program_press.specs.Edge.{HasTold, Writing}
+use Rattle.cqf_program_plans.specs.CompileOutput.{compiled_input}
+use Rattle.cqf_program_runs.specs.CheckOutput.{IsChecked, IsCheckRefusal}
+use Rattle.cqf_program_runs.specs.DeliveriesOutput.{IsDeliveriesOutput}
+use Rattle.cqf_program_runs.specs.PlannedScenario.{planned_scenario}
+use Rattle.cqf_program_plans.specs.LatencyInput.{latency_of_input}
+use Rattle.cqf_program_plans.specs.LoadOutput.{loaded_input}
+use Rattle.cqf_program_stop.specs.Stops.{EndsWith, IsRefused, line_of}
+use Rattle.cqf_program_runs.specs.LineOutput.{IsLineOutput, line_input}
+use Rattle.cqf_program_plans.specs.PortOutput.{IsPortOutput, port_input}
+use Rattle.cqf_program_runs.specs.ReportOutput.{IsReportOutput}
+use Rattle.cqf_program_runs.specs.RunOutput.{IsRunOutput}
+use Rattle.cqf_program_scenario.specs.Scenario.{scenario_input}
+use Rattle.cqf_program_plans.specs.TcOutput.{tc_of_input}
+use Rattle.cqf_program_threads.specs.ThreadsOutput.{IsThreadsOutput, TellsFault}
+use Rattle.cqf_program_words.specs.Words.{AreMistaken, AskForHelp, Mean}
+use Rattle.cqf_program_stop.specs.declared.stops.Stop.{Stop}
+use Rattle.cqf_program_engine.specs.declared.runs.TheConstants.{VERSION}
+use Rattle.cqf_program_words.specs.declared.words.Format.TheVariants as form
+use Rattle.cqf_program_words.specs.declared.words.Job.{Job}
+use Rattle.cqf_program_words.specs.declared.words.Job.TheVariants.{Check, Compile, Deliveries, Latency, Line, Load, Port, Report, Run}
+use Rattle.cqf_model.specs.Limits.{most_cycles}
+
+-- the job's numbers aren't above their limits
+abbrev pub IsWithin : Job → Type 0
+IsWithin (Port until rate) = until ≤ 100000000
+IsWithin (Line cycles) = cycles ≤ most_cycles
+IsWithin (Compile format) = ⊤
+IsWithin Load = ⊤
+IsWithin (Latency strict) = ⊤
+IsWithin (Run cycles threads) = cycles ≤ most_cycles
+IsWithin (Report cycles) = cycles ≤ most_cycles
+IsWithin (Deliveries cycles) = cycles ≤ most_cycles
+IsWithin (Check cycles) = cycles ≤ most_cycles
+
+-- whether the job is a run on threads
+abbrev pub is_threaded : Job → Bool
+is_threaded (Run cycles threads) = threads
+is_threaded job = false
+
+-- the output of a job for its input
+abbrev pub IsOutput : Job → List ℕ → List ℕ → Type 0
+IsOutput (Port until rate) input output = IsPortOutput until rate input output
+IsOutput (Line cycles) input output = IsLineOutput cycles input output
+IsOutput (Compile form.List) input output = compiled_input input ≡ Ok output
+IsOutput (Compile form.Tc) input output = tc_of_input input ≡ Ok output
+IsOutput Load input output = loaded_input input ≡ Ok output
+IsOutput (Latency strict) input output = latency_of_input strict input ≡ Ok output
+IsOutput (Run cycles false) input output = IsRunOutput cycles input output
+IsOutput (Run cycles true) input output = IsThreadsOutput cycles input output
+IsOutput (Report cycles) input output = IsReportOutput cycles input output
+IsOutput (Deliveries cycles) input output = IsDeliveriesOutput cycles input output
+IsOutput (Check cycles) input output = IsChecked cycles input (Ok output)
+
+-- the input of a job is refused, with the line of its first fault; or of a deadline that isn't kept for sure, where that is strict, or
+-- of what isn't well, where that is checked. `compile` refuses the same whatever its format
+abbrev pub IsRefusal : Job → List ℕ → Stop → Type 0
+IsRefusal (Port until rate) input stop = IsRefused (port_input input) stop
+IsRefusal (Line cycles) input stop = IsRefused (line_input input) stop
+IsRefusal (Compile format) input stop = IsRefused (compiled_input input) stop
+IsRefusal Load input stop = IsRefused (loaded_input input) stop
+IsRefusal (Latency strict) input stop = IsRefused (latency_of_input strict input) stop
+IsRefusal (Run cycles threads) input stop = IsRefused (scenario_input cycles input) stop
+IsRefusal (Report cycles) input stop = IsRefused (scenario_input cycles input) stop
+IsRefusal (Deliveries cycles) input stop = IsRefused (planned_scenario cycles input) stop
+IsRefusal (Check cycles) input stop = IsCheckRefusal cycles input stop
+
+-- a run on threads fails, with the line of its fault: its input isn't refused. No other job fails
+abbrev pub IsFailure : Job → List ℕ → Stop → Type 0
+IsFailure (Run cycles true) input stop = (stop.status ≡ 4) × TellsFault (scenario_input cycles input) stop.text.items
+IsFailure job input stop = ⊥
+
+-- how a job ends without its output
+abbrev pub IsEnd : Job → List ℕ → Stop → Type 0
+IsEnd job input stop = IsRefusal job input stop ⊎ IsFailure job input stop
+
+-- the byte is a space
+abbrev pub is_space : ℕ → Bool
+is_space byte = byte == 32
+
+-- the first line of the input, and what stands behind it
+abbrev pub first_line : List ℕ → List ℕ
+first_line bytes = before_first is_line_feed bytes
+
+abbrev pub behind_first_line : List ℕ → List ℕ
+behind_first_line bytes = after_first is_line_feed bytes
+
+-- the words of the run: those that are given, or where none are, those of the input's first line, which single spaces
+-- divide
+abbrev pub words_of : List (List ℕ) → List ℕ → List (List ℕ)
+words_of [] bytes = slice_split is_space (first_line bytes)
+words_of (word ∷ words) bytes = word ∷ words
+
+-- the input of the job: all that was read, or where it has the words, what stands behind them
+abbrev pub input_of : List (List ℕ) → List ℕ → List ℕ
+input_of [] bytes = behind_first_line bytes
+input_of (word ∷ words) bytes = bytes
+
+-- more bytes than the program reads
+abbrev pub IsTooLongInput : List ℕ → Type 0
+IsTooLongInput bytes = 67108864 < length bytes
+
+-- the run is done: its words mean a job, and this is the job's output for its input
+pub record IsDone (words : List (List ℕ)) (bytes output : List ℕ) : Type 0 where
+  pub short : length bytes ≤ 67108864
+  pub text : words ≡ [] → IsUtf8 (first_line bytes)
+  pub job : Job
+  pub means : Mean (words_of words bytes) job
+  pub is_output : IsOutput job (input_of words bytes) output
+
+-- the input is refused: it is too long, where words that are given mean a job; or the words mean a job, and this is the
+-- line of the first fault of its input: the stop has status 1, so that the line is that of the fault
+pub record IsRefusedRun (words : List (List ℕ)) (bytes : List ℕ) (stop : Stop) : Type 0 where
+  pub status : stop.status ≡ 1
+  pub length_first : (IsTooLongInput bytes × (stop.text.items ≡ line_of (codes "cqf: input too long")) × (words ≢ [] → (job : Job) × Mean words job))
+      ⊎ ((length bytes ≤ 67108864) × (words ≡ [] → IsUtf8 (first_line bytes))
+      × ((job : Job) × Mean (words_of words bytes) job × IsRefusal job (input_of words bytes) stop))
+
+-- the words mean no job: those of the first line aren't text; or they are a mistake. The stop has status 2
+pub record IsMisuse (words : List (List ℕ)) (bytes : List ℕ) (stop : Stop) : Type 0 where
+  pub status : stop.status ≡ 2
+  pub short : words ≡ [] → length bytes ≤ 67108864
+  pub cause : ((words ≡ []) × ¬ IsUtf8 (first_line bytes) × (stop.text.items ≡ line_of (codes "cqf: words")))
+      ⊎ ((words ≡ [] → IsUtf8 (first_line bytes)) × AreMistaken (words_of words bytes) × ((job : Job) → ¬ Mean (words_of words bytes) job))
+
+-- a run on threads fails: the words mean that job, and this is the line of its fault. The stop has status 4
+pub record IsFailedRun (words : List (List ℕ)) (bytes : List ℕ) (stop : Stop) : Type 0 where
+  pub short : length bytes ≤ 67108864
+  pub text : words ≡ [] → IsUtf8 (first_line bytes)
+  pub job : Job
+  pub means : Mean (words_of words bytes) job
+  pub fails : IsFailure job (input_of words bytes) stop
+
+-- all that the program reads was read: too many bytes, or what there was
+abbrev pub IsAll : Reading → Type 0
+IsAll input = IsTooLongInput input.bytes ⊎ IsAtEnd input.after
+
+-- words that are given mean a job before anything is read
+abbrev pub IsBehindWords : List (List ℕ) → Reading → Type 0
+IsBehindWords words input = words ≢ [] → ((job : Job) × Mean words job) ⊎ ((input.bytes ≡ []) × (input.failed ≡ false))
+
+-- the end of a read that was broken off: status 4 and the line that tells so where the reader failed, 3 for want of memory
+abbrev pub EndsRead : Broken → Stop → Type 0
+EndsRead Memory stop = (stop.status ≡ 3) × (stop.text.items ≡ [])
+EndsRead Fault stop = EndsWith 4 (line_of (codes "cqf: input fault")) stop
+
+-- status 1: there are too many bytes
+pub record EndsTooLong (input : Reading) (stop : Stop) : Type 0 where
+  pub long : IsTooLongInput input.bytes
+  pub sound : input.failed ≡ false
+  pub line : stop.text.items ≡ line_of (codes "cqf: input too long")
+
+-- status 4: the reader failed
+pub record EndsUnread (input : Reading) (stop : Stop) : Type 0 where
+  pub failed : input.failed ≡ true
+  pub line : stop.text.items ≡ line_of (codes "cqf: input fault")
+
+-- how a read of the whole input ends before its end; status 3 is want of memory
+abbrev pub EndsInput : Reading → Stop → Type 0
+EndsInput input stop = ((stop.status ≡ 1) × EndsTooLong input stop)
+    ⊎ (((stop.status ≡ 4) × EndsUnread input stop)
+    ⊎ ((stop.status ≡ 3) × (stop.text.items ≡ [])))
+
+-- whether the word asks for the program's version
+abbrev pub IsVersionWord : Bool → List ℕ → Type 0
+IsVersionWord true word = (word ≡ codes "--version") ⊎ (word ≡ codes "-V")
+IsVersionWord false word = ¬ ((word ≡ codes "--version") ⊎ (word ≡ codes "-V"))
+
+-- the program's version is asked for, by one of these words alone
+abbrev pub AskForVersion : List (List ℕ) → Type 0
+AskForVersion words = (words ≡ codes "--version" ∷ []) ⊎ (words ≡ codes "-V" ∷ [])
+
+-- whether it is
+abbrev pub IsAsking : Bool → List (List ℕ) → Type 0
+IsAsking true words = AskForVersion words
+IsAsking false words = ¬ AskForVersion words
+
+-- the line of the program's version
+abbrev pub version_line : List ℕ
+version_line = codes "cqf " ++ line_of VERSION.now
+
+-- a question about the program is answered, and no job is done: help, by a text of clap's, or the version
+abbrev pub IsQuestionAnswered : List (List ℕ) → List ℕ → List ℕ → Type 0
+IsQuestionAnswered words bytes text = AskForHelp (words_of words bytes) ⊎ (AskForVersion words × (text ≡ version_line))
+
+-- why a run ends before it is done, where no read failed
+pub record HasCause (words : List (List ℕ)) (bytes : List ℕ) (stop : Stop) : Type 0 where
+  pub answered : stop.status ≡ 0 → IsQuestionAnswered words bytes stop.text.items
+  pub refused : stop.status ≡ 1 → IsRefusedRun words bytes stop
+  pub misused : stop.status ≡ 2 → IsMisuse words bytes stop
+  pub memory : stop.status ≡ 3 → stop.text.items ≡ []
+  pub failed : stop.status ≡ 4 → IsFailedRun words bytes stop
+
+-- why a run ends with status 4 before it is done: the reader failed; or all was read, and a run on threads failed
+abbrev pub HasFault : List (List ℕ) → Reading → Stop → Type 0
+HasFault words input stop = ((input.failed ≡ true) × (stop.text.items ≡ line_of (codes "cqf: input fault")))
+    ⊎ ((input.failed ≡ false) × IsAtEnd input.after × IsFailedRun words input.bytes stop)
+
+-- how a run ends before it is done, for what its reader gave
+pub record IsStopped (words : List (List ℕ)) (input : Reading) (stop : Stop) : Type 0 where
+  pub statuses : stop.status ≤ 4
+  pub cause : stop.status ≢ 4 → HasCause words input.bytes stop
+  pub fault : stop.status ≡ 4 → HasFault words input stop
+  pub sound : stop.status ≤ 2 → input.failed ≡ false
+  pub whole : stop.status ≡ 1 → IsAll input
+  pub at_end : words ≡ [] → (stop.status ≡ 0) ⊎ (stop.status ≡ 2) → IsAtEnd input.after
+
+-- a run is done: all was read, and this is its output
+pub record HasRun (words : List (List ℕ)) (input : Reading) (output : List ℕ) : Type 0 where
+  pub is_done : IsDone words input.bytes output
+  pub at_end : IsAtEnd input.after
+  pub sound : input.failed ≡ false
+
+-- how an output that was told ends: nothing is on the writer of faults; or the output refused some of it, and the line that tells so is
+pub record EndsTold (refused : Bool) (faults : Writing) (status : ℕ) : Type 0 where
+  pub statuses : (status ≡ 0) ⊎ (status ≡ 4)
+  pub done : status ≡ 0 → (refused ≡ false) × Keeps faults.before faults.after
+  pub fault : status ≡ 4 → (refused ≡ true) × HasTold faults (line_of (codes "cqf: output fault"))
+
+-- the text was handed over: all of it was written, and nothing on the writer of faults; or the output refused some of
+-- it, and the writer of faults got the line that tells so
+pub record HandsOver (text : List ℕ) (output faults : Writing) (status : ℕ) : Type 0 where
+  pub statuses : (status ≡ 0) ⊎ (status ≡ 4)
+  pub told : HasTold output text
+  pub done : status ≡ 0 → (output.refused ≡ false) × Keeps faults.before faults.after
+  pub fault : status ≡ 4 → (output.refused ≡ true) × HasTold faults (line_of (codes "cqf: output fault"))
+
+-- what the run has for its output: the job's, or the help or the version that was asked for
+abbrev pub IsToldOutput : List (List ℕ) → Reading → List ℕ → Type 0
+IsToldOutput words input text = (IsDone words input.bytes text × IsAtEnd input.after)
+    ⊎ (IsQuestionAnswered words input.bytes text × (words ≡ [] → IsAtEnd input.after))
+
+-- nothing is on the output, and this text was told on the writer of faults: all of it, where that writer refused nothing
+pub record TellsFaultAlone (text : List ℕ) (output faults : Writing) : Type 0 where
+  pub quiet : Keeps output.before output.after
+  pub accepted : output.refused ≡ false
+  pub line : HasTold faults text
+
+-- the stop was told: what was asked for on the output, and the line of any other end alone, on the writer of faults
+abbrev pub TellsStop : Stop → Writing → Writing → ℕ → Type 0
+TellsStop stop output faults status = ((stop.status ≡ 0) × HandsOver stop.text.items output faults status)
+    ⊎ (((stop.status ≡ 3) × (status ≡ 3) × TellsFaultAlone (line_of (codes "cqf: out of memory")) output faults)
+    ⊎ ((stop.status ≢ 0) × (stop.status ≢ 3) × (status ≡ stop.status) × TellsFaultAlone stop.text.items output faults))
+
+-- the reader failed: nothing is on the output, and the line that tells so is on the writer of faults
+pub record IsInputFault (input : Reading) (output faults : Writing) : Type 0 where
+  pub failed : input.failed ≡ true
+  pub told : TellsFaultAlone (line_of (codes "cqf: input fault")) output faults
+
+-- the output was refused: a front of it was written, and the line that tells so is on the writer of faults
+pub record IsOutputFault (words : List (List ℕ)) (input : Reading) (output faults : Writing) : Type 0 where
+  pub refused : output.refused ≡ true
+  pub sound : input.failed ≡ false
+  pub text : List ℕ
+  pub is_output : IsToldOutput words input text
+  pub told : HasTold output text
+  pub line : HasTold faults (line_of (codes "cqf: output fault"))
+
+-- a run on threads failed, behind an input that was read to its end: nothing is on the output, and the line that tells so is on the
+-- writer of faults
+pub record EndsByRunFault (words : List (List ℕ)) (input : Reading) (output faults : Writing) : Type 0 where
+  pub sound : input.failed ≡ false
+  pub at_end : IsAtEnd input.after
+  pub stop : Stop
+  pub failed : IsFailedRun words input.bytes stop
+  pub told : TellsFaultAlone stop.text.items output faults
+
+-- status 0: the run's output was written, or the help or the version that was asked for, and nothing else
+pub record EndsDone (words : List (List ℕ)) (input : Reading) (output faults : Writing) : Type 0 where
+  pub text : List ℕ
+  pub is_output : IsToldOutput words input text
+  pub written : Appends output.before output.after text
+  pub clean : Keeps faults.before faults.after
+  pub sound : input.failed ≡ false
+  pub accepted : output.refused ≡ false
+
+-- status 1: the input was refused, behind all that the program reads of it, by the line of its first fault
+pub record EndsRefused (words : List (List ℕ)) (input : Reading) (output faults : Writing) : Type 0 where
+  pub stop : Stop
+  pub refused : IsRefusedRun words input.bytes stop
+  pub told : TellsFaultAlone stop.text.items output faults
+  pub whole : IsAll input
+  pub sound : input.failed ≡ false
+
+-- status 2: the words mean no job
+pub record EndsMisused (words : List (List ℕ)) (input : Reading) (output faults : Writing) : Type 0 where
+  pub stop : Stop
+  pub misused : IsMisuse words input.bytes stop
+  pub told : TellsFaultAlone stop.text.items output faults
+  pub at_end : words ≡ [] → IsAtEnd input.after
+  pub sound : input.failed ≡ false
+
+-- status 3: there was no memory
+abbrev pub EndsForMemory : Writing → Writing → Type 0
+EndsForMemory output faults = TellsFaultAlone (line_of (codes "cqf: out of memory")) output faults
+
+-- status 4: the reader failed, or the output refused a write, or a run on threads failed
+abbrev pub EndsFaulty : List (List ℕ) → Reading → Writing → Writing → Type 0
+EndsFaulty words input output faults = IsInputFault input output faults ⊎ (IsOutputFault words input output faults ⊎ EndsByRunFault words input output faults)
+
+-- the one case of each status
+abbrev pub EndsByStatus : List (List ℕ) → Reading → Writing → Writing → ℕ → Type 0
+EndsByStatus words input output faults status = ((status ≡ 0) × EndsDone words input output faults)
+    ⊎ (((status ≡ 1) × EndsRefused words input output faults)
+    ⊎ (((status ≡ 2) × EndsMisused words input output faults)
+    ⊎ (((status ≡ 3) × EndsForMemory output faults)
+    ⊎ ((status ≡ 4) × EndsFaulty words input output faults))))
+
+-- what the engine leaves: what was read, and what its status stands for
+pub record Ends (words : List (List ℕ)) (input : Reading) (output faults : Writing) (status : ℕ) : Type 0 where
+  pub heard : IsHeard input
+  pub behind_words : IsBehindWords words input
+  pub by_status : EndsByStatus words input output faults status

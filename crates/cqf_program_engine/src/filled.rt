@@ -1,0 +1,130 @@
+//! Bytes that a reader fills, with room behind them.
+ghost use Rattle.std.specs.Prelude.{ℕ, ◌≡◌, ◌≤◌, ◌<◌, ◌+◌, List, [], IfOk, IfErr, OnOk, OnErr, length, take, drop};
+ghost use Rattle.std.specs.Io.KnownBytes.{Consumes, IsAtEnd, Keeps};
+ghost use Rattle.cqf_program_engine.specs.Edge.{HasRead};
+
+use crate::heard::Broken;
+use crate::inputs::MOST_BYTES;
+use crate::retries::read_again;
+use std::alloc::{AllocError, Global};
+use std::io;
+use std::io::Read;
+use std::marker::Model;
+
+/// The most bytes that there is ever room for: one more than the program reads.
+const MOST_ROOM: usize = MOST_BYTES + 1;
+
+/// How many bytes are read at a time, and by how many the room grows.
+pub(crate) const STEP: usize = 1_048_576;
+
+/// The bytes that were filled, and room behind them. It is cleared before it is first lent to a reader, and never again.
+#[derive(Drop)]
+pub(crate) struct Filled {
+    bytes: Vec<u8>,
+    count: usize,
+}
+
+impl Model for Filled {
+    ghost use Rattle.std.specs.Prelude.{ℕ, ◌≤◌, List, length, take};
+
+    ghost Value = { List ℕ };
+
+    ghost view = { λ filled. take filled.count filled.bytes.items };
+
+    ghost invariant = { λ filled. filled.count ≤ length filled.bytes.items };
+}
+
+/// Reserves room for so many more. Behind the first step that is room for all that there may ever be, so that nothing is copied
+/// again, and where that much is refused, at least for so many.
+fn reserve(bytes: &mut Vec<u8>, more: usize) -> Result<(), AllocError>
+    requires { length bytes.old.items ≤ 67108865 }
+    ensures { bytes.new.items ≡ bytes.old.items }
+{
+    let long = bytes.len();
+    if long > 0 && bytes.reserve_exact(MOST_ROOM - long).is_ok() {
+        return Ok(());
+    }
+    bytes.reserve(more)
+}
+
+/// Makes the bytes longer by a step, or up to the most that there is room for.
+fn lengthen(bytes: &mut Vec<u8>) -> Result<(), AllocError>
+    requires { length bytes.old.items < 67108865 }
+    ensures longer { OnOk result (length bytes.old.items < length bytes.new.items) }
+    ensures front { take (length bytes.old.items) bytes.new.items ≡ bytes.old.items }
+    ensures err { OnErr result (bytes.new.items ≡ bytes.old.items) }
+{
+    let long = bytes.len();
+    let more = STEP.min(MOST_ROOM - long);
+    reserve(bytes, more)?;
+    bytes.resize(long + more, 0)
+}
+
+/// Sees to it that the bytes are longer than what is filled of them.
+fn make_room(bytes: &mut Vec<u8>, filled: usize) -> Result<(), AllocError>
+    requires inside { filled ≤ length bytes.old.items }
+    requires few { filled < 67108865 }
+    ensures room { OnOk result (filled < length bytes.new.items) }
+    ensures front { take filled bytes.new.items ≡ take filled bytes.old.items }
+    ensures inside { filled ≤ length bytes.new.items }
+{
+    if filled < bytes.len() {
+        return Ok(());
+    }
+    lengthen(bytes)
+}
+
+/// One read of at most so many bytes into the buffer, from a place on.
+fn read_at<R: Read>(reader: &mut R, buffer: &mut [u8], at: usize, most: usize) -> io::Result<usize>
+    requires inside { at < length buffer.old }
+    requires some { 0 < most }
+    ensures front { take at buffer.new ≡ take at buffer.old }
+    ensures fits { IfOk result (λ count. at + count ≤ length buffer.new) }
+    ensures few { IfOk result (λ count. count ≤ most) }
+    ensures ok { IfOk result (λ count. Consumes (R.remaining reader.old) (R.remaining reader.new) (take count (drop at buffer.new))) }
+    ensures end { IfOk result (λ count. count ≡ 0 → IsAtEnd (R.remaining reader.new)) }
+    ensures err { OnErr result (Keeps (R.remaining reader.old) (R.remaining reader.new)) }
+{
+    let end = at + most.min(buffer.len() - at);
+    read_again(reader, &mut buffer[at..end])
+}
+
+impl Filled {
+    /// None yet.
+    pub(crate) fn new(alloc: Global) -> Filled
+        ensures { result ≡ [] }
+    {
+        Filled {
+            bytes: Vec::new(alloc),
+            count: 0,
+        }
+    }
+
+    /// The bytes that were filled.
+    pub(crate) fn as_slice(&self) -> &[u8]
+        ensures { result.now ≡ self.now }
+    {
+        &self.bytes.as_slice()[..self.count]
+    }
+
+    /// One read of at most so many bytes, behind those that were filled: how many it gave, none only at the end of the input.
+    /// `Err` with `Fault` where the reader fails. With `Memory` it wasn't asked.
+    pub(crate) fn fill<R: Read>(&mut self, reader: &mut R, most: usize) -> Result<usize, Broken>
+        requires some { 0 < most }
+        requires few { length self.old + most ≤ 67108865 }
+        ensures read { HasRead (R.remaining reader.old) (R.remaining reader.new) self.old self.new (length self.old + most) }
+        ensures count { IfOk result (λ count. length self.new ≡ length self.old + count) }
+        ensures end { IfOk result (λ count. count ≡ 0 → IsAtEnd (R.remaining reader.new)) }
+    {
+        if make_room(&mut self.bytes, self.count).is_err() {
+            return Err(Broken::Memory);
+        }
+        match read_at(reader, self.bytes.as_mut_slice(), self.count, most) {
+            Ok(count) => {
+                self.count += count;
+                Ok(count)
+            }
+            Err(_) => Err(Broken::Fault),
+        }
+    }
+}

@@ -1,0 +1,67 @@
+//! A reader that remembers what it gave.
+ghost use Rattle.std.specs.Prelude.{◌≡◌, ◌≤◌, ◌<◌, ◌+◌, [], false, IfOk, IfErr, OnOk, length};
+ghost use Rattle.std.specs.Io.KnownBytes.{IsAtEnd};
+ghost use Rattle.cqf_program_engine.specs.Edge.{HasRead, Marks};
+
+use crate::filled::Filled;
+use std::alloc::Global;
+use std::io::Read;
+
+/// Why a read gave nothing.
+#[derive(Clone, Copy, Debug, PartialEq, Eq)]
+pub(crate) enum Broken {
+    /// There was no memory for what it would have given.
+    Memory,
+    /// The reader failed.
+    Fault,
+}
+
+/// A reader with all the bytes that it gave, and whether a read of it failed. Nothing but its own reads sets either. A read that a signal
+/// interrupts hasn't failed: it is made again.
+#[derive(Drop)]
+pub struct Heard<R> {
+    reader: R,
+    bytes: Filled,
+    failed: bool,
+}
+
+impl<R: Read> Heard<R> {
+    /// A reader that wasn't read yet.
+    pub fn new(alloc: Global, reader: R) -> Heard<R>
+        ensures reader { result.reader ≡ reader }
+        ensures bytes { result.bytes ≡ [] }
+        ensures failed { result.failed ≡ false }
+    {
+        Heard {
+            reader,
+            bytes: Filled::new(alloc),
+            failed: false,
+        }
+    }
+
+    /// All the bytes that the reader gave.
+    pub fn bytes(&self) -> &[u8]
+        ensures { result.now ≡ self.now.bytes }
+    {
+        self.bytes.as_slice()
+    }
+
+    /// One read, of at most so many bytes: how many it gave, none only at the end of the input. `Err` with `Fault` where
+    /// the reader fails. With `Memory` it wasn't asked.
+    pub(crate) fn read(&mut self, most: usize) -> Result<usize, Broken>
+        requires some { 0 < most }
+        requires few { length self.old.bytes + most ≤ 67108865 }
+        ensures read { HasRead (R.remaining self.old.reader) (R.remaining self.new.reader) self.old.bytes self.new.bytes
+            (length self.old.bytes + most) }
+        ensures count { IfOk result (λ count. length self.new.bytes ≡ length self.old.bytes + count) }
+        ensures end { IfOk result (λ count. count ≡ 0 → IsAtEnd (R.remaining self.new.reader)) }
+        ensures ok { OnOk result (self.new.failed ≡ self.old.failed) }
+        ensures err { IfErr result (Marks self.old.failed self.new.failed) }
+    {
+        let read = self.bytes.fill(&mut self.reader, most);
+        if let Err(Broken::Fault) = read {
+            self.failed = true;
+        }
+        read
+    }
+}

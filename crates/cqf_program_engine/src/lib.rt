@@ -1,0 +1,35 @@
+//! A run of the program, from its words and its input to its output, over any reader and any writers.
+//!
+//! - [`engine`] runs it, and gives the exit status. [`tell`] ends a run before it has begun. [`VERSION`] is the program's version.
+//! - [`Heard`] is a reader that remembers what it gave and whether it failed, [`Told`] a writer that remembers whether it
+//!   refused anything. The engine runs over these, so that its caller knows why a run ended as it did.
+//! - [`read_input`] reads all that a reader gives, and [`answer`] is the output of a job for an input, unless that is a run on
+//!   threads: the parts of a run.
+//! - [`stop_of_file`] is the end where a file can't be read.
+//! - [`Prepared`] is what an output is told from. All memory is had before its first byte is told.
+//!
+//! `specs/Edge.antt` says what a reader gave (`Reading`), and that of `cqf_program_press` what became of a writer (`Writing`, `HasTold`).
+//! `specs/Prepared.antt` says which text an output tells (`IsTextOf`). `specs/Run.antt` says what a run comes to (`IsDone`, `IsRefusedRun`, `IsMisuse`, `IsFailedRun`), and what the engine leaves, by its status
+//! (`Ends`).
+//!
+//! ```text
+//! let mut input = Heard::new(alloc, b"links = []\n".as_slice());
+//! engine(rt, alloc, &["compile"], &mut input, &mut output, &mut faults)
+//!     is 1, with nothing on output and "cqf: parts\n" on faults
+//! ```
+#![tactic(auto)]
+
+mod filled;
+mod heard;
+mod inputs;
+mod prepared;
+mod retries;
+mod runs;
+mod shown;
+
+pub use cqf_program_press::Told;
+pub use heard::Heard;
+pub use inputs::{MOST_BYTES, read_input};
+pub use prepared::Prepared;
+pub use runs::{VERSION, answer, engine, tell};
+pub use shown::stop_of_file;

@@ -1,0 +1,55 @@
+//! An output, before it is told.
+ghost use Rattle.std.specs.Prelude.{ℕ, List};
+ghost use Rattle.cqf_program_engine.specs.Prepared.{IsTextOf};
+ghost use Rattle.cqf_program_press.specs.Edge.{HasTold, writing};
+
+use cqf_program_plans::{ConfigOutput, LatencyOutput, LoadOutput, PortOutput, TcOutput};
+use cqf_program_press::{Told, write_out};
+use cqf_program_runs::{DeliveriesOutput, LineOutput, RunOutput};
+use cqf_program_threads::ThreadsOutput;
+use std::io::Write;
+
+/// What an output is told from, with all the memory that its telling needs.
+#[derive(Drop)]
+pub enum Prepared {
+    /// The output itself.
+    Text(Vec<u8>),
+    /// That of `port`: the starts of a port.
+    Port(PortOutput),
+    /// That of `line`: a book.
+    Line(LineOutput),
+    /// That of `compile`: a domain, its streams and the gate list of each port.
+    Config(ConfigOutput),
+    /// That of `compile --format tc`: the same, for a script.
+    Script(TcOutput),
+    /// That of `load`: a domain and its streams.
+    Load(LoadOutput),
+    /// That of `latency`: a domain, its streams and their deadlines.
+    Latency(LatencyOutput),
+    /// That of `run`: a history and a book.
+    Run(RunOutput),
+    /// That of `run --threads`: the history and the book of an account.
+    Account(ThreadsOutput),
+    /// That of `deliveries`: what becomes of each offer at each listener.
+    Deliveries(DeliveriesOutput),
+}
+
+impl Prepared {
+    /// Tells the output: all of it, unless the writer refuses a part, and then a front of it. It asks for no memory.
+    pub fn tell<W: Write>(self, told: &mut Told<W>)
+        ensures { (text : List ℕ) → IsTextOf self text → HasTold (writing W.contents told.old told.new) text }
+    {
+        match self {
+            Prepared::Text(text) => write_out(told, text.as_slice()),
+            Prepared::Port(output) => output.tell(told),
+            Prepared::Line(output) => output.tell(told),
+            Prepared::Config(output) => output.tell(told),
+            Prepared::Script(output) => output.tell(told),
+            Prepared::Load(output) => output.tell(told),
+            Prepared::Latency(output) => output.tell(told),
+            Prepared::Run(output) => output.tell(told),
+            Prepared::Account(output) => output.tell(told),
+            Prepared::Deliveries(output) => output.tell(told),
+        }
+    }
+}

@@ -1,0 +1,384 @@
+//! A run of the program, from its words and its input to its output or its end.
+ghost use Rattle.std.specs.Prelude.{ℕ, ◌≡◌, ◌≢◌, ◌≤◌, List, [], false, IfOk, IfErr, MatchOption, map, length, string_bytes, true};
+ghost use Rattle.std.specs.List.{slice_split};
+ghost use Rattle.cqf_program_engine.specs.Edge.{IsHeard, IsUnheard, reading};
+ghost use Rattle.cqf_program_engine.specs.Prepared.{HasText, IsTextOf};
+ghost use Rattle.cqf_program_press.specs.Edge.{writing};
+ghost use Rattle.cqf_program_threads.specs.ThreadsOutput.{EndsThreads, IsThreadsOutput};
+ghost use Rattle.cqf_program_words.specs.Words.{EndsWords, Mean};
+ghost use Rattle.cqf_program_stop.specs.Stops.{EndsWith};
+ghost use Rattle.cqf_program_engine.specs.Run.{version_line, IsAsking, IsVersionWord, IsWithin, IsOutput, IsEnd, IsRefusal, IsBehindWords, Ends, EndsTold, HandsOver, HasCause, HasRun, IsDone, IsStopped, TellsStop, is_space, is_threaded, first_line, behind_first_line};
+ghost use Rattle.cqf_model.specs.Limits.{most_cycles};
+
+use crate::heard::Heard;
+use crate::inputs::read_input;
+use crate::prepared::Prepared;
+use crate::shown::stop_of_line;
+use cqf_program_plans::{compile_output, latency_output, load_output, port_output, tc_output};
+use cqf_program_press::{Told, write_out};
+use cqf_program_runs::{check_output, deliveries_output, line_output, report_output, run_output};
+use cqf_program_stop::{DONE, FAULT, NO_MEMORY, Stop, USAGE};
+use cqf_program_threads::threads_output;
+use cqf_program_words::{Format, Job, read_words};
+use cqf_text::split_line;
+use cqf_units::Memory;
+use std::alloc::{AllocError, Global};
+use std::io::{Read, Write};
+use std::sync::Wait;
+use std::thread::Threads;
+
+/// The output of `compile` in a format, ready to be told. `Err` as [`prepare`] has it.
+fn prepare_compiled(alloc: Global, format: Format, input: &[u8]) -> Result<Prepared, Stop>
+    ensures ok { IfOk result (HasText (IsOutput (Job.Compile format) input.now)) }
+    ensures err { IfErr result (IsRefusal (Job.Compile format) input.now) }
+{
+    match format {
+        Format::List => Ok(Prepared::Config(compile_output(alloc, input)?)),
+        Format::Tc => Ok(Prepared::Script(tc_output(alloc, input)?)),
+    }
+}
+
+/// The output of a job for its input, ready to be told, unless it is a run on threads; `rt` is for the threads of `report`. `Err`
+/// with status 1 and the line of the first fault of the input, and with status 3 for want of memory.
+fn prepare(
+    rt: &(impl Threads + Sync),
+    alloc: Global,
+    job: &Job,
+    input: &[u8],
+) -> Result<Prepared, Stop>
+    requires within { IsWithin job.now }
+    requires unthreaded { is_threaded job.now ≡ false }
+    ensures ok { IfOk result (HasText (IsOutput job.now input.now)) }
+    ensures err { IfErr result (IsRefusal job.now input.now) }
+{
+    match *job {
+        Job::Port { until, rate } => Ok(Prepared::Port(port_output(alloc, until, rate, input)?)),
+        Job::Line { cycles } => Ok(Prepared::Line(line_output(alloc, cycles, input)?)),
+        Job::Compile { format } => prepare_compiled(alloc, format, input),
+        Job::Load => Ok(Prepared::Load(load_output(alloc, input)?)),
+        Job::Latency { strict } => Ok(Prepared::Latency(latency_output(alloc, strict, input)?)),
+        Job::Run {
+            cycles,
+            threads: false,
+        } => Ok(Prepared::Run(run_output(alloc, cycles, input)?)),
+        Job::Run { threads: true, .. } => unreachable!(),
+        Job::Report { cycles } => Ok(Prepared::Text(report_output(rt, alloc, cycles, input)?)),
+        Job::Deliveries { cycles } => {
+            Ok(Prepared::Deliveries(deliveries_output(alloc, cycles, input)?))
+        }
+        Job::Check { cycles } => Ok(Prepared::Text(check_output(alloc, cycles, input)?)),
+    }
+}
+
+/// What an output tells, as one text. The error is want of memory.
+fn text_told(alloc: Global, output: Prepared) -> Result<Vec<u8>, Memory>
+    ensures { IfOk result (λ told. (text : List ℕ) → IsTextOf output text → told.items ≡ text) }
+{
+    let mut told = Told::new(Vec::new(alloc));
+    output.tell(&mut told);
+    // a list of bytes refuses only what it has no memory for
+    if told.is_refused() {
+        return Err(AllocError);
+    }
+    Ok(told.into_writer())
+}
+
+/// The output of a job for its input, unless it is a run on threads; `rt` is for the threads of `report`. `Err` with status 1
+/// and the line of the first fault of the input, and with status 3 for want of memory.
+pub fn answer(
+    rt: &(impl Threads + Sync),
+    alloc: Global,
+    job: &Job,
+    input: &[u8],
+) -> Result<Vec<u8>, Stop>
+    requires within { IsWithin job.now }
+    requires unthreaded { is_threaded job.now ≡ false }
+    ensures ok { IfOk result (λ output. IsOutput job.now input.now output.items) }
+    ensures err { IfErr result (IsRefusal job.now input.now) }
+{
+    let output = prepare(rt, alloc, job, input)?;
+    match text_told(alloc, output) {
+        Ok(text) => Ok(text),
+        Err(_) => Err(Stop::memory(alloc)),
+    }
+}
+
+/// The number of cycles of a run on threads, if the job is one.
+fn threaded_cycles(job: &Job) -> Option<u32>
+    ensures { MatchOption result (is_threaded job.now ≡ false) (λ cycles. job.now ≡ Job.Run cycles true) }
+{
+    match *job {
+        Job::Run {
+            cycles,
+            threads: true,
+        } => Some(cycles),
+        _ => None,
+    }
+}
+
+/// The output of a run on threads, ready to be told.
+fn prepare_threads(
+    rt: &(impl Threads + Wait + Sync),
+    alloc: Global,
+    cycles: u32,
+    input: &[u8],
+) -> Result<Prepared, Stop>
+    requires { cycles ≤ most_cycles }
+    ensures ok { IfOk result (HasText (IsThreadsOutput cycles input.now)) }
+    ensures err { IfErr result (EndsThreads cycles input.now) }
+{
+    match threads_output(rt, alloc, cycles, input) {
+        Ok(output) => Ok(Prepared::Account(output)),
+        Err(stop) => Err(stop),
+    }
+}
+
+/// The output of any job for its input, ready to be told; `rt` is for the threads of a run and of `report`. `Err` with status 1
+/// and the line of the first fault of the input, with status 3 for want of memory, and with status 4 where a run on threads fails.
+fn output_of(
+    rt: &(impl Threads + Wait + Sync),
+    alloc: Global,
+    job: &Job,
+    input: &[u8],
+) -> Result<Prepared, Stop>
+    requires { IsWithin job.now }
+    ensures ok { IfOk result (HasText (IsOutput job.now input.now)) }
+    ensures err { IfErr result (IsEnd job.now input.now) }
+{
+    match threaded_cycles(job) {
+        Some(cycles) => prepare_threads(rt, alloc, cycles, input),
+        None => prepare(rt, alloc, job, input),
+    }
+}
+
+/// The version of the program.
+pub const VERSION: &str = "1.0.0";
+
+/// Whether the word asks for the program's version.
+fn is_version_word(word: &str) -> bool
+    ensures { IsVersionWord result word.now }
+{
+    if word == "--version" {
+        return true;
+    }
+    word == "-V"
+}
+
+/// Whether the words ask for the program's version, which one word alone does.
+fn ask_for_version(words: &[&str]) -> bool
+    ensures { IsAsking result (map (λ word. word.now) words.now) }
+{
+    match *words {
+        [word] => is_version_word(word),
+        _ => false,
+    }
+}
+
+/// The end of a run that is asked for the program's version.
+fn stop_of_version(alloc: Global) -> Stop
+    ensures { EndsWith 0 version_line result }
+{
+    Stop::with_text(alloc, DONE, version_text(alloc))
+}
+
+/// The line of the program's version.
+fn version_text(alloc: Global) -> Result<String, AllocError>
+    ensures { IfOk result (λ text. string_bytes text ≡ version_line) }
+{
+    let text = format!(in alloc; "cqf {VERSION}\n")?;
+    Ok(text)
+}
+
+/// The words of a line, which single spaces divide.
+fn split_words(alloc: Global, line: &str) -> Result<Vec<&str>, AllocError>
+    ensures { IfOk result (λ words. map (λ word. word.now) words.items ≡ slice_split is_space line.now) }
+{
+    let mut words = Vec::new(alloc);
+    for word in line.split(' ') {
+        words.push(word)?;
+    }
+    Ok(words)
+}
+
+/// The run of words that are given.
+fn run_given<R: Read>(
+    rt: &(impl Threads + Wait + Sync),
+    alloc: Global,
+    words: &[&str],
+    input: &mut Heard<R>,
+) -> Result<Prepared, Stop>
+    requires given { map (λ word. word.now) words.now ≢ [] }
+    requires unheard { IsUnheard input.old }
+    ensures heard { IsHeard (reading R.remaining input.old input.new) }
+    ensures behind_words { IsBehindWords (map (λ word. word.now) words.now) (reading R.remaining input.old input.new) }
+    ensures ok { IfOk result (HasText (HasRun (map (λ word. word.now) words.now) (reading R.remaining input.old input.new))) }
+    ensures err { IfErr result (IsStopped (map (λ word. word.now) words.now) (reading R.remaining input.old input.new)) }
+{
+    if ask_for_version(words) {
+        return Err(stop_of_version(alloc));
+    }
+    let job = match read_words(alloc, words) {
+        Ok(job) => job,
+        Err(stop) => return Err(stop),
+    };
+    if let Err(stop) = read_input(alloc, input) {
+        return Err(stop);
+    }
+    output_of(rt, alloc, &job, input.bytes())
+}
+
+/// The first line of the bytes, and what stands behind it.
+fn split_first_line(bytes: &[u8]) -> (&[u8], &[u8])
+    ensures line { result.0.now ≡ first_line bytes.now }
+    ensures rest { result.1.now ≡ behind_first_line bytes.now }
+{
+    match split_line(bytes) {
+        Some(found) => found,
+        None => (bytes, bytes),
+    }
+}
+
+/// The job that the words of a line mean. `Err` as [`read_words`] has it, but a long line, or one with unprintable characters, isn't echoed as
+/// it is.
+fn read_line(alloc: Global, line: &str, words: &[&str]) -> Result<Job, Stop>
+    ensures ok { IfOk result (Mean (map (λ word. word.now) words.now)) }
+    ensures err { IfErr result (EndsWords (map (λ word. word.now) words.now)) }
+{
+    match read_words(alloc, words) {
+        Ok(job) => Ok(job),
+        Err(stop) => Err(stop_of_line(alloc, line, stop)),
+    }
+}
+
+/// The run of the words in the first line.
+fn run_line(
+    rt: &(impl Threads + Wait + Sync),
+    alloc: Global,
+    bytes: &[u8],
+) -> Result<Prepared, Stop>
+    requires { length bytes.now ≤ 67108864 }
+    ensures ok { IfOk result (HasText (IsDone [] bytes.now)) }
+    ensures err { IfErr result (HasCause [] bytes.now) }
+    ensures status { IfErr result (λ stop. stop.status ≤ 4) }
+{
+    let (line, rest) = split_first_line(bytes);
+    let Ok(line) = std::str::from_utf8(line) else {
+        return Err(Stop::with_line(alloc, USAGE, "cqf: words\n"));
+    };
+    let Ok(words) = split_words(alloc, line) else {
+        return Err(Stop::memory(alloc));
+    };
+    let job = match read_line(alloc, line, words.as_slice()) {
+        Ok(job) => job,
+        Err(stop) => return Err(stop),
+    };
+    output_of(rt, alloc, &job, rest)
+}
+
+/// The run of words that the input begins with.
+fn run_taken<R: Read>(
+    rt: &(impl Threads + Wait + Sync),
+    alloc: Global,
+    input: &mut Heard<R>,
+) -> Result<Prepared, Stop>
+    requires { IsUnheard input.old }
+    ensures heard { IsHeard (reading R.remaining input.old input.new) }
+    ensures ok { IfOk result (HasText (HasRun [] (reading R.remaining input.old input.new))) }
+    ensures err { IfErr result (IsStopped [] (reading R.remaining input.old input.new)) }
+{
+    if let Err(stop) = read_input(alloc, input) {
+        return Err(stop);
+    }
+    run_line(rt, alloc, input.bytes())
+}
+
+/// The run of words that are given, or where none are of those in the first line of the input.
+fn run<R: Read>(
+    rt: &(impl Threads + Wait + Sync),
+    alloc: Global,
+    words: &[&str],
+    input: &mut Heard<R>,
+) -> Result<Prepared, Stop>
+    requires { IsUnheard input.old }
+    ensures heard { IsHeard (reading R.remaining input.old input.new) }
+    ensures behind_words { IsBehindWords (map (λ word. word.now) words.now) (reading R.remaining input.old input.new) }
+    ensures ok { IfOk result (HasText (HasRun (map (λ word. word.now) words.now) (reading R.remaining input.old input.new))) }
+    ensures err { IfErr result (IsStopped (map (λ word. word.now) words.now) (reading R.remaining input.old input.new)) }
+{
+    if words.is_empty() {
+        run_taken(rt, alloc, input)
+    } else {
+        run_given(rt, alloc, words, input)
+    }
+}
+
+/// The status of an output that was told: 4 where it refused some of it, which is told on the writer of faults.
+fn end_told<O: Write, F: Write>(output: &Told<O>, faults: &mut Told<F>) -> u8
+    ensures { EndsTold output.now.refused (writing F.contents faults.old faults.new) result }
+{
+    if output.is_refused() {
+        write_out(faults, b"cqf: output fault\n");
+        return FAULT;
+    }
+    DONE
+}
+
+/// Writes all of a text, and the status of that: 4 where the output refuses some of it.
+fn hand_over<O: Write, F: Write>(text: &[u8], output: &mut Told<O>, faults: &mut Told<F>) -> u8
+    ensures { HandsOver text.now (writing O.contents output.old output.new) (writing F.contents faults.old faults.new) result }
+{
+    write_out(output, text);
+    end_told(output, faults)
+}
+
+/// Tells all of an output, and the status of that: 4 where the writer refuses some of it.
+fn tell_output<O: Write, F: Write>(
+    prepared: Prepared,
+    output: &mut Told<O>,
+    faults: &mut Told<F>,
+) -> u8
+    ensures { (text : List ℕ) → IsTextOf prepared text →
+        HandsOver text (writing O.contents output.old output.new) (writing F.contents faults.old faults.new) result }
+{
+    prepared.tell(output);
+    end_told(output, faults)
+}
+
+/// Tells the end: help on the output, and anything else on the writer of faults. The status of that.
+pub fn tell<O: Write, F: Write>(stop: &Stop, output: &mut Told<O>, faults: &mut Told<F>) -> u8
+    requires { output.old.refused ≡ false }
+    ensures { TellsStop stop.now (writing O.contents output.old output.new) (writing F.contents faults.old faults.new) result }
+{
+    if stop.status == DONE {
+        return hand_over(stop.text.as_slice(), output, faults);
+    }
+    if stop.status == NO_MEMORY {
+        write_out(faults, b"cqf: out of memory\n");
+        return NO_MEMORY;
+    }
+    write_out(faults, stop.text.as_slice());
+    stop.status
+}
+
+/// Runs the program: the words without the program's name, and where there are none the words of the input's first
+/// line. `rt` is for threads. The exit status: 0 done, 1 refused input, 2 usage, 3 want of memory, 4 a read, a write or a run on
+/// threads failed. What is asked for goes to `output`, and the line of a fault to `faults`. A run on threads waits until all of
+/// them have ended.
+pub fn engine<R: Read, O: Write, F: Write>(
+    rt: &(impl Threads + Wait + Sync),
+    alloc: Global,
+    words: &[&str],
+    input: &mut Heard<R>,
+    output: &mut Told<O>,
+    faults: &mut Told<F>,
+) -> u8
+    requires unheard { IsUnheard input.old }
+    requires accepted { output.old.refused ≡ false }
+    ensures { Ends (map (λ word. word.now) words.now) (reading R.remaining input.old input.new) (writing O.contents output.old output.new)
+        (writing F.contents faults.old faults.new) result }
+{
+    match run(rt, alloc, words, input) {
+        Ok(prepared) => tell_output(prepared, output, faults),
+        Err(stop) => tell(&stop, output, faults),
+    }
+}

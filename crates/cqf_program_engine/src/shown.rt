@@ -1,0 +1,87 @@
+//! What a line of standard error shows of a text that may hold anything.
+ghost use Rattle.std.specs.Prelude.{◌≡◌, ◌⊎◌, []};
+
+use cqf_program_stop::{FAULT, Stop, USAGE};
+use std::alloc::{AllocError, Global};
+
+/// The most characters of a text that a line shows.
+const SHOWN: usize = 200;
+
+/// Whether a terminal would do something else than print the character: a control character, or one that turns the direction of the text,
+/// joins, divides lines or isn't seen.
+fn is_unprintable(character: char) -> bool {
+    character.is_control()
+        || matches!(
+            character,
+            '\u{200b}'..='\u{200f}' | '\u{2028}'..='\u{202e}' | '\u{2060}'..='\u{206f}' | '\u{feff}' | '\u{fff9}'..='\u{fffb}' | '\u{e0000}'..='\u{e007f}'
+        )
+}
+
+/// Whether a line shows the whole text as it is.
+fn is_shown_whole(text: &str) -> bool {
+    text.chars().all(|character| !is_unprintable(character)) && text.chars().count() <= SHOWN
+}
+
+/// Puts a character as a line shows it: an unprintable one as `\u{..}`, with its number in hexadecimal digits.
+fn show(line: &mut String, character: char) -> Result<(), AllocError> {
+    if !is_unprintable(character) {
+        return line.push(character);
+    }
+    for escaped in character.escape_unicode() {
+        line.push(escaped)?;
+    }
+    Ok(())
+}
+
+/// Puts what a line shows of a text: its first 200 characters, unprintable ones escaped, and `..` behind them where there are more.
+fn show_front(line: &mut String, text: &str) -> Result<(), AllocError> {
+    for character in text.chars().take(SHOWN) {
+        show(line, character)?;
+    }
+    if text.chars().count() > SHOWN {
+        line.push_str("..")?;
+    }
+    Ok(())
+}
+
+/// The line of a text that is no command.
+fn line_of_text(alloc: Global, text: &str) -> Result<String, AllocError> {
+    let mut line = String::from_str(alloc, "cqf: the first line of the input is no command: ")?;
+    show_front(&mut line, text)?;
+    line.push('\n')?;
+    Ok(line)
+}
+
+/// The line of a file that can't be read.
+fn line_of_file(alloc: Global, name: &str) -> Result<String, AllocError> {
+    let mut line = String::from_str(alloc, "cqf: ")?;
+    show_front(&mut line, name)?;
+    line.push_str(": input fault\n")?;
+    Ok(line)
+}
+
+/// The end where the file of this name can't be read: status 4, and the line `cqf: NAME: input fault` with what a line shows of the name;
+/// or for want of memory for it.
+pub fn stop_of_file(alloc: Global, name: &str) -> Stop
+    ensures status { (result.status ≡ 4) ⊎ (result.status ≡ 3) }
+    ensures memory { result.status ≡ 3 → result.text.items ≡ [] }
+{
+    Stop::with_text(alloc, FAULT, line_of_file(alloc, name))
+}
+
+/// The end of a run whose first line has words that are a mistake, with `stop` for these words alone: that stop, which echoes some of them,
+/// where a line shows all of the text as it is; else with a line that shows what can be shown. Other stops stay as they are.
+pub(crate) fn stop_of_line(alloc: Global, text: &str, stop: Stop) -> Stop
+    requires { stop.status ≡ 3 → stop.text.items ≡ [] }
+    ensures status { (result.status ≡ stop.status) ⊎ (result.status ≡ 3) }
+    ensures memory { result.status ≡ 3 → result.text.items ≡ [] }
+    ensures other { stop.status ≡ 2 ⊎ (result ≡ stop) }
+{
+    if stop.status != USAGE {
+        return stop;
+    }
+    if is_shown_whole(text) {
+        return stop;
+    }
+    Stop::with_text(alloc, USAGE, line_of_text(alloc, text))
+}

@@ -1,0 +1,178 @@
+-- Streams admitted in turn, each of which is held from cycle 0 on.
+use Rattle.std.proofs.Common.{◌≡◌, ◌≢◌, ◌⊎◌, ◌∙◌, ◌<◌, ◌+◌, ◌++◌, ℕ, true, List, [], ◌∷◌, Option, Some, None, Result, Ok, Err, length, map, arith, ap, subst}
+use Rattle.std.proofs.Common.{refl, sym, length-append, inl, inr}
+use Rattle.cqf_model.specs.declared.history.Receipt.{Receipt}
+use Rattle.cqf_model.specs.declared.history.Refused.{Refused}
+use Rattle.cqf_model.specs.declared.history.Refused.TheVariants.{BadName, BadOctets, UnknownNode, BrokenPath, LoopingPath, NotATree, NameHeld, TooManyStreams}
+use Rattle.cqf_model.specs.declared.history.Refused.TheVariants.{BudgetShort, NotHeld, AlreadyWithdrawn, HistoryFull, Memory}
+use Rattle.cqf_model.specs.declared.history.Reply.TheVariants.{Accepted, Refused as RefusedFor}
+use Rattle.cqf_model.specs.declared.topology.Row.{Row}
+use Rattle.cqf_model.specs.Domain.{Domain}
+use Rattle.cqf_model.specs.History.{Admits, Asked, IsLegalHistory, Recorded, admit_reply, held_in, next_number, refusal_of, reply_to, seals}
+use Rattle.cqf_topology.specs.declared.streams.Request.{Request}
+use Rattle.cqf_laws_history.specs.StateLaws.{AreHeld, GrantedFindsRoom, GrantedIsHeld, HeldAreSound, HistoryGoesOn, SealsAreCounted, granted_row, with_entry}
+use Rattle.cqf_admission.specs.Admission.{Administration, Answers, is_entered}
+use Rattle.cqf_admission.specs.Asking.{asked_by, asked_of}
+use Rattle.cqf_text.specs.Parts.{parts_of}
+use Rattle.cqf_topology.specs.DomainText.{domain_of_text}
+use Rattle.cqf_topology.specs.StreamsText.{request_text, streams_of_text}
+use Rattle.cqf_lists.specs.Results.{and_then, refuse}
+use Rattle.cqf_program_stop.specs.Stops.{EndsWith}
+use Rattle.cqf_program_plans.specs.CompileOutput.{AreAllHeld, admitted_from, compile_input, stream_line, with_asked}
+use Rattle.cqf_program_scenario.proofs.AskedTexts.{asked_texts}
+use Rattle.cqf_program_scenario.specs.Lines.{domain_line, streams_line}
+use Rattle.cqf_program_scenario.specs.Parts.{two_parts}
+use Rattle.cqf_program_stop.specs.Stops.{IsRefused, or_line}
+use Rattle.cqf_program_stop.specs.declared.stops.Stop.{Stop}
+
+-- what the answer to a request tells of it
+granted : (number effect : ℕ) (receipt : Receipt) (refusal : Option Refused) → Accepted receipt ≡ admit_reply number effect refusal → refusal ≡ None
+granted number effect receipt None h = refl
+granted number effect receipt (Some refused) h = cc
+
+-- what the answer to a refused request tells of it
+refused_for : (number effect : ℕ) (refused : Refused) (refusal : Option Refused) → RefusedFor refused ≡ admit_reply number effect refusal →
+    refusal ≡ Some refused
+refused_for number effect refused None h = cc
+refused_for number effect refused (Some other) h = cc
+
+-- what gives a value is that value, and where it might have been refused, it isn't
+pub same_ok : {A E : Type 0} (x y : A) → ◌≡◌ {A = Result A E} (Ok x) (Ok y) → x ≡ y
+same_ok x y h = cc
+
+pub refuse_ok : {A E : Type 0} (refusal : Option Refused) (fault : Refused → E) (rest : Result A E) (x : A) → refuse refusal fault rest ≡ Ok x →
+    (refusal ≡ None) × (rest ≡ Ok x)
+refuse_ok None fault rest x h = (refl, h)
+refuse_ok (Some refused) fault rest x h = cc
+
+-- no call yet
+pub AreAllHeld-none : (d : Domain) → IsLegalHistory d [] → AreAllHeld d []
+AreAllHeld-none d legal = record { legal = legal; no_seal = refl; one_each = refl; few = omega arith }
+
+-- one stream more
+pub AreAllHeld-more : (d : Domain) (entries : List Recorded) (asked : Asked) → HistoryGoesOn → SealsAreCounted → GrantedIsHeld → GrantedFindsRoom →
+    AreAllHeld d entries → refusal_of d (held_in d entries (seals entries)) asked ≡ None → AreAllHeld d (with_asked d entries asked)
+AreAllHeld-more d entries asked goes_on counted grants finds all granted_is =
+    let rows : List Row = held_in d entries (seals entries) in
+    let count : length rows ≡ length entries = ap (λ c. length (held_in d entries c)) all.no_seal ∙ all.one_each in
+    let room : length rows < 1024 = finds d rows asked granted_is in
+    let one_more : length (with_asked d entries asked) ≡ length entries + 1 = length-append entries _ in
+    let no_seal : seals (with_asked d entries asked) ≡ 0 = omega (arith, counted entries 0 (Admits asked) (reply_to d entries (Admits asked)), all.no_seal) in
+    let state = grants d entries rows (next_number d entries) 0 asked all.legal (record { held = refl; number = refl }) granted_is in
+    let held : held_in d (with_asked d entries asked) 0 ≡ rows ++ granted_row d (next_number d entries) (seals entries) asked ∷ [] =
+    subst (λ c. held_in d (with_asked d entries asked) c ≡ rows ++ granted_row d (next_number d entries) (seals entries) asked ∷ []) no_seal state.held in
+    let held_count : length (held_in d (with_asked d entries asked) 0) ≡ length rows + 1 = ap length held ∙ length-append rows _ in
+    record {
+      legal = goes_on d entries 0 (Admits asked) all.legal (omega (arith, all.no_seal)) (omega (arith, all.few, all.no_seal));
+      no_seal = no_seal;
+      one_each = omega arith;
+      few = omega arith;
+    }
+
+-- where each stream is held, those that are held in cycle 0 are sound
+pub AreAllHeld-sound : (d : Domain) (entries : List Recorded) → HeldAreSound → AreAllHeld d entries → AreHeld d (held_in d entries 0) (next_number d entries) 0
+AreAllHeld-sound d entries sound all =
+    let held : AreHeld d (held_in d entries (seals entries)) (next_number d entries) (seals entries) =
+    sound d entries (held_in d entries (seals entries)) (next_number d entries) all.legal (record { held = refl; number = refl }) in
+    subst (λ cycle. AreHeld d (held_in d entries cycle) (next_number d entries) cycle) all.no_seal held
+
+-- what a granted call tells
+module _ (old new : Administration) (asked : Asked) (receipt : Receipt) (answers : Answers old new 0 (Admits asked) (Ok receipt)) where
+  -- the refusal of the request, where there is one
+  abbrev refusal : Option Refused
+  refusal = refusal_of old.domain (held_in old.domain old.entries (seals old.entries)) asked
+
+  -- a granted call was due no refusal
+  none_due : refusal ≡ None
+  none_due = granted (next_number old.domain old.entries) (seals old.entries) receipt refusal (answers.due refl)
+
+  -- and it is the history's next entry
+  entered : new.entries ≡ with_asked old.domain old.entries asked
+  entered = answers.entered refl ∙ ap (λ reply. with_entry old.entries 0 (Admits asked) reply) (answers.due refl)
+
+  -- so its stream is held with the others
+  pub granted-held : HistoryGoesOn → SealsAreCounted → GrantedIsHeld → GrantedFindsRoom → AreAllHeld old.domain old.entries → AreAllHeld new.domain new.entries
+  granted-held goes_on counted grants finds all =
+      subst (λ d. AreAllHeld d new.entries) (sym answers.domain)
+      (subst (λ entries. AreAllHeld old.domain entries) (sym entered) (AreAllHeld-more old.domain old.entries asked goes_on counted grants finds all none_due))
+
+-- a refusal is entered, except where the history is full or memory lacks
+entered_unless : (refused : Refused) → refused ≢ HistoryFull → refused ≢ Memory → is_entered (Err refused) ≡ true
+entered_unless BadName full memory = refl
+entered_unless BadOctets full memory = refl
+entered_unless (UnknownNode place) full memory = refl
+entered_unless (BrokenPath place) full memory = refl
+entered_unless (LoopingPath place) full memory = refl
+entered_unless (NotATree branch) full memory = refl
+entered_unless NameHeld full memory = refl
+entered_unless TooManyStreams full memory = refl
+entered_unless (BudgetShort link left) full memory = refl
+entered_unless NotHeld full memory = refl
+entered_unless AlreadyWithdrawn full memory = refl
+entered_unless HistoryFull full memory = absurd (full refl)
+entered_unless Memory full memory = absurd (memory refl)
+
+-- a refusal is want of memory, or it isn't
+pub is_memory : (refused : Refused) → (refused ≡ Memory) ⊎ (refused ≢ Memory)
+is_memory Memory = inl refl
+is_memory BadName = inr (λ h. cc)
+is_memory BadOctets = inr (λ h. cc)
+is_memory (UnknownNode place) = inr (λ h. cc)
+is_memory (BrokenPath place) = inr (λ h. cc)
+is_memory (LoopingPath place) = inr (λ h. cc)
+is_memory (NotATree branch) = inr (λ h. cc)
+is_memory NameHeld = inr (λ h. cc)
+is_memory TooManyStreams = inr (λ h. cc)
+is_memory (BudgetShort link left) = inr (λ h. cc)
+is_memory NotHeld = inr (λ h. cc)
+is_memory AlreadyWithdrawn = inr (λ h. cc)
+is_memory HistoryFull = inr (λ h. cc)
+
+-- an end with a line, or for want of memory
+pub IsRefused-line : {A : Type 0} (found : Result A (List ℕ)) (line : List ℕ) (stop : Stop) → found ≡ Err line → EndsWith 1 line stop → IsRefused found stop
+IsRefused-line found line stop h e = record { statuses = e.statuses; line = λ one. h ∙ ap Err (sym (e.line_is one)); memory = e.memory }
+
+-- want of memory ends with nothing but its status
+pub IsRefused-memory : {A : Type 0} (found : Result A (List ℕ)) (stop : Stop) → EndsWith 3 [] stop → IsRefused found stop
+IsRefused-memory found stop e =
+    let three : stop.status ≡ 3 = elim e.statuses [ inl three ↦ three | inr three ↦ three ] in
+    record { statuses = inr three; line = λ one. absurd (omega (arith, three, one)); memory = e.memory }
+
+-- a history in which each stream is held isn't full
+never_full : (old new : Administration) (asked : Asked) → AreAllHeld old.domain old.entries → ¬ Answers old new 0 (Admits asked) (Err HistoryFull)
+never_full old new asked all answers = omega (arith, answers.full.0 refl, all.few)
+
+-- a refused stream ends the run with its line, or for want of memory
+pub refused_so : (d : Domain) (entries : List Recorded) (asked : Asked) (refused : Refused) (place : ℕ) (stop : Stop) (more : List Asked) →
+    (refused ≢ Memory → refusal_of d (held_in d entries (seals entries)) asked ≡ Some refused) → (refused ≢ Memory → EndsWith 1 (stream_line place refused) stop) →
+    (refused ≡ Memory → EndsWith 3 [] stop) → IsRefused (admitted_from d entries place (asked ∷ more)) stop
+refused_so d entries asked refused place stop more due line memory =
+    let found = admitted_from d entries place (asked ∷ more) in
+    elim (is_memory refused) [
+      | inl lacks ↦ IsRefused-memory found stop (memory lacks)
+      | inr there ↦
+          IsRefused-line found (stream_line place refused) stop
+          (ap (λ r. refuse r (stream_line place) (admitted_from d (with_asked d entries asked) (place + 1) more)) (due there)) (line there)
+    ]
+
+-- what a refused call tells
+pub refused-ends : (old new : Administration) (asked : Asked) (refused : Refused) (place : ℕ) (stop : Stop) (more : List Asked) →
+    AreAllHeld old.domain old.entries → Answers old new 0 (Admits asked) (Err refused) → (refused ≢ Memory → EndsWith 1 (stream_line place refused) stop) →
+    (refused ≡ Memory → EndsWith 3 [] stop) → IsRefused (admitted_from old.domain old.entries place (asked ∷ more)) stop
+refused-ends old new asked refused place stop more all answers line memory =
+    let full : refused ≢ HistoryFull = λ is. never_full old new asked all (subst (λ r. Answers old new 0 (Admits asked) (Err r)) is answers) in
+    let refusal : Option Refused = refusal_of old.domain (held_in old.domain old.entries (seals old.entries)) asked in
+    refused_so old.domain old.entries asked refused place stop more
+    (λ there. refused_for (next_number old.domain old.entries) (seals old.entries) refused refusal (answers.due (entered_unless refused full there))) line memory
+
+-- the domain and the streams that are read are the input's
+pub compile_input-is : (input domain_text streams_text : List ℕ) (domain : Domain) (requests : List Request) →
+    two_parts (parts_of input) ≡ Ok (domain_text, streams_text) → domain_of_text domain_text ≡ Ok domain →
+    streams_of_text streams_text ≡ Ok (map request_text requests) → compile_input input ≡ Ok (domain, map asked_of requests)
+compile_input-is input domain_text streams_text domain requests parts domain_is streams_are =
+    ap (λ found. and_then found (λ texts. and_then (or_line domain_line (domain_of_text texts.0))
+    (λ d. and_then (or_line streams_line (streams_of_text texts.1)) (λ read. Ok (d, map asked_by read))))) parts
+    ∙ ap (λ found. and_then (or_line domain_line found)
+    (λ d. and_then (or_line streams_line (streams_of_text streams_text)) (λ read. Ok (d, map asked_by read)))) domain_is
+    ∙ ap (λ found. and_then (or_line streams_line found) (λ read. Ok (domain, map asked_by read))) streams_are
+    ∙ ap (λ asked. Ok (domain, asked)) (asked_texts requests)

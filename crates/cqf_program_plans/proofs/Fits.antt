@@ -1,0 +1,161 @@
+-- What fits is what is accepted.
+use Rattle.std.proofs.Common.{ℕ, ◌≡◌, ◌≤◌, ◌<◌, ◌+◌, ◌==◌, ◌/◌, ◌∙◌, Bool, true, false, not, ◌&&◌, cond, nat_lt, Option, Some, None, List, [], ◌∷◌, length, get_or, ap, arith, sym, refl, inl, inr}
+use Rattle.std.specs.Prelude.{All, find, if◌then◌else◌, nat_le, suc, zero}
+use Rattle.std.specs.List.{list_any}
+use Rattle.std.proofs.lemmas.Bool.{cases_Bool, leb-true, leb-false, ltb-false, le-ltb, eq-eqb}
+use Rattle.std.proofs.lemmas.List.{get_or-map, length-map}
+use Rattle.std.proofs.lemmas.List.Folds.{list_any_at}
+use Rattle.std.proofs.lemmas.List.Elements.{All-cons, All-head, All-nil, All-tail}
+use Rattle.cqf_lists.specs.Lists.{or_else}
+use Rattle.cqf_units.specs.Name.{is_name}
+use Rattle.cqf_units.specs.Timing.{cost_of}
+use Rattle.cqf_model.specs.declared.history.Refused.{Refused}
+use Rattle.cqf_model.specs.declared.history.Refused.TheVariants.{BadName, BadOctets, NameHeld, TooManyStreams, BudgetShort}
+use Rattle.cqf_model.specs.declared.topology.Row.{Row}
+use Rattle.cqf_model.specs.Domain.{Domain, budget, is_text}
+use Rattle.cqf_model.specs.History.{Asked, left_on, refusal_of, refused_at, refused_if, tree_of}
+use Rattle.cqf_model.specs.declared.topology.Hop.{Hop}
+use Rattle.cqf_model.specs.Table.{cost_on, crosses, link_cost, links_in}
+use Rattle.cqf_model.proofs.Hops.{hops_inside}
+use Rattle.cqf_admission_trees.specs.Branches.{tree_refusal}
+use Rattle.cqf_admission.specs.Judging.{form_refusal, short_refusal}
+use Rattle.cqf_admission.proofs.GrantLemmas.{refusal_in_two, refusal_last, refusal_later}
+use Rattle.cqf_program_plans.specs.Fitting.{fits_by, fits_on}
+use Rattle.cqf_program_plans.specs.FitLaws.{FitsIsGreatest, OneMoreFits}
+use Rattle.cqf_program_plans.specs.Listing.{listed_row, listing_refusal}
+
+-- by how many frames of 64 octets what is left holds
+fits_forth : (frames left reserved : ℕ) → frames ≡ left / 84 → 64 ≤ reserved → reserved ≤ 60000 → cost_of reserved ≤ left → reserved ≤ fits_by frames left
+fits_forth zero left reserved is least most costs = absurd (omega (arith, is, least, costs))
+fits_forth (suc frames) left reserved is least most costs = omega (arith, is, least, most, costs)
+
+fits_back : (frames left reserved : ℕ) → frames ≡ left / 84 → 64 ≤ reserved → reserved ≤ fits_by frames left → cost_of reserved ≤ left
+fits_back zero left reserved is least fits = absurd (omega (arith, least, fits))
+fits_back (suc frames) left reserved is least fits = omega (arith, is, least, fits)
+
+pub fits_greatest : FitsIsGreatest
+fits_greatest left reserved least most =
+    (λ costs. fits_forth (left / 84) left reserved refl least most costs, λ fits. fits_back (left / 84) left reserved refl least fits)
+
+-- where neither of two refusals is due
+first_none : (a b : Option Refused) → or_else a b ≡ None → a ≡ None
+first_none None b h = refl
+first_none (Some x) b h = cc
+
+second_none : (a b : Option Refused) → or_else a b ≡ None → b ≡ None
+second_none None b h = h
+second_none (Some x) b h = cc
+
+not_due : (due : Bool) (refused : Refused) → refused_if due refused ≡ None → due ≡ false
+not_due false refused h = refl
+not_due true refused h = cc
+
+both : (a b : Bool) → not (a && b) ≡ false → (a ≡ true) × (b ≡ true)
+both true true h = (refl, refl)
+both true false h = cc
+both false b h = cc
+
+not_at : (found : Option ℕ) (refused : ℕ → Refused) → refused_at refused found ≡ None → found ≡ None
+not_at None refused h = refl
+not_at (Some l) refused h = cc
+
+some_is_none : {A : Type 0} (x : A) → Some x ≡ None → ⊥
+some_is_none x h = cc
+
+-- each link has as much left as a stream costs, where none is found that hasn't
+none_short : (test : ℕ → Bool) (links : List ℕ) → find test links ≡ None → All (λ l. test l ≡ false) links
+none_short test [] h = All-nil (λ l. test l ≡ false)
+none_short test (l ∷ links) h = elim (cases_Bool (test l)) [
+  | inl short ↦ absurd (some_is_none l (sym (ap (λ (b : Bool). cond b (Some l) (find test links)) short) ∙ h))
+  | inr room ↦ All-cons (λ k. test k ≡ false) l links room
+      (none_short test links (sym (ap (λ (b : Bool). cond b (Some l) (find test links)) room) ∙ h))
+]
+
+none_found : (test : ℕ → Bool) (links : List ℕ) → All (λ l. test l ≡ false) links → find test links ≡ None
+none_found test [] h = refl
+none_found test (l ∷ links) h =
+    ap (λ (b : Bool). cond b (Some l) (find test links)) (All-head (λ k. test k ≡ false) l links h)
+    ∙ none_found test links (All-tail (λ k. test k ≡ false) l links h)
+
+-- a stream that nothing but a budget speaks against
+module _ (d : Domain) (rows : List Row) (asked : Asked) (h : listing_refusal d rows asked ≡ None) where
+  abbrev held : Option Refused
+  held = refused_if (list_any (λ (row : Row). is_text row.name asked.name) rows) NameHeld
+
+  abbrev many : Option Refused
+  many = refused_if (nat_le 1024 (length rows)) TooManyStreams
+
+  form : form_refusal d asked ≡ None
+  form = first_none (form_refusal d asked) (or_else held many) h
+
+  behind : or_else held many ≡ None
+  behind = second_none (form_refusal d asked) (or_else held many) h
+
+  free : list_any (λ (row : Row). is_text row.name asked.name) rows ≡ false
+  free = not_due _ NameHeld (first_none held many behind)
+
+  few : length rows < 1024
+  few = omega (arith, leb-false 1024 (length rows) (not_due (nat_le 1024 (length rows)) TooManyStreams (second_none held many behind)))
+
+  in_range : (nat_le 64 asked.octets ≡ true) × (nat_le asked.octets 60000 ≡ true)
+  in_range = both (nat_le 64 asked.octets) (nat_le asked.octets 60000)
+      (not_due _ BadOctets (first_none (refused_if (not (nat_le 64 asked.octets && nat_le asked.octets 60000)) BadOctets) (tree_refusal d asked.paths)
+      (second_none (refused_if (not (is_name asked.name)) BadName) _ form)))
+
+  least : 64 ≤ asked.octets
+  least = leb-true 64 asked.octets in_range.0
+
+  most : asked.octets ≤ 60000
+  most = leb-true asked.octets 60000 in_range.1
+
+  abbrev is_short : ℕ → Bool
+  is_short l = nat_lt (left_on d rows l) (cost_of asked.octets)
+
+  by_budget : refusal_of d rows asked ≡ short_refusal d rows (cost_of asked.octets) (tree_of d asked.paths)
+  by_budget = refusal_later d rows asked form ∙ refusal_last d rows asked free few
+
+  accepted_fits : refusal_of d rows asked ≡ None → All (λ l. asked.octets ≤ fits_on d rows l) (links_in (tree_of d asked.paths))
+  accepted_fits none k other low =
+      let room = none_short is_short (links_in (tree_of d asked.paths)) (not_at _ (λ l. BudgetShort l (left_on d rows l)) (sym by_budget ∙ none)) in
+      let l = get_or (links_in (tree_of d asked.paths)) k other in
+      (fits_greatest (left_on d rows l) asked.octets least most).0 (ltb-false (left_on d rows l) (cost_of asked.octets) (room k other low))
+
+  fits_accepted : All (λ l. asked.octets ≤ fits_on d rows l) (links_in (tree_of d asked.paths)) → refusal_of d rows asked ≡ None
+  fits_accepted fits =
+      let room : All (λ l. is_short l ≡ false) (links_in (tree_of d asked.paths)) =
+      λ k other low. (let l = get_or (links_in (tree_of d asked.paths)) k other in
+      le-ltb (left_on d rows l) (cost_of asked.octets) ((fits_greatest (left_on d rows l) asked.octets least most).1 (fits k other low))) in
+      by_budget ∙ ap (refused_at (λ l. BudgetShort l (left_on d rows l))) (none_found is_short (links_in (tree_of d asked.paths)) room)
+
+-- a stream that is accepted is listed
+pub accepted_listed : (d : Domain) (rows : List Row) (asked : Asked) → refusal_of d rows asked ≡ None → listing_refusal d rows asked ≡ None
+accepted_listed d rows asked none =
+    let form = form_refusal d asked in
+    let held = refused_if (list_any (λ (row : Row). is_text row.name asked.name) rows) NameHeld in
+    let many = refused_if (nat_le 1024 (length rows)) TooManyStreams in
+    let short = short_refusal d rows (cost_of asked.octets) (tree_of d asked.paths) in
+    let parted : or_else form (or_else held (or_else many short)) ≡ None = sym (refusal_in_two d rows asked) ∙ none in
+    let behind = second_none form (or_else held (or_else many short)) parted in
+    ap (λ o. or_else o (or_else held many)) (first_none form (or_else held (or_else many short)) parted)
+    ∙ ap (λ o. or_else o many) (first_none held (or_else many short) behind)
+    ∙ first_none many short (second_none held (or_else many short) behind)
+
+-- and one that is listed is accepted where each link has room for it
+pub accepted_where_room : (d : Domain) (rows : List Row) (asked : Asked) → listing_refusal d rows asked ≡ None →
+    ((l : ℕ) → l < length d.links → link_cost rows l + cost_on (listed_row d rows asked) l ≤ budget d l) → refusal_of d rows asked ≡ None
+accepted_where_room d rows asked h room =
+    let tree = tree_of d asked.paths in
+    let links = links_in tree in
+    let first : Hop = record { link = 0; depth = 0; from = None } in
+    let inside : (k other : ℕ) → k < length links → get_or links k other < length d.links =
+    λ k other low. (let below : k < length tree = omega (arith, low, length-map tree (λ (hop : Hop). hop.link)) in
+    omega (arith, hops_inside d asked.paths k first below, get_or-map (λ (hop : Hop). hop.link) tree k first other below)) in
+    let enough : All (λ l. is_short d rows asked h l ≡ false) links =
+    λ k other low. (let l = get_or links k other in
+    let on : crosses (listed_row d rows asked) l ≡ true = list_any_at (λ n. n == l) links k other low (eq-eqb l l refl) in
+    let cost : cost_on (listed_row d rows asked) l ≡ cost_of asked.octets = ap {B = ℕ} (λ (b : Bool). if b then cost_of asked.octets else 0) on in
+    le-ltb (left_on d rows l) (cost_of asked.octets) (omega (arith, room l (inside k other low), cost))) in
+    by_budget d rows asked h ∙ ap (refused_at (λ l. BudgetShort l (left_on d rows l))) (none_found (is_short d rows asked h) links enough)
+
+pub one_more : OneMoreFits
+one_more d rows asked h = (accepted_fits d rows asked h, fits_accepted d rows asked h)

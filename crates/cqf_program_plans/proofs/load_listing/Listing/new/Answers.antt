@@ -1,0 +1,5 @@
+use Rattle.cqf_program_plans.proofs.Listed.{none_listed}
+use Rattle.cqf_program_plans.proofs.load_listing.Listing.new.Goals as goal
+
+pub invariant_of-result : goal.invariant_of-result
+invariant_of-result c = rw (c.new.ensures.empty, c.new-2.ensures.items) none_listed

@@ -1,0 +1,11 @@
+use Rattle.cqf_program_press.proofs.PressLemmas.{Puts-then}
+use Rattle.cqf_program_plans.proofs.tc_bridges.put_link_need.Goals as goal
+
+pub returns : goal.returns
+returns g c = Puts-then _ _ c.put.ensures
+    (Puts-then _ _ c.put_number.ensures
+    (Puts-then _ _ c.put-2.ensures
+    (Puts-then _ _ c.put_bridge.ensures
+    (Puts-then _ _ c.put-3.ensures
+    (Puts-then _ _ (rw c.bridge_of.ensures at c.put_bridge-2.ensures)
+    c.put-4.ensures)))))

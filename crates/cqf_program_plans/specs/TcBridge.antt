@@ -1,0 +1,140 @@
+-- What a bridge does in the script, line by line (profile). Links and streams go by their numbers in variables, since a name may
+-- hold `-`.
+use Rattle.std.specs.Prelude.{ℕ, ◌+◌, ◌++◌, ◌==◌, List, [], Bool, true, false, Option, Some, None, codes, decimal, find, if◌then◌else◌, length, not, option_map, slice_get, take}
+use Rattle.std.specs.Option.{option_map_or}
+use Rattle.std.specs.List.{flat_map, list_any}
+use Rattle.cqf_lists.specs.Lists.{each_below}
+use Rattle.cqf_model.specs.declared.topology.Hop.{Hop}
+use Rattle.cqf_model.specs.declared.topology.Link.{Link}
+use Rattle.cqf_model.specs.declared.topology.Row.{Row}
+use Rattle.cqf_model.specs.Domain.{Domain, bridge_of, leaves}
+use Rattle.cqf_model.specs.Table.{same_way}
+use Rattle.cqf_report.specs.Books.{name_of_bridge, name_of_link}
+use Rattle.cqf_program_plans.specs.EndNames.{name_of_end}
+
+-- the first hop by which a stream leaves a bridge. It comes there by the link before that hop, or where there is none from its
+-- talker
+abbrev pub first_hop : Domain → ℕ → Row → Option Hop
+first_hop d bridge row = find (λ (hop : Hop). leaves d hop.link bridge) row.tree.items
+
+-- the variable of the interface by which it comes
+abbrev pub way_in : Row → Option ℕ → List ℕ
+way_in row None = codes "TALKER_" ++ decimal row.no
+way_in row (Some link) = codes "IN_" ++ decimal link
+
+-- whether a stream comes to a bridge by a link
+abbrev pub comes_by : Domain → ℕ → ℕ → Row → Bool
+comes_by d bridge link row = option_map_or (λ (hop : Hop). same_way hop.from (Some link)) (first_hop d bridge row) false
+
+-- whether none of the streams before comes to the bridge that way. No two come from one talker's interface
+abbrev pub is_new : Domain → ℕ → List Row → Option ℕ → Bool
+is_new d bridge before None = true
+is_new d bridge before (Some link) = not (list_any (comes_by d bridge link) before)
+
+-- the way by which a stream comes to a bridge that it leaves, and whether it's new
+abbrev pub way_at : Domain → ℕ → List Row → Row → Option (Option ℕ × Bool)
+way_at d bridge before row = option_map (λ (hop : Hop). (hop.from, is_new d bridge before hop.from)) (first_hop d bridge row)
+
+-- the lines that end the script where a variable isn't set
+abbrev pub out_need : Domain → ℕ → ℕ → List ℕ
+out_need d bridge link =
+    codes "    : \"${OUT_" ++ (decimal link ++ (codes ":?interface of " ++ (name_of_bridge d bridge ++ (codes " to " ++ (name_of_end d link ++ codes "}\"\n")))))
+
+abbrev pub link_need : Domain → ℕ → ℕ → List ℕ
+link_need d bridge link =
+    codes "    : \"${IN_"
+    ++ (decimal link ++ (codes ":?interface of " ++ (name_of_bridge d bridge ++ (codes " to " ++ (name_of_bridge d (bridge_of d link) ++ codes "}\"\n")))))
+
+abbrev pub way_need : Domain → ℕ → Row → Option ℕ → List ℕ
+way_need d bridge row None =
+    codes "    : \"${TALKER_"
+    ++ (decimal row.no ++ (codes ":?interface of " ++ (name_of_bridge d bridge ++ (codes " to the talker of " ++ (row.name ++ codes "}\"\n")))))
+way_need d bridge row (Some link) = link_need d bridge link
+
+abbrev pub frame_needs : Row → List ℕ
+frame_needs row =
+    codes "    : \"${MAC_"
+    ++ (decimal row.no
+    ++ (codes ":?destination address of "
+    ++ (row.name ++ (codes "}\"\n    : \"${VLAN_" ++ (decimal row.no ++ (codes ":?VLAN of " ++ (row.name ++ codes "}\"\n")))))))
+
+-- the line that takes the gates of an earlier plan off the interface by which a stream comes
+abbrev pub way_clearing : Row → Option ℕ → List ℕ
+way_clearing row way = codes "    no_gates \"$" ++ (way_in row way ++ codes "\"\n")
+
+-- the lines of a link that leaves the bridge
+abbrev pub link_lines : Domain → ℕ → List ℕ
+link_lines d link =
+    codes "    # link " ++ (decimal link ++ (codes " " ++ (name_of_link d link ++ (codes "\n    link \"$OUT_" ++ (decimal link ++ codes "\"\n")))))
+
+-- the interfaces by which a stream leaves the bridge, in the order of its tree
+abbrev pub way_out : Domain → ℕ → Hop → List ℕ
+way_out d bridge hop = if leaves d hop.link bridge then codes " OUT_" ++ decimal hop.link else []
+
+abbrev pub ways_out : Domain → ℕ → Row → List ℕ
+ways_out d bridge row = flat_map (way_out d bridge) row.tree.items
+
+-- the lines of a stream that comes this way: by which interfaces it leaves, and its gate, with the octets of its reservation
+abbrev pub gate_line : Row → Option ℕ → List ℕ
+gate_line row way =
+    codes "    gate \"$"
+    ++ (way_in row way
+    ++ (codes "\" "
+    ++ (decimal (row.no + 1)
+    ++ (codes " \"$MAC_" ++ (decimal row.no ++ (codes "\" \"$VLAN_" ++ (decimal row.no ++ (codes "\" " ++ (decimal row.octets ++ codes "\n")))))))))
+
+abbrev pub stream_lines : Domain → ℕ → Row → Option ℕ → List ℕ
+stream_lines d bridge row way =
+    codes "    # stream "
+    ++ (decimal row.no ++ (codes " " ++ (row.name ++ (codes ", leaves by" ++ (ways_out d bridge row ++ (codes "\n" ++ gate_line row way))))))
+
+-- a text for each link that leaves the bridge, by number
+abbrev pub if_left : Domain → ℕ → (ℕ → List ℕ) → ℕ → List ℕ
+if_left d bridge text link = if leaves d link bridge then text link else []
+
+abbrev pub each_link : Domain → ℕ → (ℕ → List ℕ) → List ℕ
+each_link d bridge text = each_below (if_left d bridge text) (length d.links)
+
+-- a text for each stream that leaves the bridge, by number, each made with the streams before it
+abbrev pub stream_at : (List Row → Row → List ℕ) → List Row → ℕ → List ℕ
+stream_at text rows place = option_map_or (text (take place rows)) (slice_get rows place) []
+
+abbrev pub each_stream : (List Row → Row → List ℕ) → List Row → List ℕ
+each_stream text rows = each_below (stream_at text rows) (length rows)
+
+-- what a stream needs that isn't needed before it: the interface by which it comes, its frames' destination address and their VLAN
+abbrev pub needs_by : Domain → ℕ → Row → (Option ℕ × Bool) → List ℕ
+needs_by d bridge row way = (if way.1 then way_need d bridge row way.0 else []) ++ frame_needs row
+
+abbrev pub stream_needs : Domain → ℕ → List Row → Row → List ℕ
+stream_needs d bridge before row = option_map_or (needs_by d bridge row) (way_at d bridge before row) []
+
+-- the interface by which it comes is cleared once
+abbrev pub clearing_by : Row → (Option ℕ × Bool) → List ℕ
+clearing_by row way = if way.1 then way_clearing row way.0 else []
+
+abbrev pub stream_clearing : Domain → ℕ → List Row → Row → List ℕ
+stream_clearing d bridge before row = option_map_or (clearing_by row) (way_at d bridge before row) []
+
+-- its lines
+abbrev pub stream_gates : Domain → ℕ → Row → List ℕ
+stream_gates d bridge row = option_map_or (λ (hop : Hop). stream_lines d bridge row hop.from) (first_hop d bridge row) []
+
+-- what stands where no link leaves the bridge, so that it needs nothing
+abbrev pub nothing_line : Domain → ℕ → List ℕ
+nothing_line d bridge = if list_any (λ (link : Link). link.from == bridge) d.links then [] else codes "    :\n"
+
+-- the function of a bridge: each variable once, in the order in which it uses them first, so that a bridge that lacks one is left as
+-- it was; the interfaces by which streams come, cleared; its links; its streams
+abbrev pub bridge_text : Domain → List Row → ℕ → List ℕ
+bridge_text d rows bridge =
+    codes "bridge_"
+    ++ (decimal bridge
+    ++ (codes "() {\n    # "
+    ++ (name_of_bridge d bridge
+    ++ (codes "\n"
+    ++ (nothing_line d bridge
+    ++ (each_link d bridge (out_need d bridge)
+    ++ (each_stream (stream_needs d bridge) rows
+    ++ (each_stream (stream_clearing d bridge) rows
+    ++ (each_link d bridge (link_lines d) ++ (flat_map (stream_gates d bridge) rows ++ codes "}\n"))))))))))

@@ -1,0 +1,74 @@
+-- Gate lists as words of `tc`, and what these words are read as (profile, after man tc-taprio and man tc-gate).
+use Rattle.std.specs.Prelude.{ℕ, ◌++◌, ◌==◌, ◌&&◌, List, [], ◌∷◌, Option, Some, None, Result, codes, decimal, drop, if◌then◌else◌, option_map}
+use Rattle.std.specs.Option.{option_and_then}
+use Rattle.cqf_text.specs.Decimal.{decimal_value}
+use Rattle.cqf_model.specs.declared.gates.StreamEntry.{StreamEntry}
+use Rattle.cqf_model.specs.Domain.{is_text}
+use Rattle.cqf_model.specs.GateList.{Entry}
+use Rattle.cqf_gates.specs.declared.faults.TextFault.{TextFault}
+use Rattle.cqf_gates.specs.GateListText.{line_of_gates}
+use Rattle.cqf_gates.specs.TxText.{list_of_text}
+
+-- the list of a port: for each entry its states, where bit k is class k, in hexadecimal, and its interval in nanoseconds, as
+-- `sched-entry S BF 120000`
+abbrev pub tx_words : List Entry → List ℕ
+tx_words [] = []
+tx_words (entry ∷ entries) = codes " sched-entry S " ++ (line_of_gates entry ++ tx_words entries)
+
+-- the list of a stream's gate: for each cycle its length in nanoseconds, the internal priority value, and as octets the fifth
+-- parameter of the function that they stand in
+abbrev pub gate_words : ℕ → List ℕ
+gate_words cycle_time =
+    codes " sched-entry open " ++ (decimal cycle_time ++ (codes " 6 \"$5\" sched-entry open " ++ (decimal cycle_time ++ codes " 7 \"$5\"")))
+
+-- the words of a text, where a space parts one from the next
+abbrev pub in_front : ℕ → List (List ℕ) → List (List ℕ)
+in_front byte [] = (byte ∷ []) ∷ []
+in_front byte (word ∷ words) = (byte ∷ word) ∷ words
+
+abbrev pub parted : List ℕ → List (List ℕ)
+parted [] = [] ∷ []
+parted (byte ∷ text) = if byte == 32 then [] ∷ parted text else in_front byte (parted text)
+
+-- those of a text in which a space stands before each
+abbrev pub words_of_tc : List ℕ → List (List ℕ)
+words_of_tc text = drop 1 (parted text)
+
+-- the gate list of a port as the lines that it's written in, by words that tell its entries; no other words do
+abbrev pub lines_of_words : List (List ℕ) → Option (List ℕ)
+lines_of_words [] = Some []
+lines_of_words (word ∷ command ∷ states ∷ interval ∷ words) =
+    if is_text word (codes "sched-entry") && is_text command (codes "S")
+    then option_map (λ (lines : List ℕ). states ++ 32 ∷ (interval ++ 10 ∷ lines)) (lines_of_words words)
+    else None
+lines_of_words _ = None
+
+-- the list that words of `tc` are read as, or the fault of the list that they tell
+abbrev pub tx_of_words : List ℕ → Option (Result (List Entry) TextFault)
+tx_of_words text = option_map list_of_text (lines_of_words (words_of_tc text))
+
+-- octets as the fifth parameter has them, and no other word
+abbrev pub octets_of_word : ℕ → List ℕ → Option ℕ
+octets_of_word octets word = if is_text word (codes "\"$5\"") then Some octets else None
+
+-- an entry of a stream's gate that words tell, where the fifth parameter is so many octets
+abbrev pub gate_entry : ℕ → List ℕ → List ℕ → List ℕ → Option StreamEntry
+gate_entry octets interval ipv most =
+    option_and_then (λ (time : ℕ). option_and_then (λ (value : ℕ). option_map (λ (limit : ℕ). record { ipv = value; interval = time; octet_max = Some limit })
+    (octets_of_word octets most)) (decimal_value ipv)) (decimal_value interval)
+
+-- an entry before others, where all are there
+abbrev pub before_others : Option StreamEntry → Option (List StreamEntry) → Option (List StreamEntry)
+before_others entry others = option_and_then (λ (first : StreamEntry). option_map (λ (rest : List StreamEntry). first ∷ rest) others) entry
+
+-- the list of a stream's gate that words tell, where the fifth parameter is so many octets; no other words do
+abbrev pub gate_of_parts : ℕ → List (List ℕ) → Option (List StreamEntry)
+gate_of_parts octets [] = Some []
+gate_of_parts octets (word ∷ state ∷ interval ∷ ipv ∷ most ∷ words) =
+    if is_text word (codes "sched-entry") && is_text state (codes "open")
+    then before_others (gate_entry octets interval ipv most) (gate_of_parts octets words)
+    else None
+gate_of_parts octets _ = None
+
+abbrev pub gate_of_words : ℕ → List ℕ → Option (List StreamEntry)
+gate_of_words octets text = gate_of_parts octets (words_of_tc text)

@@ -1,0 +1,110 @@
+//! What the streams of some rows cost of each link.
+ghost use Rattle.std.specs.Prelude.{ℕ, ◌≡◌, ◌<◌, ◌≤◌, ◌^◌, ◌∷◌, [], All, IfOk, length};
+ghost use Rattle.cqf_admission.specs.Tables.{AreAlongLinks};
+ghost use Rattle.cqf_laws_history.specs.StateLaws.{AreHeld};
+ghost use Rattle.cqf_lists.specs.Lists.{each_below};
+ghost use Rattle.cqf_model.specs.declared.topology.Row.{Row as ARow};
+ghost use Rattle.cqf_model.specs.Table.{cost_on, link_cost};
+
+use cqf_model::Row;
+use cqf_topology::Domain;
+use cqf_units::{Memory, Octets, cost};
+use std::alloc::Global;
+use std::marker::Model;
+
+/// The rows of a domain's table, and what their streams cost of each link, in octets a cycle.
+#[derive(Drop)]
+pub(crate) struct Costs {
+    domain: Domain,
+    rows: Vec<Row>,
+    /// One for each link, by number.
+    costs: Vec<u32>,
+}
+
+impl Model for Costs {
+    ghost use Rattle.cqf_program_plans.specs.LatencyOutput.{AreCosts, DomainTable};
+
+    ghost Value = { DomainTable };
+
+    ghost view = { λ c. record { domain = c.domain; rows = c.rows.items } };
+
+    ghost invariant = { λ c. AreCosts c.domain c.rows.items c.costs.items };
+}
+
+/// What a row's stream costs of a link.
+fn cost_on(row: &Row, link: u8) -> u32
+    requires { row.now.octets ≤ 60000 }
+    ensures { result ≡ cost_on row.now link }
+{
+    if row.crosses(link) {
+        cost(Octets(row.octets)).0
+    } else {
+        0
+    }
+}
+
+/// What the rows' streams cost of a link.
+fn link_cost(rows: &[Row], link: u8) -> u32
+    requires octets { All (λ (row : ARow). row.octets ≤ 60000) rows.now }
+    requires fits { link_cost rows.now link < 2 ^ 32 }
+    ensures { result ≡ link_cost rows.now link }
+{
+    let mut total = 0;
+    for row in rows {
+        total += cost_on(row, link);
+    }
+    total
+}
+
+/// What the rows' streams cost of each link of their domain.
+fn link_costs(alloc: Global, domain: &Domain, rows: &[Row]) -> Result<Vec<u32>, Memory>
+    requires { (next : ℕ) × AreHeld domain.now rows.now next 0 }
+    ensures { IfOk result (λ costs. costs.items ≡ each_below (λ l. link_cost rows.now l ∷ []) (length domain.now.links)) }
+{
+    // the domain is accepted: a fact for the loop
+    let _cycle_time = domain.cycle_time();
+    let mut costs = Vec::new(alloc);
+    for link in 0..domain.links() {
+        costs.push(link_cost(rows, link))?;
+    }
+    Ok(costs)
+}
+
+impl Costs {
+    /// The costs of the streams of these rows of a table of the domain, which it takes along.
+    pub(crate) fn new(alloc: Global, domain: Domain, rows: Vec<Row>) -> Result<Costs, Memory>
+        requires along { AreAlongLinks domain rows.items }
+        requires held { (next : ℕ) × AreHeld domain rows.items next 0 }
+        ensures { IfOk result (λ costs. costs ≡ record { domain = domain; rows = rows.items }) }
+    {
+        let costs = link_costs(alloc, &domain, rows.as_slice())?;
+        Ok(Costs {
+            domain,
+            rows,
+            costs,
+        })
+    }
+
+    /// The domain.
+    pub(crate) fn domain(&self) -> &Domain
+        ensures { result.now ≡ self.now.domain }
+    {
+        &self.domain
+    }
+
+    /// The rows of the streams, by number.
+    pub(crate) fn rows(&self) -> &[Row]
+        ensures rows { result.now ≡ self.now.rows }
+        ensures along { AreAlongLinks self.now.domain self.now.rows }
+    {
+        self.rows.as_slice()
+    }
+
+    /// What the streams cost of a link, in octets a cycle.
+    pub(crate) fn of_link(&self, link: u8) -> u32
+        requires { link < length self.now.domain.links }
+        ensures { result ≡ link_cost self.now.rows link }
+    {
+        self.costs[usize::from(link)]
+    }
+}

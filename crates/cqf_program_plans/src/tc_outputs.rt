@@ -1,0 +1,28 @@
+//! The output of `compile --format tc`, before it is told.
+
+use cqf_model::Row;
+use cqf_program_press::Sheet;
+use cqf_topology::Domain;
+use std::marker::Model;
+
+/// What the output of `compile --format tc` is told from: a domain, the rows of its streams by number, the words of the list that each port has and of the
+/// list that each stream's gate has, and a sheet.
+#[derive(Drop)]
+pub struct TcOutput {
+    pub(crate) domain: Domain,
+    pub(crate) rows: Vec<Row>,
+    pub(crate) port_words: Vec<u8>,
+    pub(crate) gate_words: Vec<u8>,
+    pub(crate) sheet: Sheet,
+}
+
+impl Model for TcOutput {
+    ghost use Rattle.cqf_program_plans.specs.ConfigTold.{ConfiguredPlan};
+    ghost use Rattle.cqf_program_plans.specs.TcOutput.{AreWordsOf};
+
+    ghost Value = { ConfiguredPlan };
+
+    ghost view = { λ o. record { domain = o.domain; rows = o.rows.items } };
+
+    ghost invariant = { λ o. AreWordsOf o.domain o.port_words.items o.gate_words.items };
+}

@@ -1,0 +1,68 @@
+//! The script, told line by line.
+ghost use Rattle.cqf_program_press.specs.Edge.{HasTold, writing};
+ghost use Rattle.cqf_program_press.specs.Press.{Puts};
+ghost use Rattle.cqf_program_plans.specs.TcOutput.{AreWordsOf, text_of_tc};
+ghost use Rattle.cqf_program_plans.specs.TcText.{bridges_text, tc_text};
+
+use crate::tc_bridges::put_bridge_function;
+use crate::tc_frame::{
+    put_choice, put_gate_function, put_given, put_link_function, put_no_gates_function, put_usage,
+};
+use crate::tc_outputs::TcOutput;
+use cqf_model::Row;
+use cqf_program_press::{Press, Told};
+use cqf_topology::Domain;
+use std::io::Write;
+
+/// Puts a function a bridge.
+fn put_bridges<W: Write>(press: &mut Press<'_, W>, domain: &Domain, rows: &[Row])
+    ensures { Puts W.contents press.old press.new (bridges_text domain.now rows.now) }
+{
+    for bridge in 0..domain.bridges() {
+        put_bridge_function(press, domain, bridge, rows);
+    }
+}
+
+/// Puts the script of a domain and the rows of its streams, with the words of the lists of ports and of gates.
+fn put_script<W: Write>(
+    press: &mut Press<'_, W>,
+    domain: &Domain,
+    rows: &[Row],
+    port_words: &[u8],
+    gate_words: &[u8],
+)
+    requires { AreWordsOf domain.now port_words.now gate_words.now }
+    ensures { Puts W.contents press.old press.new (tc_text domain.now rows.now) }
+{
+    put_usage(press, domain);
+    put_given(press, domain);
+    put_link_function(press, domain, port_words);
+    put_no_gates_function(press);
+    put_gate_function(press, domain, gate_words);
+    put_bridges(press, domain, rows);
+    put_choice(press, domain);
+}
+
+impl TcOutput {
+    /// Tells the output: the script (profile). It asks for no memory.
+    pub fn tell<W: Write>(self, told: &mut Told<W>)
+        ensures { HasTold (writing W.contents told.old told.new) (text_of_tc self) }
+    {
+        let TcOutput {
+            domain,
+            rows,
+            port_words,
+            gate_words,
+            sheet,
+        } = self;
+        let mut press = Press::new(told, sheet);
+        put_script(
+            &mut press,
+            &domain,
+            rows.as_slice(),
+            port_words.as_slice(),
+            gate_words.as_slice(),
+        );
+        let _told = press.close();
+    }
+}

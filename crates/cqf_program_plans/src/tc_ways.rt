@@ -1,0 +1,80 @@
+//! By which interfaces streams come to a bridge.
+ghost use Rattle.std.specs.Prelude.{ℕ, ◌≡◌, ◌<◌, ◌++◌, ◌∷◌, [], List, Some, option_copied};
+ghost use Rattle.cqf_model.specs.Domain.{leaves};
+ghost use Rattle.cqf_model.specs.declared.topology.Row.{Row as ARow};
+ghost use Rattle.cqf_program_plans.specs.TcBridge.{first_hop, way_at};
+ghost use Rattle.cqf_program_plans.specs.TcWays.{IsSeenWay, NotesWay, is_unseen};
+
+use cqf_model::{Hop, Row};
+use cqf_topology::Domain;
+
+/// Whether a link leaves the bridge. A link that the domain lacks doesn't.
+pub(crate) fn leaves(domain: &Domain, link: u8, bridge: u8) -> bool
+    ensures { result ≡ leaves domain.now link bridge }
+{
+    link < domain.links() && domain.link(link).from == bridge
+}
+
+/// Where the first hop stands by which the row's stream leaves the bridge.
+fn find_hop<'r>(domain: &Domain, row: &'r Row, bridge: u8) -> Option<&'r Hop>
+    ensures { option_copied result ≡ first_hop domain.now bridge row.now }
+{
+    row.tree
+        .as_slice()
+        .iter()
+        .find(|hop| leaves(domain, hop.link, bridge))
+}
+
+/// The first hop by which the row's stream leaves the bridge.
+pub(crate) fn first_hop(domain: &Domain, row: &Row, bridge: u8) -> Option<Hop>
+    ensures { result ≡ first_hop domain.now bridge row.now }
+{
+    match find_hop(domain, row, bridge) {
+        Some(hop) => Some(*hop),
+        None => None,
+    }
+}
+
+/// Whether no stream was seen to come that way.
+fn is_unseen(seen: &[bool; 256], way: Option<u8>) -> bool
+    ensures value { result ≡ is_unseen seen.now way }
+    ensures range { (link : ℕ) → way ≡ Some link → link < 256 }
+{
+    match way {
+        Some(link) => !seen[usize::from(link)],
+        None => true,
+    }
+}
+
+/// Notes that a stream comes by a link.
+fn mark(seen: &mut [bool; 256], link: u8)
+    ensures { NotesWay seen.old (Some link) seen.new }
+{
+    seen[usize::from(link)] = true;
+}
+
+/// Notes that a stream comes that way.
+fn note(seen: &mut [bool; 256], way: Option<u8>)
+    ensures { NotesWay seen.old way seen.new }
+{
+    match way {
+        Some(link) => mark(seen, link),
+        None => (),
+    }
+}
+
+/// By which way the row's stream comes to the bridge, and whether none did before, where it leaves the bridge at all. It is noted.
+pub(crate) fn way_of(
+    domain: &Domain,
+    bridge: u8,
+    seen: &mut [bool; 256],
+    row: &Row,
+) -> Option<(Option<u8>, bool)>
+    ensures way { (before : List ARow) → IsSeenWay domain.now bridge before seen.old → result ≡ way_at domain.now bridge before row.now }
+    ensures noted { (before : List ARow) → IsSeenWay domain.now bridge before seen.old → IsSeenWay domain.now bridge (before ++ row.now ∷ []) seen.new }
+{
+    let hop = first_hop(domain, row, bridge)?;
+    let is_new = is_unseen(seen, hop.from);
+    note(seen, hop.from);
+    Some((hop.from, is_new))
+}

@@ -1,0 +1,122 @@
+-- The deliveries that were made are those in the book of the scenario.
+use Rattle.std.proofs.Common.{◌≡◌, ◌∙◌, ◌⊎◌, ℕ, ◌≤◌, ◌<◌, Bool, List, inl, inr, Option, Some, None, ap, arith, get_or, length, map, refl, subst, sym, position, find}
+use Rattle.std.specs.Prelude.{slice_get}
+use Rattle.std.specs.Option.{option_and_then}
+use Rattle.std.proofs.lemmas.List.{get_or-map, get_or_past, length-map}
+use Rattle.std.proofs.lemmas.Option.{get_or_from_slice_get, slice_get_cases, slice_get_within}
+use Rattle.cqf_lists.proofs.EachBelow.{length-singles}
+use Rattle.cqf_model.specs.declared.frames.Offer.{Offer}
+use Rattle.cqf_model.specs.declared.frames.Started.{Started}
+use Rattle.cqf_model.specs.declared.topology.Row.{Row}
+use Rattle.cqf_model.specs.Book.{Contents}
+use Rattle.cqf_model.specs.Domain.{Domain, is_text}
+use Rattle.cqf_model.specs.History.{Asked, Recorded, seals, table_at, tables_of}
+use Rattle.cqf_model.specs.Shift.{offer_cycle}
+use Rattle.cqf_model.specs.Traffic.{numbered}
+use Rattle.cqf_model.specs.Promise.{IsDecided}
+use Rattle.cqf_topology.specs.declared.streams.Request.{Request}
+use Rattle.cqf_topology.specs.PlannedText.{PlannedText}
+use Rattle.cqf_admission.specs.Asking.{asked_by, asked_of}
+use Rattle.cqf_admission.proofs.HeldLemmas.{position-map}
+use Rattle.cqf_admission_requests.specs.Names.{place_named}
+use Rattle.cqf_admission_requests.proofs.Places.{found_nowhere, found_there}
+use Rattle.cqf_laws_report.specs.Counted.{AreDecided}
+use Rattle.cqf_laws_report.specs.Judged.{OffersAreJudged, StandInOrder}
+use Rattle.cqf_instants_coverage.specs.declared.judged.Judgement.{Judgement}
+use Rattle.cqf_instants_coverage.specs.Coverage.{AreJudged}
+use Rattle.cqf_instants_columns.specs.Columns.{verdict_at}
+use Rattle.cqf_instants_columns.proofs.Judged.{at_place}
+use Rattle.cqf_program_plans.specs.LatencyInput.{deadlines_in}
+use Rattle.cqf_program_scenario.specs.Books.{IsBookOfScenario}
+use Rattle.cqf_program_scenario.specs.Calls.{history_of}
+use Rattle.cqf_program_scenario.specs.Scenario.{Scenario}
+use Rattle.cqf_program_runs.specs.declared.delivery.Delivery.{Delivery}
+use Rattle.cqf_program_runs.specs.ByVerdict.{deliveries_of_all, known_by}
+use Rattle.cqf_program_runs.specs.Deadlines.{deadline_in}
+use Rattle.cqf_program_runs.specs.Deliveries.{deadline_named, whole_on}
+use Rattle.cqf_program_runs.proofs.ByBook.{deliveries_judged}
+use Rattle.cqf_program_runs.specs.PlannedScenario.{run_of_scenario}
+use Rattle.cqf_program_runs.specs.DeliveriesReading.{AreDeliveries, ArePlannedBeside}
+
+-- what is found by a name, or nothing, has its deadline at its place
+due_at : (streams : List PlannedText) (k : ℕ) (found : Option PlannedText) → slice_get streams k ≡ found →
+    get_or (map (λ (planned : PlannedText). planned.1) streams) k None ≡ option_and_then (λ (planned : PlannedText). planned.1) found
+due_at streams k (Some planned) at =
+    get_or-map (λ (p : PlannedText). p.1) streams k planned None (slice_get_within streams k planned at)
+    ∙ ap (λ (p : PlannedText). p.1) (get_or_from_slice_get streams k planned planned at)
+due_at streams k None at = none (slice_get_cases streams k).1
+  where
+    none : ((x : PlannedText) × (k < length streams) × (slice_get streams k ≡ Some x) × (get_or streams k x ≡ x)) ⊎ ((length streams ≤ k) × (slice_get streams k ≡ None)) →
+        get_or (map (λ (planned : PlannedText). planned.1) streams) k None ≡ None
+    none (inl here) = absurd (let both : Some here.0 ≡ None = sym here.2 ∙ at in cc)
+    none (inr past) = get_or_past (map (λ (planned : PlannedText). planned.1) streams) k None (omega (arith, past.0, length-map streams (λ (planned : PlannedText). planned.1)))
+
+-- whether a stream has a name
+abbrev named : List ℕ → PlannedText → Bool
+named name planned = is_text planned.0.name name
+
+-- so the deadline of a name is that of the first stream of it
+pub due_is : (streams : List PlannedText) (requests : List Request) (deadlines : List (Option ℕ)) → ArePlannedBeside streams requests deadlines → (name : List ℕ) →
+    deadline_in (record { requests = requests; deadlines = deadlines }) name ≡ deadline_named streams name
+due_is streams requests deadlines planned name =
+    ap (option_and_then (λ (k : ℕ). get_or deadlines k None)) places
+    ∙ ap (λ (ends : List (Option ℕ)). option_and_then (λ (k : ℕ). get_or ends k None) (position (named name) streams)) planned.ends
+    ∙ by (position (named name) streams) refl
+  where
+    -- the first request of it stands where the first stream does
+    places : place_named requests name ≡ position (named name) streams
+    places =
+        sym (position-map (λ (asked : Asked). is_text asked.name name) asked_of requests)
+        ∙ ap (position (λ (asked : Asked). is_text asked.name name)) planned.asked
+        ∙ position-map (λ (asked : Asked). is_text asked.name name) (λ (p : PlannedText). asked_by p.0) streams
+
+    -- whether there is one
+    by : (place : Option ℕ) → position (named name) streams ≡ place →
+        option_and_then (λ (k : ℕ). get_or (deadlines_in streams) k None) place ≡ deadline_named streams name
+    by None is = ap (option_and_then (λ (planned : PlannedText). planned.1)) (found_nowhere (named name) streams is)
+    by (Some k) is = due_at streams k (find (named name) streams) (found_there (named name) streams k is)
+
+-- the deliveries by the judgements are those by the book
+pub AreDeliveries-made : OffersAreJudged → (cycles : ℕ) (s : Scenario) (streams : List PlannedText) (book : Contents) (rows : List Row)
+    (judgements : List Judgement) (due : List ℕ → Option ℕ) (deliveries : List Delivery) → IsBookOfScenario cycles s book →
+    AreJudged s.domain (history_of cycles s) rows s.offers (length s.offers) judgements → StandInOrder s.offers →
+    ((name : List ℕ) → due name ≡ deadline_named streams name) →
+    deliveries ≡ deliveries_of_all s.domain cycles (known_by due (whole_on s.domain book.starts)) (verdict_at s.domain rows judgements) (numbered s.offers) →
+    AreDeliveries cycles s streams deliveries
+AreDeliveries-made law cycles s streams book rows judgements due deliveries is_book judged ordered same_due are = record {
+  book = book;
+  is_book = is_book;
+  are = are
+      ∙ ap (λ (n : ℕ). deliveries_of_all s.domain n (known_by due (whole_on s.domain book.starts)) (verdict_at s.domain rows judgements) (numbered s.offers)) (sym many)
+      ∙ deliveries_judged (run_of_scenario cycles s) streams book is_book.promise.says due same_due (verdict_at s.domain rows judgements) decided;
+}
+  where
+    -- there is a table for each cycle
+    many : length (tables_of s.domain (history_of cycles s) cycles) ≡ cycles
+    many = length-singles (table_at s.domain (history_of cycles s)) cycles
+
+    -- each judgement is what the definitions say
+    decided : AreDecided (run_of_scenario cycles s) (verdict_at s.domain rows judgements)
+    decided x inside within =
+        let early : offer_cycle s.domain x < cycles = omega (arith, within, many) in
+        let sealed : cycles ≤ seals (history_of cycles s) = is_book.is_book.sealed in
+        subst (IsDecided (run_of_scenario cycles s) x) (sym (at_place s.domain (history_of cycles s) rows s.offers judgements judged cycles sealed x inside early))
+        (law s.domain (history_of cycles s) s.offers s.background cycles x sealed ordered inside early)
+
+-- and so where they were made of the same things otherwise named
+pub AreDeliveries-run : OffersAreJudged → (cycles : ℕ) (s : Scenario) (streams : List PlannedText) (book : Contents) (d : Domain) (entries : List Recorded)
+    (offers : List Offer) (starts : List Started) (rows : List Row) (judgements : List Judgement) (due : List ℕ → Option ℕ) (deliveries : List Delivery) →
+    IsBookOfScenario cycles s book → d ≡ s.domain → entries ≡ history_of cycles s → offers ≡ s.offers → starts ≡ book.starts →
+    AreJudged d entries rows offers (length offers) judgements → StandInOrder s.offers → ((name : List ℕ) → due name ≡ deadline_named streams name) →
+    deliveries ≡ deliveries_of_all d cycles (known_by due (whole_on d starts)) (verdict_at d rows judgements) (numbered offers) →
+    AreDeliveries cycles s streams deliveries
+AreDeliveries-run law cycles s streams book d entries offers starts rows judgements due deliveries is_book domain history same started judged ordered same_due are =
+    AreDeliveries-made law cycles s streams book rows judgements due deliveries is_book
+    (subst (λ (os : List Offer). AreJudged s.domain (history_of cycles s) rows os (length os) judgements) same
+    (subst (λ (es : List Recorded). AreJudged s.domain es rows offers (length offers) judgements) history
+    (subst (λ (x : Domain). AreJudged x entries rows offers (length offers) judgements) domain judged)))
+    ordered same_due
+    (are
+    ∙ ap (λ (x : Domain). deliveries_of_all x cycles (known_by due (whole_on x starts)) (verdict_at x rows judgements) (numbered offers)) domain
+    ∙ ap (λ (os : List Offer). deliveries_of_all s.domain cycles (known_by due (whole_on s.domain starts)) (verdict_at s.domain rows judgements) (numbered os)) same
+    ∙ ap (λ (ss : List Started). deliveries_of_all s.domain cycles (known_by due (whole_on s.domain ss)) (verdict_at s.domain rows judgements) (numbered s.offers)) started)

@@ -1,0 +1,21 @@
+mod LineText
+mod LineRuns
+mod LineTables
+mod RunOutputs
+mod ReportOutputs
+pub mod Noted
+pub mod Passed
+pub mod ByBook
+mod CourseLines
+mod Listed
+mod Lines
+mod Fates
+mod Well
+mod Arrived
+mod Once
+mod Planned
+mod InTime
+mod Passing
+mod Later
+mod Judged
+mod Told

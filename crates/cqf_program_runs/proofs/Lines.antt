@@ -1,0 +1,37 @@
+-- The lines of a check, as they are printed.
+use Rattle.std.proofs.Common.{◌≡◌, ◌∙◌, ◌++◌, ◌∷◌, [], ℕ, List, append_assoc, ap, codes, sym}
+use Rattle.cqf_program_stop.specs.Stops.{fault_line, line_of}
+
+-- the line feed stands behind the last number
+pub unfinished_told : (under_way later : List ℕ) →
+    codes "cqf: check: unfinished, under way " ++ (under_way ++ (codes ", not run " ++ (later ++ 10 ∷ [])))
+    ≡ fault_line (codes "check") (codes "unfinished, under way " ++ (under_way ++ (codes ", not run " ++ later)))
+unfinished_told under_way later =
+    ap (λ t. codes "cqf: check: unfinished, under way " ++ t) (sym (append_assoc under_way (codes ", not run " ++ later) (10 ∷ [])))
+
+pub well_told : (frames delivered timed : List ℕ) →
+    codes "well: frames " ++ (frames ++ (codes ", deliveries " ++ (delivered ++ (codes ", with a deadline " ++ (timed ++ 10 ∷ [])))))
+    ≡ line_of (codes "well: frames " ++ (frames ++ (codes ", deliveries " ++ (delivered ++ (codes ", with a deadline " ++ timed)))))
+well_told frames delivered timed =
+    let last = codes ", with a deadline " ++ timed in
+    ap (λ t. codes "well: frames " ++ t)
+    (sym (append_assoc frames (codes ", deliveries " ++ (delivered ++ last)) (10 ∷ [])
+    ∙ ap (λ t. frames ++ (codes ", deliveries " ++ t)) (append_assoc delivered last (10 ∷ []))))
+
+-- and behind what is said of a delivery
+pub complaint_told : (frame stream bridge at complaint : List ℕ) →
+    codes "cqf: check: frame "
+    ++ (frame ++ (codes " of " ++ (stream ++ (codes ", offered to " ++ (bridge ++ (codes " at " ++ (at ++ (codes ": " ++ (complaint ++ 10 ∷ [])))))))))
+    ≡ fault_line (codes "check")
+    (codes "frame " ++ (frame ++ (codes " of " ++ (stream ++ (codes ", offered to " ++ (bridge ++ (codes " at " ++ (at ++ (codes ": " ++ complaint)))))))))
+complaint_told frame stream bridge at complaint =
+    let z : List ℕ = 10 ∷ [] in
+    let behind_at = codes ": " ++ complaint in
+    let behind_bridge = codes " at " ++ (at ++ behind_at) in
+    let behind_stream = codes ", offered to " ++ (bridge ++ behind_bridge) in
+    let behind_frame = codes " of " ++ (stream ++ behind_stream) in
+    ap (λ t. codes "cqf: check: frame " ++ t)
+    (sym (append_assoc frame behind_frame z
+    ∙ ap (λ t. frame ++ (codes " of " ++ t)) (append_assoc stream behind_stream z
+    ∙ ap (λ t. stream ++ (codes ", offered to " ++ t)) (append_assoc bridge behind_bridge z
+    ∙ ap (λ t. bridge ++ (codes " at " ++ t)) (append_assoc at behind_at z)))))

@@ -1,0 +1,117 @@
+-- What is told of the deliveries that were made is told of the input.
+use Rattle.std.proofs.Common.{◌≡◌, ◌∙◌, ℕ, List, Option, Some, None, Result, Err, ap, find, length, refl, subst, sym, count_by, nat_le}
+use Rattle.cqf_lists.specs.Results.{refuse}
+use Rattle.cqf_lists.proofs.EachBelow.{length-singles}
+use Rattle.cqf_model.specs.declared.frames.Offered.{Offered}
+use Rattle.cqf_model.specs.History.{table_at}
+use Rattle.cqf_model.specs.Shift.{offer_cycle}
+use Rattle.cqf_model.specs.Traffic.{numbered}
+use Rattle.cqf_topology.specs.PlannedText.{PlannedText}
+use Rattle.cqf_program_scenario.specs.Calls.{history_of}
+use Rattle.cqf_program_scenario.specs.Closing.{scenario_given}
+use Rattle.cqf_program_scenario.specs.Scenario.{Scenario}
+use Rattle.cqf_program_stop.specs.declared.stops.Stop.{Stop}
+use Rattle.cqf_program_stop.specs.Stops.{EndsWith, IsRefused}
+use Rattle.cqf_program_runs.specs.declared.checked.Counts.{Counts}
+use Rattle.cqf_program_runs.specs.declared.delivery.Delivery.{Delivery}
+use Rattle.cqf_program_runs.specs.Checked.{checked_by, complaint_line, counts_of, finished, is_bad, later_offers}
+use Rattle.cqf_program_runs.specs.Deliveries.{fate_of}
+use Rattle.cqf_program_runs.specs.DeliveriesText.{text_of_deliveries}
+use Rattle.cqf_program_runs.specs.declared.deliveries_reading.PlannedGiven.{PlannedGiven}
+use Rattle.cqf_program_runs.specs.Checking.{IsCheckedGiven, IsRefusedGiven}
+use Rattle.cqf_program_runs.specs.CheckOutput.{IsCheckRefusal, IsChecked, IsCheckedOf, IsCheckedScenario}
+use Rattle.cqf_program_runs.specs.DeliveriesOutput.{IsDeliveriesOutput}
+use Rattle.cqf_program_runs.specs.PlannedScenario.{planned_scenario, run_of_scenario}
+use Rattle.cqf_program_runs.specs.DeliveriesReading.{AreDeliveries, AreDeliveriesOf, IsPlannedGiven}
+
+-- the text of the deliveries is the output
+pub IsDeliveriesOutput-made : (cycles : ℕ) (input : List ℕ) (planned : PlannedGiven) (deliveries : List Delivery) → IsPlannedGiven cycles input planned →
+    AreDeliveriesOf cycles planned deliveries → IsDeliveriesOutput cycles input (text_of_deliveries deliveries)
+IsDeliveriesOutput-made cycles input planned deliveries given are =
+    let made = are given.streams given.planned in
+    record {
+      found = (scenario_given planned.given, given.streams);
+      holds = given.holds;
+      book = made.book;
+      is_book = made.is_book;
+      written = ap text_of_deliveries made.are;
+    }
+
+-- what is told of them is told of the scenario
+pub IsCheckedScenario-made : (cycles : ℕ) (s : Scenario) (streams : List PlannedText) (deliveries : List Delivery) (frames later : ℕ)
+    (found : Result (List ℕ) (List ℕ)) → AreDeliveries cycles s streams deliveries → frames ≡ length s.offers →
+    later ≡ count_by (λ (x : Offered). nat_le cycles (offer_cycle s.domain x)) (numbered s.offers) →
+    checked_by deliveries (counts_of frames later deliveries) ≡ found → IsCheckedScenario cycles s streams found
+IsCheckedScenario-made cycles s streams deliveries frames later found made many rest told = record {
+  book = made.book;
+  is_book = made.is_book;
+  told = ap (λ (ds : List Delivery). checked_by ds (counts_of (length s.offers) (later_offers (run_of_scenario cycles s)) ds)) (sym made.are)
+      ∙ ap (λ (n : ℕ). checked_by deliveries (counts_of (length s.offers) n deliveries)) (sym (rest ∙ as_run))
+      ∙ ap (λ (n : ℕ). checked_by deliveries (counts_of n later deliveries)) (sym many)
+      ∙ told;
+}
+  where
+    -- there is a table for each cycle
+    as_run : count_by (λ (x : Offered). nat_le cycles (offer_cycle s.domain x)) (numbered s.offers) ≡ later_offers (run_of_scenario cycles s)
+    as_run = ap (λ (n : ℕ). count_by (λ (x : Offered). nat_le n (offer_cycle s.domain x)) (numbered s.offers))
+        (sym (length-singles (table_at s.domain (history_of cycles s)) cycles))
+
+-- and of the input
+pub IsChecked-given : (cycles : ℕ) (input : List ℕ) (planned : PlannedGiven) (found : Result (List ℕ) (List ℕ)) → IsPlannedGiven cycles input planned →
+    IsCheckedGiven cycles planned found → IsChecked cycles input found
+IsChecked-given cycles input planned found given told =
+    subst (λ read. IsCheckedOf cycles read found) (sym given.holds) (told given.streams given.planned)
+
+pub IsCheckRefusal-given : (cycles : ℕ) (input : List ℕ) (planned : PlannedGiven) (stop : Stop) → IsPlannedGiven cycles input planned →
+    IsRefusedGiven cycles planned stop → IsCheckRefusal cycles input stop
+IsCheckRefusal-given cycles input planned stop given refused = record {
+  statuses = refused.statuses;
+  line = λ one. IsChecked-given cycles input planned (Err stop.text.items) given (refused.line one);
+  memory = refused.memory;
+}
+
+-- of an input that is refused it is the line of its first fault
+pub IsCheckRefusal-read : (cycles : ℕ) (input : List ℕ) (stop : Stop) → IsRefused (planned_scenario cycles input) stop → IsCheckRefusal cycles input stop
+IsCheckRefusal-read cycles input stop refused = record {
+  statuses = refused.statuses;
+  line = λ one. subst (λ read. IsCheckedOf cycles read (Err stop.text.items)) (sym (refused.line one)) refl;
+  memory = refused.memory;
+}
+
+-- what is told of deliveries where none is bad, and where one is
+module _ (deliveries : List Delivery) (counts : Counts) where
+  pub checked_none : find (λ (delivery : Delivery). is_bad (fate_of delivery)) deliveries ≡ None → checked_by deliveries counts ≡ finished counts
+  checked_none is = ap (λ (found : Option Delivery). refuse found complaint_line (finished counts)) is
+
+  pub checked_some : (bad : Delivery) → find (λ (delivery : Delivery). is_bad (fate_of delivery)) deliveries ≡ Some bad →
+      checked_by deliveries counts ≡ Err (complaint_line bad)
+  checked_some bad is = ap (λ (found : Option Delivery). refuse found complaint_line (finished counts)) is
+
+-- an end with a line, where that line is what was found
+pub IsRefused-line : {A : Type 0} (found : Result A (List ℕ)) (line : List ℕ) (stop : Stop) → found ≡ Err line → EndsWith 1 line stop → IsRefused found stop
+IsRefused-line found line stop is ends = record {
+  statuses = ends.statuses;
+  line = λ one. is ∙ ap Err (sym (ends.line_is one));
+  memory = ends.memory;
+}
+
+-- what is told of the deliveries that were made is told of what was read
+module _ (cycles : ℕ) (planned : PlannedGiven) (deliveries : List Delivery) (counts : Counts) (are : AreDeliveriesOf cycles planned deliveries)
+    (counted : counts ≡ counts_of (length planned.given.offers.items)
+    (count_by (λ (x : Offered). nat_le cycles (offer_cycle planned.given.domain x)) (numbered planned.given.offers.items)) deliveries) where
+  pub IsCheckedGiven-made : (found : Result (List ℕ) (List ℕ)) → checked_by deliveries counts ≡ found → IsCheckedGiven cycles planned found
+  IsCheckedGiven-made found told streams those =
+      IsCheckedScenario-made cycles (scenario_given planned.given) streams deliveries (length planned.given.offers.items)
+      (count_by (λ (x : Offered). nat_le cycles (offer_cycle planned.given.domain x)) (numbered planned.given.offers.items)) found (are streams those) refl refl
+      (ap (checked_by deliveries) (sym counted) ∙ told)
+
+  pub IsRefusedGiven-made : (stop : Stop) → IsRefused (checked_by deliveries counts) stop → IsRefusedGiven cycles planned stop
+  IsRefusedGiven-made stop refused = record {
+    statuses = refused.statuses;
+    line = λ one. IsCheckedGiven-made (Err stop.text.items) (refused.line one);
+    memory = refused.memory;
+  }
+
+-- and what is the same is refused with it
+pub IsRefused-same : {A : Type 0} (found other : Result A (List ℕ)) (stop : Stop) → found ≡ other → IsRefused other stop → IsRefused found stop
+IsRefused-same {A} found other stop is refused = subst (λ (r : Result A (List ℕ)). IsRefused r stop) (sym is) refused

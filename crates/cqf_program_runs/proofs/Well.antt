@@ -1,0 +1,172 @@
+-- A check tells that all is well exactly where all goes well.
+use Rattle.std.proofs.Common.{◌≡◌, ◌∙◌, ◌∷◌, ◌<◌, ◌==◌, ◌&&◌, [], ℕ, Bool, true, false, List, Option, Some, None, Result, Ok, Err, Contains, ap, arith, find, if◌then◌else◌, length, lt-ltb, nat_le, option_map, refl, subst, sym}
+use Rattle.std.proofs.lemmas.Bool.{leb-false, lt-leb}
+use Rattle.std.proofs.lemmas.Bool.Decides.{nat_tests}
+use Rattle.cqf_lists.specs.Results.{refuse}
+use Rattle.cqf_lists.proofs.Members.{contains_flat, contains_from_flat, contains_from_map, contains_here, contains_map}
+use Rattle.cqf_model.specs.declared.frames.Dropped.{Dropped}
+use Rattle.cqf_model.specs.declared.frames.Offered.{Offered}
+use Rattle.cqf_model.specs.declared.frames.Reason.{Reason}
+use Rattle.cqf_model.specs.declared.frames.Started.{Started}
+use Rattle.cqf_model.specs.declared.topology.Hop.{Hop}
+use Rattle.cqf_model.specs.declared.topology.Row.{Row}
+use Rattle.cqf_model.specs.Book.{Contents}
+use Rattle.cqf_model.specs.Run.{Run}
+use Rattle.cqf_model.specs.Shift.{IsCovered, IsUncovered, offer_cycle}
+use Rattle.cqf_model.specs.Traffic.{DroppedFor, ExceedsGate, LacksRow, Queued, Verdict, numbered}
+use Rattle.cqf_model.specs.Promise.{SaysTheShift, IsDecided}
+use Rattle.cqf_topology.specs.PlannedText.{PlannedText}
+use Rattle.cqf_laws_shift.proofs.Decided.{is_decided, judged}
+use Rattle.cqf_program_plans.specs.LatencyText.{listeners_of}
+use Rattle.cqf_program_runs.specs.declared.checked.Counts.{Counts}
+use Rattle.cqf_program_runs.specs.declared.delivery.Course.TheVariants as course
+use Rattle.cqf_program_runs.specs.declared.delivery.Delivery.{Delivery}
+use Rattle.cqf_program_runs.specs.declared.delivery.Fate.TheVariants as fate
+use Rattle.cqf_program_runs.specs.Checked.{checked_deliveries, checked_by, complaint_line, counts_of, finished, is_bad, is_finished, is_under_way, later_offers, unfinished_line, well_line}
+use Rattle.cqf_program_runs.specs.CheckLaws.{AllGoWell, ComesInTime, GoesWell, IsWellExactly, line_of_well}
+use Rattle.cqf_program_runs.specs.Deliveries.{deadline_named, deliveries_by, deliveries_of, deliveries_of_offer, deliveries_to, deliveries_unless, delivery_of, delivery_to, drop_of, end_of_journey, fate_of, start_on, whole_instant, whole_on}
+use Rattle.cqf_program_runs.proofs.ByBook.{covered_no_drop, uncovered_drop}
+use Rattle.cqf_program_runs.proofs.Fates.{count_none, first_passes, is_there, none_counted, none_found, none_passes, second_passes}
+
+-- whether all is finished
+by_finish : (counts : Counts) (line : List ℕ) → finished counts ≡ Ok line → (b : Bool) → is_finished counts ≡ b → b ≡ true
+by_finish counts line is true e = refl
+by_finish counts line is false e = absurd (
+    let both : Err (unfinished_line counts) ≡ Ok line =
+    sym (ap {B = Result (List ℕ) (List ℕ)} (λ (b : Bool). if b then Ok (well_line counts) else Err (unfinished_line counts)) e) ∙ is in cc)
+
+-- a check that is well found none that is bad, and all is finished
+by_bad : (deliveries : List Delivery) (counts : Counts) (line : List ℕ) → checked_by deliveries counts ≡ Ok line → (found : Option Delivery) →
+    find (λ (delivery : Delivery). is_bad (fate_of delivery)) deliveries ≡ found → (found ≡ None) × (finished counts ≡ Ok line)
+by_bad deliveries counts line is None e =
+    (refl, sym (ap {B = Result (List ℕ) (List ℕ)} (λ (o : Option Delivery). refuse o complaint_line (finished counts)) e) ∙ is)
+by_bad deliveries counts line is (Some bad) e = absurd (
+    let both : Err (complaint_line bad) ≡ Ok line =
+    sym (ap {B = Result (List ℕ) (List ℕ)} (λ (o : Option Delivery). refuse o complaint_line (finished counts)) e) ∙ is in cc)
+
+module _ (run : Run) (streams : List PlannedText) (book : Contents) (says : SaysTheShift run book) where
+  -- of an offer of a cycle that is run
+  pub of_run : (x : Offered) → offer_cycle run.domain x < length run.tables →
+      deliveries_of_offer run streams book x ≡ deliveries_unless run streams book x (drop_of book.drops x.frame)
+  of_run x within =
+      ap (λ (b : Bool). if b then deliveries_unless run streams book x (drop_of book.drops x.frame) else [])
+      (lt-ltb (offer_cycle run.domain x) (length run.tables) within)
+
+  -- the deliveries of one that is covered are those to the listeners of its row
+  pub of_covered : (x : Offered) → Contains (numbered run.offers) x → offer_cycle run.domain x < length run.tables → (row : Row) → IsCovered run x row →
+      deliveries_of_offer run streams book x
+      ≡ deliveries_to run.domain (whole_on run.domain book.starts x.frame) (deadline_named streams x.offer.stream) x row
+  of_covered x inside within row covered =
+      of_run x within
+      ∙ ap (deliveries_unless run streams book x) (covered_no_drop run book says x inside row covered)
+      ∙ ap (deliveries_by run.domain (whole_on run.domain book.starts x.frame) (deadline_named streams x.offer.stream) x) covered.named
+
+  -- and of one that isn't there is its drop
+  pub of_uncovered : (x : Offered) → Contains (numbered run.offers) x → offer_cycle run.domain x < length run.tables → (reason : Reason) →
+      IsUncovered run x reason → (dropped : Dropped) × (deliveries_of_offer run streams book x ≡ delivery_of run.domain x (course.Dropped dropped.reason) ∷ [])
+  of_uncovered x inside within reason uncovered =
+      let drop = uncovered_drop run book says x inside reason within uncovered in
+      (drop.0, of_run x within ∙ ap (deliveries_unless run streams book x) drop.1)
+
+  -- the deliveries, each of which is there
+  abbrev all : List Delivery
+  all = deliveries_of run streams book
+
+  -- where each is, an offer of a cycle that is run goes well
+  module _ (there : (delivery : Delivery) → Contains all delivery → fate_of delivery ≡ fate.Delivered)
+      (within : (x : Offered) → Contains (numbered run.offers) x → offer_cycle run.domain x < length run.tables) where
+    comes : (x : Offered) (hop : Hop) →
+        end_of_journey x.offer.at.0 (whole_on run.domain book.starts x.frame hop.link) (deadline_named streams x.offer.stream) ≡ fate.Delivered →
+        (found : Option Started) → start_on book.starts x.frame hop.link ≡ found → ComesInTime run streams book x hop
+    comes x hop is None e = absurd (
+        let both : fate.UnderWay ≡ fate.Delivered =
+        sym (ap (λ (o : Option Started). end_of_journey x.offer.at.0 (option_map (whole_instant run.domain) o) (deadline_named streams x.offer.stream)) e) ∙ is in cc)
+    comes x hop is (Some start) e = record {
+      start = start;
+      starts = e;
+      in_time =
+          sym (ap (λ (o : Option Started). end_of_journey x.offer.at.0 (option_map (whole_instant run.domain) o) (deadline_named streams x.offer.stream)) e) ∙ is;
+    }
+
+    by_verdict : (x : Offered) → Contains (numbered run.offers) x → (v : Verdict) → IsDecided run x v → GoesWell run streams book x
+    by_verdict x inside (Queued row) covered = record {
+      within = within x inside;
+      row = row;
+      covered = covered;
+      each = λ hop among.
+          let whole = whole_on run.domain book.starts x.frame in
+          let deadline = deadline_named streams x.offer.stream in
+          let delivery = delivery_to run.domain whole deadline x hop in
+          let own : Contains (deliveries_of_offer run streams book x) delivery =
+          subst (λ (ds : List Delivery). Contains ds delivery) (sym (of_covered x inside (within x inside) row covered))
+          (contains_map (delivery_to run.domain whole deadline x) (listeners_of run.domain row) hop among) in
+          comes x hop (there delivery (contains_flat (deliveries_of_offer run streams book) (numbered run.offers) x delivery inside own))
+          (start_on book.starts x.frame hop.link) refl;
+    }
+    by_verdict x inside (DroppedFor reason) uncovered = absurd (
+        let drop = of_uncovered x inside (within x inside) reason uncovered in
+        let delivery = delivery_of run.domain x (course.Dropped drop.0.reason) in
+        let own : Contains (deliveries_of_offer run streams book x) delivery =
+        subst (λ (ds : List Delivery). Contains ds delivery) (sym drop.1) (contains_here delivery []) in
+        let is : fate.Dropped drop.0.reason ≡ fate.Delivered =
+        there delivery (contains_flat (deliveries_of_offer run streams book) (numbered run.offers) x delivery inside own) in cc)
+    by_verdict x inside LacksRow never = absurd never
+    by_verdict x inside ExceedsGate never = absurd never
+
+    goes_well : AllGoWell run streams book
+    goes_well x inside = by_verdict x inside (judged run x) (is_decided run x inside)
+
+  -- where all goes well, each delivery is there
+  each_there : AllGoWell run streams book → (delivery : Delivery) → Contains all delivery → fate_of delivery ≡ fate.Delivered
+  each_there well delivery among =
+      let from = contains_from_flat (deliveries_of_offer run streams book) (numbered run.offers) delivery among in
+      let x = from.0 in
+      let good = well x from.1 in
+      let whole = whole_on run.domain book.starts x.frame in
+      let deadline = deadline_named streams x.offer.stream in
+      let own : Contains (deliveries_to run.domain whole deadline x good.row) delivery =
+      subst (λ (ds : List Delivery). Contains ds delivery) (of_covered x from.1 good.within good.row good.covered) from.2 in
+      let hop = contains_from_map (delivery_to run.domain whole deadline x) (listeners_of run.domain good.row) delivery own in
+      let comes = good.each hop.0 hop.1 in
+      ap fate_of (sym hop.2)
+      ∙ ap (λ (o : Option Started). end_of_journey x.offer.at.0 (option_map (whole_instant run.domain) o) deadline) comes.starts
+      ∙ comes.in_time
+
+  -- what is counted
+  abbrev counted : Counts
+  counted = counts_of (length run.offers) (later_offers run) all
+
+  only_well : (line : List ℕ) → checked_deliveries run streams book ≡ Ok line → AllGoWell run streams book
+  only_well line is =
+      let bad : Delivery → Bool = λ delivery. is_bad (fate_of delivery) in
+      let waits : Delivery → Bool = λ delivery. is_under_way (fate_of delivery) in
+      let late : Offered → Bool = λ x. nat_le (length run.tables) (offer_cycle run.domain x) in
+      let steps = by_bad all counted line is (find bad all) refl in
+      let done : is_finished counted ≡ true = by_finish counted line steps.1 (is_finished counted) refl in
+      let first : (counted.under_way == 0) ≡ true = first_passes (counted.under_way == 0) (counted.later == 0) done in
+      let second : (counted.later == 0) ≡ true = second_passes (counted.under_way == 0) (counted.later == 0) done in
+      let none_waits : counted.under_way ≡ 0 = grind (arith, nat_tests) in
+      let none_late : counted.later ≡ 0 = grind (arith, nat_tests) in
+      goes_well
+      (λ delivery among. is_there (fate_of delivery) (none_passes bad all steps.0 delivery among) (none_counted waits all none_waits delivery among))
+      (λ x inside. leb-false (length run.tables) (offer_cycle run.domain x) (none_counted late (numbered run.offers) none_late x inside))
+
+  where_all_well : AllGoWell run streams book → checked_deliveries run streams book ≡ Ok (line_of_well run streams book)
+  where_all_well well =
+      let bad : Delivery → Bool = λ delivery. is_bad (fate_of delivery) in
+      let waits : Delivery → Bool = λ delivery. is_under_way (fate_of delivery) in
+      let late : Offered → Bool = λ x. nat_le (length run.tables) (offer_cycle run.domain x) in
+      let found : find bad all ≡ None = none_found bad all (λ delivery among. ap is_bad (each_there well delivery among)) in
+      let none_waits : counted.under_way ≡ 0 = count_none waits all (λ delivery among. ap is_under_way (each_there well delivery among)) in
+      let none_late : counted.later ≡ 0 =
+      count_none late (numbered run.offers) (λ x inside. lt-leb (length run.tables) (offer_cycle run.domain x) (well x inside).within) in
+      ap {B = Result (List ℕ) (List ℕ)} (λ (o : Option Delivery). refuse o complaint_line (finished counted)) found
+      ∙ ap {B = Result (List ℕ) (List ℕ)} (λ (b : Bool). if b then Ok (well_line counted) else Err (unfinished_line counted))
+      (done counted.under_way counted.later none_waits none_late)
+    where
+      -- nothing is left
+      done : (a b : ℕ) → a ≡ 0 → b ≡ 0 → ((a == 0) && (b == 0)) ≡ true
+      done a b first second = ap (λ (n : ℕ). (n == 0) && (b == 0)) first ∙ ap (λ (n : ℕ). (0 == 0) && (n == 0)) second
+
+  pub is_well_exactly : IsWellExactly run streams book
+  is_well_exactly = record { only = only_well; where_well = where_all_well }

@@ -1,0 +1,7 @@
+use Rattle.cqf_program_press.proofs.PressLemmas.{Puts-then}
+use Rattle.cqf_report.specs.Written.{line_of_fields}
+use Rattle.cqf_program_runs.specs.DeliveriesText.{deliveries_header, lines_of_deliveries}
+use Rattle.cqf_program_runs.proofs.delivery_lines.put_deliveries.Goals as goal
+
+pub returns : goal.returns
+returns g c = Puts-then (line_of_fields deliveries_header) (lines_of_deliveries c.args.deliveries.now) c.put_header.ensures c.put_each.ensures

@@ -1,0 +1,16 @@
+use Rattle.std.proofs.Common.{◌∙◌, ℕ, List, arith, subst, sym}
+use Rattle.cqf_program_press.specs.Edge.{HasTold, writing}
+use Rattle.cqf_program_press.proofs.PressLemmas.{HasTold-pressed}
+use Rattle.cqf_program_runs.specs.RunOutput.{run_text}
+use Rattle.cqf_program_runs.proofs.run_outputs.RunOutput.tell.Goals as goal
+
+pub returns : goal.returns
+returns g c text is =
+    let a = c.args.self.made.log.administration in
+    let put = c.put_logged.ensures is.0 is.1 in
+    let done : HasTold (writing g.W.Write.contents c.args.told.now c.close-told.result.now) (run_text a.domain a.entries is.0) =
+    HasTold-pressed g.W.Write.contents c.args.told.now c.new-press.result c.put_logged.new.press c.close-told.result.now _
+    c.new-press.ensures.opens put c.close-told.ensures.closes in
+    let names = c.close-told.ensures.same ∙ put.same ∙ c.new-press.ensures.same in
+    let told = subst (HasTold (writing g.W.Write.contents c.args.told.now c.close-told.result.now)) (sym is.2) done in
+    grind (arith, told, names)

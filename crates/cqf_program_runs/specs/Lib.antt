@@ -1,0 +1,22 @@
+pub mod Line
+pub mod LineOutput
+pub mod LineTold
+pub mod RunOutput
+pub mod RunTold
+pub mod ReportOutput
+pub mod Deliveries
+pub mod DeliveriesText
+pub mod Checked
+pub mod Arrivals
+pub mod Deadlines
+pub mod ByVerdict
+pub mod BookLaws
+pub mod CheckLaws
+pub mod ArrivalLaws
+pub mod PlannedScenario
+pub mod DeliveriesOutput
+pub mod CheckOutput
+-- what the inner functions say
+pub mod ReportTelling
+pub mod DeliveriesReading
+pub mod Checking

@@ -1,0 +1,196 @@
+//! Whether all goes well in a run, by its deliveries.
+ghost use Rattle.std.specs.Prelude.{◌≡◌, ◌&&◌, true, IfOk, count_by, find, option_copied, string_bytes};
+ghost use Rattle.cqf_program_runs.specs.Checked.{complaint_line, complaint_of, counts_of, is_bad, is_delivered, is_finished, is_timed, is_under_way, unfinished_line, well_line};
+ghost use Rattle.cqf_program_runs.specs.Deliveries.{fate_of};
+
+use crate::delivery::{Course, Delivery, Fate, latency};
+use crate::reasons::reason_name;
+use std::alloc::{AllocError, Global};
+
+/// What a check counts.
+#[derive(Clone, Copy, Debug, PartialEq, Eq)]
+pub struct Counts {
+    /// The offers.
+    pub frames: usize,
+    /// The offers of cycles that aren't run.
+    pub later: usize,
+    /// The deliveries that are under way.
+    pub under_way: usize,
+    /// The deliveries that are there, in time where they have a deadline.
+    pub delivered: usize,
+    /// Those of them that have a deadline.
+    pub timed: usize,
+}
+
+impl Fate {
+    /// Whether the frame is dropped, or late.
+    pub fn is_bad(self) -> bool
+        ensures { result ≡ is_bad self }
+    {
+        match self {
+            Fate::Late | Fate::Dropped(_) => true,
+            Fate::Delivered | Fate::UnderWay => false,
+        }
+    }
+}
+
+impl Course {
+    /// Whether the frame has a deadline.
+    fn is_timed(&self) -> bool
+        ensures { result ≡ is_timed self.now }
+    {
+        match self {
+            Course::Dropped(_) => false,
+            Course::Goes(journey) => journey.deadline.is_some(),
+        }
+    }
+}
+
+/// Whether a frame is under way.
+fn is_under_way(delivery: &Delivery) -> bool
+    ensures { result ≡ is_under_way (fate_of delivery.now) }
+{
+    match delivery.fate() {
+        Fate::UnderWay => true,
+        Fate::Delivered | Fate::Late | Fate::Dropped(_) => false,
+    }
+}
+
+/// Whether a frame is there, and in time.
+fn is_delivered(delivery: &Delivery) -> bool
+    ensures { result ≡ is_delivered (fate_of delivery.now) }
+{
+    match delivery.fate() {
+        Fate::Delivered => true,
+        Fate::UnderWay | Fate::Late | Fate::Dropped(_) => false,
+    }
+}
+
+/// How many deliveries are under way.
+fn count_under_way(deliveries: &[Delivery]) -> usize
+    ensures { result ≡ count_by (λ delivery. is_under_way (fate_of delivery)) deliveries.now }
+{
+    deliveries
+        .iter()
+        .filter(|delivery| is_under_way(delivery))
+        .count()
+}
+
+/// How many deliveries are there, and in time.
+fn count_delivered(deliveries: &[Delivery]) -> usize
+    ensures { result ≡ count_by (λ delivery. is_delivered (fate_of delivery)) deliveries.now }
+{
+    deliveries
+        .iter()
+        .filter(|delivery| is_delivered(delivery))
+        .count()
+}
+
+/// How many of those have a deadline.
+fn count_timed(deliveries: &[Delivery]) -> usize
+    ensures { result ≡ count_by (λ delivery. is_delivered (fate_of delivery) && is_timed delivery.course) deliveries.now }
+{
+    deliveries
+        .iter()
+        .filter(|delivery| is_delivered(delivery) && delivery.course.is_timed())
+        .count()
+}
+
+/// What a check counts of deliveries, beside so many offers of which so many are of cycles that aren't run.
+pub fn counts_of(frames: usize, later: usize, deliveries: &[Delivery]) -> Counts
+    ensures { result ≡ counts_of frames later deliveries.now }
+{
+    Counts {
+        frames,
+        later,
+        under_way: count_under_way(deliveries),
+        delivered: count_delivered(deliveries),
+        timed: count_timed(deliveries),
+    }
+}
+
+impl Counts {
+    /// Whether all offers are of cycles that are run, and no delivery is under way.
+    pub fn is_finished(self) -> bool
+        ensures { result ≡ is_finished self }
+    {
+        self.under_way == 0 && self.later == 0
+    }
+}
+
+/// The first delivery that is dropped or late.
+pub fn first_bad(deliveries: &[Delivery]) -> Option<&Delivery>
+    ensures { option_copied result ≡ find (λ delivery. is_bad (fate_of delivery)) deliveries.now }
+{
+    deliveries.iter().find(|delivery| delivery.fate().is_bad())
+}
+
+/// What a check says of a delivery that is dropped or late.
+fn complaint_of(alloc: Global, delivery: &Delivery) -> Result<String, AllocError>
+    requires { is_bad (fate_of delivery.now) ≡ true }
+    ensures { IfOk result (λ text. string_bytes text ≡ complaint_of delivery.now.at.0 delivery.now.course) }
+{
+    match &delivery.course {
+        Course::Dropped(reason) => {
+            let reason = reason_name(*reason);
+            let text = format!(in alloc; "dropped, {reason}")?;
+            Ok(text)
+        }
+        Course::Goes(journey) => {
+            let (Some(whole), Some(deadline)) = (journey.whole, journey.deadline) else {
+                unreachable!();
+            };
+            let (listener, latency) = (&journey.listener, latency(delivery.at, whole));
+            let text = format!(in alloc;
+                "late at {listener}, {latency} after its offer, deadline {deadline}"
+            )?;
+            Ok(text)
+        }
+    }
+}
+
+/// The line that tells of a delivery that is dropped or late (profile).
+///
+/// # Errors
+/// Where a growth is refused.
+pub fn complaint_about(alloc: Global, delivery: &Delivery) -> Result<String, AllocError>
+    requires { is_bad (fate_of delivery.now) ≡ true }
+    ensures { IfOk result (λ line. string_bytes line ≡ complaint_line delivery.now) }
+{
+    let text = complaint_of(alloc, delivery)?;
+    let complaint = text.as_str();
+    let (frame, stream) = (delivery.frame, &delivery.stream);
+    let (bridge, at) = (&delivery.bridge, delivery.at.0);
+    let line = format!(in alloc;
+        "cqf: check: frame {frame} of {stream}, offered to {bridge} at {at}: {complaint}\n"
+    )?;
+    Ok(line)
+}
+
+/// The line that tells that not all has come (profile).
+///
+/// # Errors
+/// Where a growth is refused.
+pub fn unfinished_line(alloc: Global, counts: Counts) -> Result<String, AllocError>
+    ensures { IfOk result (λ line. string_bytes line ≡ unfinished_line counts) }
+{
+    let (under_way, later) = (counts.under_way, counts.later);
+    let line = format!(in alloc;
+        "cqf: check: unfinished, under way {under_way}, not run {later}\n"
+    )?;
+    Ok(line)
+}
+
+/// The line that tells that all is well (profile).
+///
+/// # Errors
+/// Where a growth is refused.
+pub fn well_line(alloc: Global, counts: Counts) -> Result<String, AllocError>
+    ensures { IfOk result (λ line. string_bytes line ≡ well_line counts) }
+{
+    let (frames, delivered, timed) = (counts.frames, counts.delivered, counts.timed);
+    let line = format!(in alloc;
+        "well: frames {frames}, deliveries {delivered}, with a deadline {timed}\n"
+    )?;
+    Ok(line)
+}

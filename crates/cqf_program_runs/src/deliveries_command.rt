@@ -1,0 +1,149 @@
+//! The commands `deliveries` and `check`.
+ghost use Rattle.std.specs.Prelude.{◌≡◌, ◌≤◌, true, Ok, Err, IfErr, IfOk};
+ghost use Rattle.cqf_program_scenario.specs.Closing.{MayBeRun, scenario_given};
+ghost use Rattle.cqf_program_scenario.specs.Logged.{HasOrders};
+ghost use Rattle.cqf_program_stop.specs.Stops.{EndsWith, IsRefused};
+ghost use Rattle.cqf_program_runs.specs.Checked.{checked_by, complaint_line, finished, is_bad, unfinished_line, well_line};
+ghost use Rattle.cqf_program_runs.specs.Deliveries.{fate_of};
+ghost use Rattle.cqf_program_runs.specs.DeliveriesText.{text_of_deliveries};
+ghost use Rattle.cqf_program_runs.specs.CheckOutput.{IsCheckRefusal, IsChecked};
+ghost use Rattle.cqf_program_runs.specs.Checking.{IsCheckedGiven, IsRefusedGiven};
+ghost use Rattle.cqf_program_runs.specs.DeliveriesOutput.{IsDeliveriesOutput};
+ghost use Rattle.cqf_program_runs.specs.PlannedScenario.{planned_scenario};
+ghost use Rattle.cqf_program_runs.specs.DeliveriesReading.{AreDeliveriesOf};
+ghost use Rattle.cqf_model.specs.Limits.{most_cycles};
+
+use crate::deliveries_made::{deliveries_of_scenario, later_offers};
+use crate::deliveries_outputs::DeliveriesOutput;
+use crate::deliveries_reading::{PlannedGiven, read_planned_given};
+use crate::{Counts, Delivery, complaint_about, counts_of, first_bad, unfinished_line, well_line};
+use cqf_program_press::Sheet;
+use cqf_program_stop::{REFUSED, Stop};
+use cqf_units::Memory;
+use std::alloc::Global;
+
+/// The output for a scenario.
+fn output_of(alloc: Global, cycles: u32, planned: &PlannedGiven) -> Result<DeliveriesOutput, Memory>
+    requires short { cycles ≤ most_cycles }
+    requires may { MayBeRun cycles (scenario_given planned.now.given) }
+    requires stand { HasOrders planned.now.given }
+    ensures { IfOk result (λ output. AreDeliveriesOf cycles planned.now output) }
+{
+    let deliveries = deliveries_of_scenario(alloc, cycles, planned)?;
+    let sheet = Sheet::new(alloc)?;
+    Ok(DeliveriesOutput { deliveries, sheet })
+}
+
+/// The output of `deliveries` over so many cycles, 0 to 100,000, ready to be told: what becomes of each offer of these cycles, and
+/// when it is whole at each listener (profile).
+///
+/// # Errors
+/// With status 1 and the line of the first fault of the input: of its parts, of the domain, the streams, the script, the
+/// offers, or the background frames; and with status 3 for want of memory.
+pub fn deliveries_output(alloc: Global, cycles: u32, input: &[u8]) -> Result<DeliveriesOutput, Stop>
+    requires { cycles ≤ most_cycles }
+    ensures ok { IfOk result (λ output. IsDeliveriesOutput cycles input.now (text_of_deliveries output)) }
+    ensures err { IfErr result (IsRefused (planned_scenario cycles input.now)) }
+{
+    let planned = read_planned_given(alloc, cycles, input)?;
+    match output_of(alloc, cycles, &planned) {
+        Ok(output) => Ok(output),
+        Err(_) => Err(Stop::memory(alloc)),
+    }
+}
+
+/// The end where not all has come.
+fn unfinished_stop(alloc: Global, counts: Counts) -> Stop
+    ensures { EndsWith 1 (unfinished_line counts) result }
+{
+    Stop::with_text(alloc, REFUSED, unfinished_line(alloc, counts))
+}
+
+/// The end with the first delivery that is dropped or late.
+fn complaint_stop(alloc: Global, delivery: &Delivery) -> Stop
+    requires { is_bad (fate_of delivery.now) ≡ true }
+    ensures { EndsWith 1 (complaint_line delivery.now) result }
+{
+    Stop::with_text(alloc, REFUSED, complaint_about(alloc, delivery))
+}
+
+/// The line where all is well.
+fn well_bytes(alloc: Global, counts: Counts) -> Result<Vec<u8>, Memory>
+    ensures { IfOk result (λ line. line.items ≡ well_line counts) }
+{
+    let line = well_line(alloc, counts)?;
+    Ok(line.into_bytes())
+}
+
+/// The line where all that was counted is well, or the end with the line that tells what hasn't come.
+fn finish(alloc: Global, counts: Counts) -> Result<Vec<u8>, Stop>
+    ensures ok { IfOk result (λ line. finished counts ≡ Ok line.items) }
+    ensures err { IfErr result (IsRefused (finished counts)) }
+{
+    if !counts.is_finished() {
+        return Err(unfinished_stop(alloc, counts));
+    }
+    match well_bytes(alloc, counts) {
+        Ok(line) => Ok(line),
+        Err(_) => Err(Stop::memory(alloc)),
+    }
+}
+
+/// What is told of some deliveries.
+fn check_deliveries(alloc: Global, deliveries: &[Delivery], counts: Counts) -> Result<Vec<u8>, Stop>
+    ensures ok { IfOk result (λ line. checked_by deliveries.now counts ≡ Ok line.items) }
+    ensures err { IfErr result (IsRefused (checked_by deliveries.now counts)) }
+{
+    match first_bad(deliveries) {
+        Some(delivery) => Err(complaint_stop(alloc, delivery)),
+        None => finish(alloc, counts),
+    }
+}
+
+/// What is told of a scenario whose deliveries were made.
+fn check_made(
+    alloc: Global,
+    cycles: u32,
+    planned: &PlannedGiven,
+    deliveries: &[Delivery],
+) -> Result<Vec<u8>, Stop>
+    requires may { MayBeRun cycles (scenario_given planned.now.given) }
+    requires made { AreDeliveriesOf cycles planned.now deliveries.now }
+    ensures ok { IfOk result (λ line. IsCheckedGiven cycles planned.now (Ok line.items)) }
+    ensures err { IfErr result (IsRefusedGiven cycles planned.now) }
+{
+    let offers = planned.given.offers.as_slice();
+    let later = later_offers(&planned.given.domain, cycles, offers);
+    let counts = counts_of(offers.len(), later, deliveries);
+    check_deliveries(alloc, deliveries, counts)
+}
+
+/// What is told of a scenario.
+fn check_scenario(alloc: Global, cycles: u32, planned: &PlannedGiven) -> Result<Vec<u8>, Stop>
+    requires short { cycles ≤ most_cycles }
+    requires may { MayBeRun cycles (scenario_given planned.now.given) }
+    requires stand { HasOrders planned.now.given }
+    ensures ok { IfOk result (λ line. IsCheckedGiven cycles planned.now (Ok line.items)) }
+    ensures err { IfErr result (IsRefusedGiven cycles planned.now) }
+{
+    match deliveries_of_scenario(alloc, cycles, planned) {
+        Ok(deliveries) => check_made(alloc, cycles, planned, deliveries.as_slice()),
+        Err(_) => Err(Stop::memory(alloc)),
+    }
+}
+
+/// The line of `check` over so many cycles, 0 to 100,000, where all goes well: every offer is of a cycle that is run, covered, whole at
+/// every listener within the run, and within its deadline (profile).
+///
+/// # Errors
+/// With status 1 and a line: of the first fault of the input, as [`deliveries_output`]; else of the first delivery that is dropped or
+/// late; else, of how many deliveries are under way and how many offers are of cycles that aren't run. And with status 3 for want of
+/// memory.
+pub fn check_output(alloc: Global, cycles: u32, input: &[u8]) -> Result<Vec<u8>, Stop>
+    requires { cycles ≤ most_cycles }
+    ensures ok { IfOk result (λ line. IsChecked cycles input.now (Ok line.items)) }
+    ensures err { IfErr result (IsCheckRefusal cycles input.now) }
+{
+    let planned = read_planned_given(alloc, cycles, input)?;
+    check_scenario(alloc, cycles, &planned)
+}

@@ -1,0 +1,58 @@
+//! What the commands `deliveries` and `check` read.
+ghost use Rattle.std.specs.Prelude.{IfErr, IfOk};
+ghost use Rattle.cqf_program_scenario.specs.Lines.{streams_line};
+ghost use Rattle.cqf_program_scenario.specs.RunParts.{texts_of};
+ghost use Rattle.cqf_program_stop.specs.Stops.{IsRefused, or_line};
+ghost use Rattle.cqf_topology.specs.PlannedText.{planned_of_text};
+ghost use Rattle.cqf_program_runs.specs.PlannedScenario.{planned_scenario, planned_scenario_of};
+ghost use Rattle.cqf_program_runs.specs.DeliveriesReading.{ArePlannedIn, IsPlannedGiven, IsPlannedIn};
+
+use cqf_program_plans::parted;
+use cqf_program_scenario::{Given, RunParts, domain_part, planned_part, read_behind, run_parts};
+use cqf_program_stop::Stop;
+use cqf_topology::Request;
+use std::alloc::Global;
+
+/// What a run is given, and the deadlines of its streams.
+#[derive(Drop)]
+pub(crate) struct PlannedGiven {
+    pub(crate) given: Given,
+    /// The deadlines of its requests in nanoseconds, where they have one, by the same places.
+    pub(crate) deadlines: Vec<Option<u32>>,
+}
+
+/// The requests for the streams of a part, and their deadlines.
+fn read_streams(alloc: Global, text: &[u8]) -> Result<(Vec<Request>, Vec<Option<u32>>), Stop>
+    ensures ok { IfOk result (λ found. ArePlannedIn text.now found.0.items found.1.items) }
+    ensures err { IfErr result (IsRefused (or_line streams_line (planned_of_text text.now))) }
+{
+    let streams = planned_part(alloc, text)?;
+    match parted(alloc, streams) {
+        Ok(found) => Ok(found),
+        Err(_) => Err(Stop::memory(alloc)),
+    }
+}
+
+/// The scenario of some parts, with its streams' deadlines.
+fn read_planned_parts(alloc: Global, cycles: u32, parts: RunParts<'_>) -> Result<PlannedGiven, Stop>
+    ensures ok { IfOk result (λ made. IsPlannedIn cycles (texts_of parts.entry) made) }
+    ensures err { IfErr result (IsRefused (planned_scenario_of cycles (texts_of parts.entry))) }
+{
+    let domain = domain_part(alloc, parts.domain)?;
+    let (requests, deadlines) = read_streams(alloc, parts.streams)?;
+    let given = read_behind(alloc, cycles, domain, requests, parts)?;
+    Ok(PlannedGiven { given, deadlines })
+}
+
+/// The scenario of the input with its streams' deadlines, or the end with the line of its first fault.
+pub(crate) fn read_planned_given(
+    alloc: Global,
+    cycles: u32,
+    input: &[u8],
+) -> Result<PlannedGiven, Stop>
+    ensures ok { IfOk result (λ made. IsPlannedGiven cycles input.now made) }
+    ensures err { IfErr result (IsRefused (planned_scenario cycles input.now)) }
+{
+    let parts = run_parts(alloc, input)?;
+    read_planned_parts(alloc, cycles, parts)
+}

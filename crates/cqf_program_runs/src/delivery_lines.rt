@@ -1,0 +1,129 @@
+//! Deliveries, told line by line.
+ghost use Rattle.std.specs.Prelude.{◌≡◌, ◌∷◌, []};
+ghost use Rattle.std.specs.List.{join_with_byte};
+ghost use Rattle.cqf_program_press.specs.Press.{Puts};
+ghost use Rattle.cqf_report.specs.Written.{line_of_fields};
+ghost use Rattle.cqf_program_plans.specs.LatencyText.{text_of_deadline};
+ghost use Rattle.cqf_program_runs.specs.DeliveriesText.{course_fields, deliveries_header, delivery_fields, lines_of_deliveries, name_of_fate, text_of_deliveries, text_of_instant, text_of_listeners_latency};
+
+use crate::delivery::{Course, Delivery, Fate, Journey, latency};
+use crate::reasons::reason_name;
+use cqf_program_press::Press;
+use cqf_units::Nanos;
+use std::io::Write;
+
+impl Fate {
+    /// The fate as it is told: `delivered`, `late`, `under-way`, or the reason of a drop as a book has it.
+    pub fn name(self) -> &'static str
+        ensures { result.now ≡ name_of_fate self }
+    {
+        match self {
+            Fate::Delivered => "delivered",
+            Fate::Late => "late",
+            Fate::UnderWay => "under-way",
+            Fate::Dropped(reason) => reason_name(reason),
+        }
+    }
+}
+
+/// Puts the header of deliveries.
+fn put_header<W: Write>(press: &mut Press<'_, W>)
+    ensures { Puts W.contents press.old press.new (line_of_fields deliveries_header) }
+{
+    press.put(b"frame,stream,octets,at,listener,whole,latency,deadline,what\n");
+}
+
+/// Puts the instant at which a frame is whole, where there is one.
+fn put_instant<W: Write>(press: &mut Press<'_, W>, whole: Option<Nanos>)
+    ensures { Puts W.contents press.old press.new (text_of_instant whole) }
+{
+    if let Some(whole) = whole {
+        press.put_number(whole.0);
+    }
+}
+
+/// Puts how long it takes, where it is whole.
+fn put_latency<W: Write>(press: &mut Press<'_, W>, at: Nanos, whole: Option<Nanos>)
+    ensures { Puts W.contents press.old press.new (text_of_listeners_latency at.0 whole) }
+{
+    if let Some(whole) = whole {
+        press.put_number(latency(at, whole));
+    }
+}
+
+/// Puts the deadline, where there is one.
+fn put_deadline<W: Write>(press: &mut Press<'_, W>, deadline: Option<u32>)
+    ensures { Puts W.contents press.old press.new (text_of_deadline deadline) }
+{
+    if let Some(deadline) = deadline {
+        press.put_number(deadline);
+    }
+}
+
+/// Puts the fields of a frame's way to a listener, and the last field.
+fn put_journey<W: Write>(press: &mut Press<'_, W>, at: Nanos, journey: &Journey, last: &[u8])
+    ensures { Puts W.contents press.old press.new (line_of_fields (course_fields at.0 (Course.Goes journey.now) (last.now ∷ []))) }
+{
+    press.put(journey.listener.as_bytes());
+    press.put_byte(b',');
+    put_instant(press, journey.whole);
+    press.put_byte(b',');
+    put_latency(press, at, journey.whole);
+    press.put_byte(b',');
+    put_deadline(press, journey.deadline);
+    press.put_byte(b',');
+    press.put(last);
+    press.put_byte(b'\n');
+}
+
+/// Puts the empty fields of a frame that is dropped, and the last field.
+fn put_drop<W: Write>(press: &mut Press<'_, W>, last: &[u8])
+    ensures { Puts W.contents press.old press.new (line_of_fields ([] ∷ [] ∷ [] ∷ [] ∷ last.now ∷ [])) }
+{
+    press.put(b",,,,");
+    press.put(last);
+    press.put_byte(b'\n');
+}
+
+/// Puts the fields of a frame's course, and the last field.
+fn put_course<W: Write>(press: &mut Press<'_, W>, at: Nanos, course: &Course, last: &[u8])
+    ensures { Puts W.contents press.old press.new (line_of_fields (course_fields at.0 course.now (last.now ∷ []))) }
+{
+    match course {
+        Course::Dropped(_) => put_drop(press, last),
+        Course::Goes(journey) => put_journey(press, at, journey, last),
+    }
+}
+
+/// Puts the line of a delivery.
+fn put_delivery<W: Write>(press: &mut Press<'_, W>, delivery: &Delivery)
+    ensures { Puts W.contents press.old press.new (line_of_fields (delivery_fields delivery.now)) }
+{
+    press.put_number(delivery.frame);
+    press.put_byte(b',');
+    press.put(delivery.stream.as_bytes());
+    press.put_byte(b',');
+    press.put_number(delivery.octets);
+    press.put_byte(b',');
+    press.put_number(delivery.at.0);
+    press.put_byte(b',');
+    let last = delivery.fate().name();
+    put_course(press, delivery.at, &delivery.course, last.as_bytes());
+}
+
+/// Puts a line for each delivery.
+fn put_each<W: Write>(press: &mut Press<'_, W>, deliveries: &[Delivery])
+    ensures { Puts W.contents press.old press.new (lines_of_deliveries deliveries.now) }
+{
+    for delivery in deliveries {
+        put_delivery(press, delivery);
+    }
+}
+
+/// Puts the text of deliveries.
+pub fn put_deliveries<W: Write>(press: &mut Press<'_, W>, deliveries: &[Delivery])
+    ensures { Puts W.contents press.old press.new (text_of_deliveries deliveries.now) }
+{
+    put_header(press);
+    put_each(press, deliveries);
+}

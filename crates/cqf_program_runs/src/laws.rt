@@ -1,0 +1,28 @@
+//! What a book tells of its deliveries.
+ghost use Rattle.cqf_program_runs.specs.ArrivalLaws.{ArrivalsAreTheShift, EachIsToldOnce};
+ghost use Rattle.cqf_program_runs.specs.BookLaws.{VerdictsTellDeliveries};
+ghost use Rattle.cqf_program_runs.specs.CheckLaws.{CheckIsWellExactly};
+
+/// Where a book says the shift, its deliveries are those by the verdicts on the offers: one that is covered goes to each listener of
+/// the row that covers it, and every other is dropped for the first reason that fits (profile).
+pub fn verdicts_tell_deliveries()
+    ensures { VerdictsTellDeliveries }
+{}
+
+/// Where a book says the shift, a check tells that all is well exactly where each offer is of a cycle that is run, a row covers it,
+/// and its frame is whole within its deadline at each listener of that row (profile).
+pub fn check_is_well_exactly()
+    ensures { CheckIsWellExactly }
+{}
+
+/// Where a book says the shift, the deliveries that have come, in time or late, are exactly the shift's frames on links to stations:
+/// each tells when the frame of an offer that a row covers is whole at a listener of that row (profile).
+pub fn arrivals_are_the_shift()
+    ensures { ArrivalsAreTheShift }
+{}
+
+/// Where a book says the shift, an offer of a cycle that is run has a delivery for each listener of the row that covers it, and no
+/// other; and one that is dropped has just one (profile).
+pub fn each_is_told_once()
+    ensures { EachIsToldOnce }
+{}

@@ -1,0 +1,36 @@
+//! The domain of the line, as a text.
+ghost use Rattle.std.specs.Prelude.{◌≡◌, IfOk};
+ghost use Rattle.cqf_program_runs.specs.Line.{line_domain};
+
+use cqf_topology::{Domain, DomainFault};
+use cqf_units::Memory;
+use std::alloc::{AllocError, Global};
+
+/// The domain of the line: bridge `a`, station `s`, and the link from one to the other.
+const LINE_TEXT: &[u8] = b"cycle = 125000
+guard = 5000
+bridges = [\"a\"]
+stations = [\"s\"]
+
+[[links]]
+from = \"a\"
+to = \"s\"
+rate = 1000
+delay = 500
+";
+
+/// The domain of the line: bridge `a`, station `s`, the link from one to the other at 1,000 Mb/s with a delay of 500 ns, a
+/// cycle time of 125,000 ns and a guard time of 5,000 ns. `Memory` where a growth is refused: the text is fixed, so that
+/// nothing else can be wrong with it (profile).
+pub(crate) fn domain_of_line(alloc: Global) -> Result<Domain, Memory>
+    ensures { IfOk result (λ domain. domain ≡ line_domain) }
+{
+    match Domain::read(alloc, LINE_TEXT) {
+        Ok(domain) => Ok(domain),
+        Err(fault) => match fault {
+            DomainFault::Memory => Err(AllocError),
+            // what the text means is a domain
+            _ => unreachable!(),
+        },
+    }
+}

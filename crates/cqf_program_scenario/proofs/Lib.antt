@@ -1,0 +1,7 @@
+pub mod AskedTexts
+mod Closed
+mod Room
+mod ReadInput
+pub mod BookOf
+mod Commands
+mod ExactParts

@@ -1,0 +1,30 @@
+-- What a scenario has that was read.
+use Rattle.std.specs.Prelude.{ℕ, ◌≤◌, [], length, map}
+use Rattle.cqf_model.specs.Run.{AreBackground, AreOffers}
+use Rattle.cqf_laws_report.specs.Judged.{StandInOrder}
+use Rattle.cqf_admission_requests.specs.Orders.{ordered_in}
+use Rattle.cqf_admission.specs.Asking.{asked_of}
+use Rattle.cqf_program_scenario.specs.declared.given.Given.{Given}
+use Rattle.cqf_program_scenario.specs.Calls.{HasRoom}
+use Rattle.cqf_program_scenario.specs.Scenario.{Scenario}
+use Rattle.cqf_model.specs.Limits.{most_rows}
+
+-- a scenario that was read
+abbrev pub scenario_given : Given → Scenario
+scenario_given given = record {
+  domain = given.domain;
+  calls = map (ordered_in (map asked_of given.requests.items) given.script.items) given.orders.items;
+  sealer = given.sealer;
+  offers = given.offers.items;
+  background = given.background.items;
+}
+
+-- it may be run over so many cycles: there is room for its calls, its frames are frames of its domain, and its offers stand in order
+-- of instant
+pub record MayBeRun (cycles : ℕ) (s : Scenario) : Type 0 where
+  pub room : HasRoom cycles [] s.calls
+  pub offers : AreOffers s.domain s.offers
+  pub background : AreBackground s.domain s.background
+  pub few_offers : length s.offers ≤ most_rows
+  pub few_background : length s.background ≤ most_rows
+  pub in_order : StandInOrder s.offers

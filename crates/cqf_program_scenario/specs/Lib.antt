@@ -1,0 +1,13 @@
+pub mod Parts
+pub mod Lines
+pub mod RunParts
+pub mod Scenario
+pub mod Calls
+pub mod Books
+pub mod Closing
+pub mod Parting
+pub mod Parted
+pub mod Opening
+pub mod Administered
+pub mod Logged
+pub mod Ran

@@ -1,0 +1,31 @@
+-- The lines that tell why a part of an input is refused (profile): `cqf:`, the part, and the fault by its text.
+use Rattle.std.specs.Prelude.{ℕ, List, codes}
+use Rattle.cqf_report.specs.Faults.{table_fault_text}
+use Rattle.cqf_report.specs.declared.tables.TableFault.{TableFault}
+use Rattle.cqf_admission_script.specs.Faults.{script_fault_text}
+use Rattle.cqf_admission_script.specs.declared.faults.ScriptFault.{ScriptFault}
+use Rattle.cqf_program_stop.specs.Stops.{fault_line}
+use Rattle.cqf_topology_fields.specs.Faults.{toml_fault_text}
+use Rattle.cqf_topology.specs.Faults.{domain_fault_text}
+use Rattle.cqf_topology.specs.declared.faults.DomainFault.{DomainFault}
+use Rattle.cqf_topology_fields.specs.declared.faults.TomlFault.{TomlFault}
+
+-- why a domain is refused
+abbrev pub domain_line : DomainFault → List ℕ
+domain_line fault = fault_line (codes "domain") (domain_fault_text fault)
+
+-- why streams are refused
+abbrev pub streams_line : TomlFault → List ℕ
+streams_line fault = fault_line (codes "streams") (toml_fault_text fault)
+
+-- why offers are refused
+abbrev pub offers_line : TableFault → List ℕ
+offers_line fault = fault_line (codes "offers") (table_fault_text fault)
+
+-- why a script is refused
+abbrev pub script_line : ScriptFault → List ℕ
+script_line fault = fault_line (codes "script") (script_fault_text fault)
+
+-- why background frames are refused
+abbrev pub background_line : TableFault → List ℕ
+background_line fault = fault_line (codes "background") (table_fault_text fault)

@@ -1,0 +1,111 @@
+//! The orders of a scenario, carried out in turn by a ledger.
+ghost use Rattle.std.specs.Prelude.{◌≡◌, ◌-◌, ◌≤◌, ◌<◌, [], All, Err, IfOk, map};
+ghost use Rattle.cqf_admission.specs.Asking.{asked_of};
+ghost use Rattle.cqf_admission_ledger.specs.Running.{AreThere};
+ghost use Rattle.cqf_model.specs.History.{IsLegalHistory, Seals, seals};
+ghost use Rattle.cqf_admission_requests.specs.declared.orders.Ordered.{Ordered as AnOrdered};
+ghost use Rattle.cqf_admission_requests.specs.Orders.{StandsIn, act_in, ordered_in};
+ghost use Rattle.cqf_program_scenario.specs.Calls.{HasRoom, HasRoomFor, history_of, seals_by, with_call, with_calls};
+ghost use Rattle.cqf_program_scenario.specs.Closing.{scenario_given};
+ghost use Rattle.cqf_program_scenario.specs.Logged.{HasOrders, entries_in};
+ghost use Rattle.cqf_model.specs.Limits.{most_cycles};
+
+use crate::calls::entered;
+use crate::given::Given;
+use cqf_admission::SealFault;
+use cqf_admission_ledger::{Ledger, Logged};
+use cqf_admission_requests::{Ordered, What};
+use cqf_laws_history::state_follows_history;
+use cqf_units::Memory;
+use std::alloc::{AllocError, Global};
+
+/// Closes the next cycle to changes.
+fn close(ledger: &mut Ledger<'_>, seat: u16) -> Result<(), Memory>
+    requires { seals ledger.old.administration.entries < most_cycles }
+    ensures domain { ledger.new.administration.domain ≡ ledger.old.administration.domain }
+    ensures requests { ledger.new.requests ≡ ledger.old.requests }
+    ensures script { ledger.new.script ≡ ledger.old.script }
+    ensures entries { IfOk result (λ _. ledger.new.administration.entries
+        ≡ with_call ledger.old.administration.domain ledger.old.administration.entries (seat, Seals)) }
+{
+    match ledger.seal(seat) {
+        Ok(_) => Ok(()),
+        Err(SealFault::CyclesSpent) => unreachable!(),
+        Err(SealFault::Memory) => Err(AllocError),
+    }
+}
+
+/// Carries out an order.
+fn carry_out(ledger: &mut Ledger<'_>, order: Ordered) -> Result<(), Memory>
+    requires room { HasRoomFor ledger.old.administration.entries (act_in ledger.old.requests ledger.old.script order.what) }
+    requires stands { StandsIn ledger.old.requests ledger.old.script order.what }
+    ensures domain { ledger.new.administration.domain ≡ ledger.old.administration.domain }
+    ensures requests { ledger.new.requests ≡ ledger.old.requests }
+    ensures script { ledger.new.script ≡ ledger.old.script }
+    ensures entries { IfOk result (λ _. ledger.new.administration.entries
+        ≡ with_call ledger.old.administration.domain ledger.old.administration.entries (ordered_in ledger.old.requests ledger.old.script order)) }
+{
+    state_follows_history();
+    match order.what {
+        What::Admit(place) => entered(ledger.admit(order.seat, place)),
+        What::Withdraw { from, octets } => entered(ledger.withdraw(order.seat, from, octets)),
+        What::Seal => close(ledger, order.seat),
+    }
+}
+
+/// Carries out orders in turn.
+fn carry_out_all(ledger: &mut Ledger<'_>, orders: &[Ordered], cycles: u32) -> Result<(), Memory>
+    requires short { cycles ≤ most_cycles }
+    requires room { HasRoom cycles ledger.old.administration.entries (map (ordered_in ledger.old.requests ledger.old.script) orders.now) }
+    requires stand { All (λ (order : AnOrdered). StandsIn ledger.old.requests ledger.old.script order.what) orders.now }
+    ensures domain { ledger.new.administration.domain ≡ ledger.old.administration.domain }
+    ensures requests { ledger.new.requests ≡ ledger.old.requests }
+    ensures script { ledger.new.script ≡ ledger.old.script }
+    ensures entries { IfOk result (λ _. ledger.new.administration.entries
+        ≡ with_calls ledger.old.administration.domain ledger.old.administration.entries (map (ordered_in ledger.old.requests ledger.old.script) orders.now)) }
+    ensures few { IfOk result (λ _. seals ledger.new.administration.entries ≤ cycles) }
+{
+    state_follows_history();
+    for order in orders {
+        carry_out(ledger, *order)?;
+    }
+    Ok(())
+}
+
+/// Closes the cycles that are still open, up to so many.
+fn close_all(ledger: &mut Ledger<'_>, seat: u16, cycles: u32) -> Result<(), Memory>
+    requires short { cycles ≤ most_cycles }
+    requires few { seals ledger.old.administration.entries ≤ cycles }
+    ensures domain { ledger.new.administration.domain ≡ ledger.old.administration.domain }
+    ensures requests { ledger.new.requests ≡ ledger.old.requests }
+    ensures script { ledger.new.script ≡ ledger.old.script }
+    ensures entries { IfOk result (λ _. ledger.new.administration.entries
+        ≡ with_calls ledger.old.administration.domain ledger.old.administration.entries (seals_by seat (cycles - seals ledger.old.administration.entries))) }
+    ensures all { IfOk result (λ _. seals ledger.new.administration.entries ≡ cycles) }
+{
+    state_follows_history();
+    let open = ledger.next_cycle();
+    for _cycle in open.0..cycles {
+        close(ledger, seat)?;
+    }
+    Ok(())
+}
+
+/// The log of a scenario's history over so many cycles.
+pub(crate) fn log_of(alloc: Global, cycles: u32, given: &Given) -> Result<Vec<Logged>, Memory>
+    requires short { cycles ≤ most_cycles }
+    requires room { HasRoom cycles [] (map (ordered_in (map asked_of given.now.requests.items) given.now.script.items) given.now.orders.items) }
+    requires stand { HasOrders given.now }
+    ensures entries { IfOk result (λ log. entries_in given.now log.items ≡ history_of cycles (scenario_given given.now)) }
+    ensures legal { IfOk result (λ log. IsLegalHistory given.now.domain (entries_in given.now log.items)) }
+    ensures there { IfOk result (λ log. AreThere (map asked_of given.now.requests.items) given.now.script.items log.items) }
+    ensures all { IfOk result (λ log. seals (entries_in given.now log.items) ≡ cycles) }
+{
+    let requests = given.requests.as_slice();
+    let script = given.script.as_slice();
+    let orders = given.orders.as_slice();
+    let mut ledger = Ledger::new(alloc, &given.domain, requests, script)?;
+    carry_out_all(&mut ledger, orders, cycles)?;
+    close_all(&mut ledger, given.sealer, cycles)?;
+    Ok(ledger.into_log())
+}

@@ -1,0 +1,166 @@
+//! The scenario of an input.
+ghost use Rattle.std.specs.Prelude.{◌≡◌, ◌≤◌, [], All, Ok, IfOk, IfErr, length, map, option_map};
+ghost use Rattle.cqf_admission.specs.Asking.{asked_of};
+ghost use Rattle.cqf_program_scenario.specs.Lines.{script_line};
+ghost use Rattle.cqf_program_scenario.specs.RunParts.{texts_of};
+ghost use Rattle.cqf_laws_report.specs.Judged.{StandInOrder};
+ghost use Rattle.cqf_model.specs.Run.{AreBackground, AreOffers};
+ghost use Rattle.cqf_admission_requests.specs.declared.orders.Ordered.{Ordered as AnOrdered};
+ghost use Rattle.cqf_admission_requests.specs.Orders.{StandsIn, ordered_in};
+ghost use Rattle.cqf_program_scenario.specs.Calls.{HasRoom};
+ghost use Rattle.cqf_program_scenario.specs.Closing.{MayBeRun, scenario_given};
+ghost use Rattle.cqf_program_scenario.specs.Scenario.{background_of_part, frames_of_part, scenario_behind, scenario_input, scenario_of};
+ghost use Rattle.cqf_program_scenario.specs.Logged.{HasOrders};
+ghost use Rattle.cqf_admission_script.specs.Script.{script_of};
+ghost use Rattle.cqf_program_stop.specs.Stops.{IsRefused, or_line};
+ghost use Rattle.cqf_model.specs.Limits.{most_rows};
+
+use crate::{
+    RunParts, background_part, domain_part, offers_part, run_parts, script_part, streams_part,
+};
+use cqf_admission_requests::{Names, Ordered};
+use cqf_admission_script::administrators;
+use cqf_laws_report::offers_stand_in_order;
+use cqf_model::{Background, Offer};
+use cqf_program_stop::Stop;
+use cqf_topology::{Domain, Request};
+use cqf_units::Memory;
+use std::alloc::Global;
+
+/// What a run is given.
+#[derive(Debug, Drop)]
+pub struct Given {
+    pub domain: Domain,
+    /// The requests for the streams that may be admitted.
+    pub requests: Vec<Request>,
+    /// The script's text.
+    pub script: Vec<u8>,
+    /// What its lines order, each by where what it names stands among the requests or in the text.
+    pub orders: Vec<Ordered>,
+    /// The seat of the Seals that follow the calls.
+    pub sealer: u16,
+    pub offers: Vec<Offer>,
+    pub background: Vec<Background>,
+}
+
+/// The orders of a script, by the streams that may be admitted.
+fn read_orders(
+    alloc: Global,
+    requests: &[Request],
+    cycles: u32,
+    text: &[u8],
+) -> Result<Vec<Ordered>, Stop>
+    ensures ok { IfOk result (λ orders. or_line script_line (script_of (map asked_of requests.now) cycles text.now)
+        ≡ Ok (map (ordered_in (map asked_of requests.now) text.now) orders.items)) }
+    ensures stand { IfOk result (λ orders. All (λ (order : AnOrdered). StandsIn (map asked_of requests.now) text.now order.what) orders.items) }
+    ensures room { IfOk result (λ orders. HasRoom cycles [] (map (ordered_in (map asked_of requests.now) text.now) orders.items)) }
+    ensures err { IfErr result (IsRefused (or_line script_line (script_of (map asked_of requests.now) cycles text.now))) }
+{
+    let Ok(names) = Names::new(alloc, requests) else {
+        return Err(Stop::memory(alloc));
+    };
+    script_part(alloc, &names, cycles, text)
+}
+
+/// A copy of a text.
+fn copy_of(alloc: Global, text: &[u8]) -> Result<Vec<u8>, Memory>
+    ensures { IfOk result (λ copy. copy.items ≡ text.now) }
+{
+    let mut copy = Vec::with_capacity(alloc, text.len())?;
+    copy.extend_from_slice(text)?;
+    Ok(copy)
+}
+
+/// The background frames, where there is a part of them.
+fn read_background_of(
+    alloc: Global,
+    domain: &Domain,
+    text: Option<&[u8]>,
+) -> Result<Vec<Background>, Stop>
+    ensures ok { IfOk result (λ frames. background_of_part domain.now (option_map (λ text. text.now) text.entry) ≡ Ok frames.items) }
+    ensures good { IfOk result (λ frames. AreBackground domain.now frames.items) }
+    ensures few { IfOk result (λ frames. length frames.items ≤ most_rows) }
+    ensures err { IfErr result (IsRefused (background_of_part domain.now (option_map (λ text. text.now) text.entry))) }
+{
+    match text {
+        Some(text) => background_part(alloc, domain, text),
+        None => Ok(Vec::new(alloc)),
+    }
+}
+
+/// The offers and the background frames.
+fn read_frames(
+    alloc: Global,
+    domain: &Domain,
+    parts: RunParts<'_>,
+) -> Result<(Vec<Offer>, Vec<Background>), Stop>
+    ensures ok { IfOk result (λ frames. frames_of_part domain.now (texts_of parts.entry) ≡ Ok (frames.0.items, frames.1.items)) }
+    ensures offers { IfOk result (λ frames. AreOffers domain.now frames.0.items) }
+    ensures order { IfOk result (λ frames. StandInOrder frames.0.items) }
+    ensures background { IfOk result (λ frames. AreBackground domain.now frames.1.items) }
+    ensures few_offers { IfOk result (λ frames. length frames.0.items ≤ most_rows) }
+    ensures few_background { IfOk result (λ frames. length frames.1.items ≤ most_rows) }
+    ensures err { IfErr result (IsRefused (frames_of_part domain.now (texts_of parts.entry))) }
+{
+    offers_stand_in_order();
+    let offers = offers_part(alloc, domain, parts.offers)?;
+    let background = read_background_of(alloc, domain, parts.background)?;
+    Ok((offers, background))
+}
+
+/// What a run is given in some parts, whose domain and streams were read.
+///
+/// # Errors
+/// With status 1 and the line of the first fault: of the script, the offers, or the background frames; and with status 3 for
+/// want of memory.
+pub fn read_behind(
+    alloc: Global,
+    cycles: u32,
+    domain: Domain,
+    requests: Vec<Request>,
+    parts: RunParts<'_>,
+) -> Result<Given, Stop>
+    ensures ok { IfOk result (λ given. scenario_behind cycles domain (map asked_of requests.items) (texts_of parts.entry) ≡ Ok (scenario_given given)) }
+    ensures same { IfOk result (λ given. given.requests.items ≡ requests.items) }
+    ensures stand { IfOk result (λ given. HasOrders given) }
+    ensures good { IfOk result (λ given. MayBeRun cycles (scenario_given given)) }
+    ensures err { IfErr result (IsRefused (scenario_behind cycles domain (map asked_of requests.items) (texts_of parts.entry))) }
+{
+    let orders = read_orders(alloc, requests.as_slice(), cycles, parts.script)?;
+    let (offers, background) = read_frames(alloc, &domain, parts)?;
+    let Ok(script) = copy_of(alloc, parts.script) else {
+        return Err(Stop::memory(alloc));
+    };
+    Ok(Given {
+        domain,
+        requests,
+        script,
+        orders,
+        sealer: administrators(parts.script),
+        offers,
+        background,
+    })
+}
+
+/// The scenario of some parts.
+fn read_parts(alloc: Global, cycles: u32, parts: RunParts<'_>) -> Result<Given, Stop>
+    ensures ok { IfOk result (λ given. scenario_of cycles (texts_of parts.entry) ≡ Ok (scenario_given given)) }
+    ensures stand { IfOk result (λ given. HasOrders given) }
+    ensures good { IfOk result (λ given. MayBeRun cycles (scenario_given given)) }
+    ensures err { IfErr result (IsRefused (scenario_of cycles (texts_of parts.entry))) }
+{
+    let domain = domain_part(alloc, parts.domain)?;
+    let requests = streams_part(alloc, parts.streams)?;
+    read_behind(alloc, cycles, domain, requests, parts)
+}
+
+/// The scenario of the input, or the end with the line of its first fault.
+pub(crate) fn read_given(alloc: Global, cycles: u32, input: &[u8]) -> Result<Given, Stop>
+    ensures ok { IfOk result (λ given. scenario_input cycles input.now ≡ Ok (scenario_given given)) }
+    ensures stand { IfOk result (λ given. HasOrders given) }
+    ensures good { IfOk result (λ given. MayBeRun cycles (scenario_given given)) }
+    ensures err { IfErr result (IsRefused (scenario_input cycles input.now)) }
+{
+    let parts = run_parts(alloc, input)?;
+    read_parts(alloc, cycles, parts)
+}

@@ -1,0 +1,112 @@
+//! The log of a scenario's history, with what its entries stand for.
+ghost use Rattle.std.specs.Prelude.{◌≡◌, IfOk, map};
+ghost use Rattle.cqf_admission.specs.Asking.{asked_of};
+ghost use Rattle.cqf_admission_ledger.specs.Ledger.{recorded_in};
+ghost use Rattle.cqf_admission_ledger.specs.Running.{AreThere};
+ghost use Rattle.cqf_model.specs.History.{IsLegalHistory, streams_of};
+
+use cqf_admission_granted::granted_of_log;
+use cqf_admission_ledger::Logged;
+use cqf_model::Row;
+use cqf_topology::{Domain, Request};
+use cqf_units::Memory;
+use std::alloc::Global;
+use std::marker::Model;
+
+/// The log of a legal history of a domain, with the requests and the script's text in which its entries stand. To those who hold
+/// it, it is what a ledger is.
+#[derive(Debug, Drop)]
+pub struct Log {
+    domain: Domain,
+    requests: Vec<Request>,
+    script: Vec<u8>,
+    entries: Vec<Logged>,
+}
+
+impl Model for Log {
+    ghost use Rattle.std.specs.Prelude.{map};
+    ghost use Rattle.cqf_admission.specs.Asking.{asked_of};
+    ghost use Rattle.cqf_admission_ledger.specs.Ledger.{Kept, recorded_in};
+    ghost use Rattle.cqf_admission_ledger.specs.Running.{AreThere};
+    ghost use Rattle.cqf_model.specs.History.{IsLegalHistory};
+
+    ghost Value = { Kept };
+
+    ghost view = { λ l. record {
+      administration = record {
+        domain = l.domain;
+        entries = map (recorded_in (map asked_of l.requests.items) l.script.items) l.entries.items;
+      };
+      requests = map asked_of l.requests.items;
+      script = l.script.items;
+    } };
+
+    ghost invariant = { λ l. IsLegalHistory l.domain (map (recorded_in (map asked_of l.requests.items) l.script.items) l.entries.items)
+        × AreThere (map asked_of l.requests.items) l.script.items l.entries.items };
+}
+
+impl Log {
+    /// The log of these entries, of a legal history of the domain, over these requests and this script's text.
+    pub(crate) fn new(
+        domain: Domain,
+        requests: Vec<Request>,
+        script: Vec<u8>,
+        entries: Vec<Logged>,
+    ) -> Log
+        requires legal { IsLegalHistory domain (map (recorded_in (map asked_of requests.items) script.items) entries.items) }
+        requires there { AreThere (map asked_of requests.items) script.items entries.items }
+        ensures domain { result.administration.domain ≡ domain }
+        ensures entries { result.administration.entries ≡ map (recorded_in (map asked_of requests.items) script.items) entries.items }
+    {
+        Log {
+            domain,
+            requests,
+            script,
+            entries,
+        }
+    }
+
+    /// The domain.
+    pub fn domain(&self) -> &Domain
+        ensures { result.now ≡ self.now.administration.domain }
+    {
+        &self.domain
+    }
+
+    /// The requests among which what is admitted stands.
+    pub fn requests(&self) -> &[Request]
+        ensures { map asked_of result.now ≡ self.now.requests }
+    {
+        self.requests.as_slice()
+    }
+
+    /// The text in which the names of what is withdrawn stand.
+    pub fn script(&self) -> &[u8]
+        ensures { result.now ≡ self.now.script }
+    {
+        self.script.as_slice()
+    }
+
+    /// The entries, in their order.
+    pub fn entries(&self) -> &[Logged]
+        ensures entries { map (recorded_in self.now.requests self.now.script) result.now ≡ self.now.administration.entries }
+        ensures legal { IsLegalHistory self.now.administration.domain self.now.administration.entries }
+        ensures there { AreThere self.now.requests self.now.script result.now }
+    {
+        self.entries.as_slice()
+    }
+
+    /// The streams that the history ever granted, by number. The time grows with the entries, and with the requests that were
+    /// granted.
+    ///
+    /// # Errors
+    /// Where a growth is refused.
+    pub fn granted(&self, alloc: Global) -> Result<Vec<Row>, Memory>
+        ensures { IfOk result (λ rows. rows.items ≡ streams_of self.now.administration.domain self.now.administration.entries) }
+    {
+        let requests = self.requests.as_slice();
+        let script = self.script.as_slice();
+        let entries = self.entries.as_slice();
+        granted_of_log(alloc, &self.domain, requests, script, entries)
+    }
+}

@@ -1,0 +1,93 @@
+//! A scenario whose cycles are closed while it runs.
+ghost use Rattle.std.specs.Prelude.{◌≡◌, ◌≤◌, [], IfErr, IfOk, map};
+ghost use Rattle.cqf_model.specs.History.{seals};
+ghost use Rattle.cqf_program_scenario.specs.Calls.{HasRoom, with_calls};
+ghost use Rattle.cqf_program_scenario.specs.Closing.{MayBeRun, scenario_given};
+ghost use Rattle.cqf_program_scenario.specs.Logged.{HasOrders};
+ghost use Rattle.cqf_program_scenario.specs.Opening.{IsOpened, IsOpenedInput};
+ghost use Rattle.cqf_program_scenario.specs.Scenario.{scenario_input};
+ghost use Rattle.cqf_admission_script.specs.Script.{called_of};
+ghost use Rattle.cqf_program_stop.specs.Stops.{IsRefused};
+ghost use Rattle.cqf_model.specs.Limits.{most_cycles};
+
+use crate::calls::apply_all;
+use crate::given::{Given, read_given};
+use crate::parting::{Parted, part_calls};
+use cqf_admission::{Admission, Call, Command};
+use cqf_admission_script::calls_of;
+use cqf_model::{Background, Offer};
+use cqf_program_stop::Stop;
+use cqf_topology::Domain;
+use cqf_units::Memory;
+use std::alloc::Global;
+
+/// What the bridges and administrators of a scenario begin with.
+#[derive(Debug, Drop)]
+pub struct Opened {
+    pub domain: Domain,
+    /// The administration behind the calls before the first Seal.
+    pub admission: Admission,
+    /// What each administrator calls for from then on, by number.
+    pub commands: Vec<Vec<Command>>,
+    pub offers: Vec<Offer>,
+    pub background: Vec<Background>,
+}
+
+/// An administration that has made some calls of which none is a Seal.
+fn open(alloc: Global, domain: &Domain, calls: &[(u16, Call)]) -> Result<Admission, Memory>
+    requires { HasRoom 0 [] (map called_of calls.now) }
+    ensures domain { IfOk result (λ admission. admission.domain ≡ domain.now) }
+    ensures entries { IfOk result (λ admission. admission.entries ≡ with_calls domain.now [] (map called_of calls.now)) }
+    ensures none_closed { IfOk result (λ admission. seals admission.entries ≡ 0) }
+{
+    let mut admission = Admission::new(alloc, domain)?;
+    apply_all(&mut admission, calls, 0)?;
+    Ok(admission)
+}
+
+/// What a scenario's bridges and administrators begin with.
+fn open_given(alloc: Global, cycles: u32, given: Given) -> Result<Opened, Memory>
+    requires may { MayBeRun cycles (scenario_given given) }
+    requires stand { HasOrders given }
+    ensures { IfOk result (λ made. IsOpened cycles (scenario_given given) made) }
+{
+    let requests = given.requests.as_slice();
+    let script = given.script.as_slice();
+    let orders = given.orders.as_slice();
+    let calls = calls_of(alloc, script, requests, orders)?;
+    let Given {
+        domain,
+        sealer,
+        offers,
+        background,
+        ..
+    } = given;
+    let Parted { opening, commands } = part_calls(alloc, calls, sealer)?;
+    let admission = open(alloc, &domain, opening.as_slice())?;
+    Ok(Opened {
+        domain,
+        admission,
+        commands,
+        offers,
+        background,
+    })
+}
+
+/// Reads the scenario of an input that is to run over so many cycles, 0 to 100,000, which are closed while it runs. All of the
+/// input is read before anything is admitted. The calls of the script before its first Seal are applied in order, and the later
+/// ones are what each administrator calls for; later Seals are passed over (profile).
+///
+/// # Errors
+/// With status 1 and the line of the first fault of the input: of its parts, of the domain, the streams, the script, the
+/// offers, or the background frames; and with status 3 for want of memory.
+pub fn read_opened(alloc: Global, cycles: u32, input: &[u8]) -> Result<Opened, Stop>
+    requires { cycles ≤ most_cycles }
+    ensures ok { IfOk result (λ made. IsOpenedInput cycles input.now made) }
+    ensures err { IfErr result (IsRefused (scenario_input cycles input.now)) }
+{
+    let given = read_given(alloc, cycles, input)?;
+    match open_given(alloc, cycles, given) {
+        Ok(made) => Ok(made),
+        Err(_) => Err(Stop::memory(alloc)),
+    }
+}

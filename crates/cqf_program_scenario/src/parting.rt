@@ -1,0 +1,112 @@
+//! The calls of a scenario whose cycles are closed while it runs.
+ghost use Rattle.std.specs.Prelude.{◌≡◌, ℕ, [], IfOk, None, OnOk, Some, if◌then◌else◌, map, option_map, position};
+ghost use Rattle.cqf_model.specs.History.{is_seal};
+ghost use Rattle.cqf_admission.specs.Admission.{act_of};
+ghost use Rattle.cqf_admission.specs.Commands.{act_of_command};
+ghost use Rattle.cqf_admission.specs.declared.entries.Call.{Call};
+ghost use Rattle.cqf_program_scenario.specs.Parted.{acts_of_each};
+ghost use Rattle.cqf_program_scenario.specs.Parting.{AddsCommand, AreCommandsBehind, AreCommandsBy, calls_from_seal, closes, opening_calls};
+ghost use Rattle.cqf_admission_script.specs.Script.{called_of};
+
+use cqf_admission::{Call, Command};
+use cqf_units::Memory;
+use std::alloc::Global;
+
+/// The calls of a scenario, parted at the first Seal (profile).
+#[derive(Debug, Drop)]
+pub(crate) struct Parted {
+    /// Those before it, each with its seat: all, where there is no Seal.
+    pub(crate) opening: Vec<(u16, Call)>,
+    /// Of those behind it what each administrator calls for, by number, without the Seals.
+    pub(crate) commands: Vec<Vec<Command>>,
+}
+
+/// Whether a call closes a cycle.
+fn is_seal(call: &Call) -> bool
+    ensures { result ≡ is_seal (act_of call.now) }
+{
+    matches!(call, Call::Seal)
+}
+
+/// The place of the first Seal, where there is one.
+fn first_seal(calls: &[(u16, Call)]) -> Option<usize>
+    ensures { result ≡ position (λ (call : ℕ × Call). closes (called_of call)) calls.now }
+{
+    calls.iter().position(|call| is_seal(&call.1))
+}
+
+/// The command of a call, unless it is a Seal.
+fn command_of(call: Call) -> Option<Command>
+    ensures { option_map act_of_command result ≡ (if is_seal (act_of call) then None else Some (act_of call)) }
+{
+    match call {
+        Call::Admit(request) => Some(Command::Admit(request)),
+        Call::Withdraw(name) => Some(Command::Withdraw(name)),
+        Call::Seal => None,
+    }
+}
+
+/// No commands, for each of so many administrators.
+fn no_commands(alloc: Global, admins: u16) -> Result<Vec<Vec<Command>>, Memory>
+    ensures { IfOk result (λ lists. AreCommandsBy [] admins (acts_of_each lists.items)) }
+{
+    let mut lists = Vec::with_capacity(alloc, usize::from(admins))?;
+    for _admin in 0..admins {
+        lists.push(Vec::new(alloc))?;
+    }
+    Ok(lists)
+}
+
+/// Adds a command behind those of an administrator, where it is one of these.
+fn add_command(lists: &mut Vec<Vec<Command>>, admin: u16, command: Command) -> Result<(), Memory>
+    ensures { OnOk result (AddsCommand (acts_of_each lists.old.items) (acts_of_each lists.new.items) admin (act_of_command command)) }
+{
+    let place = usize::from(admin);
+    if place < lists.len() {
+        lists[place].push(command)?;
+    }
+    Ok(())
+}
+
+/// What each of so many administrators calls for among these calls, by number.
+fn commands_by(
+    alloc: Global,
+    calls: Vec<(u16, Call)>,
+    admins: u16,
+) -> Result<Vec<Vec<Command>>, Memory>
+    ensures { IfOk result (λ lists. AreCommandsBy (map called_of calls.items) admins (acts_of_each lists.items)) }
+{
+    let mut lists = no_commands(alloc, admins)?;
+    for call in calls {
+        if let Some(command) = command_of(call.1) {
+            add_command(&mut lists, call.0, command)?;
+        }
+    }
+    Ok(lists)
+}
+
+/// Takes the calls from the first Seal on away from the others.
+fn cut_at_seal(alloc: Global, calls: &mut Vec<(u16, Call)>) -> Result<Vec<(u16, Call)>, Memory>
+    ensures front { OnOk result (map called_of calls.new.items ≡ opening_calls (map called_of calls.old.items)) }
+    ensures behind { IfOk result (λ behind. map called_of behind.items ≡ calls_from_seal (map called_of calls.old.items)) }
+{
+    match first_seal(calls.as_slice()) {
+        Some(place) => Ok(calls.split_off(place)?),
+        None => Ok(Vec::new(alloc)),
+    }
+}
+
+/// The calls, parted at the first Seal, for so many administrators.
+pub(crate) fn part_calls(
+    alloc: Global,
+    calls: Vec<(u16, Call)>,
+    admins: u16,
+) -> Result<Parted, Memory>
+    ensures opening { IfOk result (λ made. map called_of made.opening.items ≡ opening_calls (map called_of calls.items)) }
+    ensures commands { IfOk result (λ made. AreCommandsBehind (map called_of calls.items) admins (acts_of_each made.commands.items)) }
+{
+    let mut opening = calls;
+    let behind = cut_at_seal(alloc, &mut opening)?;
+    let commands = commands_by(alloc, behind, admins)?;
+    Ok(Parted { opening, commands })
+}

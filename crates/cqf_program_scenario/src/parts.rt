@@ -1,0 +1,84 @@
+//! The parts of an input (profile).
+ghost use Rattle.std.specs.Prelude.{◌≡◌, Ok, IfOk, IfErr};
+ghost use Rattle.cqf_text.specs.Parts.{parts_of};
+ghost use Rattle.cqf_program_stop.specs.Stops.{EndsWith, IsRefused};
+ghost use Rattle.cqf_program_scenario.specs.Parts.{one_part, parts_line, run_parts, two_parts};
+ghost use Rattle.cqf_program_scenario.specs.RunParts.{texts_of};
+
+use cqf_program_stop::{REFUSED, Stop};
+use cqf_text::parts;
+use std::alloc::Global;
+
+/// The parts of a run, each as it stands in the input.
+#[derive(Clone, Copy, Debug)]
+pub struct RunParts<'i> {
+    pub domain: &'i [u8],
+    pub streams: &'i [u8],
+    pub script: &'i [u8],
+    pub offers: &'i [u8],
+    /// The background frames, where the input has a fifth part.
+    pub background: Option<&'i [u8]>,
+}
+
+/// The end where the input has another number of parts than the command takes.
+fn parts_stop(alloc: Global) -> Stop
+    ensures { EndsWith 1 parts_line result }
+{
+    Stop::with_line(alloc, REFUSED, "cqf: parts\n")
+}
+
+/// The one part of the input. `Err` with status 1 where it has another number of parts, and with status 3 for want of
+/// memory.
+pub fn one_part(alloc: Global, input: &[u8]) -> Result<&[u8], Stop>
+    ensures ok { IfOk result (λ part. one_part (parts_of input.now) ≡ Ok part.now) }
+    ensures err { IfErr result (IsRefused (one_part (parts_of input.now))) }
+{
+    let Ok(found) = parts(alloc, input) else {
+        return Err(Stop::memory(alloc));
+    };
+    match found.as_slice() {
+        [part] => Ok(*part),
+        _ => Err(parts_stop(alloc)),
+    }
+}
+
+/// The two parts of the input. `Err` as [`one_part`].
+pub fn two_parts(alloc: Global, input: &[u8]) -> Result<(&[u8], &[u8]), Stop>
+    ensures ok { IfOk result (λ found. two_parts (parts_of input.now) ≡ Ok (found.0.now, found.1.now)) }
+    ensures err { IfErr result (IsRefused (two_parts (parts_of input.now))) }
+{
+    let Ok(found) = parts(alloc, input) else {
+        return Err(Stop::memory(alloc));
+    };
+    match found.as_slice() {
+        [first, second] => Ok((*first, *second)),
+        _ => Err(parts_stop(alloc)),
+    }
+}
+
+/// The four or five parts of the input of a run. `Err` as [`one_part`].
+pub fn run_parts(alloc: Global, input: &[u8]) -> Result<RunParts<'_>, Stop>
+    ensures ok { IfOk result (λ found. run_parts (parts_of input.now) ≡ Ok (texts_of found)) }
+    ensures err { IfErr result (IsRefused (run_parts (parts_of input.now))) }
+{
+    let Ok(found) = parts(alloc, input) else {
+        return Err(Stop::memory(alloc));
+    };
+    match found.as_slice() {
+        [domain, streams, script, offers] => Ok(RunParts {
+            domain: *domain,
+            streams: *streams,
+            script: *script,
+            offers: *offers,
+            background: None,
+        }),
+        [domain, streams, script, offers, background] => Ok(RunParts {
+            domain: *domain,
+            streams: *streams,
+            script: *script,
+            offers: *offers,
+            background: Some(*background),
+        }),
+        _ => Err(parts_stop(alloc)),
+    }
+}

@@ -1,0 +1,148 @@
+//! The readers of parts that several commands have (profile).
+ghost use Rattle.std.specs.Prelude.{◌≡◌, ◌≢◌, ◌≤◌, [], All, Ok, IfOk, IfErr, length, map};
+ghost use Rattle.cqf_admission.specs.Asking.{asked_of};
+ghost use Rattle.cqf_program_scenario.specs.Lines.{background_line, domain_line, offers_line, script_line, streams_line};
+ghost use Rattle.cqf_model.specs.Run.{AreBackground, AreOffers};
+ghost use Rattle.cqf_report.specs.BackgroundFrames.{background_frames_of};
+ghost use Rattle.cqf_report.specs.Faults.{table_fault_text};
+ghost use Rattle.cqf_report.specs.Offers.{offers_of};
+ghost use Rattle.cqf_admission_requests.specs.declared.orders.Ordered.{Ordered as AnOrdered};
+ghost use Rattle.cqf_admission_requests.specs.Orders.{StandsIn, ordered_in};
+ghost use Rattle.cqf_admission_script.specs.Script.{AreFew, script_of};
+ghost use Rattle.cqf_program_stop.specs.Stops.{EndsWith, IsRefused, fault_line, or_line};
+ghost use Rattle.cqf_topology.specs.DomainText.{domain_of_text};
+ghost use Rattle.cqf_topology.specs.PlannedText.{planned_of_text, planned_text};
+ghost use Rattle.cqf_topology.specs.StreamsText.{request_text, streams_of_text};
+ghost use Rattle.cqf_model.specs.Limits.{most_rows};
+
+use cqf_admission_requests::{Names, Ordered};
+use cqf_admission_script::{ScriptFault, read_orders};
+use cqf_model::{Background, Offer};
+use cqf_program_stop::Stop;
+use cqf_report::{TableFault, read_background, read_offers};
+use cqf_topology::{
+    Domain, DomainFault, Planned, Request, StreamsFault, read_planned_streams, read_streams,
+};
+use std::alloc::Global;
+
+/// The end where a domain is refused.
+fn domain_stop(alloc: Global, fault: &DomainFault) -> Stop
+    ensures refused { fault.now ≢ DomainFault.Memory → EndsWith 1 (domain_line fault.now) result }
+    ensures memory { fault.now ≡ DomainFault.Memory → EndsWith 3 [] result }
+{
+    match fault {
+        DomainFault::Memory => Stop::memory(alloc),
+        _ => Stop::refused(alloc, "domain", fault),
+    }
+}
+
+/// The end where streams are refused.
+fn streams_stop(alloc: Global, fault: StreamsFault) -> Stop
+    ensures refused { fault ≢ StreamsFault.Memory → EndsWith 1 (streams_line fault) result }
+    ensures memory { fault ≡ StreamsFault.Memory → EndsWith 3 [] result }
+{
+    match fault {
+        StreamsFault::Memory => Stop::memory(alloc),
+        _ => Stop::refused(alloc, "streams", &fault),
+    }
+}
+
+/// The end where a script is refused.
+fn script_stop(alloc: Global, fault: ScriptFault) -> Stop
+    ensures refused { fault ≢ ScriptFault.Memory → EndsWith 1 (script_line fault) result }
+    ensures memory { fault ≡ ScriptFault.Memory → EndsWith 3 [] result }
+{
+    match fault {
+        ScriptFault::Memory => Stop::memory(alloc),
+        _ => Stop::refused(alloc, "script", &fault),
+    }
+}
+
+/// The end where a part that is a table is refused.
+fn table_stop(alloc: Global, part: &str, fault: TableFault) -> Stop
+    ensures refused { fault ≢ TableFault.Memory → EndsWith 1 (fault_line part.now (table_fault_text fault)) result }
+    ensures memory { fault ≡ TableFault.Memory → EndsWith 3 [] result }
+{
+    match fault {
+        TableFault::Memory => Stop::memory(alloc),
+        _ => Stop::refused(alloc, part, &fault),
+    }
+}
+
+/// The domain of a part. `Err` with status 1 and the line of its first fault, and with status 3 for want of memory.
+pub fn domain_part(alloc: Global, text: &[u8]) -> Result<Domain, Stop>
+    ensures ok { IfOk result (λ domain. domain_of_text text.now ≡ Ok domain) }
+    ensures err { IfErr result (IsRefused (or_line domain_line (domain_of_text text.now))) }
+{
+    match Domain::read(alloc, text) {
+        Ok(domain) => Ok(domain),
+        Err(fault) => Err(domain_stop(alloc, &fault)),
+    }
+}
+
+/// The streams of a part. `Err` as [`domain_part`].
+pub fn streams_part(alloc: Global, text: &[u8]) -> Result<Vec<Request>, Stop>
+    ensures ok { IfOk result (λ requests. streams_of_text text.now ≡ Ok (map request_text requests.items)) }
+    ensures err { IfErr result (IsRefused (or_line streams_line (streams_of_text text.now))) }
+{
+    match read_streams(alloc, text) {
+        Ok(requests) => Ok(requests),
+        Err(fault) => Err(streams_stop(alloc, fault)),
+    }
+}
+
+/// The streams of a part, with their deadlines. `Err` as [`domain_part`].
+pub fn planned_part(alloc: Global, text: &[u8]) -> Result<Vec<Planned>, Stop>
+    ensures ok { IfOk result (λ streams. planned_of_text text.now ≡ Ok (map planned_text streams.items)) }
+    ensures err { IfErr result (IsRefused (or_line streams_line (planned_of_text text.now))) }
+{
+    match read_planned_streams(alloc, text) {
+        Ok(streams) => Ok(streams),
+        Err(fault) => Err(streams_stop(alloc, fault)),
+    }
+}
+
+/// The orders of a script for so many cycles, each by where what it names stands, where these are the names that may be admitted.
+/// `Err` as [`domain_part`].
+pub fn script_part(
+    alloc: Global,
+    names: &Names<'_>,
+    cycles: u32,
+    text: &[u8],
+) -> Result<Vec<Ordered>, Stop>
+    ensures ok { IfOk result (λ orders. script_of (map asked_of names.now) cycles text.now ≡ Ok (map (ordered_in (map asked_of names.now) text.now) orders.items)) }
+    ensures stand { IfOk result (λ orders. All (λ (ordered : AnOrdered). StandsIn (map asked_of names.now) text.now ordered.what) orders.items) }
+    ensures few { IfOk result (λ orders. AreFew cycles (map (ordered_in (map asked_of names.now) text.now) orders.items)) }
+    ensures err { IfErr result (IsRefused (or_line script_line (script_of (map asked_of names.now) cycles text.now))) }
+{
+    match read_orders(alloc, text, names, cycles) {
+        Ok(orders) => Ok(orders),
+        Err(fault) => Err(script_stop(alloc, fault)),
+    }
+}
+
+/// The offers of a part, to a domain. `Err` as [`domain_part`].
+pub fn offers_part(alloc: Global, domain: &Domain, text: &[u8]) -> Result<Vec<Offer>, Stop>
+    ensures ok { IfOk result (λ offers. offers_of domain.now text.now ≡ Ok offers.items) }
+    ensures good { IfOk result (λ offers. AreOffers domain.now offers.items) }
+    ensures few { IfOk result (λ offers. length offers.items ≤ most_rows) }
+    ensures err { IfErr result (IsRefused (or_line offers_line (offers_of domain.now text.now))) }
+{
+    match read_offers(alloc, domain, text) {
+        Ok(offers) => Ok(offers),
+        Err(fault) => Err(table_stop(alloc, "offers", fault)),
+    }
+}
+
+/// The background frames of a part, for the links of a domain. `Err` as [`domain_part`].
+pub fn background_part(alloc: Global, domain: &Domain, text: &[u8]) -> Result<Vec<Background>, Stop>
+    ensures ok { IfOk result (λ frames. background_frames_of domain.now text.now ≡ Ok frames.items) }
+    ensures good { IfOk result (λ frames. AreBackground domain.now frames.items) }
+    ensures few { IfOk result (λ frames. length frames.items ≤ most_rows) }
+    ensures err { IfErr result (IsRefused (or_line background_line (background_frames_of domain.now text.now))) }
+{
+    match read_background(alloc, domain, text) {
+        Ok(frames) => Ok(frames),
+        Err(fault) => Err(table_stop(alloc, "background", fault)),
+    }
+}

@@ -1,0 +1,12 @@
+use Rattle.std.proofs.Common.{codes, decimal}
+use Rattle.cqf_report.specs.Books.{name_of_bridge, name_of_reason}
+use Rattle.cqf_program_telling.proofs.LineLemmas.{Puts-six}
+use Rattle.cqf_program_telling.proofs.books.put_dropped.Goals as goal
+
+pub returns : goal.returns
+returns g c =
+    let dropped = c.args.dropped.now in
+    Puts-six (codes "drop") (decimal dropped.cycle.0) (name_of_bridge c.args.domain.now dropped.bridge) (decimal dropped.frame) (decimal dropped.octets)
+    (name_of_reason dropped.reason)
+    c.put.ensures c.put_byte.ensures c.put_number.ensures c.put_byte-2.ensures c.put_bridge.ensures c.put_byte-3.ensures
+    c.put_number-2.ensures c.put_byte-4.ensures c.put_number-3.ensures c.put_byte-5.ensures c.put_reason.ensures c.put_byte-6.ensures

@@ -1,0 +1,19 @@
+use Rattle.std.proofs.Common.{decimal, [], ◌∷◌, ℕ, ap}
+use Rattle.cqf_port.specs.PortState.{start_of}
+use Rattle.cqf_program_press.proofs.PressLemmas.{Puts-as}
+use Rattle.cqf_report.specs.Starts.{start_fields}
+use Rattle.cqf_report.specs.Written.{line_of_fields}
+use Rattle.cqf_units.specs.Timing.{nanos_of_octet}
+use Rattle.cqf_program_telling.proofs.LineLemmas.{Puts-four}
+use Rattle.cqf_program_telling.proofs.ports.put_start.Goals as goal
+
+pub returns : goal.returns
+returns g c =
+    let start = start_of c.args.arrivals.now c.args.start in
+    let end : ℕ = c.frame_end-end.result.0 in
+    Puts-as (line_of_fields (decimal start.class ∷ decimal start.frame ∷ decimal start.start.0 ∷ decimal end ∷ []))
+    (line_of_fields (start_fields (nanos_of_octet c.args.rate) start))
+    (ap (λ e. line_of_fields (decimal start.class ∷ decimal start.frame ∷ decimal start.start.0 ∷ decimal e ∷ [])) c.frame_end-end.ensures)
+    (Puts-four (decimal start.class) (decimal start.frame) (decimal start.start.0) (decimal end)
+    c.put_number.ensures c.put_byte.ensures c.put_number-2.ensures c.put_byte-2.ensures c.put_number-3.ensures c.put_byte-3.ensures
+    c.put_number-4.ensures c.put_byte-4.ensures)

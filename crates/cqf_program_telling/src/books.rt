@@ -1,0 +1,101 @@
+//! The book of a run, told line by line.
+
+ghost use Rattle.std.specs.Prelude.{◌≡◌, codes};
+ghost use Rattle.cqf_model.specs.Book.{contents_of};
+ghost use Rattle.cqf_program_press.specs.Press.{Puts};
+ghost use Rattle.cqf_report.specs.Books.{book_header, dropped_fields, lines_of_drops, lines_of_starts, name_of_reason, started_fields, text_of_book};
+ghost use Rattle.cqf_report.specs.Written.{line_of_fields};
+
+use crate::names::{put_bridge, put_link};
+use cqf_model::{Book, Dropped, Reason, Started};
+use cqf_program_press::Press;
+use cqf_topology::Domain;
+use std::io::Write;
+
+/// Puts the word for a reason.
+fn put_reason<W: Write>(press: &mut Press<'_, W>, reason: Reason)
+    ensures { Puts W.contents press.old press.new (name_of_reason reason) }
+{
+    match reason {
+        Reason::Unknown => press.put(b"unknown"),
+        Reason::Withdrawn => press.put(b"withdrawn"),
+        Reason::OtherBridge => press.put(b"other-bridge"),
+        Reason::Octets => press.put(b"octets"),
+    }
+}
+
+/// Puts the header of a book.
+pub fn put_book_header<W: Write>(press: &mut Press<'_, W>)
+    ensures { Puts W.contents press.old press.new (line_of_fields book_header) }
+{
+    press.put(b"what,cycle,where,frame,octets,detail\n");
+}
+
+/// Puts a transmission's line, which begins with the word for what it is.
+fn put_started<W: Write>(press: &mut Press<'_, W>, what: &[u8], domain: &Domain, started: &Started)
+    ensures { Puts W.contents press.old press.new (line_of_fields (started_fields what.now domain.now started.now)) }
+{
+    press.put(what);
+    press.put_byte(b',');
+    press.put_number(started.cycle.0);
+    press.put_byte(b',');
+    put_link(press, domain, started.link);
+    press.put_byte(b',');
+    press.put_number(started.frame);
+    press.put_byte(b',');
+    press.put_number(started.octets);
+    press.put_byte(b',');
+    press.put_number(started.start.0);
+    press.put_byte(b'\n');
+}
+
+/// Puts a line for each transmission, which begins with the word for what they are.
+pub fn put_starts<W: Write>(
+    press: &mut Press<'_, W>,
+    what: &[u8],
+    domain: &Domain,
+    starts: &[Started],
+)
+    ensures { Puts W.contents press.old press.new (lines_of_starts what.now domain.now starts.now) }
+{
+    for started in starts {
+        put_started(press, what, domain, started);
+    }
+}
+
+/// Puts a drop's line.
+fn put_dropped<W: Write>(press: &mut Press<'_, W>, domain: &Domain, dropped: &Dropped)
+    ensures { Puts W.contents press.old press.new (line_of_fields (dropped_fields domain.now dropped.now)) }
+{
+    press.put(b"drop");
+    press.put_byte(b',');
+    press.put_number(dropped.cycle.0);
+    press.put_byte(b',');
+    put_bridge(press, domain, dropped.bridge);
+    press.put_byte(b',');
+    press.put_number(dropped.frame);
+    press.put_byte(b',');
+    press.put_number(dropped.octets);
+    press.put_byte(b',');
+    put_reason(press, dropped.reason);
+    press.put_byte(b'\n');
+}
+
+/// Puts a line for each drop.
+pub fn put_drops<W: Write>(press: &mut Press<'_, W>, domain: &Domain, drops: &[Dropped])
+    ensures { Puts W.contents press.old press.new (lines_of_drops domain.now drops.now) }
+{
+    for dropped in drops {
+        put_dropped(press, domain, dropped);
+    }
+}
+
+/// Puts the text of a book, as `cqf_report::write_book` gives it.
+pub fn put_book<W: Write>(press: &mut Press<'_, W>, domain: &Domain, book: &Book)
+    ensures { Puts W.contents press.old press.new (text_of_book domain.now (contents_of book.now)) }
+{
+    put_book_header(press);
+    put_starts(press, b"start", domain, book.starts.as_slice());
+    put_starts(press, b"background", domain, book.background.as_slice());
+    put_drops(press, domain, book.drops.as_slice());
+}

@@ -1,0 +1,55 @@
+//! The names of a domain's nodes and links, as a book has them.
+
+ghost use Rattle.cqf_program_press.specs.Press.{Puts};
+ghost use Rattle.cqf_report.specs.Books.{ends_of_link, name_of_bridge, name_of_link, name_of_node};
+
+use cqf_model::{Link, Node};
+use cqf_program_press::Press;
+use cqf_topology::Domain;
+use std::io::Write;
+
+/// Puts the name of a bridge. A bridge that the domain lacks has none.
+pub fn put_bridge<W: Write>(press: &mut Press<'_, W>, domain: &Domain, bridge: u8)
+    ensures { Puts W.contents press.old press.new (name_of_bridge domain.now bridge) }
+{
+    if bridge < domain.bridges() {
+        press.put(domain.bridge_name(bridge).as_bytes());
+    }
+}
+
+/// Puts the name of a station. A station that the domain lacks has none.
+fn put_station<W: Write>(press: &mut Press<'_, W>, domain: &Domain, station: u8)
+    ensures { Puts W.contents press.old press.new (name_of_node domain.now (Node.Station station)) }
+{
+    if station < domain.stations() {
+        press.put(domain.station_name(station).as_bytes());
+    }
+}
+
+/// Puts the name of a node.
+fn put_node<W: Write>(press: &mut Press<'_, W>, domain: &Domain, node: Node)
+    ensures { Puts W.contents press.old press.new (name_of_node domain.now node) }
+{
+    match node {
+        Node::Bridge(bridge) => put_bridge(press, domain, bridge),
+        Node::Station(station) => put_station(press, domain, station),
+    }
+}
+
+/// Puts the names of a link's ends.
+fn put_ends<W: Write>(press: &mut Press<'_, W>, domain: &Domain, link: Link)
+    ensures { Puts W.contents press.old press.new (ends_of_link domain.now link) }
+{
+    put_bridge(press, domain, link.from);
+    press.put_byte(b'>');
+    put_node(press, domain, link.to);
+}
+
+/// Puts a link by the names of its ends. A link that the domain lacks has none.
+pub fn put_link<W: Write>(press: &mut Press<'_, W>, domain: &Domain, link: u8)
+    ensures { Puts W.contents press.old press.new (name_of_link domain.now link) }
+{
+    if link < domain.links() {
+        put_ends(press, domain, domain.link(link));
+    }
+}

@@ -1,0 +1,134 @@
+-- The account of a scenario that was opened.
+use Rattle.std.proofs.Common.{◌≡◌, ◌≢◌, ◌⊎◌, ◌∙◌, ℕ, List, [], Ok, arith, ap, codes, inl, inr, map, subst, subst₂, sym, refl}
+use Rattle.std.specs.Global.{Global}
+use Rattle.std.specs.declared.vec.Vec.{Vec}
+use Rattle.std.proofs.lemmas.Simd.{map-map}
+use Rattle.cqf_model.specs.declared.frames.Background.{Background}
+use Rattle.cqf_model.specs.declared.frames.Offer.{Offer}
+use Rattle.cqf_model.specs.Domain.{Domain, IsAccepted}
+use Rattle.cqf_model.specs.Headline.{IsAccountOf}
+use Rattle.cqf_model.specs.History.{Act, Recorded}
+use Rattle.cqf_admission.specs.declared.entries.Command.{Command}
+use Rattle.cqf_book.specs.Pages.{pages_of}
+use Rattle.cqf_laws_account.specs.Paged.{ArePagesByLink, PagesTellTheBook, TellTheBook, told_from}
+use Rattle.cqf_program_runs.specs.RunOutput.{run_text}
+use Rattle.cqf_program_scenario.specs.Opening.{IsOpenedInput, opening_history}
+use Rattle.cqf_program_scenario.specs.Parted.{acts_of_each}
+use Rattle.cqf_program_scenario.specs.Parting.{AreCommandsBehind}
+use Rattle.cqf_program_scenario.specs.Scenario.{Scenario, scenario_input}
+use Rattle.cqf_program_scenario.specs.declared.opening.Opened.{Opened}
+use Rattle.cqf_program_stop.specs.Stops.{EndsWith, IsRefused, fault_line}
+use Rattle.cqf_program_stop.specs.declared.stops.Stop.{Stop}
+use Rattle.cqf_program_threads.specs.ThreadsOutput.{EndsThreads, IsAccountOfInput, IsThreadsOutput}
+use Rattle.cqf_worker.specs.Account.{IsPagedAccount, all_asked, entries_of}
+use Rattle.cqf_worker_loops.specs.Commands.{acts_asked}
+use Rattle.cqf_worker_threads.specs.Faults.{conduct_fault_text}
+use Rattle.cqf_worker.specs.declared.account.PagedAccount.{PagedAccount}
+use Rattle.cqf_worker_threads.specs.declared.faults.ConductFault.{ConductFault}
+use Rattle.cqf_worker_threads.specs.declared.faults.ConductFault.TheVariants.{Memory, Bridge, DeskDisagrees, BookDisagrees, ChannelLost, Spawn}
+
+-- each administrator's commands, of the vectors of them
+abbrev pub commands_in : List (Vec Command Global) → List (List Command)
+commands_in lists = map (λ (commands : Vec Command Global). commands.items) lists
+
+-- what they call for is what the vectors do
+asked_of : (lists : List (Vec Command Global)) → acts_of_each lists ≡ all_asked (commands_in lists)
+asked_of lists = sym (map-map acts_asked (λ (commands : Vec Command Global). commands.items) lists)
+
+-- an account by pages of what was opened of an input is one of the input's scenario
+pub IsAccountOfInput-opened : (cycles : ℕ) (input : List ℕ) (made : Opened) (account : PagedAccount) (offers : List Offer) (frames : List Background)
+    → IsOpenedInput cycles input made → offers ≡ made.offers.items → frames ≡ made.background.items
+    → IsPagedAccount made.domain made.admission.entries offers frames cycles (commands_in made.commands.items) account
+    → IsAccountOfInput cycles input made.domain account
+IsAccountOfInput-opened cycles input made account offers frames opened same_offers same_frames is =
+    let s = opened.scenario in
+    let o = opened.opened in
+    let admins = commands_in made.commands.items in
+    let of_opening : IsPagedAccount made.domain (opening_history s) offers frames cycles admins account =
+    subst (λ (entries : List Recorded). IsPagedAccount made.domain entries offers frames cycles admins account) o.entries is in
+    record {
+      scenario = s;
+      holds = opened.holds;
+      domain = o.domain;
+      commands = admins;
+      asked = subst (λ (lists : List (List Act)). AreCommandsBehind s.calls s.sealer lists) (asked_of made.commands.items) o.commands;
+      is_account = subst₂ (λ (offers : List Offer) (frames : List Background). IsPagedAccount made.domain (opening_history s) offers frames cycles admins account)
+          (same_offers ∙ o.offers) (same_frames ∙ o.background) of_opening;
+    }
+
+-- the pages of such an account tell its book
+module _ (cycles : ℕ) (input : List ℕ) (d : Domain) (account : PagedAccount) (of : IsAccountOfInput cycles input d account) (law : PagesTellTheBook)
+    (accepted : IsAccepted d) where
+  tells : TellTheBook d cycles (pages_of account.pages) of.is_account.book
+  tells = law d cycles (pages_of account.pages) of.is_account.book accepted of.is_account.some of.is_account.its_pages
+
+  -- on them the transmissions stand link by link
+  pub pages_by_link : ArePagesByLink d (pages_of account.pages)
+  pages_by_link = tells.by_link
+
+  -- the text of its history and of the book that they tell is the output
+  pub IsThreadsOutput-written : (text : List ℕ) → text ≡ run_text d (entries_of account.history) (told_from d cycles (pages_of account.pages)) →
+      IsThreadsOutput cycles input text
+  IsThreadsOutput-written text written =
+      let s = of.scenario in
+      let entries = entries_of account.history in
+      let book = of.is_account.book in
+      let same : IsAccountOf s.domain (opening_history s) s.offers s.background cycles (all_asked of.commands) entries book =
+      subst (λ (e : Domain). IsAccountOf e (opening_history s) s.offers s.background cycles (all_asked of.commands) entries book) of.domain of.is_account.is in
+      record {
+        scenario = s;
+        holds = of.holds;
+        entries = entries;
+        book = book;
+        of_scenario = record { commands = of.commands; asked = of.asked; is_account = same };
+        written = written ∙ ap (run_text d entries) (sym tells.told) ∙ ap (λ (e : Domain). run_text e entries book) of.domain;
+      }
+
+-- an input that is refused ends it
+pub EndsThreads-refused : (cycles : ℕ) (input : List ℕ) (stop : Stop) → IsRefused (scenario_input cycles input) stop → EndsThreads cycles input stop
+EndsThreads-refused cycles input stop h = record {
+  statuses = elim h.statuses [ inl one ↦ inl one | inr three ↦ inr (inl three) ];
+  refused = h.line;
+  fault = λ four. absurd (elim h.statuses [ inl one ↦ omega arith | inr three ↦ omega arith ]);
+  memory = h.memory;
+}
+
+-- want of memory ends it
+pub EndsThreads-memory : (cycles : ℕ) (input : List ℕ) (stop : Stop) → stop.status ≡ 3 → stop.text.items ≡ [] → EndsThreads cycles input stop
+EndsThreads-memory cycles input stop three none = record {
+  statuses = inr (inl three);
+  refused = λ one. absurd (omega arith);
+  fault = λ four. absurd (omega arith);
+  memory = λ _. none;
+}
+
+-- a fault of the run that isn't for memory ends it, behind an input that has a scenario
+EndsThreads-fault : (cycles : ℕ) (input : List ℕ) (s : Scenario) (fault : ConductFault) (stop : Stop) → scenario_input cycles input ≡ Ok s → fault ≢ Memory
+    → EndsWith 4 (fault_line (codes "run") (conduct_fault_text fault)) stop → EndsThreads cycles input stop
+EndsThreads-fault cycles input s fault stop holds other e = record {
+  statuses = elim e.statuses [ inl four ↦ inr (inr four) | inr three ↦ inr (inl three) ];
+  refused = λ one. absurd (elim e.statuses [ inl four ↦ omega arith | inr three ↦ omega arith ]);
+  fault = λ four. record { scenario = s; holds = holds; fault = fault; other = other; tells = e.line_is four };
+  memory = e.memory;
+}
+
+-- a fault is want of memory, or another
+memory_or_not : (fault : ConductFault) → (fault ≡ Memory) ⊎ (fault ≢ Memory)
+memory_or_not Memory = inl refl
+memory_or_not (Bridge bridge fault) = inr (λ e. (cc))
+memory_or_not DeskDisagrees = inr (λ e. (cc))
+memory_or_not BookDisagrees = inr (λ e. (cc))
+memory_or_not ChannelLost = inr (λ e. (cc))
+memory_or_not Spawn = inr (λ e. (cc))
+
+-- a fault of the run ends it, behind an input that was opened
+pub EndsThreads-stopped : (cycles : ℕ) (input : List ℕ) (made : Opened) (fault : ConductFault) (stop : Stop) → IsOpenedInput cycles input made
+    → (fault ≢ Memory → EndsWith 4 (fault_line (codes "run") (conduct_fault_text fault)) stop) → (fault ≡ Memory → EndsWith 3 [] stop)
+    → EndsThreads cycles input stop
+EndsThreads-stopped cycles input made fault stop o told memory = elim (memory_or_not fault) [
+  | inl is ↦
+      let e = memory is in
+      let three : stop.status ≡ 3 = elim e.statuses [ inl three ↦ three | inr three ↦ three ] in
+      EndsThreads-memory cycles input stop three (e.memory three)
+  | inr other ↦ EndsThreads-fault cycles input o.scenario fault stop o.holds other (told other)
+]

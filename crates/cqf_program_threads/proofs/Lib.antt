@@ -1,0 +1,4 @@
+mod Stretches
+mod Places
+mod PageLines
+mod Accounts

@@ -1,0 +1,3 @@
+pub mod PagedBooks
+pub mod AccountTold
+pub mod ThreadsOutput

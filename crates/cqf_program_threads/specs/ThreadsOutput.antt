@@ -1,0 +1,59 @@
+-- What the command `run` with `--threads` gives for its input (profile): the history and the book of an account of a scenario.
+use Rattle.std.specs.Prelude.{ℕ, ◌≡◌, ◌≢◌, ◌⊎◌, List, [], Result, Ok, Err, codes}
+use Rattle.cqf_model.specs.Book.{Contents}
+use Rattle.cqf_model.specs.Domain.{Domain}
+use Rattle.cqf_model.specs.Headline.{IsAccountOf}
+use Rattle.cqf_model.specs.History.{Recorded}
+use Rattle.cqf_admission.specs.declared.entries.Command.{Command}
+use Rattle.cqf_program_runs.specs.RunOutput.{run_text}
+use Rattle.cqf_program_scenario.specs.Opening.{opening_history}
+use Rattle.cqf_program_scenario.specs.Parting.{AreCommandsBehind}
+use Rattle.cqf_program_scenario.specs.Scenario.{Scenario, scenario_input}
+use Rattle.cqf_program_stop.specs.Stops.{fault_line}
+use Rattle.cqf_program_stop.specs.declared.stops.Stop.{Stop}
+use Rattle.cqf_worker.specs.Account.{IsPagedAccount, all_asked}
+use Rattle.cqf_worker_threads.specs.Faults.{conduct_fault_text}
+use Rattle.cqf_worker.specs.declared.account.PagedAccount.{PagedAccount}
+use Rattle.cqf_worker_threads.specs.declared.faults.ConductFault.{ConductFault}
+use Rattle.cqf_worker_threads.specs.declared.faults.ConductFault.TheVariants.{Memory}
+
+-- the entries and the book of an account of a scenario over so many cycles: of a run that begins with the history of the calls before the
+-- first Seal, and in which each administrator makes what it calls for behind that Seal
+pub record IsAccountOfScenario (cycles : ℕ) (s : Scenario) (entries : List Recorded) (book : Contents) : Type 0 where
+  pub commands : List (List Command)
+  pub asked : AreCommandsBehind s.calls s.sealer (all_asked commands)
+  pub is_account : IsAccountOf s.domain (opening_history s) s.offers s.background cycles (all_asked commands) entries book
+
+-- an account by pages of an input's scenario, and the domain of that
+pub record IsAccountOfInput (cycles : ℕ) (input : List ℕ) (d : Domain) (account : PagedAccount) : Type 0 where
+  pub scenario : Scenario
+  pub holds : scenario_input cycles input ≡ Ok scenario
+  pub domain : d ≡ scenario.domain
+  pub commands : List (List Command)
+  pub asked : AreCommandsBehind scenario.calls scenario.sealer (all_asked commands)
+  pub is_account : IsPagedAccount d (opening_history scenario) scenario.offers scenario.background cycles commands account
+
+-- the output is the text of the history of an account of the input's scenario, and of its book
+pub record IsThreadsOutput (cycles : ℕ) (input output : List ℕ) : Type 0 where
+  pub scenario : Scenario
+  pub holds : scenario_input cycles input ≡ Ok scenario
+  pub entries : List Recorded
+  pub book : Contents
+  pub of_scenario : IsAccountOfScenario cycles scenario entries book
+  pub written : output ≡ run_text scenario.domain entries book
+
+-- the line tells the fault of a run, which began, since the input has a scenario; want of memory outside a bridge isn't told so
+pub record TellsFault (found : Result Scenario (List ℕ)) (line : List ℕ) : Type 0 where
+  pub scenario : Scenario
+  pub holds : found ≡ Ok scenario
+  pub fault : ConductFault
+  pub other : fault ≢ Memory
+  pub tells : line ≡ fault_line (codes "run") (conduct_fault_text fault)
+
+-- how it ends without an account: with status 1 and the line of the input's first fault, or with status 4 and the line of the run's
+-- fault, or without memory
+pub record EndsThreads (cycles : ℕ) (input : List ℕ) (stop : Stop) : Type 0 where
+  pub statuses : (stop.status ≡ 1) ⊎ ((stop.status ≡ 3) ⊎ (stop.status ≡ 4))
+  pub refused : stop.status ≡ 1 → scenario_input cycles input ≡ Err stop.text.items
+  pub fault : stop.status ≡ 4 → TellsFault (scenario_input cycles input) stop.text.items
+  pub memory : stop.status ≡ 3 → stop.text.items ≡ []

@@ -1,0 +1,157 @@
+//! The command `run` with `--threads`: the history and the book of an account.
+ghost use Rattle.std.specs.Prelude.{◌≡◌, ◌≢◌, ◌≤◌, ◌++◌, [], IfErr, IfOk, codes, map, string_bytes};
+ghost use Rattle.cqf_admission.specs.Admission.{recorded_of};
+ghost use Rattle.cqf_program_press.specs.Edge.{HasTold, writing};
+ghost use Rattle.cqf_program_press.specs.Press.{Puts};
+ghost use Rattle.cqf_report.specs.Books.{text_of_book};
+ghost use Rattle.cqf_program_runs.specs.RunOutput.{run_text};
+ghost use Rattle.cqf_program_scenario.specs.Opening.{IsOpenedInput};
+ghost use Rattle.cqf_program_stop.specs.Stops.{EndsWith, fault_line, line_of};
+ghost use Rattle.cqf_worker_threads.specs.Faults.{conduct_fault_text};
+ghost use Rattle.cqf_program_threads.specs.AccountTold.{text_of_account};
+ghost use Rattle.cqf_program_threads.specs.PagedBooks.{contents_told};
+ghost use Rattle.cqf_program_threads.specs.ThreadsOutput.{EndsThreads, IsAccountOfInput, IsThreadsOutput};
+ghost use Rattle.cqf_model.specs.Limits.{most_cycles};
+
+use crate::threads_outputs::ThreadsOutput;
+use crate::{PagedBook, put_paged_book};
+use cqf_admission::Entry;
+use cqf_laws_account::pages_tell_the_book;
+use cqf_program_press::{Press, Sheet, Told};
+use cqf_program_scenario::{Opened, read_opened};
+use cqf_program_stop::{FAULT, Stop};
+use cqf_program_telling::put_history;
+use cqf_topology::Domain;
+use cqf_worker::{ConductFault, Free, PagedAccount, conduct_pages};
+use std::alloc::{AllocError, Global};
+use std::io::Write;
+use std::sync::Wait;
+use std::thread::Threads;
+
+/// The line of a run's fault.
+fn fault_line_of(alloc: Global, fault: ConductFault) -> Result<String, AllocError>
+    ensures { IfOk result (λ line. string_bytes line ≡ fault_line (codes "run") (conduct_fault_text fault)) }
+{
+    let part = "run";
+    let line = format!(in alloc; "cqf: {part}: {fault}\n")?;
+    Ok(line)
+}
+
+/// The end of a run that has a fault.
+fn fault_stop(alloc: Global, fault: ConductFault) -> Stop
+    ensures told { fault ≢ ConductFault.Memory → EndsWith 4 (fault_line (codes "run") (conduct_fault_text fault)) result }
+    ensures memory { fault ≡ ConductFault.Memory → EndsWith 3 [] result }
+{
+    match fault {
+        ConductFault::Memory => Stop::memory(alloc),
+        _ => Stop::with_text(alloc, FAULT, fault_line_of(alloc, fault)),
+    }
+}
+
+/// The domain of what was opened of the input, and the account of its run, by pages.
+fn conduct_opened(
+    rt: &(impl Threads + Wait + Sync),
+    alloc: Global,
+    cycles: u32,
+    input: &[u8],
+    opened: Opened,
+) -> Result<(Domain, PagedAccount), ConductFault>
+    requires short { cycles ≤ most_cycles }
+    requires opened { IsOpenedInput cycles input.now opened }
+    ensures { IfOk result (λ ran. IsAccountOfInput cycles input.now ran.0 ran.1) }
+{
+    let Opened {
+        domain,
+        admission,
+        commands,
+        offers,
+        background,
+    } = opened;
+    let account = conduct_pages(
+        rt,
+        alloc,
+        &domain,
+        admission,
+        offers.as_slice(),
+        background.as_slice(),
+        cycles,
+        commands,
+        &Free,
+    )?;
+    Ok((domain, account))
+}
+
+/// Puts a line `%%`, and the text of the book that pages tell behind it.
+fn put_rest<W: Write>(press: &mut Press<'_, W>, book: &PagedBook)
+    ensures { Puts W.contents press.old press.new (line_of (codes "%%") ++ text_of_book book.now.domain (contents_told book.now)) }
+{
+    press.put(b"%%\n");
+    put_paged_book(press, book);
+}
+
+/// Puts the text of a history, and of the book that pages tell, with a line `%%` between them.
+fn put_account<W: Write>(press: &mut Press<'_, W>, history: &[Entry], book: &PagedBook)
+    ensures { Puts W.contents press.old press.new (run_text book.now.domain (map recorded_of history.now) (contents_told book.now)) }
+{
+    put_history(press, history);
+    put_rest(press, book);
+}
+
+impl ThreadsOutput {
+    /// Tells the output: a history of the input's scenario, a line `%%`, and the one-thread book of that history (profile). It
+    /// asks for no memory, and sorts nothing.
+    pub fn tell<W: Write>(self, told: &mut Told<W>)
+        ensures { HasTold (writing W.contents told.old told.new) (text_of_account self) }
+    {
+        let ThreadsOutput {
+            history,
+            book,
+            sheet,
+        } = self;
+        let mut press = Press::new(told, sheet);
+        let history = history.entries.as_slice();
+        put_account(&mut press, history, &book);
+        let _told = press.close();
+    }
+}
+
+/// The output of `run --threads` over so many cycles, 0 to 100,000, ready to be told. Each bridge of the domain and each administrator of the script runs on a thread of
+/// its own, and the calling thread closes the cycles. The calls of the script before its first Seal are made before; the later
+/// ones are made while the bridges run, each administrator's in order, and later Seals are passed over. It waits until all
+/// threads have ended.
+///
+/// # Errors
+/// With status 1 and the line of the first fault of the input: of its parts, of the domain, the streams, the script, the
+/// offers, or the background frames; with status 4 and the line `cqf: run: FAULT` where the run has a fault, want of memory in
+/// a bridge among them; and with status 3 for want of memory elsewhere. Nothing is kept of the run then.
+pub fn threads_output(
+    rt: &(impl Threads + Wait + Sync),
+    alloc: Global,
+    cycles: u32,
+    input: &[u8],
+) -> Result<ThreadsOutput, Stop>
+    requires { cycles ≤ most_cycles }
+    ensures ok { IfOk result (λ output. IsThreadsOutput cycles input.now (text_of_account output)) }
+    ensures err { IfErr result (EndsThreads cycles input.now) }
+{
+    let opened = match read_opened(alloc, cycles, input) {
+        Ok(opened) => opened,
+        Err(stop) => return Err(stop),
+    };
+    pages_tell_the_book();
+    let (domain, account) = match conduct_opened(rt, alloc, cycles, input, opened) {
+        Ok(ran) => ran,
+        Err(fault) => return Err(fault_stop(alloc, fault)),
+    };
+    let _accepted = domain.cycle_time();
+    let PagedAccount { history, pages } = account;
+    let book = PagedBook::new(domain, cycles, pages);
+    match Sheet::new(alloc) {
+        Ok(sheet) => Ok(ThreadsOutput {
+            history,
+            book,
+            sheet,
+        }),
+        Err(_) => Err(Stop::memory(alloc)),
+    }
+}

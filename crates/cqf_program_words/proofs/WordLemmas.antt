@@ -1,0 +1,166 @@
+-- Values of a command, and the jobs that they rule out.
+use Rattle.std.proofs.Common.{◌≡◌, ◌≢◌, ◌∙◌, ◌+◌, ◌*◌, ℕ, true, refl, List, [], Option, Some, sym, ap, ap₂, subst, slice_index, codes, arith, inl, inr, ◌⊎◌}
+use Rattle.clap.specs.Words.{App, Row, Text, first_of, fault_of, is_simple, is_simple_and_free, HasKind, HasMatchesOf, IsAmong, Kinds, kind_of, subcommand_of}
+use Rattle.clap.specs.Words.{Rule, rule_of, subcommand_rows_of}
+use Rattle.clap.specs.declared.builder.arg.Arg.{Arg}
+use Rattle.clap.specs.declared.builder.value_parser.ValueParser.{ValueParser}
+use Rattle.clap.specs.declared.error.Error.{Error}
+use Rattle.clap.specs.declared.parser.matches.ArgMatches.{ArgMatches}
+use Rattle.clap.specs.declared.error.kind.ErrorKind.{ErrorKind}
+use Rattle.clap.specs.declared.error.kind.ErrorKind.TheVariants.{DisplayHelp, DisplayVersion, InvalidValue, OutOfMemory}
+use Rattle.cqf_units.specs.declared.timing.Rate.{Rate}
+use Rattle.cqf_program_words.specs.declared.words.Format.{Format}
+use Rattle.cqf_program_words.specs.declared.words.Job.{Job}
+use Rattle.cqf_program_words.specs.declared.words.Job.TheVariants.{Check, Compile, Deliveries, Latency, Line, Load, Port, Report, Run}
+use Rattle.cqf_program_stop.specs.declared.stops.Stop.{Stop}
+use Rattle.cqf_program_words.specs.Words.{cqf_app, format_text, rate_text, IsJob, IsJobOf, IsNumberIn, Mean, AskForHelp, EndsBy, EndsWords}
+
+-- an option whose parser was set goes by the rule that it went by, but for the parser
+pub with_parser : (before after : Arg) (rule : Rule) (parser : ValueParser) → after ≡ record before { value_parser = after.value_parser } →
+    rule_of before ≡ rule → after.value_parser ≡ Some parser → rule_of after ≡ record rule { parser = Some parser }
+with_parser before after rule parser is went set =
+    ap rule_of is ∙ ap₂ (λ (r : Rule) (p : Option ValueParser). record r { parser = p }) went set
+
+-- the first and the third letter of a command's name, which tell it from the others
+abbrev mark : Text → ℕ
+mark name = 256 * slice_index name 0 + slice_index name 2
+
+-- names of two marks are two
+marked : (one two : Text) → one ≡ two → mark one ≡ mark two
+marked one two e = ap mark e
+
+-- with no number there is no job of `port`
+pub no_port-until : (rows : List Row) (text : Option Text) → text ≡ first_of (codes "until") rows → ((n : ℕ) → ¬ IsNumberIn 1 100000000 n text) → (job : Job) →
+    ¬ IsJobOf job (codes "port") rows
+no_port-until rows text same none (Port until rate) job =
+    let P : Option Text → Type 0 = λ t. IsNumberIn 1 100000000 until t in
+    none until (subst P (sym same) job.1)
+no_port-until rows text same none (Line cycles) job = omega (arith, marked (codes "port") (codes "line") job.0)
+no_port-until rows text same none (Compile format) job = omega (arith, marked (codes "port") (codes "compile") job.0)
+no_port-until rows text same none Load job = omega (arith, marked (codes "port") (codes "load") job)
+no_port-until rows text same none (Latency strict) job = omega (arith, marked (codes "port") (codes "latency") job.0)
+no_port-until rows text same none (Run cycles threads) job = omega (arith, marked (codes "port") (codes "run") job.0)
+no_port-until rows text same none (Report cycles) job = omega (arith, marked (codes "port") (codes "report") job.0)
+no_port-until rows text same none (Deliveries cycles) job = omega (arith, marked (codes "port") (codes "deliveries") job.0)
+no_port-until rows text same none (Check cycles) job = omega (arith, marked (codes "port") (codes "check") job.0)
+
+-- nor with no rate
+pub no_port-rate : (rows : List Row) (text : Option Text) → text ≡ first_of (codes "rate") rows → ((rate : Rate) → ¬ (text ≡ Some (rate_text rate))) →
+    (job : Job) → ¬ IsJobOf job (codes "port") rows
+no_port-rate rows text same none (Port until rate) job = none rate (same ∙ job.2)
+no_port-rate rows text same none (Line cycles) job = omega (arith, marked (codes "port") (codes "line") job.0)
+no_port-rate rows text same none (Compile format) job = omega (arith, marked (codes "port") (codes "compile") job.0)
+no_port-rate rows text same none Load job = omega (arith, marked (codes "port") (codes "load") job)
+no_port-rate rows text same none (Latency strict) job = omega (arith, marked (codes "port") (codes "latency") job.0)
+no_port-rate rows text same none (Run cycles threads) job = omega (arith, marked (codes "port") (codes "run") job.0)
+no_port-rate rows text same none (Report cycles) job = omega (arith, marked (codes "port") (codes "report") job.0)
+no_port-rate rows text same none (Deliveries cycles) job = omega (arith, marked (codes "port") (codes "deliveries") job.0)
+no_port-rate rows text same none (Check cycles) job = omega (arith, marked (codes "port") (codes "check") job.0)
+
+-- with no format there is no job of `compile`
+pub no_compile-format : (rows : List Row) (text : Option Text) → text ≡ first_of (codes "format") rows → ((format : Format) → ¬ (text ≡ Some (format_text format))) →
+    (job : Job) → ¬ IsJobOf job (codes "compile") rows
+no_compile-format rows text same none (Port until rate) job = omega (arith, marked (codes "compile") (codes "port") job.0)
+no_compile-format rows text same none (Line cycles) job = omega (arith, marked (codes "compile") (codes "line") job.0)
+no_compile-format rows text same none (Compile format) job = none format (same ∙ job.1)
+no_compile-format rows text same none Load job = omega (arith, marked (codes "compile") (codes "load") job)
+no_compile-format rows text same none (Latency strict) job = omega (arith, marked (codes "compile") (codes "latency") job.0)
+no_compile-format rows text same none (Run cycles threads) job = omega (arith, marked (codes "compile") (codes "run") job.0)
+no_compile-format rows text same none (Report cycles) job = omega (arith, marked (codes "compile") (codes "report") job.0)
+no_compile-format rows text same none (Deliveries cycles) job = omega (arith, marked (codes "compile") (codes "deliveries") job.0)
+no_compile-format rows text same none (Check cycles) job = omega (arith, marked (codes "compile") (codes "check") job.0)
+
+-- with no number of cycles there is no job of a command that takes them alone
+pub no_cycles : (name : Text) (rows : List Row) → name ≢ codes "port" → name ≢ codes "compile" → name ≢ codes "load" → name ≢ codes "latency" →
+    ((n : ℕ) → ¬ IsNumberIn 1 100000 n (first_of (codes "cycles") rows)) → (job : Job) → ¬ IsJobOf job name rows
+no_cycles name rows not_port not_compile not_load not_latency none (Port until rate) job = not_port job.0
+no_cycles name rows not_port not_compile not_load not_latency none (Line cycles) job = none cycles job.1
+no_cycles name rows not_port not_compile not_load not_latency none (Compile format) job = not_compile job.0
+no_cycles name rows not_port not_compile not_load not_latency none Load job = not_load job
+no_cycles name rows not_port not_compile not_load not_latency none (Latency strict) job = not_latency job.0
+no_cycles name rows not_port not_compile not_load not_latency none (Run cycles threads) job = none cycles job.1
+no_cycles name rows not_port not_compile not_load not_latency none (Report cycles) job = none cycles job.1
+no_cycles name rows not_port not_compile not_load not_latency none (Deliveries cycles) job = none cycles job.1
+no_cycles name rows not_port not_compile not_load not_latency none (Check cycles) job = none cycles job.1
+
+-- a number of a value is one of its text
+pub number_of-text : (least most number : ℕ) (text value : Option Text) → text ≡ value → IsNumberIn least most number text → IsNumberIn least most number value
+number_of-text least most number text value same h =
+    let P : Option Text → Type 0 = λ t. IsNumberIn least most number t in subst P same h
+
+-- where clap's error is one of the words' faults, and isn't for memory, they mean no job
+pub no_job-by_fault : (words : List Text) (kind : ErrorKind) → (kind ≡ OutOfMemory) ⊎ IsAmong kind (fault_of cqf_app words) → kind ≢ OutOfMemory → (job : Job) →
+    ¬ Mean words job
+no_job-by_fault words kind (inl none) known job m = known none
+no_job-by_fault words kind (inr among) known job m = let P : Kinds → Type 0 = λ kinds. IsAmong kind kinds in subst P m.taken among
+
+-- an error that shows help comes of words that ask for it
+asked : (words : List Text) (kind : ErrorKind) → (kind ≡ OutOfMemory) ⊎ IsAmong kind (fault_of cqf_app words) → kind ≢ OutOfMemory →
+    (kind ≡ DisplayHelp) ⊎ (kind ≡ DisplayVersion) → AskForHelp words
+asked words kind (inl none) known shown = absurd (known none)
+asked words kind (inr among) known shown =
+    let P : ErrorKind → Type 0 = λ k. IsAmong k (fault_of cqf_app words) in
+    elim shown [ inl h ↦ inl (subst P h among) | inr v ↦ inr (subst P v among) ]
+
+-- an error that isn't for memory is one of the words' faults
+among_faults : (words : List Text) (kind : ErrorKind) → (kind ≡ OutOfMemory) ⊎ IsAmong kind (fault_of cqf_app words) → kind ≢ OutOfMemory →
+    IsAmong kind (fault_of cqf_app words)
+among_faults words kind (inl none) known = absurd (known none)
+among_faults words kind (inr among) known = among
+
+-- an end with status 0 has no status 3
+not_three : (stop : Stop) → stop.status ≡ 0 → stop.status ≢ 3
+not_three stop zero three = omega arith
+
+-- a fault of the words ends the run by its kind
+pub EndsWords-by_fault : (words : List Text) (kind : ErrorKind) (stop : Stop) → (kind ≡ OutOfMemory) ⊎ IsAmong kind (fault_of cqf_app words) →
+    EndsBy kind stop → EndsWords words stop
+EndsWords-by_fault words kind stop h e = record {
+  statuses = e.statuses;
+  no_job = λ known job. no_job-by_fault words kind h (e.known known) job;
+  help = λ zero. asked words kind h (e.known (not_three stop zero)) (e.help zero);
+  mistake = λ two. inl (kind, among_faults words kind h (e.known (λ three. omega arith)), e.mistake two);
+  memory = e.memory;
+}
+
+-- the program's command is one whose faults clap states
+simple : is_simple_and_free cqf_app ≡ true
+simple = refl
+
+-- the same of what clap says of an error, for a command that is the program's
+pub EndsWords-by_error : (app : App) (words : List Text) (error : Error) (stop : Stop) → app ≡ cqf_app →
+    (is_simple_and_free app ≡ true → HasKind (fault_of app words) error) → EndsBy (kind_of error) stop → EndsWords words stop
+EndsWords-by_error app words error stop same fails e =
+    let P : App → Type 0 = λ a. HasKind (fault_of a words) error in
+    EndsWords-by_fault words (kind_of error) stop (subst P same (fails (ap is_simple_and_free same ∙ simple))) e
+
+-- where clap takes the words, and no job is read of them, they mean none
+pub EndsWords-by_value : (words : List Text) (stop : Stop) → EndsBy InvalidValue stop → fault_of cqf_app words ≡ [] →
+    ((job : Job) → ¬ IsJob job (subcommand_of cqf_app words)) → EndsWords words stop
+EndsWords-by_value words stop e taken none = record {
+  statuses = e.statuses;
+  no_job = λ known job m. none job m.read;
+  help = λ zero. elim (e.help zero) [ inl h ↦ (cc) | inr h ↦ (cc) ];
+  mistake = λ two. inr (taken, none);
+  memory = e.memory;
+}
+
+-- the rows of the command's matches, for a command that is the program's
+pub EndsWords-by_matches : (app : App) (words : List Text) (matches : ArgMatches) (stop : Stop) → app ≡ cqf_app →
+    (is_simple_and_free app ≡ true → fault_of app words ≡ []) → HasMatchesOf app words matches → EndsBy InvalidValue stop →
+    ((job : Job) → ¬ IsJob job (subcommand_rows_of matches)) → EndsWords words stop
+EndsWords-by_matches app words matches stop same taken has e none =
+    let rows : subcommand_rows_of matches ≡ subcommand_of cqf_app words = (has (ap is_simple same ∙ refl)).1 ∙ ap (λ (a : App). subcommand_of a words) same in
+    let P : Option (Text × List Row) → Type 0 = λ r. (job : Job) → ¬ IsJob job r in
+    EndsWords-by_value words stop e (ap (λ (a : App). fault_of a words) (sym same) ∙ taken (ap is_simple_and_free same ∙ simple)) (subst P rows none)
+
+-- and the job that is read of them is what the words mean
+pub Mean-by_matches : (app : App) (words : List Text) (matches : ArgMatches) (job : Job) → app ≡ cqf_app →
+    (is_simple_and_free app ≡ true → fault_of app words ≡ []) → HasMatchesOf app words matches → IsJob job (subcommand_rows_of matches) → Mean words job
+Mean-by_matches app words matches job same taken has is_job =
+    let rows : subcommand_rows_of matches ≡ subcommand_of cqf_app words = (has (ap is_simple same ∙ refl)).1 ∙ ap (λ (a : App). subcommand_of a words) same in
+    let P : Option (Text × List Row) → Type 0 = λ r. IsJob job r in
+    record {
+      taken = ap (λ (a : App). fault_of a words) (sym same) ∙ taken (ap is_simple_and_free same ∙ simple);
+      read = subst P rows is_job;
+    }

@@ -1,0 +1,185 @@
+-- What the words of a command line mean (profile): clap's reading of them, for the command that is written out here.
+use Rattle.std.specs.Prelude.{ℕ, ◌≡◌, ◌≢◌, ◌⊎◌, ◌≤◌, Bool, true, false, List, [], ◌∷◌, Option, Some, None, codes}
+use Rattle.std.specs.Str.Parse.{IsNumeral, digits_value, without_leading_plus}
+use Rattle.clap.specs.Words.{App, Row, Rule, Text, first_of, fault_of, new_app, new_rule, subcommand_of, with_rule, with_subcommand, IsAmong}
+use Rattle.clap.specs.Simple.{on_top}
+use Rattle.clap.specs.declared.builder.action.ArgAction.TheVariants.{Set, SetTrue}
+use Rattle.clap.specs.declared.builder.value_parser.ValueParser.TheVariants.{Unsigned}
+use Rattle.clap.specs.declared.error.kind.ErrorKind.{ErrorKind}
+use Rattle.clap.specs.declared.error.kind.ErrorKind.TheVariants.{DisplayHelp, DisplayVersion, OutOfMemory}
+use Rattle.cqf_units.specs.declared.timing.Rate.{Rate}
+use Rattle.cqf_units.specs.declared.timing.Rate.TheVariants.{Mb10, Mb100, Mb1000}
+use Rattle.cqf_program_words.specs.declared.words.Format.{Format}
+use Rattle.cqf_program_words.specs.declared.words.Format.TheVariants as form
+use Rattle.cqf_program_words.specs.declared.words.Job.{Job}
+use Rattle.cqf_program_words.specs.declared.words.Job.TheVariants.{Check, Compile, Deliveries, Latency, Line, Load, Port, Report, Run}
+use Rattle.cqf_program_stop.specs.declared.stops.Stop.{Stop}
+use Rattle.cqf_model.specs.Limits.{most_cycles}
+
+-- an option `--NAME N` that has to be given
+abbrev pub wanted_rule : Text → Rule
+wanted_rule name = record (new_rule name) { long = Some name; action = Some Set; required = true; value_names = 1 }
+
+-- and where N is from least to most
+abbrev pub number_rule : Text → ℕ → ℕ → Rule
+number_rule name least most = record (wanted_rule name) { parser = Some (Unsigned least most) }
+
+-- an option `--NAME VALUE`, and the text that stands for its value where it isn't given
+abbrev pub default_rule : Text → Text → Rule
+default_rule name text = record (new_rule name) { long = Some name; action = Some Set; defaults = text ∷ []; value_names = 1 }
+
+-- the option `--rate RATE`, 1000 where it isn't given
+abbrev pub rate_rule : Rule
+rate_rule = default_rule (codes "rate") (codes "1000")
+
+-- the option `--format FORMAT`, list where it isn't given
+abbrev pub format_rule : Rule
+format_rule = default_rule (codes "format") (codes "list")
+
+-- a flag `--NAME`
+abbrev pub flag_rule : Text → Rule
+flag_rule name = record (new_rule name) { long = Some name; action = Some SetTrue }
+
+-- `port --until N [--rate RATE]`
+abbrev pub port_app : App
+port_app = with_rule (with_rule (new_app (codes "port")) (number_rule (codes "until") 1 100000000)) rate_rule
+
+-- `line --cycles N`
+abbrev pub line_app : App
+line_app = with_rule (new_app (codes "line")) (number_rule (codes "cycles") 1 most_cycles)
+
+-- `compile [--format FORMAT]`
+abbrev pub compile_app : App
+compile_app = with_rule (new_app (codes "compile")) format_rule
+
+-- `load`
+abbrev pub load_app : App
+load_app = new_app (codes "load")
+
+-- `latency [--strict]`
+abbrev pub latency_app : App
+latency_app = with_rule (new_app (codes "latency")) (flag_rule (codes "strict"))
+
+-- `run --cycles N [--threads]`
+abbrev pub run_app : App
+run_app = with_rule (with_rule (new_app (codes "run")) (number_rule (codes "cycles") 1 most_cycles)) (flag_rule (codes "threads"))
+
+-- `report --cycles N`
+abbrev pub report_app : App
+report_app = with_rule (new_app (codes "report")) (number_rule (codes "cycles") 1 most_cycles)
+
+-- `deliveries --cycles N`
+abbrev pub deliveries_app : App
+deliveries_app = with_rule (new_app (codes "deliveries")) (number_rule (codes "cycles") 1 most_cycles)
+
+-- `check --cycles N`
+abbrev pub check_app : App
+check_app = with_rule (new_app (codes "check")) (number_rule (codes "cycles") 1 most_cycles)
+
+-- the program's name, and settings: the words come without the program's name, and one of the commands has to be given
+abbrev pub named_app : App
+named_app = on_top (λ s. record s { no_binary_name = true; subcommand_required = true }) (new_app (codes "cqf"))
+
+-- the commands that take no domain, those that run no scenario, those that tell nothing of deliveries, and all of the program's
+abbrev pub app_without_domain : App
+app_without_domain = with_subcommand (with_subcommand named_app port_app.top) line_app.top
+
+abbrev pub first_app : App
+first_app = with_subcommand (with_subcommand (with_subcommand app_without_domain compile_app.top) load_app.top) latency_app.top
+
+abbrev pub app_without_deliveries : App
+app_without_deliveries = with_subcommand (with_subcommand first_app run_app.top) report_app.top
+
+abbrev pub cqf_app : App
+cqf_app = with_subcommand (with_subcommand app_without_deliveries deliveries_app.top) check_app.top
+
+-- the text of a value writes a number from least to most: digits, and a plus may stand first
+abbrev pub IsNumberIn : ℕ → ℕ → ℕ → Option Text → Type 0
+IsNumberIn least most number None = ⊥
+IsNumberIn least most number (Some text) = IsNumeral 10 (without_leading_plus text)
+    × (digits_value 10 (without_leading_plus text) ≡ number) × (least ≤ number) × (number ≤ most)
+
+-- the text of a rate
+abbrev pub rate_text : Rate → Text
+rate_text Mb10 = codes "10"
+rate_text Mb100 = codes "100"
+rate_text Mb1000 = codes "1000"
+
+-- the text of a format
+abbrev pub format_text : Format → Text
+format_text form.List = codes "list"
+format_text form.Tc = codes "tc"
+
+-- a flag is given just where its value is `true`
+abbrev pub IsFlagGiven : Bool → Option Text → Type 0
+IsFlagGiven true value = value ≡ Some (codes "true")
+IsFlagGiven false value = value ≢ Some (codes "true")
+
+-- the job of a command with its values
+abbrev pub IsJobOf : Job → Text → List Row → Type 0
+IsJobOf (Port until rate) name rows = (name ≡ codes "port")
+    × IsNumberIn 1 100000000 until (first_of (codes "until") rows)
+    × (first_of (codes "rate") rows ≡ Some (rate_text rate))
+IsJobOf (Line cycles) name rows = (name ≡ codes "line")
+    × IsNumberIn 1 most_cycles cycles (first_of (codes "cycles") rows)
+IsJobOf (Compile format) name rows = (name ≡ codes "compile")
+    × (first_of (codes "format") rows ≡ Some (format_text format))
+IsJobOf Load name rows = name ≡ codes "load"
+IsJobOf (Latency strict) name rows = (name ≡ codes "latency")
+    × IsFlagGiven strict (first_of (codes "strict") rows)
+IsJobOf (Run cycles threads) name rows = (name ≡ codes "run")
+    × IsNumberIn 1 most_cycles cycles (first_of (codes "cycles") rows)
+    × IsFlagGiven threads (first_of (codes "threads") rows)
+IsJobOf (Report cycles) name rows = (name ≡ codes "report")
+    × IsNumberIn 1 most_cycles cycles (first_of (codes "cycles") rows)
+IsJobOf (Deliveries cycles) name rows = (name ≡ codes "deliveries")
+    × IsNumberIn 1 most_cycles cycles (first_of (codes "cycles") rows)
+IsJobOf (Check cycles) name rows = (name ≡ codes "check")
+    × IsNumberIn 1 most_cycles cycles (first_of (codes "cycles") rows)
+
+-- whether the input of a job begins with a domain, behind which its streams stand
+abbrev pub takes_domain : Job → Bool
+takes_domain (Port until rate) = false
+takes_domain (Line cycles) = false
+takes_domain job = true
+
+-- the job of the command that the words name, if they name one
+abbrev pub IsJob : Job → Option (Text × List Row) → Type 0
+IsJob job None = ⊥
+IsJob job (Some command) = IsJobOf job command.0 command.1
+
+-- the words mean the job: clap takes them, and the command and the values that it reads are the job's
+pub record Mean (words : List Text) (job : Job) : Type 0 where
+  pub taken : fault_of cqf_app words ≡ []
+  pub read : IsJob job (subcommand_of cqf_app words)
+
+-- the words ask for help
+abbrev pub AskForHelp : List Text → Type 0
+AskForHelp words = IsAmong DisplayHelp (fault_of cqf_app words) ⊎ IsAmong DisplayVersion (fault_of cqf_app words)
+
+-- a kind of error that shows no help
+abbrev pub ShowsNoHelp : ErrorKind → Type 0
+ShowsNoHelp kind = (kind ≢ DisplayHelp) × (kind ≢ DisplayVersion)
+
+-- the words are a mistake: clap refuses them, and not for a request for help; or it takes them, and no job is read of them
+abbrev pub AreMistaken : List Text → Type 0
+AreMistaken words = ((kind : ErrorKind) × IsAmong kind (fault_of cqf_app words) × ShowsNoHelp kind)
+    ⊎ ((fault_of cqf_app words ≡ []) × ((job : Job) → ¬ IsJob job (subcommand_of cqf_app words)))
+
+-- how an error of clap's ends: a request for help with status 0, a mistake with status 2. Without memory the status is
+-- 3, and there is no text
+pub record EndsBy (kind : ErrorKind) (stop : Stop) : Type 0 where
+  pub statuses : (stop.status ≡ 0) ⊎ ((stop.status ≡ 2) ⊎ (stop.status ≡ 3))
+  pub help : stop.status ≡ 0 → (kind ≡ DisplayHelp) ⊎ (kind ≡ DisplayVersion)
+  pub mistake : stop.status ≡ 2 → ShowsNoHelp kind
+  pub known : stop.status ≢ 3 → kind ≢ OutOfMemory
+  pub memory : stop.status ≡ 3 → stop.text.items ≡ []
+
+-- how words that mean no job end: with status 2 where they are a mistake, or with status 0 where they ask for help.
+-- Without memory the status is 3, and there is no text
+pub record EndsWords (words : List Text) (stop : Stop) : Type 0 where
+  pub statuses : (stop.status ≡ 0) ⊎ ((stop.status ≡ 2) ⊎ (stop.status ≡ 3))
+  pub no_job : stop.status ≢ 3 → (job : Job) → ¬ Mean words job
+  pub help : stop.status ≡ 0 → AskForHelp words
+  pub mistake : stop.status ≡ 2 → AreMistaken words
+  pub memory : stop.status ≡ 3 → stop.text.items ≡ []

@@ -1,0 +1,34 @@
+//! The words of a command line, read by the crate `clap`.
+//!
+//! - [`read_words`] gives the [`Job`] that some words mean, and else the end of the run: clap's text, with status 2 for a
+//!   mistake and 0 for a request for help.
+//!
+//! - [`split_operands`] tells the files that some words name from the other words.
+//!
+//! `specs/Words.antt` has the commands and their options as a value, and what it is that words `Mean` a job, are a mistake
+//! or ask for help.
+//!
+//! ```text
+//! read_words(alloc, &["port", "--until", "5"]) is Ok(Job::Port { until: 5, rate: Rate::Mb1000 })
+//! read_words(alloc, &["port", "--until", "0"]) ends with status 2
+//! ```
+//!
+//! The input that files come to.
+//!
+//! - [`composed`] is the input that the texts of some files come to, for a job.
+//!
+//! `specs/Composing.antt` has the same as a definition.
+//!
+//! ```text
+//! composed(alloc, &Job::Load, &["domain.toml", "streams.toml"], &[b"cycle = 125000", b"streams = []\n"])
+//!     is Ok(b"cycle = 125000\n%%\nstreams = []\n")
+//! ```
+#![tactic(auto)]
+
+mod composing;
+mod operands;
+mod words;
+
+pub use composing::composed;
+pub use operands::{Operands, split_operands};
+pub use words::{Format, Job, read_words};

@@ -1,0 +1,140 @@
+//! The files that the words of a command line name (profile).
+ghost use Rattle.std.specs.Prelude.{◌≡◌, IfOk, OnOk, map};
+ghost use Rattle.cqf_program_words.specs.Operands.{behind_word, ends_options, is_command, is_option, names_file, no_words, split_of, split_so_far, wants_value, with_word};
+
+use std::alloc::{AllocError, Global};
+
+/// What the next word is read as.
+#[derive(Clone, Copy, Debug, PartialEq, Eq)]
+enum Place {
+    /// The first, a command or else.
+    Start,
+    /// An option or a file.
+    Free,
+    /// The value of the option before it.
+    Value,
+    /// A file, whatever it looks like.
+    Behind,
+    /// A word of no command that takes files.
+    Other,
+}
+
+/// The words of a command line that name no files, and those that do, in their order.
+#[derive(Drop)]
+pub struct Operands<'a> {
+    words: Vec<&'a str>,
+    files: Vec<&'a str>,
+    place: Place,
+}
+
+/// Whether the word is a command that takes files.
+fn is_command(word: &str) -> bool
+    ensures { result ≡ is_command word.now }
+{
+    word == "port"
+        || word == "line"
+        || word == "compile"
+        || word == "load"
+        || word == "latency"
+        || word == "run"
+        || word == "report"
+        || word == "deliveries"
+        || word == "check"
+}
+
+/// Whether the word is an option behind which its value stands as a word of its own.
+fn wants_value(word: &str) -> bool
+    ensures { result ≡ wants_value word.now }
+{
+    word == "--until" || word == "--rate" || word == "--cycles" || word == "--format"
+}
+
+/// Whether the word is the one that ends the options.
+fn ends_options(word: &str) -> bool
+    ensures { result ≡ ends_options word.now }
+{
+    word == "--"
+}
+
+/// Whether the word is an option: it begins with a minus, and isn't that alone.
+fn is_option(word: &str) -> bool
+    ensures { result ≡ is_option word.now }
+{
+    match *word.as_bytes() {
+        [first, _, ..] => first == b'-',
+        _ => false,
+    }
+}
+
+impl Place {
+    /// What the word behind this one is read as.
+    fn behind(self, word: &str) -> Place
+        ensures { result ≡ behind_word self word.now }
+    {
+        match self {
+            Place::Start if is_command(word) => Place::Free,
+            Place::Start => Place::Other,
+            Place::Free if wants_value(word) => Place::Value,
+            Place::Free if ends_options(word) => Place::Behind,
+            Place::Free | Place::Value => Place::Free,
+            Place::Behind => Place::Behind,
+            Place::Other => Place::Other,
+        }
+    }
+
+    /// Whether the word names a file.
+    fn names_file(self, word: &str) -> bool
+        ensures { result ≡ names_file self word.now }
+    {
+        match self {
+            Place::Free => !is_option(word),
+            Place::Behind => true,
+            Place::Start | Place::Value | Place::Other => false,
+        }
+    }
+}
+
+impl<'a> Operands<'a> {
+    /// The words that name no files.
+    pub fn words(&self) -> &[&'a str]
+        ensures { result.now ≡ self.now.words.items }
+    {
+        self.words.as_slice()
+    }
+
+    /// The words that name files.
+    pub fn files(&self) -> &[&'a str]
+        ensures { result.now ≡ self.now.files.items }
+    {
+        self.files.as_slice()
+    }
+
+    /// Puts one word more to its kind. The error is want of memory.
+    fn put(&mut self, word: &'a str) -> Result<(), AllocError>
+        ensures { OnOk result (split_so_far self.new ≡ with_word (split_so_far self.old) word.now) }
+    {
+        if self.place.names_file(word) {
+            self.files.push(word)?;
+        } else {
+            self.words.push(word)?;
+        }
+        self.place = self.place.behind(word);
+        Ok(())
+    }
+}
+
+/// Tells the words that name files from the others: behind a command each word that is no option and no option's value, and behind
+/// `--` each. Where the first word is no command, none does. The error is want of memory.
+pub fn split_operands<'a>(alloc: Global, words: &[&'a str]) -> Result<Operands<'a>, AllocError>
+    ensures { IfOk result (λ operands. split_so_far operands ≡ split_of (map (λ word. word.now) words.now)) }
+{
+    let mut operands = Operands {
+        words: Vec::new(alloc),
+        files: Vec::new(alloc),
+        place: Place::Start,
+    };
+    for word in words {
+        operands.put(word)?;
+    }
+    Ok(operands)
+}

@@ -1,0 +1,70 @@
+//! Words that are read.
+use cqf_program_stop::{DONE, NO_MEMORY, Stop, USAGE};
+use cqf_program_words::{Job, read_words};
+use cqf_refusing::{Told, mark, once, twice};
+use std::alloc::Global;
+
+/// What is to come of words: a job, or an end with this status whose text has this in it.
+#[derive(Clone, Copy)]
+enum Wanted {
+    Job(Job),
+    End(u8, &'static str),
+}
+
+/// Whether a text has another one in it.
+fn has(text: &[u8], part: &str) -> bool {
+    match std::str::from_utf8(text) {
+        Ok(text) => text.contains(part),
+        Err(_) => false,
+    }
+}
+
+/// Whether it comes.
+fn is_wanted(read: &Result<Job, Stop>, wanted: Wanted) -> bool {
+    match (read, wanted) {
+        (Ok(job), Wanted::Job(other)) => *job == other,
+        (Err(stop), Wanted::End(status, part)) => {
+            stop.status == status && has(stop.text.as_slice(), part)
+        }
+        _ => false,
+    }
+}
+
+/// Whether a read ended for want of memory.
+fn is_wanting(read: &Result<Job, Stop>) -> bool {
+    match read {
+        Ok(_) => false,
+        Err(stop) => stop.status == NO_MEMORY && stop.text.is_empty(),
+    }
+}
+
+/// The words are read.
+fn read(alloc: Global, words: &[&str], wanted: Wanted) -> Told {
+    mark(alloc);
+    let first = read_words(alloc, words);
+    mark(alloc);
+    if is_wanting(&first) {
+        return twice(true, is_wanted(&read_words(alloc, words), wanted));
+    }
+    once(is_wanted(&first, wanted))
+}
+
+pub(crate) fn job_told(alloc: Global) -> Told {
+    let job = Job::Run {
+        cycles: 5,
+        threads: false,
+    };
+    read(alloc, &["run", "--cycles", "5"], Wanted::Job(job))
+}
+
+pub(crate) fn misuse_told(alloc: Global) -> Told {
+    read(alloc, &["run"], Wanted::End(USAGE, "--cycles <N>"))
+}
+
+pub(crate) fn help_told(alloc: Global) -> Told {
+    read(
+        alloc,
+        &["--help"],
+        Wanted::End(DONE, "Usage: cqf <COMMAND>"),
+    )
+}

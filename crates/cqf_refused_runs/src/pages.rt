@@ -1,0 +1,119 @@
+//! Pages of three bridges and five cycles.
+use cqf_book::{Page, PageFault, Pages, Totals};
+use cqf_model::{Dropped, Reason, Started};
+use cqf_refusing::{Told, mark, once, twice};
+use cqf_units::{Cycle, Memory, Nanos};
+use std::alloc::Global;
+
+/// A start of 64 octets in cycle 0 on a link.
+pub(crate) fn start_on(link: u8) -> Started {
+    Started {
+        cycle: Cycle(0),
+        link,
+        frame: 1,
+        octets: 64,
+        start: Nanos(0),
+    }
+}
+
+/// A drop of cycle 0 at the bridge.
+pub(crate) fn drop_at(bridge: u8) -> Dropped {
+    Dropped {
+        cycle: Cycle(0),
+        bridge,
+        frame: 2,
+        octets: 64,
+        reason: Reason::Unknown,
+    }
+}
+
+/// A page of cycle 0 with a start on link 1, a background start on link 2, and a drop.
+pub(crate) fn page_of(alloc: Global, bridge: u8) -> Result<Page, Memory> {
+    Ok(Page {
+        bridge,
+        cycle: Cycle(0),
+        starts: vec![in alloc; start_on(1)]?,
+        background: vec![in alloc; start_on(2)]?,
+        drops: vec![in alloc; drop_at(bridge)]?,
+    })
+}
+
+/// Whether a page is that of the bridge.
+pub(crate) fn is_page(page: &Page, bridge: u8) -> bool {
+    page.bridge == bridge
+        && page.cycle == Cycle(0)
+        && page.starts.as_slice() == [start_on(1)].as_slice()
+        && page.background.as_slice() == [start_on(2)].as_slice()
+        && page.drops.as_slice() == [drop_at(bridge)].as_slice()
+}
+
+/// Whether no page of the first bridges' first cycle was posted but the second bridge's, where that is to be there.
+fn has_posted(pages: &Pages, is_there: bool) -> bool {
+    let second = match pages.page(1, Cycle(0)) {
+        Some(page) => is_there && is_page(page, 1),
+        None => !is_there,
+    };
+    let totals = if is_there {
+        Totals {
+            frames: 1,
+            octets: 64,
+        }
+    } else {
+        Totals {
+            frames: 0,
+            octets: 0,
+        }
+    };
+    second
+        && pages.page(0, Cycle(0)).is_none()
+        && pages.page(2, Cycle(0)).is_none()
+        && pages.whole_cycles() == 0
+        && pages.totals(1) == totals
+}
+
+/// Whether pages were made, of which none was posted.
+fn are_new(made: &Result<Pages, Memory>) -> bool {
+    match made {
+        Ok(pages) => has_posted(pages, false),
+        Err(_) => false,
+    }
+}
+
+pub(crate) fn new_told(alloc: Global) -> Told {
+    mark(alloc);
+    let first = Pages::new(alloc, 3, 5);
+    mark(alloc);
+    if first.is_ok() {
+        return once(are_new(&first));
+    }
+    twice(true, are_new(&Pages::new(alloc, 3, 5)))
+}
+
+/// The page that came back is posted again.
+fn posted_again(pages: &mut Pages, page: Page) -> Told {
+    let stands = is_page(&page, 1) && has_posted(pages, false);
+    let is_ok = pages.post(page).is_ok();
+    twice(stands, is_ok && has_posted(pages, true))
+}
+
+/// A page is posted.
+fn posted(alloc: Global, pages: &mut Pages, page: Page) -> Told {
+    mark(alloc);
+    let first = pages.post(page);
+    mark(alloc);
+    match first {
+        Ok(()) => once(has_posted(pages, true)),
+        Err((PageFault::Memory, back)) => posted_again(pages, back),
+        Err(_) => once(false),
+    }
+}
+
+pub(crate) fn post_told(alloc: Global) -> Told {
+    let Ok(mut pages) = Pages::new(alloc, 3, 5) else {
+        return Told::NotReady;
+    };
+    match page_of(alloc, 1) {
+        Ok(page) => posted(alloc, &mut pages, page),
+        Err(_) => Told::NotReady,
+    }
+}

@@ -1,0 +1,211 @@
+//! Runs on one thread.
+ghost use Rattle.std.specs.Prelude.{◌≡◌, ◌≤◌, length, true};
+ghost use Rattle.cqf_model.specs.Run.{AreBackground, AreOffers};
+
+use cqf_admission::Table;
+use cqf_compile::Plan;
+use cqf_model::{Background, Book, Offer, Reason, Started};
+use cqf_plain::{RunFault, run};
+use cqf_refusing::{Told, X, admission_of, mark, once, plan_of, tables_of, twice};
+use cqf_test_fixtures::{
+    Asked, Backing, Offering, are_background, are_begun, are_dropped, are_offers, background_of,
+    line, offers_of,
+};
+use cqf_units::{Cycle, Nanos};
+use std::alloc::Global;
+
+/// What a run is made of.
+#[derive(Drop)]
+pub(crate) struct Given {
+    pub(crate) plan: Plan,
+    pub(crate) tables: Vec<Table>,
+    pub(crate) offers: Vec<Offer>,
+    pub(crate) background: Vec<Background>,
+}
+
+/// The tables of so many cycles of a plan, with these streams.
+fn tables_with(alloc: Global, plan: &Plan, streams: &[Asked], cycles: u32) -> Option<Vec<Table>> {
+    tables_of(
+        alloc,
+        &mut admission_of(alloc, plan.domain(), streams)?,
+        cycles,
+    )
+}
+
+/// What a run of a domain's text is made of, with so many cycles.
+pub(crate) fn make_given(
+    alloc: Global,
+    text: &str,
+    streams: &[Asked],
+    cycles: u32,
+    offering: &[Offering],
+    backing: &[Backing],
+) -> Option<Given> {
+    let plan = plan_of(alloc, text)?;
+    let tables = tables_with(alloc, &plan, streams, cycles)?;
+    match (offers_of(alloc, offering), background_of(alloc, backing)) {
+        (Ok(offers), Ok(background)) => Some(Given {
+            plan,
+            tables,
+            offers,
+            background,
+        }),
+        _ => None,
+    }
+}
+
+/// Whether a run may be made of it.
+pub(crate) fn may_run(given: &Given) -> bool
+    ensures offers { result ≡ true → AreOffers given.now.plan given.now.offers.items }
+    ensures few_offers { result ≡ true → length given.now.offers.items ≤ 1000000 }
+    ensures background { result ≡ true → AreBackground given.now.plan given.now.background.items }
+    ensures few_background { result ≡ true → length given.now.background.items ≤ 1000000 }
+{
+    let (offers, background) = (given.offers.as_slice(), given.background.as_slice());
+    if offers.len() > 1_000_000 || background.len() > 1_000_000 {
+        return false;
+    }
+    are_offers(given.plan.domain(), offers) && are_background(given.plan.domain(), background)
+}
+
+/// Makes a run over five cycles, where it may be made.
+fn run_of(alloc: Global, given: &Given) -> Result<Book, RunFault> {
+    if !may_run(given) {
+        return Err(RunFault::WrongTables);
+    }
+    run(
+        alloc,
+        &given.plan,
+        given.tables.as_slice(),
+        given.offers.as_slice(),
+        given.background.as_slice(),
+        5,
+    )
+}
+
+/// A frame goes along the line, another one is dropped, and a background frame goes alone.
+fn is_book(made: &Result<Book, RunFault>) -> bool {
+    let starts = [
+        (1, 0, 1, 64, 125_000),
+        (2, 1, 1, 64, 250_000),
+        (3, 2, 1, 64, 375_000),
+    ];
+    match made {
+        Ok(book) => {
+            are_begun(book.starts.as_slice(), &starts)
+                && are_begun(book.background.as_slice(), &[(0, 1, 1, 1522, 0)])
+                && are_dropped(book.drops.as_slice(), &[(0, 1, 2, 64, Reason::OtherBridge)])
+        }
+        Err(_) => false,
+    }
+}
+
+/// Which run it is.
+#[derive(Clone, Copy)]
+enum Which {
+    Along,
+    OfMany,
+}
+
+/// Whether its book was made.
+fn is_made(made: &Result<Book, RunFault>, which: Which) -> bool {
+    match which {
+        Which::Along => is_book(made),
+        Which::OfMany => is_of_many(made),
+    }
+}
+
+/// Makes a run, and again where it is refused for want of memory.
+fn ran(alloc: Global, given: &Given, which: Which) -> Told {
+    mark(alloc);
+    let first = run_of(alloc, given);
+    mark(alloc);
+    if matches!(first, Err(RunFault::Memory)) {
+        return twice(may_run(given), is_made(&run_of(alloc, given), which));
+    }
+    once(is_made(&first, which))
+}
+
+/// What is offered along the line.
+const OFFERS: &[Offering] = &[(0, 0, "x", 64), (0, 1, "x", 64)];
+
+/// What the run along the line is made of.
+pub(crate) fn along(alloc: Global) -> Option<Given> {
+    make_given(alloc, line(), &[X], 5, OFFERS, &[(0, 1, 0, 1522)])
+}
+
+pub(crate) fn run_told(alloc: Global) -> Told {
+    match along(alloc) {
+        Some(given) => ran(alloc, &given, Which::Along),
+        None => Told::NotReady,
+    }
+}
+
+/// How many frames go along the line, more than are sorted without memory.
+const MANY: u32 = 22;
+
+/// Whether the starts of one link in one cycle are those of all of them, one behind the other: 84 octets of the wire take 672 ns.
+fn are_all(starts: &[Started], hop: u32) -> bool {
+    let mut instant = u64::from(hop) * 125_000 + 125_000;
+    let mut frame = 1u32;
+    for start in starts {
+        let is_so = start.cycle == Cycle(hop.saturating_add(1))
+            && u32::from(start.link) == hop
+            && start.frame == frame
+            && start.start == Nanos(instant);
+        if !is_so {
+            return false;
+        }
+        instant = instant.saturating_add(672);
+        frame = frame.saturating_add(1);
+    }
+    starts.len() == MANY as usize
+}
+
+/// Whether they go along all three links.
+fn go_along(starts: &[Started]) -> bool {
+    let (first, rest) = starts.split_at(starts.len().min(MANY as usize));
+    let (second, third) = rest.split_at(rest.len().min(MANY as usize));
+    are_all(first, 0) && are_all(second, 1) && are_all(third, 2)
+}
+
+/// Whether the book says so.
+fn is_of_many(made: &Result<Book, RunFault>) -> bool {
+    match made {
+        Ok(book) => go_along(book.starts.as_slice()) && book.drops.is_empty(),
+        Err(_) => false,
+    }
+}
+
+/// What is offered of them.
+const OF_MANY: &[Offering] = &[
+    (0, 0, "x", 64),
+    (0, 0, "x", 64),
+    (0, 0, "x", 64),
+    (0, 0, "x", 64),
+    (0, 0, "x", 64),
+    (0, 0, "x", 64),
+    (0, 0, "x", 64),
+    (0, 0, "x", 64),
+    (0, 0, "x", 64),
+    (0, 0, "x", 64),
+    (0, 0, "x", 64),
+    (0, 0, "x", 64),
+    (0, 0, "x", 64),
+    (0, 0, "x", 64),
+    (0, 0, "x", 64),
+    (0, 0, "x", 64),
+    (0, 0, "x", 64),
+    (0, 0, "x", 64),
+    (0, 0, "x", 64),
+    (0, 0, "x", 64),
+    (0, 0, "x", 64),
+    (0, 0, "x", 64),
+];
+
+pub(crate) fn many_told(alloc: Global) -> Told {
+    match make_given(alloc, line(), &[X], 5, OF_MANY, &[]) {
+        Some(given) => ran(alloc, &given, Which::OfMany),
+        None => Told::NotReady,
+    }
+}

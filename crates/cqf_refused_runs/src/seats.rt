@@ -1,0 +1,187 @@
+//! Seals at a desk with two seats, of which the second seals, and the desk that is closed.
+use crate::desks::{DeskAndSeats, desk_with, is_history};
+use cqf_admission::{SealFault, Table};
+use cqf_desk::{CloseFault, Desk, Seat};
+use cqf_refusing::{Told, X, mark, once, twice};
+use cqf_units::Cycle;
+use std::alloc::Global;
+use std::sync::Wait;
+
+/// How a seat stands: the cycle of its newest table and how many rows that has, where it has one.
+type Standing = Option<(u32, usize)>;
+
+/// Whether a table is of the cycle, and has so many rows, of which the first is of `x`.
+fn is_table(table: &Table, cycle: u32, rows: usize) -> bool {
+    let is_x = match table.row_of(0) {
+        Some(row) => row.name.as_str() == "x" && row.octets == 1500,
+        None => rows == 0,
+    };
+    is_x && table.cycle() == Cycle(cycle) && table.rows().len() == rows
+}
+
+/// Whether a seat stands so.
+fn stands(seat: &Seat, standing: Standing) -> bool {
+    match (seat.last_table(), standing) {
+        (None, None) => true,
+        (Some(table), Some((cycle, rows))) => is_table(table, cycle, rows),
+        _ => false,
+    }
+}
+
+/// How a seat stands before and behind a Seal.
+type Sealing = (Standing, Standing);
+
+/// A cycle is closed, and again where memory is wanted. What is told of it leaves the history out.
+fn sealed<R: Wait>(rt: &R, alloc: Global, desk: &Desk, seat: &mut Seat, sealing: Sealing) -> Told {
+    let (before, behind) = sealing;
+    mark(alloc);
+    let first = desk.seal(rt, seat);
+    mark(alloc);
+    if first != Err(SealFault::Memory) {
+        return once(first == Ok(()) && stands(seat, behind));
+    }
+    let stood = stands(seat, before);
+    let is_ok = desk.seal(rt, seat) == Ok(());
+    twice(stood, is_ok && stands(seat, behind))
+}
+
+/// It is, by the second seat.
+fn sealed_by_second<R: Wait>(
+    rt: &R,
+    alloc: Global,
+    desk: &Desk,
+    seats: &mut [Seat],
+    sealing: Sealing,
+) -> Told {
+    match seats.get_mut(1) {
+        Some(seat) => sealed(rt, alloc, desk, seat, sealing),
+        None => Told::NotReady,
+    }
+}
+
+/// What is told of a Seal, where the desk is closed with its seats: it closes with this history, so a Seal that was refused for want of
+/// memory has left nothing.
+fn closed_with(alloc: Global, made: DeskAndSeats, told: Told, text: &str) -> Told {
+    let (desk, seats) = made;
+    let is_closed = is_history(alloc, &desk.close(seats), 1, text);
+    match told {
+        Told::Row => once(is_closed),
+        Told::Memory => twice(is_closed, true),
+        other => other,
+    }
+}
+
+pub(crate) fn seal_told<R: Wait>(rt: &R, alloc: Global) -> Told {
+    let sealing = (None, Some((0, 1)));
+    match desk_with(alloc, &[X]) {
+        Some((desk, mut seats)) => {
+            let told = sealed_by_second(rt, alloc, &desk, seats.as_mut_slice(), sealing);
+            closed_with(
+                alloc,
+                (desk, seats),
+                told,
+                "0 admit x accepted 0 0\n1 seal\n",
+            )
+        }
+        None => Told::NotReady,
+    }
+}
+
+/// Whether the second seat seals a cycle, the first one withdraws `x`, and the second one seals another cycle.
+fn goes_on<R: Wait>(rt: &R, desk: &Desk, seats: &mut [Seat]) -> bool {
+    match seats {
+        [asking, sealing] => {
+            desk.seal(rt, sealing).is_ok()
+                && desk.withdraw(rt, asking, "x").is_ok()
+                && desk.seal(rt, sealing).is_ok()
+                && desk.withdraw(rt, asking, "x").is_err()
+        }
+        _ => false,
+    }
+}
+
+/// A desk at which they did.
+fn worked<R: Wait>(rt: &R, alloc: Global) -> Option<DeskAndSeats> {
+    let (desk, mut seats) = desk_with(alloc, &[X])?;
+    if goes_on(rt, &desk, seats.as_mut_slice()) {
+        Some((desk, seats))
+    } else {
+        None
+    }
+}
+
+/// The history of that, and of a Seal more.
+const WORKED: &str = "0 admit x accepted 0 0\n1 seal\n0 withdraw x accepted 0 1\n1 seal\n\
+    0 withdraw x refused AlreadyWithdrawn\n";
+
+const LATER: &str = "0 admit x accepted 0 0\n1 seal\n0 withdraw x accepted 0 1\n1 seal\n\
+    0 withdraw x refused AlreadyWithdrawn\n1 seal\n";
+
+pub(crate) fn later_told<R: Wait>(rt: &R, alloc: Global) -> Told {
+    let sealing = (Some((1, 1)), Some((2, 1)));
+    match worked(rt, alloc) {
+        Some((desk, mut seats)) => {
+            let told = sealed_by_second(rt, alloc, &desk, seats.as_mut_slice(), sealing);
+            closed_with(alloc, (desk, seats), told, LATER)
+        }
+        None => Told::NotReady,
+    }
+}
+
+/// A desk is closed, or else its twin.
+fn closed(alloc: Global, made: DeskAndSeats, twin: DeskAndSeats) -> Told {
+    let (desk, seats) = made;
+    let (other, others) = twin;
+    mark(alloc);
+    let first = desk.close(seats);
+    mark(alloc);
+    match first {
+        Err(CloseFault::Memory) => {
+            twice(true, is_history(alloc, &other.close(others), 1, WORKED))
+        }
+        ended => {
+            drop(other);
+            drop(others);
+            once(is_history(alloc, &ended, 1, WORKED))
+        }
+    }
+}
+
+pub(crate) fn close_told<R: Wait>(rt: &R, alloc: Global) -> Told {
+    let Some(made) = worked(rt, alloc) else {
+        return Told::NotReady;
+    };
+    match worked(rt, alloc) {
+        Some(twin) => closed(alloc, made, twin),
+        None => Told::NotReady,
+    }
+}
+
+/// Whether a seat's newest table is that of cycle 0.
+fn has_table(seat: &Seat) -> bool {
+    match seat.last_table() {
+        Some(table) => table.cycle() == Cycle(0) && table.rows().len() == 1,
+        None => false,
+    }
+}
+
+/// A seat seals, and then it is looked at, which asks for no memory.
+fn seat_seen<R: Wait>(rt: &R, alloc: Global, desk: &Desk, seats: &mut [Seat]) -> Told {
+    let Some(seat) = seats.get_mut(1) else {
+        return Told::NotReady;
+    };
+    if desk.seal(rt, seat).is_err() {
+        return Told::NotReady;
+    }
+    mark(alloc);
+    let is_so = has_table(seat) && seat.number() == 1;
+    mark(alloc);
+    once(is_so)
+}
+
+pub(crate) fn seat_told<R: Wait>(rt: &R, alloc: Global) -> Told {
+    match desk_with(alloc, &[X]) {
+        Some((desk, mut seats)) => seat_seen(rt, alloc, &desk, seats.as_mut_slice()),
+        None => Told::NotReady,
+    }
+}

@@ -1,0 +1,178 @@
+//! What bridges do cycle by cycle, and workers with the pipes between them.
+ghost use Rattle.std.specs.Prelude.{◌≡◌, IfSome, length, map};
+ghost use Rattle.cqf_book.specs.Shares.{new_shares};
+ghost use Rattle.cqf_worker_wires.specs.Wires.{AreWired, Wiring, pipe_of_tables, tables_pipe};
+
+use cqf_book::{CycleBook, Pages, Share};
+use cqf_bridge_turn::Agenda;
+use cqf_compile::Plan;
+use cqf_model::Offer;
+use cqf_refusing::{Told, mark, once, plan_of, twice};
+use cqf_test_fixtures::{are_offers, line, offers_of};
+use cqf_topology::Domain;
+use cqf_units::{Cycle, Memory};
+use cqf_worker_wires::{ClosingFault, Laid, close_pipes, lay};
+use std::alloc::Global;
+
+/// Whether an agenda of the first bridge has its one offer of cycle 1, the second of all.
+fn is_agenda(made: &Result<Agenda, Memory>) -> bool {
+    match made {
+        Ok(agenda) => match agenda.offers(Cycle(1)) {
+            [offered] => {
+                offered.frame == 2
+                    && agenda.offers(Cycle(0)).is_empty()
+                    && agenda.background(Cycle(1)).is_empty()
+            }
+            _ => false,
+        },
+        Err(_) => false,
+    }
+}
+
+/// The first bridge's agenda is made.
+fn agenda_made(alloc: Global, domain: &Domain, offers: &[Offer]) -> Told {
+    if offers.len() > 1_000_000 {
+        return Told::NotReady;
+    }
+    mark(alloc);
+    let first = Agenda::new(alloc, domain, offers, &[], 0);
+    mark(alloc);
+    if first.is_ok() {
+        return once(is_agenda(&first));
+    }
+    let stands = offers.len() == 2;
+    twice(
+        stands,
+        is_agenda(&Agenda::new(alloc, domain, offers, &[], 0)),
+    )
+}
+
+pub(crate) fn agenda_told(alloc: Global) -> Told {
+    let Ok(offers) = offers_of(alloc, &[(0, 1, "x", 64), (125_000, 0, "x", 64)]) else {
+        return Told::NotReady;
+    };
+    match plan_of(alloc, line()) {
+        Some(plan) => agenda_made(alloc, plan.domain(), offers.as_slice()),
+        None => Told::NotReady,
+    }
+}
+
+/// The shares of a book of the plan's bridges.
+fn shares_of(alloc: Global, plan: &Plan) -> Option<Vec<Share>>
+    ensures { IfSome result (λ shares. shares.items ≡ new_shares (length plan.now.bridges)) }
+{
+    let _accepted = plan.domain().cycle_time();
+    let Ok(pages) = Pages::new(alloc, plan.domain().bridges(), 5) else {
+        return None;
+    };
+    match CycleBook::new(alloc, pages) {
+        Ok(made) => {
+            let (_book, shares) = made;
+            Some(shares)
+        }
+        Err(_) => None,
+    }
+}
+
+/// Whether three workers were laid.
+fn is_laid(laid: &Result<Laid, Memory>) -> bool {
+    match laid {
+        Ok(made) => made.workers.len() == 3 && made.tables.len() == 3,
+        Err(_) => false,
+    }
+}
+
+/// Workers are laid with shares, or else with their twins.
+fn laid(alloc: Global, plan: &Plan, offers: &[Offer]) -> Told {
+    if offers.len() > 1_000_000 || !are_offers(plan.domain(), offers) {
+        return Told::NotReady;
+    }
+    let Some(shares) = shares_of(alloc, plan) else {
+        return Told::NotReady;
+    };
+    let Some(twins) = shares_of(alloc, plan) else {
+        return Told::NotReady;
+    };
+    mark(alloc);
+    let first = lay(alloc, plan, offers, &[], shares);
+    mark(alloc);
+    if first.is_ok() {
+        return once(is_laid(&first));
+    }
+    twice(true, is_laid(&lay(alloc, plan, offers, &[], twins)))
+}
+
+pub(crate) fn lay_told(alloc: Global) -> Told {
+    let Ok(offers) = offers_of(alloc, &[(0, 0, "x", 64)]) else {
+        return Told::NotReady;
+    };
+    match plan_of(alloc, line()) {
+        Some(plan) => laid(alloc, &plan, offers.as_slice()),
+        None => Told::NotReady,
+    }
+}
+
+/// Workers without offers.
+fn workers_of(alloc: Global, plan: &Plan) -> Option<Laid>
+    ensures wired { IfSome result (λ laid. (wiring : Wiring) × AreWired wiring laid.workers.items) }
+    ensures tables { IfSome result (λ laid. map pipe_of_tables laid.tables.items ≡ map tables_pipe laid.workers.items) }
+{
+    let shares = shares_of(alloc, plan)?;
+    match lay(alloc, plan, &[], &[], shares) {
+        Ok(laid) => Some(laid),
+        Err(_) => None,
+    }
+}
+
+/// Whether three shares came back.
+fn is_shut(closed: &Result<Vec<Share>, ClosingFault>) -> bool {
+    match closed {
+        Ok(shares) => shares.len() == 3 && shares.iter().all(|share| share.pages().is_empty()),
+        Err(_) => false,
+    }
+}
+
+/// The pipes of workers are closed, or else those of their twins.
+fn shut(alloc: Global, laid: Laid, twin: Laid) -> Told
+    requires wired { (wiring : Wiring) × AreWired wiring laid.workers.items }
+    requires tables { map pipe_of_tables laid.tables.items ≡ map tables_pipe laid.workers.items }
+    requires wired_again { (wiring : Wiring) × AreWired wiring twin.workers.items }
+    requires tables_again { map pipe_of_tables twin.tables.items ≡ map tables_pipe twin.workers.items }
+{
+    let Laid { workers, tables } = laid;
+    let Laid {
+        workers: other_workers,
+        tables: other_tables,
+    } = twin;
+    mark(alloc);
+    let first = close_pipes(alloc, tables, workers);
+    mark(alloc);
+    if first.is_ok() {
+        drop(other_workers);
+        drop(other_tables);
+        return once(is_shut(&first));
+    }
+    drop(first);
+    twice(
+        true,
+        is_shut(&close_pipes(alloc, other_tables, other_workers)),
+    )
+}
+
+/// They are, of a plan.
+fn shut_of(alloc: Global, plan: &Plan) -> Told {
+    let Some(laid) = workers_of(alloc, plan) else {
+        return Told::NotReady;
+    };
+    match workers_of(alloc, plan) {
+        Some(twin) => shut(alloc, laid, twin),
+        None => Told::NotReady,
+    }
+}
+
+pub(crate) fn shut_told(alloc: Global) -> Told {
+    match plan_of(alloc, line()) {
+        Some(plan) => shut_of(alloc, &plan),
+        None => Told::NotReady,
+    }
+}

@@ -1,0 +1,276 @@
+//! Calls of admissions over the line.
+use cqf_admission::{Admission, Receipt, Refused, SealFault, Table};
+use cqf_refusing::{Told, X, admission_of, domain_of, mark, once, twice, writes};
+use cqf_test_fixtures::{Asked, line, request};
+use cqf_topology::{Domain, Request};
+use cqf_units::{Cycle, Memory};
+use std::alloc::Global;
+
+const PATH: &[&[&str]] = &[&["a", "b", "c", "s"]];
+
+/// Six streams of 1,500 octets, which cost 1,960 of the 15,000 octets of each link; and one, and two more.
+const SIX: &[Asked] = &[
+    ("n0", 1500, PATH),
+    ("n1", 1500, PATH),
+    ("n2", 1500, PATH),
+    ("n3", 1500, PATH),
+    ("n4", 1500, PATH),
+    ("n5", 1500, PATH),
+];
+
+const SEVENTH: Asked = ("n6", 1500, PATH);
+
+const SEVEN: &[Asked] = &[
+    ("n0", 1500, PATH),
+    ("n1", 1500, PATH),
+    ("n2", 1500, PATH),
+    ("n3", 1500, PATH),
+    ("n4", 1500, PATH),
+    ("n5", 1500, PATH),
+    ("n6", 1500, PATH),
+];
+
+/// What can be read of an admission over the line: its history, its next cycle, and what is held on each link.
+#[derive(Clone, Copy)]
+pub(crate) struct Standing {
+    pub(crate) history: &'static str,
+    pub(crate) cycle: u32,
+    pub(crate) held: u32,
+}
+
+/// Whether each link of a domain has so many octets held.
+fn holds(admission: &Admission, octets: u32) -> bool {
+    for link in 0..admission.domain().links() {
+        if admission.held_on(link).0 != octets {
+            return false;
+        }
+    }
+    true
+}
+
+/// Whether an admission stands so.
+pub(crate) fn stands(alloc: Global, admission: &Admission, standing: &Standing) -> bool {
+    writes(alloc, admission.history(), standing.history)
+        && admission.next_cycle() == Cycle(standing.cycle)
+        && holds(admission, standing.held)
+}
+
+/// The history of the six streams.
+const OF_SIX: Standing = Standing {
+    history: "0 admit n0 accepted 0 0\n0 admit n1 accepted 1 0\n0 admit n2 accepted 2 0\n\
+        0 admit n3 accepted 3 0\n0 admit n4 accepted 4 0\n0 admit n5 accepted 5 0\n",
+    cycle: 0,
+    held: 11_760,
+};
+
+/// The history of all seven.
+const OF_SEVEN: Standing = Standing {
+    history: "0 admit n0 accepted 0 0\n0 admit n1 accepted 1 0\n0 admit n2 accepted 2 0\n\
+        0 admit n3 accepted 3 0\n0 admit n4 accepted 4 0\n0 admit n5 accepted 5 0\n\
+        0 admit n6 accepted 6 0\n",
+    cycle: 0,
+    held: 13_720,
+};
+
+/// And of an eighth one that there is no room for.
+const WITH_SHORT: Standing = Standing {
+    history: "0 admit n0 accepted 0 0\n0 admit n1 accepted 1 0\n0 admit n2 accepted 2 0\n\
+        0 admit n3 accepted 3 0\n0 admit n4 accepted 4 0\n0 admit n5 accepted 5 0\n\
+        0 admit n6 accepted 6 0\n0 admit x refused BudgetShort 0 1280\n",
+    cycle: 0,
+    held: 13_720,
+};
+
+/// An admission over the line that has admitted streams.
+pub(crate) fn line_with(alloc: Global, streams: &[Asked]) -> Option<Admission> {
+    admission_of(alloc, &domain_of(alloc, line())?, streams)
+}
+
+/// Whether a new admission was made.
+fn is_new(alloc: Global, made: &Result<Admission, Memory>) -> bool {
+    let none = Standing {
+        history: "",
+        cycle: 0,
+        held: 0,
+    };
+    match made {
+        Ok(admission) => stands(alloc, admission, &none),
+        Err(_) => false,
+    }
+}
+
+/// An admission is made for a domain.
+fn made(alloc: Global, domain: &Domain) -> Told {
+    mark(alloc);
+    let first = Admission::new(alloc, domain);
+    mark(alloc);
+    if first.is_ok() {
+        return once(is_new(alloc, &first));
+    }
+    twice(
+        domain.links() == 3,
+        is_new(alloc, &Admission::new(alloc, domain)),
+    )
+}
+
+pub(crate) fn new_told(alloc: Global) -> Told {
+    match domain_of(alloc, line()) {
+        Some(domain) => made(alloc, &domain),
+        None => Told::NotReady,
+    }
+}
+
+/// What is answered, and how an admission stands before and behind that.
+#[derive(Clone, Copy)]
+struct Call {
+    answer: Result<Receipt, Refused>,
+    before: &'static Standing,
+    behind: &'static Standing,
+}
+
+/// Whether an answer is that of a call, and the admission stands as behind it.
+fn is_answered(
+    alloc: Global,
+    admission: &Admission,
+    answer: Result<Receipt, Refused>,
+    call: &Call,
+) -> bool {
+    answer == call.answer && stands(alloc, admission, call.behind)
+}
+
+/// A stream is asked for.
+fn admitted(alloc: Global, admission: &mut Admission, wanted: &Request, call: &Call) -> Told {
+    mark(alloc);
+    let first = admission.admit(0, wanted);
+    mark(alloc);
+    if first != Err(Refused::Memory) {
+        return once(is_answered(alloc, admission, first, call));
+    }
+    let stood = stands(alloc, admission, call.before);
+    let again = admission.admit(0, wanted);
+    twice(stood, is_answered(alloc, admission, again, call))
+}
+
+/// A stream is asked for where others are held.
+fn asked_for(alloc: Global, streams: &[Asked], asked: &Asked, call: &Call) -> Told {
+    let Ok(wanted) = request(alloc, asked) else {
+        return Told::NotReady;
+    };
+    match line_with(alloc, streams) {
+        Some(mut admission) => admitted(alloc, &mut admission, &wanted, call),
+        None => Told::NotReady,
+    }
+}
+
+/// The answer to a request that is granted.
+pub(crate) fn granted(no: u32, effect: u32) -> Result<Receipt, Refused> {
+    Ok(Receipt {
+        no,
+        effect: Cycle(effect),
+    })
+}
+
+pub(crate) fn admit_told(alloc: Global) -> Told {
+    let call = Call {
+        answer: granted(6, 0),
+        before: &OF_SIX,
+        behind: &OF_SEVEN,
+    };
+    asked_for(alloc, SIX, &SEVENTH, &call)
+}
+
+pub(crate) fn short_told(alloc: Global) -> Told {
+    let call = Call {
+        answer: Err(Refused::BudgetShort {
+            link: 0,
+            left: 1280,
+        }),
+        before: &OF_SEVEN,
+        behind: &WITH_SHORT,
+    };
+    asked_for(alloc, SEVEN, &X, &call)
+}
+
+/// One stream, held in cycle 0 and withdrawn.
+const OF_X: Standing = Standing {
+    history: "0 admit x accepted 0 0\n",
+    cycle: 0,
+    held: 1960,
+};
+
+const WITHOUT_X: Standing = Standing {
+    history: "0 admit x accepted 0 0\n0 withdraw x accepted 0 0\n",
+    cycle: 0,
+    held: 1960,
+};
+
+/// A stream is withdrawn.
+fn withdrawn(alloc: Global, admission: &mut Admission, call: &Call) -> Told {
+    mark(alloc);
+    let first = admission.withdraw(0, "x");
+    mark(alloc);
+    if first != Err(Refused::Memory) {
+        return once(is_answered(alloc, admission, first, call));
+    }
+    let stood = stands(alloc, admission, call.before);
+    let again = admission.withdraw(0, "x");
+    twice(stood, is_answered(alloc, admission, again, call))
+}
+
+pub(crate) fn withdraw_told(alloc: Global) -> Told {
+    let call = Call {
+        answer: granted(0, 0),
+        before: &OF_X,
+        behind: &WITHOUT_X,
+    };
+    match line_with(alloc, &[X]) {
+        Some(mut admission) => withdrawn(alloc, &mut admission, &call),
+        None => Told::NotReady,
+    }
+}
+
+/// One stream behind a Seal.
+const SEALED: Standing = Standing {
+    history: "0 admit x accepted 0 0\n1 seal\n",
+    cycle: 1,
+    held: 1960,
+};
+
+/// Whether a table is that of cycle 0 with the one stream.
+fn is_table(table: &Table) -> bool {
+    let found = match table.row_of(0) {
+        Some(row) => row.name.as_str() == "x" && row.octets == 1500 && row.withdrawn == None,
+        None => false,
+    };
+    found && table.cycle() == Cycle(0) && table.rows().len() == 1
+}
+
+/// Whether a Seal gives it.
+fn is_sealed(alloc: Global, admission: &Admission, given: &Result<Table, SealFault>) -> bool {
+    match given {
+        Ok(table) => is_table(table) && stands(alloc, admission, &SEALED),
+        Err(_) => false,
+    }
+}
+
+/// A cycle is closed.
+fn sealed(alloc: Global, admission: &mut Admission) -> Told {
+    mark(alloc);
+    let first = admission.seal(1);
+    mark(alloc);
+    match first {
+        Err(SealFault::Memory) => {
+            let stood = stands(alloc, admission, &OF_X);
+            let again = admission.seal(1);
+            twice(stood, is_sealed(alloc, admission, &again))
+        }
+        given => once(is_sealed(alloc, admission, &given)),
+    }
+}
+
+pub(crate) fn seal_told(alloc: Global) -> Told {
+    match line_with(alloc, &[X]) {
+        Some(mut admission) => sealed(alloc, &mut admission),
+        None => Told::NotReady,
+    }
+}

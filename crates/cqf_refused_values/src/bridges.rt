@@ -1,0 +1,413 @@
+//! Calls of bridges of the line.
+ghost use Rattle.std.specs.Prelude.{◌≡◌, ◌<◌, IfSome, length};
+ghost use Rattle.cqf_model.specs.Run.{AreOffers};
+ghost use Rattle.cqf_laws_cycle.specs.Gathered.{offered_for};
+
+use crate::domains::is_line;
+use cqf_admission::Table;
+use cqf_bridge::{Batch, Bridge, BridgeFault, offers_of};
+use cqf_compile::Plan;
+use cqf_model::{Dropped, Offer, Offered, Reason, Sent};
+use cqf_refusing::{Told, X, admission_of, mark, once, plan_of, tables_of, twice};
+use cqf_test_fixtures::{
+    Asked, Fell, Offering, are_dropped, are_offers, line, offers_of as offers_with,
+};
+use cqf_units::{Cycle, Memory, Nanos};
+use std::alloc::Global;
+
+/// Whether a bridge was made, and sends a first cycle with one empty batch on link 1.
+fn is_new(alloc: Global, made: Result<Bridge, Memory>) -> bool {
+    match made {
+        Ok(mut bridge) => {
+            bridge.number() == 1
+                && is_line(bridge.domain())
+                && bridge.background_starts().is_empty()
+                && sends(alloc, &mut bridge, Cycle(0), 1, &[])
+        }
+        Err(_) => false,
+    }
+}
+
+/// Whether a batch is of a cycle and a link, and has these frames.
+pub(crate) fn is_batch(batch: &Batch, cycle: Cycle, link: u8, frames: &[Sent]) -> bool {
+    if batch.cycle() != cycle || batch.link() != link || batch.len() != frames.len() {
+        return false;
+    }
+    for place in 0..frames.len() {
+        if batch.get(place) != frames[place] {
+            return false;
+        }
+    }
+    true
+}
+
+/// Whether one batch of a cycle and a link was sent, with these frames.
+fn is_sent(batches: &[Batch], cycle: Cycle, link: u8, frames: &[Sent]) -> bool {
+    match batches {
+        [batch] => is_batch(batch, cycle, link, frames),
+        _ => false,
+    }
+}
+
+/// Whether a bridge sends a cycle with one batch of a link, with these frames.
+pub(crate) fn sends(
+    alloc: Global,
+    bridge: &mut Bridge,
+    cycle: Cycle,
+    link: u8,
+    frames: &[Sent],
+) -> bool
+    requires { cycle.0 < 100000 }
+{
+    let mut batches = Vec::new(alloc);
+    bridge.send(alloc, cycle, &[], &mut batches).is_ok()
+        && is_sent(batches.as_slice(), cycle, link, frames)
+}
+
+/// The second bridge of a plan is made.
+fn made(alloc: Global, plan: &Plan) -> Told
+    requires { 1 < length plan.now.bridges }
+{
+    mark(alloc);
+    let first = Bridge::new(alloc, plan, 1);
+    mark(alloc);
+    if first.is_ok() {
+        return once(is_new(alloc, first));
+    }
+    let stands = is_line(plan.domain());
+    twice(stands, is_new(alloc, Bridge::new(alloc, plan, 1)))
+}
+
+/// It is, where there is one.
+fn made_of(alloc: Global, plan: &Plan) -> Told {
+    if plan.domain().bridges() == 3 {
+        made(alloc, plan)
+    } else {
+        Told::NotReady
+    }
+}
+
+pub(crate) fn new_told(alloc: Global) -> Told {
+    match plan_of(alloc, line()) {
+        Some(plan) => made_of(alloc, &plan),
+        None => Told::NotReady,
+    }
+}
+
+/// The bridge's of some offers in a cycle.
+fn own_of(alloc: Global, bridge: &Bridge, cycle: Cycle, offers: &[Offer]) -> Option<Vec<Offered>>
+    ensures offers { IfSome result (λ own. AreOffers bridge.now.domain offers.now) }
+    ensures own { IfSome result (λ own. own.items ≡ offered_for bridge.now.domain offers.now bridge.now.number cycle.0) }
+{
+    if !are_offers(bridge.domain(), offers) || offers.len() > 1000 {
+        return None;
+    }
+    match offers_of(alloc, bridge.domain(), offers, bridge.number(), cycle) {
+        Ok(own) => Some(own),
+        Err(_) => None,
+    }
+}
+
+/// A bridge receives a cycle with its own of these offers.
+pub(crate) fn receive(
+    alloc: Global,
+    bridge: &mut Bridge,
+    table: &Table,
+    batches: &[Batch],
+    offers: &[Offer],
+) -> Result<Vec<Dropped>, BridgeFault> {
+    let cycle = table.cycle();
+    if cycle.0 >= 100_000 {
+        return Err(BridgeFault::Memory);
+    }
+    match own_of(alloc, bridge, cycle, offers) {
+        Some(own) => bridge.receive(alloc, cycle, table, batches, own.as_slice()),
+        None => Err(BridgeFault::Memory),
+    }
+}
+
+/// Whether a bridge goes through the cycle of a table without a batch.
+pub(crate) fn goes_through(
+    alloc: Global,
+    bridge: &mut Bridge,
+    table: &Table,
+    offers: &[Offer],
+    link: u8,
+) -> bool {
+    let cycle = table.cycle();
+    cycle.0 < 100_000
+        && sends(alloc, bridge, cycle, link, &[])
+        && receive(alloc, bridge, table, &[], offers).is_ok()
+}
+
+/// What is made ready of a domain: its plan, the tables of two cycles that hold streams, and what is offered.
+#[derive(Drop)]
+pub(crate) struct Ready {
+    pub(crate) plan: Plan,
+    pub(crate) tables: Vec<Table>,
+    pub(crate) offers: Vec<Offer>,
+}
+
+/// The tables of two cycles of a plan.
+fn tables_with(alloc: Global, plan: &Plan, streams: &[Asked]) -> Option<Vec<Table>> {
+    tables_of(alloc, &mut admission_of(alloc, plan.domain(), streams)?, 2)
+}
+
+/// All of it for the line, where there are three bridges and two tables.
+pub(crate) fn make_ready(alloc: Global, streams: &[Asked], offering: &[Offering]) -> Option<Ready> {
+    let plan = plan_of(alloc, line())?;
+    let tables = tables_with(alloc, &plan, streams)?;
+    match offers_with(alloc, offering) {
+        Ok(offers) => Some(Ready {
+            plan,
+            tables,
+            offers,
+        }),
+        Err(_) => None,
+    }
+}
+
+/// A new bridge of what is ready, where it has one of the number.
+fn bridge_of(alloc: Global, ready: &Ready, number: u8) -> Option<Bridge> {
+    if number >= ready.plan.domain().bridges() {
+        return None;
+    }
+    match Bridge::new(alloc, &ready.plan, number) {
+        Ok(bridge) => Some(bridge),
+        Err(_) => None,
+    }
+}
+
+/// The first bridge behind cycle 0.
+pub(crate) fn first_behind(alloc: Global, ready: &Ready) -> Option<Bridge> {
+    let mut bridge = bridge_of(alloc, ready, 0)?;
+    if goes_through(
+        alloc,
+        &mut bridge,
+        ready.tables.first()?,
+        ready.offers.as_slice(),
+        0,
+    ) {
+        Some(bridge)
+    } else {
+        None
+    }
+}
+
+/// A frame of 64 octets of stream 0, at the beginning of cycle 1.
+pub(crate) const FRAME: Sent = Sent {
+    start: Nanos(125_000),
+    frame: 1,
+    stream: 0,
+    octets: 64,
+};
+
+/// Whether a bridge sends nothing any more.
+fn is_spent(alloc: Global, bridge: &mut Bridge) -> bool {
+    let mut batches = Vec::new(alloc);
+    bridge.send(alloc, Cycle(1), &[], &mut batches) == Err(BridgeFault::Spent) && batches.is_empty()
+}
+
+/// The first bridge sends cycle 1, or else its twin does: it is spent then.
+fn sent(alloc: Global, bridge: &mut Bridge, twin: &mut Bridge) -> Told {
+    let mut batches = Vec::new(alloc);
+    mark(alloc);
+    let first = bridge.send(alloc, Cycle(1), &[], &mut batches);
+    mark(alloc);
+    if first != Err(BridgeFault::Memory) {
+        return once(first == Ok(()) && is_sent(batches.as_slice(), Cycle(1), 0, &[FRAME]));
+    }
+    let stands = batches.is_empty() && is_spent(alloc, bridge);
+    twice(stands, sends(alloc, twin, Cycle(1), 0, &[FRAME]))
+}
+
+/// A frame is offered in cycle 0 at the first bridge.
+pub(crate) const ONE: &[Offering] = &[(0, 0, "x", 64)];
+
+/// Two bridges that have gone through cycle 0.
+fn two_behind(alloc: Global, ready: &Ready) -> Option<(Bridge, Bridge)> {
+    Some((first_behind(alloc, ready)?, first_behind(alloc, ready)?))
+}
+
+pub(crate) fn send_told(alloc: Global) -> Told {
+    let Some(ready) = make_ready(alloc, &[X], ONE) else {
+        return Told::NotReady;
+    };
+    match two_behind(alloc, &ready) {
+        Some((mut bridge, mut twin)) => sent(alloc, &mut bridge, &mut twin),
+        None => Told::NotReady,
+    }
+}
+
+/// What the first bridge sends in its first cycle.
+fn empty_batches(alloc: Global, ready: &Ready) -> Option<Vec<Batch>> {
+    let mut bridge = bridge_of(alloc, ready, 0)?;
+    let mut batches = Vec::new(alloc);
+    match bridge.send(alloc, Cycle(0), &[], &mut batches) {
+        Ok(()) => Some(batches),
+        Err(_) => None,
+    }
+}
+
+/// The second bridge behind the sending of cycle 1.
+pub(crate) fn second_behind(alloc: Global, ready: &Ready) -> Option<Bridge> {
+    let mut bridge = bridge_of(alloc, ready, 1)?;
+    let batches = empty_batches(alloc, ready)?;
+    let goes = sends(alloc, &mut bridge, Cycle(0), 1, &[])
+        && receive(
+            alloc,
+            &mut bridge,
+            ready.tables.first()?,
+            batches.as_slice(),
+            &[],
+        )
+        .is_ok()
+        && sends(alloc, &mut bridge, Cycle(1), 1, &[]);
+    if goes { Some(bridge) } else { None }
+}
+
+/// What the first one sends in cycle 1.
+pub(crate) fn full_batches(alloc: Global, ready: &Ready) -> Option<Vec<Batch>> {
+    let mut bridge = first_behind(alloc, ready)?;
+    let mut batches = Vec::new(alloc);
+    match bridge.send(alloc, Cycle(1), &[], &mut batches) {
+        Ok(()) => Some(batches),
+        Err(_) => None,
+    }
+}
+
+/// The first frame that leaves the second bridge in cycle 2.
+const LATER: Sent = Sent {
+    start: Nanos(250_000),
+    frame: 1,
+    stream: 0,
+    octets: 64,
+};
+
+/// The frame of the next stream, which leaves it behind another one: 84 octets of the wire take 672 ns.
+fn behind(sent: &Sent) -> Sent {
+    Sent {
+        start: Nanos(sent.start.0.saturating_add(672)),
+        frame: sent.frame.saturating_add(1),
+        stream: sent.stream.saturating_add(1),
+        octets: 64,
+    }
+}
+
+/// Whether a batch of cycle 2 of link 1 has so many frames, one behind the other.
+fn is_later(batch: &Batch, count: usize) -> bool {
+    if batch.cycle() != Cycle(2) || batch.link() != 1 || batch.len() != count {
+        return false;
+    }
+    let mut sent = LATER;
+    for place in 0..count {
+        if batch.get(place) != sent {
+            return false;
+        }
+        sent = behind(&sent);
+    }
+    true
+}
+
+/// Whether the second bridge sends that.
+fn sends_later(alloc: Global, bridge: &mut Bridge, count: usize) -> bool {
+    let mut batches = Vec::new(alloc);
+    let is_ok = bridge.send(alloc, Cycle(2), &[], &mut batches).is_ok();
+    match batches.as_slice() {
+        [batch] => is_ok && is_later(batch, count),
+        _ => false,
+    }
+}
+
+/// What the second bridge is handed in cycle 1, what it drops then, and how many frames go on.
+#[derive(Clone, Copy)]
+struct Handed<'a> {
+    table: &'a Table,
+    batches: &'a [Batch],
+    offers: &'a [Offer],
+    drops: &'a [Fell],
+    later: usize,
+}
+
+/// Whether a cycle was received with these drops, and so many frames go on.
+fn is_received(
+    alloc: Global,
+    bridge: &mut Bridge,
+    received: &Result<Vec<Dropped>, BridgeFault>,
+    handed: &Handed<'_>,
+) -> bool {
+    match received {
+        Ok(dropped) => {
+            are_dropped(dropped.as_slice(), handed.drops)
+                && sends_later(alloc, bridge, handed.later)
+        }
+        Err(_) => false,
+    }
+}
+
+/// It receives the cycle, or else its twin does: it is spent then.
+fn received(alloc: Global, bridge: &mut Bridge, twin: &mut Bridge, handed: &Handed<'_>) -> Told {
+    let Some(own) = own_of(alloc, bridge, Cycle(1), handed.offers) else {
+        return Told::NotReady;
+    };
+    mark(alloc);
+    let first = bridge.receive(
+        alloc,
+        Cycle(1),
+        handed.table,
+        handed.batches,
+        own.as_slice(),
+    );
+    mark(alloc);
+    match first {
+        Err(BridgeFault::Memory) => {
+            let stands = is_spent(alloc, bridge);
+            let again = receive(alloc, twin, handed.table, handed.batches, handed.offers);
+            twice(stands, is_received(alloc, twin, &again, handed))
+        }
+        other => once(is_received(alloc, bridge, &other, handed)),
+    }
+}
+
+/// Two second bridges.
+fn two_seconds(alloc: Global, ready: &Ready) -> Option<(Bridge, Bridge)> {
+    Some((second_behind(alloc, ready)?, second_behind(alloc, ready)?))
+}
+
+/// The second bridge of what is ready receives cycle 1.
+fn received_of(alloc: Global, ready: &Ready, drops: &[Fell], later: usize) -> Told {
+    let Some((mut bridge, mut twin)) = two_seconds(alloc, ready) else {
+        return Told::NotReady;
+    };
+    let (Some(batches), Some(table)) = (full_batches(alloc, ready), ready.tables.get(1)) else {
+        return Told::NotReady;
+    };
+    let handed = Handed {
+        table,
+        batches: batches.as_slice(),
+        offers: ready.offers.as_slice(),
+        drops,
+        later,
+    };
+    received(alloc, &mut bridge, &mut twin, &handed)
+}
+
+/// It does where these streams are held and this is offered: with these drops, and so many frames that go on.
+pub(crate) fn received_with(
+    alloc: Global,
+    streams: &[Asked],
+    offering: &[Offering],
+    drops: &[Fell],
+    later: usize,
+) -> Told {
+    match make_ready(alloc, streams, offering) {
+        Some(ready) => received_of(alloc, &ready, drops, later),
+        None => Told::NotReady,
+    }
+}
+
+pub(crate) fn receive_told(alloc: Global) -> Told {
+    let offering = [(0, 0, "x", 64), (125_000, 1, "x", 64)];
+    let drops = [(1, 1, 2, 64, Reason::OtherBridge)];
+    received_with(alloc, &[X], &offering, &drops, 1)
+}

@@ -1,0 +1,66 @@
+//! Quantities and lanes, of which no call asks for memory.
+use cqf_lanes::{
+    eligible, eligible_plain, highest, highest_plain, octet_sum, octet_sum_plain, open_run,
+    open_run_plain,
+};
+use cqf_refusing::{Told, mark, once};
+use cqf_units::{
+    Cycle, Name, Nanos, Octets, Rate, budget, cost, cycle_of, end_of, idle_from, octet_time, wire,
+};
+use std::alloc::Global;
+
+/// Whether a name answers as it is to.
+fn is_name() -> bool {
+    match Name::new(b"x") {
+        Some(name) => name.copied().as_str() == "x" && name.as_bytes() == b"x".as_slice(),
+        None => false,
+    }
+}
+
+/// Whether costs, budgets and cycles are those of a cycle of 125,000 ns.
+fn are_reserved() -> bool {
+    cost(Octets(1500)) == Octets(1960)
+        && budget(Nanos(125_000), Nanos(5_000), Rate::Mb1000) == Octets(15_000)
+        && cycle_of(Nanos(250_000), Nanos(125_000)) == Cycle(2)
+}
+
+/// Whether a frame of 64 octets takes as long as it is to.
+fn are_timed() -> bool {
+    let frame = Octets(64);
+    octet_time(Rate::Mb10) == 800
+        && wire(frame) == Octets(84)
+        && end_of(Nanos(0), frame, Rate::Mb1000) == Nanos(576)
+        && idle_from(Nanos(0), frame, Rate::Mb1000) == Nanos(672)
+}
+
+pub(crate) fn units_told(alloc: Global) -> Told {
+    mark(alloc);
+    let is_so = is_name() && are_reserved() && are_timed();
+    mark(alloc);
+    once(is_so)
+}
+
+/// Whether sums and runs of twenty are as they are to be.
+fn are_summed() -> bool {
+    let (octets, states) = ([64u32; 20], [0x80u8; 20]);
+    octet_sum(&octets) == 1280
+        && octet_sum_plain(&octets) == 1280
+        && open_run(&states, 7) == 20
+        && open_run_plain(&states, 6) == 0
+}
+
+/// Whether of two classes that are open the one is chosen that has room for what it needs.
+fn are_chosen() -> bool {
+    let (need, left) = ([84u32; 8], [0, 0, 0, 0, 0, 0, 84, 83]);
+    eligible(0xc0, &need, &left) == 0x40
+        && eligible_plain(0xc0, &need, &left) == 0x40
+        && highest(0x41) == Some(6)
+        && highest_plain(0x41) == Some(6)
+}
+
+pub(crate) fn lanes_told(alloc: Global) -> Told {
+    mark(alloc);
+    let is_so = are_summed() && are_chosen();
+    mark(alloc);
+    once(is_so)
+}

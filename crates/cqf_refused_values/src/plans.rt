@@ -1,0 +1,96 @@
+//! Plans that are compiled, and configurations that are written.
+ghost use Rattle.std.specs.Prelude.{◌≡◌, IfSome};
+ghost use Rattle.cqf_admission.specs.Tables.{AreAlongLinks};
+
+use crate::gates::{LIST, is_text};
+use cqf_admission::{Admission, Table};
+use cqf_compile::{Plan, compile, write_config};
+use cqf_refusing::{Told, admission_of, domain_of, mark, once, plan_of, twice};
+use cqf_test_fixtures::{Asked, one_link};
+use cqf_topology::Domain;
+use cqf_units::Memory;
+use std::alloc::Global;
+
+/// Whether the plan of one link has its list.
+fn is_plan(made: &Result<Plan, Memory>) -> bool {
+    match made {
+        Ok(plan) => {
+            let domain = plan.domain();
+            domain.links() == 1 && domain.bridges() == 1 && plan.list(0).entries() == LIST
+        }
+        Err(_) => false,
+    }
+}
+
+/// The domain is compiled.
+fn compiled(alloc: Global, domain: &Domain) -> Told {
+    mark(alloc);
+    let first = compile(alloc, domain);
+    mark(alloc);
+    if first.is_ok() {
+        return once(is_plan(&first));
+    }
+    let stands = domain.links() == 1 && domain.bridges() == 1;
+    twice(stands, is_plan(&compile(alloc, domain)))
+}
+
+pub(crate) fn compile_told(alloc: Global) -> Told {
+    match domain_of(alloc, one_link()) {
+        Some(domain) => compiled(alloc, &domain),
+        None => Told::NotReady,
+    }
+}
+
+/// The stream `x` on one link.
+const X: Asked = ("x", 1500, &[&["a", "s"]]);
+
+/// The configuration of one link that holds it.
+const CONFIG: &str = "link a>s\nBF 120000\n00 5000\n7F 120000\n00 5000\n\
+    stream 0 x bridge a\nopen 6 125000 1500\nopen 7 125000 1500\n";
+
+/// The table of a plan's first cycle.
+fn first_table(alloc: Global, plan: &Plan) -> Option<Table>
+    ensures { IfSome result (λ table. AreAlongLinks plan.now table.rows) }
+{
+    let mut admission = admission_of(alloc, plan.domain(), &[X])?;
+    sealed(&mut admission)
+}
+
+/// The table of an admission's next cycle.
+fn sealed(admission: &mut Admission) -> Option<Table>
+    ensures { IfSome result (λ table. AreAlongLinks admission.old.domain table.rows) }
+{
+    match admission.seal(1) {
+        Ok(table) => Some(table),
+        Err(_) => None,
+    }
+}
+
+/// The configuration is written.
+fn written(alloc: Global, plan: &Plan, table: &Table) -> Told
+    requires { AreAlongLinks plan.now table.now.rows }
+{
+    mark(alloc);
+    let first = write_config(alloc, plan, table);
+    mark(alloc);
+    if first.is_ok() {
+        return once(is_text(first, CONFIG));
+    }
+    let stands = table.rows().len() == 1 && plan.domain().links() == 1;
+    twice(stands, is_text(write_config(alloc, plan, table), CONFIG))
+}
+
+/// It is, of a plan.
+fn config_of(alloc: Global, plan: &Plan) -> Told {
+    match first_table(alloc, plan) {
+        Some(table) => written(alloc, plan, &table),
+        None => Told::NotReady,
+    }
+}
+
+pub(crate) fn config_told(alloc: Global) -> Told {
+    match plan_of(alloc, one_link()) {
+        Some(plan) => config_of(alloc, &plan),
+        None => Told::NotReady,
+    }
+}

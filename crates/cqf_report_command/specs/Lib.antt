@@ -1,2 +1,0 @@
-pub mod ReportOutput
-pub mod Telling

@@ -1,2 +1,0 @@
-pub mod RunOutput
-pub mod RunTold

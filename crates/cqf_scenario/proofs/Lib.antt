@@ -1,6 +1,0 @@
-mod Closed
-mod Room
-mod ReadInput
-pub mod BookOf
-mod Commands
-mod ExactParts

@@ -1,6 +1,0 @@
-use Rattle.cqf_inputs.specs.RunParts.{texts_of}
-use Rattle.cqf_scenario.proofs.given.read_frames.Goals as goal
-
-pub returns-clause-order : goal.returns-clause-order
-returns-clause-order c =
-    c.offers_stand_in_order.ensures.read c.args.domain.now (texts_of c.args.parts).offers c.in_ok-offers.offers.items c.in_ok-offers.ensures.ok

@@ -1,8 +1,0 @@
--- There are so many lists without a command.
-use Rattle.std.proofs.Common.{[]}
-use Rattle.cqf_scenario.specs.Parted.{acts_of_each}
-use Rattle.cqf_scenario.specs.Parting.{AreCommandsBy}
-use Rattle.cqf_scenario.proofs.parting.no_commands.Given as goal
-
-abbrev pub invariant-loop-admin : goal.invariant-loop-admin
-invariant-loop-admin l = AreCommandsBy [] l._admin (acts_of_each l.lists.items)

@@ -1,5 +1,0 @@
-pub mod Faults
-pub mod Lines
-pub mod Placed
-pub mod Script
-pub mod Written

@@ -1,5 +1,0 @@
-use Rattle.cqf_shift.proofs.Costs.{wire_within_cost}
-use Rattle.cqf_shift.proofs.cost.wire_within_cost.Goals as goal
-
-pub returns : goal.returns
-returns c = wire_within_cost

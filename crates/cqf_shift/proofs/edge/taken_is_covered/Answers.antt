@@ -1,5 +1,0 @@
-use Rattle.cqf_shift.proofs.Taken.{taken_is_covered}
-use Rattle.cqf_shift.proofs.edge.taken_is_covered.Goals as goal
-
-pub returns : goal.returns
-returns c = taken_is_covered

@@ -1,9 +1,0 @@
-use Rattle.cqf_shift.proofs.CycleLaws.{cycle_laws}
-use Rattle.cqf_shift.proofs.MainLaws.{gates_mean_the_shift}
-use Rattle.cqf_shift.proofs.main_law.gates_mean_the_shift.Goals as goal
-
-pub returns : goal.returns
-returns c =
-    gates_mean_the_shift
-    (cycle_laws c.port_is_one_cycle_late.ensures c.streams_are_sent_as_alone.ensures c.gate_gives_class.ensures c.gate_counts_cycles.ensures)
-    c.run_beside_is_run_alone.ensures

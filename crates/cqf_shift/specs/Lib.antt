@@ -1,6 +1,0 @@
-pub mod Cost
-pub mod Edge
-pub mod Alone
-pub mod Run
-pub mod Books
-pub mod MainLaw

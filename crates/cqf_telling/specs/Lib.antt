@@ -1,2 +1,0 @@
-pub mod CallTexts
-pub mod PortLines

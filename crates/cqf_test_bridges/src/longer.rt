@@ -1,0 +1,94 @@
+//! A thousand cycles of the line's bridges, in each of which a frame is offered that its stream covers: it goes one link on in each
+//! further cycle, and nothing is dropped.
+use crate::runs::{Run, Start, Written, bridges_of, go_through};
+use crate::tables::{ONE_BRANCH, admit, plan_of};
+use cqf_admission::{Admission, Table};
+use cqf_bridge::Bridge;
+use cqf_compile::Plan;
+use cqf_test_fixtures::{line, offers_of};
+use cqf_units::Memory;
+use std::alloc::Global;
+
+/// No background frame comes.
+const QUIET: Run = Run {
+    calls: &[],
+    offers: &[],
+    background: None,
+};
+
+/// What the links start in a cycle: each the frame that was offered as many cycles before as it has come by links, the only one of its
+/// list.
+fn told_in(alloc: Global, cycle: u32) -> Result<Vec<Start>, Memory> {
+    let mut told = Vec::new(alloc);
+    for link in 0..3u8 {
+        if cycle > u32::from(link) {
+            told.push((cycle, link, 1, 64, u64::from(cycle) * 125_000))?;
+        }
+    }
+    Ok(told)
+}
+
+/// Whether the bridges go through the cycle of a table so.
+fn go_on(alloc: Global, bridges: &mut Vec<Bridge>, table: &Table) -> bool {
+    let cycle = table.cycle().0;
+    let Ok(told) = told_in(alloc, cycle) else {
+        return false;
+    };
+    let Ok(offers) = offers_of(alloc, &[(u64::from(cycle) * 125_000, 0, "x", 64)]) else {
+        return false;
+    };
+    let mut written = Written::new(alloc);
+    go_through(
+        alloc,
+        bridges,
+        table,
+        &QUIET,
+        offers.as_slice(),
+        told.as_slice(),
+        &mut written,
+    ) && written.starts.as_slice() == told.as_slice()
+        && written.others.is_empty()
+        && written.drops.is_empty()
+}
+
+/// Whether they go through a thousand, which an admission closes in turn.
+fn go_on_and_on(alloc: Global, bridges: &mut Vec<Bridge>, asked: &mut Admission) -> bool {
+    for _cycle in 0..1000 {
+        match asked.seal(0) {
+            Ok(table) => {
+                if !go_on(alloc, bridges, &table) {
+                    return false;
+                }
+            }
+            Err(_) => return false,
+        }
+    }
+    true
+}
+
+/// Whether they do over a plan, where the stream is held.
+fn go_on_over(alloc: Global, plan: &Plan) -> bool {
+    let Ok(mut bridges) = bridges_of(alloc, plan) else {
+        return false;
+    };
+    match Admission::new(alloc, plan.domain()) {
+        Ok(mut asked) => {
+            admit(alloc, &mut asked, 64, ONE_BRANCH)
+                && go_on_and_on(alloc, &mut bridges, &mut asked)
+        }
+        Err(_) => false,
+    }
+}
+
+/// Whether they do over the line.
+fn go_on_over_line(alloc: Global) -> bool {
+    match plan_of(alloc, line()) {
+        Some(plan) => go_on_over(alloc, &plan),
+        None => false,
+    }
+}
+
+#[test]
+fn a_thousand_frames_pass_and_none_is_dropped(rt: HostRuntime) {
+    assert!(rt; go_on_over_line(rt.alloc()));
+}

@@ -1,0 +1,360 @@
+//! Domains and streams read, or refused.
+use cqf_admission::Admission;
+use cqf_test_fixtures::{Asked, is_request, line, one_link, request, ring};
+use cqf_topology::{Domain, DomainFault, Link, Node, Request, StreamsFault, read_streams};
+use cqf_units::{Nanos, Rate};
+use std::alloc::Global;
+
+/// Whether a fault of a domain's text prints so.
+fn domain_prints(alloc: Global, fault: DomainFault, wanted: &str) -> bool {
+    match format!(in alloc; "{fault}") {
+        Ok(text) => text.as_str() == wanted,
+        Err(_) => false,
+    }
+}
+
+/// Whether a domain's text is read, where that is the answer, or refused with a fault that prints so.
+fn answers(alloc: Global, text: &[u8], wanted: &str) -> bool {
+    match Domain::read(alloc, text) {
+        Ok(_domain) => wanted == "read",
+        Err(fault) => domain_prints(alloc, fault, wanted),
+    }
+}
+
+/// Whether a text with another in the place of a part of it is answered so.
+fn changed_answers(alloc: Global, text: &str, old: &str, new: &str, wanted: &str) -> bool {
+    match text.replacen(alloc, old, new, 1) {
+        Ok(changed) => answers(alloc, changed.as_bytes(), wanted),
+        Err(_) => false,
+    }
+}
+
+/// A part of the line's text, another in its place, and the answer.
+const CHANGES: &[(&str, &str, &str)] = &[
+    ("", "", "read"),
+    ("delay = 500", "delay = 4999", "read"),
+    ("delay = 500", "delay = 5000", "DelayTooLong 0"),
+    (
+        "to = \"s\"\nrate = 1000\ndelay = 500",
+        "to = \"s\"\nrate = 1000\ndelay = 5000",
+        "DelayTooLong 2",
+    ),
+    (
+        "rate = 1000\ndelay = 500",
+        "rate = 10\ndelay = 5000",
+        "DelayTooLong 0",
+    ),
+    ("guard = 5000", "guard = 125000", "GuardTooLong"),
+    ("guard = 5000\n", "", "Missing guard"),
+    (
+        "guard = 5000\nbridges = [\"a\"",
+        "bridges = [\"A\"",
+        "Missing guard",
+    ),
+    ("to = \"s\"", "", "Missing to"),
+    ("\"a\", \"b\"", "\"A\", \"b\"", "BadValue bridges"),
+    ("cycle = 125000", "cycle = 125000.0", "BadValue cycle"),
+    ("\"s\"", "\"a\"", "NameTaken a"),
+    ("cycle = 125000", "cycle =", "NotToml"),
+    ("[\"a\", \"b\", \"c\"]", "[]", "BadValue bridges"),
+    ("rate = 1000", "rate = 100", "read"),
+    // one link more, behind the last
+    (
+        LAST_LINK,
+        "to = \"s\"\nrate = 1000\ndelay = 500\n[[links]]\nfrom = \"b\"\nto = \"s\"\nrate = 1000\ndelay = 500\n",
+        "read",
+    ),
+    (
+        LAST_LINK,
+        "to = \"s\"\nrate = 1000\ndelay = 500\n[[links]]\nfrom = \"a\"\nto = \"q\"\nrate = 1000\ndelay = 500\n",
+        "UnknownName q",
+    ),
+    (
+        LAST_LINK,
+        "to = \"s\"\nrate = 1000\ndelay = 500\n[[links]]\nfrom = \"s\"\nto = \"a\"\nrate = 1000\ndelay = 500\n",
+        "UnknownName s",
+    ),
+    (
+        LAST_LINK,
+        "to = \"s\"\nrate = 1000\ndelay = 500\n[[links]]\nfrom = \"b\"\nto = \"b\"\nrate = 1000\ndelay = 500\n",
+        "UnknownName b",
+    ),
+    (
+        LAST_LINK,
+        "to = \"s\"\nrate = 1000\ndelay = 500\n[[links]]\nfrom = \"a\"\nto = \"b\"\nrate = 1000\ndelay = 500\n",
+        "LinkTwice 3",
+    ),
+];
+
+/// The end of the line's text.
+const LAST_LINK: &str = "to = \"s\"\nrate = 1000\ndelay = 500\n";
+
+#[test]
+fn a_changed_line_is_refused_by_its_first_fault(rt: HostRuntime) {
+    for (old, new, wanted) in CHANGES {
+        assert!(rt;
+            changed_answers(rt.alloc(), line(), old, new, wanted),
+            "{new}: {wanted}"
+        );
+    }
+}
+
+/// The guard time and the rate of the one link, others in their places, and the answer: a gap is within the guard time.
+const GAPS: &[(&str, &str)] = &[
+    (
+        "guard = 9600\nbridges = [\"a\"]\nstations = [\"s\"]\n\n[[links]]\nfrom = \"a\"\nto = \"s\"\nrate = 10\n",
+        "read",
+    ),
+    (
+        "guard = 9599\nbridges = [\"a\"]\nstations = [\"s\"]\n\n[[links]]\nfrom = \"a\"\nto = \"s\"\nrate = 10\n",
+        "GapTooLong 0",
+    ),
+    (
+        "guard = 5000\nbridges = [\"a\"]\nstations = [\"s\"]\n\n[[links]]\nfrom = \"a\"\nto = \"s\"\nrate = 11\n",
+        "BadValue rate",
+    ),
+];
+
+/// What they stand in place of.
+const NO_GAP: &str =
+    "guard = 5000\nbridges = [\"a\"]\nstations = [\"s\"]\n\n[[links]]\nfrom = \"a\"\nto = \"s\"\nrate = 1000\n";
+
+/// 32 bridges.
+const MANY: &str = "cycle = 125000\nguard = 5000\nstations = []\nlinks = []\nbridges = [\
+    \"0\", \"1\", \"2\", \"3\", \"4\", \"5\", \"6\", \"7\", \"8\", \"9\", \"10\", \"11\", \"12\", \"13\", \"14\", \"15\", \"16\", \
+    \"17\", \"18\", \"19\", \"20\", \"21\", \"22\", \"23\", \"24\", \"25\", \"26\", \"27\", \"28\", \"29\", \"30\", \"31\"]";
+
+/// Other texts, and the answers.
+const OTHERS: &[(&[u8], &str)] = &[
+    (b"", "Missing cycle"),
+    (b"bridges = [\"\xff\"]", "NotToml"),
+    (
+        b"cycle = 125000\nguard = 5000\nbridges = [\"a\"]\nstations = []\nlinks = [7]\n",
+        "BadValue links",
+    ),
+];
+
+#[test]
+fn other_texts_are_refused_by_their_first_fault(rt: HostRuntime) {
+    for (new, wanted) in GAPS {
+        assert!(rt;
+            changed_answers(rt.alloc(), one_link(), NO_GAP, new, wanted),
+            "{wanted}"
+        );
+    }
+    for (text, wanted) in OTHERS {
+        assert!(rt; answers(rt.alloc(), text, wanted), "{wanted}");
+    }
+    assert!(rt; changed_answers(rt.alloc(), MANY, "", "", "read"));
+    assert!(rt; changed_answers(rt.alloc(), MANY, "\"31\"]", "\"31\", \"32\"]", "TooMany"));
+}
+
+/// Names, and the nodes of the line that have them.
+const NODES: &[(&str, Option<Node>)] = &[
+    ("b", Some(Node::Bridge(1))),
+    ("s", Some(Node::Station(0))),
+    ("q", None),
+    ("A", None),
+];
+
+/// The last link of the line.
+const LAST: Link = Link {
+    from: 2,
+    to: Node::Station(0),
+    rate: Rate::Mb1000,
+    delay: 500,
+};
+
+/// Whether a domain has the times, names, nodes and the last link of the line.
+fn is_line(domain: &Domain) -> bool {
+    if domain.bridges() != 3 || domain.stations() != 1 || domain.links() != 3 {
+        return false;
+    }
+    domain.cycle_time() == Nanos(125_000)
+        && domain.guard() == Nanos(5000)
+        && domain.bridge_name(2).as_str() == "c"
+        && domain.station_name(0).as_str() == "s"
+        && domain.link(2) == LAST
+        && NODES.iter().all(|(name, node)| domain.find(name) == *node)
+}
+
+/// A stream along the line.
+const X: Asked = ("x", 1500, &[&["a", "b", "c", "s"]]);
+
+/// Whether a stream of 1,500 octets is held on the last of three links.
+fn is_held(asked: &Admission) -> bool {
+    asked.domain().links() == 3 && asked.held_on(2).0 == 1960
+}
+
+/// Whether a domain serves as the line: an admission over it grants a stream along it.
+fn serves(alloc: Global, domain: &Domain) -> bool {
+    match (Admission::new(alloc, domain), request(alloc, &X)) {
+        (Ok(mut asked), Ok(x)) => asked.admit(0, &x).is_ok() && is_held(&asked),
+        _ => false,
+    }
+}
+
+/// Whether a copy serves as the line, and the domain from which it was made is still the line when it is let go of.
+fn is_copied(alloc: Global, domain: &Domain) -> bool {
+    let serves = match domain.try_copy(alloc) {
+        Ok(copy) => is_line(&copy) && serves(alloc, &copy) && is_line(domain),
+        Err(_) => false,
+    };
+    serves && is_line(domain)
+}
+
+/// Whether that holds of a domain, and a copy is still the line when the domain is let go of.
+fn are_line(alloc: Global, domain: Domain) -> bool {
+    let is_right = is_copied(alloc, &domain);
+    match domain.try_copy(alloc) {
+        Ok(copy) => {
+            drop(domain);
+            is_right && is_line(&copy) && serves(alloc, &copy)
+        }
+        Err(_) => false,
+    }
+}
+
+/// A bridge, a node, and the number of the ring's link between them.
+const LINKS_OF_RING: &[(u8, Node, Option<u8>)] = &[
+    (0, Node::Bridge(1), Some(0)),
+    (2, Node::Station(0), Some(2)),
+    (0, Node::Bridge(2), Some(3)),
+    (2, Node::Bridge(0), Some(4)),
+    (1, Node::Bridge(0), None),
+];
+
+/// Whether a domain's links have the numbers of the ring's.
+fn is_ring(domain: &Domain) -> bool {
+    domain.links() == 5
+        && LINKS_OF_RING.iter().all(|(from, to, number)| domain.find_link(*from, *to) == *number)
+}
+
+/// Whether the line's text is read and copied, and the ring's read.
+fn are_read(alloc: Global) -> bool {
+    let is_line = match Domain::read(alloc, line().as_bytes()) {
+        Ok(domain) => are_line(alloc, domain),
+        Err(_) => false,
+    };
+    let is_ring = match Domain::read(alloc, ring().as_bytes()) {
+        Ok(domain) => is_ring(&domain),
+        Err(_) => false,
+    };
+    is_line && is_ring
+}
+
+#[test]
+fn domains_are_read_and_copied_and_links_numbered_in_their_order(rt: HostRuntime) {
+    assert!(rt; are_read(rt.alloc()));
+}
+
+/// The stream of a text of one branch, and of one of two.
+const BRANCHING_X: Asked = ("x", 1500, &[&["a", "b", "c", "s"], &["a", "b", "t"]]);
+
+/// Changes the name, the octets, and the first node of the first branch of a request, and lets go of its other branches.
+fn is_changed(alloc: Global, request: &mut Request) -> bool {
+    let (Ok(name), Ok(node)) = (String::from_str(alloc, "y"), String::from_str(alloc, "q")) else {
+        return false;
+    };
+    request.name = name;
+    request.octets = 64;
+    request.paths.truncate(1);
+    match request.paths.first_mut() {
+        Some(path) => match path.first_mut() {
+            Some(first) => {
+                *first = node;
+                true
+            }
+            None => false,
+        },
+        None => false,
+    }
+}
+
+/// What either stream is then.
+const CHANGED: Asked = ("y", 64, &[&["q", "b", "c", "s"]]);
+
+/// Whether a request and a copy are as asked for, the request still when the copy is changed, and another copy when the request is.
+fn is_asked(alloc: Global, asked: &Asked, own: &mut Request) -> bool {
+    let (Ok(mut copy), Ok(other)) = (own.try_copy(alloc), own.try_copy(alloc)) else {
+        return false;
+    };
+    is_request(own, asked)
+        && is_request(&copy, asked)
+        && is_changed(alloc, &mut copy)
+        && is_request(&copy, &CHANGED)
+        && is_request(own, asked)
+        && is_changed(alloc, own)
+        && is_request(own, &CHANGED)
+        && is_request(&other, asked)
+}
+
+/// Whether the text's only request is.
+fn asks_for(alloc: Global, text: &str, asked: &Asked) -> bool {
+    let Ok(mut requests) = read_streams(alloc, text.as_bytes()) else {
+        return false;
+    };
+    match requests.as_mut_slice() {
+        [own] => is_asked(alloc, asked, own),
+        _ => false,
+    }
+}
+
+#[test]
+fn streams_have_one_branch_or_several(rt: HostRuntime) {
+    let one = "[[streams]]\nname = \"x\"\noctets = 1500\npath = [\"a\", \"b\", \"c\", \"s\"]\n";
+    assert!(rt; asks_for(rt.alloc(), one, &X));
+    let two =
+        "[[streams]]\nname = \"x\"\noctets = 1500\npaths = [[\"a\", \"b\", \"c\", \"s\"], [\"a\", \"b\", \"t\"]]\n";
+    assert!(rt; asks_for(rt.alloc(), two, &BRANCHING_X));
+}
+
+/// Whether a fault of a streams text prints so.
+fn streams_print(alloc: Global, fault: StreamsFault, wanted: &str) -> bool {
+    match format!(in alloc; "{fault}") {
+        Ok(text) => text.as_str() == wanted,
+        Err(_) => false,
+    }
+}
+
+/// Whether a streams text is answered with this.
+fn streams_answer(alloc: Global, text: &str, wanted: &str) -> bool {
+    match read_streams(alloc, text.as_bytes()) {
+        Ok(_requests) => wanted == "read",
+        Err(fault) => streams_print(alloc, fault, wanted),
+    }
+}
+
+/// Streams texts, and the answers.
+const STREAMS: &[(&str, &str)] = &[
+    ("streams = []", "read"),
+    ("", "Missing streams"),
+    ("streams =", "NotToml"),
+    ("[[streams]]\noctets = -1\npath = []", "Missing name"),
+    ("streams = [7]", "BadValue streams"),
+    (
+        "[[streams]]\nname = \"x\"\noctets = -1\npath = 7",
+        "BadValue octets",
+    ),
+    ("[[streams]]\nname = \"x\"\noctets = 64", "Missing path"),
+    ("[[streams]]\nname = \"x\"\noctets = 64\npaths = []", "read"),
+    (
+        "[[streams]]\nname = \"x\"\noctets = 64\npaths = [7]",
+        "BadValue paths",
+    ),
+    (
+        "[[streams]]\nname = \"x\"\noctets = 64\npath = []\npaths = []",
+        "BadValue paths",
+    ),
+    (
+        "[[streams]]\nname = \"x\"\noctets = 64\npath = 7\npaths = []",
+        "BadValue path",
+    ),
+];
+
+#[test]
+fn streams_texts_are_refused_by_their_first_fault(rt: HostRuntime) {
+    for (text, wanted) in STREAMS {
+        assert!(rt; streams_answer(rt.alloc(), text, wanted), "{text}");
+    }
+}

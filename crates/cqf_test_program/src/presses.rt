@@ -1,0 +1,116 @@
+//! Text that is told in sheets, to writers in memory and to some that refuse a write.
+
+use cqf_program_press::{Press, Sheet, Told};
+use std::alloc::Global;
+use std::io;
+use std::io::{ErrorKind, Write};
+use std::test::Fail;
+
+/// A writer that keeps count of its writes, bytes and flushes, and refuses the write of this number, from 0, and no other.
+#[derive(Drop)]
+struct Refuses {
+    at: u32,
+    writes: u32,
+    bytes: usize,
+    flushes: u32,
+}
+
+impl Refuses {
+    /// A writer that was asked for nothing yet.
+    fn new(at: u32) -> Refuses {
+        Refuses {
+            at,
+            writes: 0,
+            bytes: 0,
+            flushes: 0,
+        }
+    }
+}
+
+impl Write for Refuses {
+    fn write(&mut self, buf: &[u8]) -> io::Result<usize> {
+        let this = self.writes;
+        self.writes = self.writes.saturating_add(1);
+        if this == self.at {
+            return Err(io::Error::from(ErrorKind::BrokenPipe));
+        }
+        self.bytes = self.bytes.saturating_add(buf.len());
+        Ok(buf.len())
+    }
+
+    fn flush(&mut self) -> io::Result<()> {
+        self.flushes = self.flushes.saturating_add(1);
+        Ok(())
+    }
+}
+
+/// Tells the numbers from 100,000 on, so many, each on a line of its own.
+fn tell_numbers<W: Write>(told: &mut Told<W>, sheet: Sheet, many: u64) {
+    let mut press = Press::new(told, sheet);
+    for number in 0..many {
+        press.put_number(number.saturating_add(100_000));
+        press.put_byte(b'\n');
+    }
+    let _told = press.close();
+}
+
+/// What a press tells of pieces of each kind.
+fn pieces(alloc: Global, long: &[u8]) -> Result<Vec<u8>, Fail> {
+    let mut told = Told::new(Vec::new(alloc));
+    let mut press = Press::new(&mut told, Sheet::new(alloc)?);
+    press.put(b"at ");
+    press.put_number(0u8);
+    press.put_byte(b',');
+    press.put_number(18_446_744_073_709_551_615u64);
+    press.put_byte(b'\n');
+    press.put(long);
+    press.put(b"end\n");
+    let _told = press.close();
+    Ok(told.into_writer())
+}
+
+#[test]
+fn pieces_are_told_in_their_order(rt: HostRuntime) -> Result<(), Fail> {
+    assert!(rt;
+        pieces(rt.alloc(), b"")?.as_slice() == b"at 0,18446744073709551615\nend\n".as_slice()
+    );
+    Ok(())
+}
+
+/// A text that is longer than a piece may be stands between what was put before and behind it.
+#[test]
+fn long_text_is_told_past_the_sheet(rt: HostRuntime) -> Result<(), Fail> {
+    let text = pieces(rt.alloc(), &[b'x'; 700])?;
+    assert_eq!(rt; text.len(), 730);
+    assert!(rt;
+        text.as_slice()
+            .starts_with(b"at 0,18446744073709551615\nxxx")
+    );
+    assert!(rt; text.as_slice().ends_with(b"xxxend\n"));
+    Ok(())
+}
+
+/// 20,000 lines of 7 bytes are three sheets: two of some 65,540 bytes, and the rest.
+#[test]
+fn text_is_told_in_sheets(rt: HostRuntime) -> Result<(), Fail> {
+    let mut told = Told::new(Refuses::new(9));
+    tell_numbers(&mut told, Sheet::new(rt.alloc())?, 20_000);
+    assert!(rt; !told.is_refused());
+    assert_eq!(rt; told.writer().writes, 3);
+    assert_eq!(rt; told.writer().bytes, 140_000);
+    assert_eq!(rt; told.writer().flushes, 1);
+    Ok(())
+}
+
+/// Where a write is refused, none comes behind it, and no flush.
+#[test]
+fn nothing_is_told_behind_a_refusal(rt: HostRuntime) -> Result<(), Fail> {
+    for at in 0..3 {
+        let mut told = Told::new(Refuses::new(at));
+        tell_numbers(&mut told, Sheet::new(rt.alloc())?, 20_000);
+        assert!(rt; told.is_refused());
+        assert_eq!(rt; told.writer().writes, at + 1);
+        assert_eq!(rt; told.writer().flushes, 0);
+    }
+    Ok(())
+}

@@ -1,0 +1,120 @@
+//! Administrations whose calls are those of a script, with the tables of the cycles that they close.
+ghost use Rattle.std.specs.Prelude.{◌≡◌, ◌≤◌, IfOk, length};
+ghost use Rattle.cqf_laws_report.specs.Judged.{StandInOrder};
+ghost use Rattle.cqf_model.specs.Run.{AreOffers};
+ghost use Rattle.cqf_instants_layout.specs.History.{SomeHistory};
+
+use cqf_admission::{Admission, Call, Table};
+use cqf_admission_granted::granted_streams;
+use cqf_admission_script::read_script;
+use cqf_instants_coverage::{Judgement, cover};
+use cqf_model::{Offer, Row};
+use cqf_topology::{Domain, read_streams};
+use cqf_units::Memory;
+use std::alloc::{AllocError, Global};
+
+/// The seat that closes the cycles that are still open behind a script.
+const LAST_SEAT: u16 = 8;
+
+/// An admission, and the tables of the cycles that it has closed.
+#[derive(Drop)]
+pub(crate) struct Administration {
+    pub(crate) admission: Admission,
+    pub(crate) tables: Vec<Table>,
+}
+
+impl Administration {
+    /// One that has had no call.
+    fn new(alloc: Global, domain: &Domain) -> Result<Administration, Memory> {
+        Ok(Administration {
+            admission: Admission::new(alloc, domain)?,
+            tables: Vec::new(alloc),
+        })
+    }
+
+    /// Whether the next cycle is closed.
+    fn closes(&mut self, seat: u16) -> bool {
+        match self.admission.seal(seat) {
+            Ok(table) => self.tables.push(table).is_ok(),
+            Err(_) => false,
+        }
+    }
+
+    /// Whether a call is answered as wanted: it isn't refused.
+    fn takes(&mut self, seat: u16, call: &Call) -> bool {
+        match call {
+            Call::Admit(request) => self.admission.admit(seat, request).is_ok(),
+            Call::Withdraw(name) => self.admission.withdraw(seat, name.as_str()).is_ok(),
+            Call::Seal => self.closes(seat),
+        }
+    }
+
+    /// Whether all are.
+    fn takes_all(&mut self, calls: &[(u16, Call)]) -> bool {
+        for call in calls {
+            if !self.takes(call.0, &call.1) {
+                return false;
+            }
+        }
+        true
+    }
+
+    /// Whether the cycles that are still open are closed, up to so many.
+    fn closes_up_to(&mut self, cycles: u32) -> bool {
+        let open = self.admission.next_cycle();
+        for _cycle in open.0..cycles {
+            if !self.closes(LAST_SEAT) {
+                return false;
+            }
+        }
+        true
+    }
+}
+
+/// The administration of a domain that has taken all calls of a script for the streams of a text, and has then closed so many cycles,
+/// or more.
+pub(crate) fn administered(
+    alloc: Global,
+    domain: &Domain,
+    streams: &str,
+    script: &str,
+    cycles: u32,
+) -> Option<Administration> {
+    let Ok(requests) = read_streams(alloc, streams.as_bytes()) else {
+        return None;
+    };
+    let Ok(calls) = read_script(alloc, script.as_bytes(), requests.as_slice(), 100_000) else {
+        return None;
+    };
+    let Ok(mut made) = Administration::new(alloc, domain) else {
+        return None;
+    };
+    if made.takes_all(calls.as_slice()) && made.closes_up_to(cycles) {
+        Some(made)
+    } else {
+        None
+    }
+}
+
+/// The streams that an administration which has closed so many cycles has ever granted, and what becomes of offers. `Memory` where a
+/// growth is refused, or where it has closed fewer.
+pub(crate) fn judged(
+    alloc: Global,
+    admission: &Admission,
+    cycles: u32,
+    offers: &[Offer],
+) -> Result<(Vec<Row>, Vec<Judgement>), Memory>
+    requires offers { AreOffers admission.now.domain offers.now }
+    requires order { StandInOrder offers.now }
+    requires few { length offers.now ≤ 1000000 }
+    ensures history { IfOk result (λ judged. SomeHistory admission.now.domain cycles judged.0.items offers.now judged.1.items) }
+    ensures one_each { IfOk result (λ judged. length judged.1.items ≡ length offers.now) }
+{
+    if admission.next_cycle().0 < cycles {
+        return Err(AllocError);
+    }
+    let domain = admission.domain();
+    let rows = granted_streams(alloc, domain, admission.history())?;
+    let judgements = cover(alloc, domain, rows.as_slice(), offers)?;
+    Ok((rows, judgements))
+}

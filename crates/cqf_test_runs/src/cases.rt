@@ -1,0 +1,86 @@
+//! Runs of small histories, and whether they come out as worked out by hand.
+ghost use Rattle.std.specs.Prelude.{◌≤◌, length};
+ghost use Rattle.cqf_laws_report.specs.Judged.{StandInOrder};
+ghost use Rattle.cqf_model.specs.Run.{AreOffers};
+
+use crate::administrations::{Administration, administered};
+use crate::ways::{Wanted, agree};
+use cqf_laws_report::offers_stand_in_order;
+use cqf_model::{Background, Offer};
+use cqf_report::read_offers;
+use cqf_test_fixtures::{Backing, are_background, background_of};
+use cqf_topology::Domain;
+use std::alloc::Global;
+
+/// A run of a small history, and what its book has.
+#[derive(Clone, Copy)]
+pub(crate) struct Case {
+    /// The text of the streams.
+    pub(crate) streams: &'static str,
+    /// The script, of which each call is taken.
+    pub(crate) script: &'static str,
+    /// The text of the offers.
+    pub(crate) offers: &'static str,
+    pub(crate) background: &'static [Backing],
+    /// How many cycles are run.
+    pub(crate) cycles: u32,
+    pub(crate) wanted: Wanted,
+}
+
+/// Whether both ways give the wanted book where the background frames may be handed to the run.
+fn comes_out_with(
+    alloc: Global,
+    administration: &Administration,
+    cycles: u32,
+    offers: &[Offer],
+    background: &[Background],
+    wanted: &Wanted,
+) -> bool
+    requires offers { AreOffers administration.now.admission.domain offers.now }
+    requires order { StandInOrder offers.now }
+    requires few { length offers.now ≤ 1000000 }
+{
+    background.len() <= 1_000_000
+        && are_background(administration.admission.domain(), background)
+        && agree(alloc, administration, cycles, offers, background, wanted)
+}
+
+/// Whether a case comes out so.
+fn comes_out(alloc: Global, domain: &Domain, case: &Case) -> bool {
+    offers_stand_in_order();
+    let Ok(background) = background_of(alloc, case.background) else {
+        return false;
+    };
+    let made = administered(alloc, domain, case.streams, case.script, case.cycles);
+    let Some(administration) = made else {
+        return false;
+    };
+    match read_offers(
+        alloc,
+        administration.admission.domain(),
+        case.offers.as_bytes(),
+    ) {
+        Ok(offers) => comes_out_with(
+            alloc,
+            &administration,
+            case.cycles,
+            offers.as_slice(),
+            background.as_slice(),
+            &case.wanted,
+        ),
+        Err(_) => false,
+    }
+}
+
+/// The first case over a domain that comes out otherwise, where there is one.
+pub(crate) fn first_wrong(alloc: Global, text: &str, cases: &[Case]) -> Option<usize> {
+    let Ok(domain) = Domain::read(alloc, text.as_bytes()) else {
+        return Some(0);
+    };
+    for place in 0..cases.len() {
+        if !comes_out(alloc, &domain, &cases[place]) {
+            return Some(place);
+        }
+    }
+    None
+}

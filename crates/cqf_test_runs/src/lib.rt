@@ -1,0 +1,37 @@
+//! Tests of runs on one thread, with values from outside: by exact instants and by ports and gates, which have to give the same
+//! book; tables that a run refuses; and worlds, whose events come out of turn. What a run gives beside is in the stored runs of `runs/`.
+//! A crate that has tests is proved twice, so these stand in one of their own.
+#![tactic(auto)]
+
+#[cfg(test)]
+mod acts;
+#[cfg(test)]
+mod administrations;
+#[cfg(test)]
+mod backgrounds;
+#[cfg(test)]
+mod books;
+#[cfg(test)]
+mod cases;
+#[cfg(test)]
+mod depths;
+#[cfg(test)]
+mod layers;
+#[cfg(test)]
+mod making;
+#[cfg(test)]
+mod orders;
+#[cfg(test)]
+mod plants;
+#[cfg(test)]
+mod starts;
+#[cfg(test)]
+mod tables;
+#[cfg(test)]
+mod ties;
+#[cfg(test)]
+mod turns;
+#[cfg(test)]
+mod ways;
+#[cfg(test)]
+mod written;

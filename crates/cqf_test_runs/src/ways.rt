@@ -1,0 +1,145 @@
+//! The book of a run by both ways: by exact instants, and by bridges with ports and gates.
+ghost use Rattle.std.specs.Prelude.{◌≤◌, length};
+ghost use Rattle.cqf_laws_report.specs.Judged.{StandInOrder};
+ghost use Rattle.cqf_model.specs.Run.{AreBackground, AreOffers};
+
+use crate::administrations::{Administration, judged};
+use cqf_admission::Admission;
+use cqf_compile::compile;
+use cqf_instants_background::background_of_history;
+use cqf_instants_drops::{book_of_parts, drops_of};
+use cqf_instants_layout::starts_of_history;
+use cqf_model::{Background, Book, Offer, Started};
+use cqf_plain::run;
+use cqf_test_fixtures::{Begun, Fell, are_begun, are_dropped};
+use cqf_units::Memory;
+use std::alloc::Global;
+
+/// What a book has, as it was worked out by hand.
+#[derive(Clone, Copy)]
+pub(crate) struct Wanted {
+    /// How many starts of streams' frames it has.
+    pub(crate) many: usize,
+    /// Of some links, all starts of a cycle.
+    pub(crate) starts: &'static [Begun],
+    /// All starts of background frames.
+    pub(crate) background: &'static [Begun],
+    /// All drops.
+    pub(crate) drops: &'static [Fell],
+}
+
+/// Whether some rows have a start's cycle and link.
+fn is_listed(start: &Started, rows: &[Begun]) -> bool {
+    rows.iter()
+        .any(|row| row.0 == start.cycle.0 && row.1 == start.link)
+}
+
+/// The starts whose cycles and links some rows have.
+fn listed(alloc: Global, starts: &[Started], rows: &[Begun]) -> Result<Vec<Started>, Memory> {
+    let mut picked = Vec::new(alloc);
+    for start in starts {
+        if is_listed(start, rows) {
+            picked.push(*start)?;
+        }
+    }
+    Ok(picked)
+}
+
+/// Whether so many starts, and the wanted ones on their links in their cycles, are those of a book.
+fn has_starts(alloc: Global, book: &Book, wanted: &Wanted) -> bool {
+    let starts = book.starts.as_slice();
+    match listed(alloc, starts, wanted.starts) {
+        Ok(picked) => starts.len() == wanted.many && are_begun(picked.as_slice(), wanted.starts),
+        Err(_) => false,
+    }
+}
+
+/// Whether a book has all that is wanted.
+fn is_wanted(alloc: Global, book: &Book, wanted: &Wanted) -> bool {
+    has_starts(alloc, book, wanted)
+        && are_begun(book.background.as_slice(), wanted.background)
+        && are_dropped(book.drops.as_slice(), wanted.drops)
+}
+
+/// Whether two books say the same, start by start and drop by drop.
+fn are_alike(one: &Book, other: &Book) -> bool {
+    one.starts.as_slice() == other.starts.as_slice()
+        && one.background.as_slice() == other.background.as_slice()
+        && one.drops.as_slice() == other.drops.as_slice()
+}
+
+/// The book of a run over so many cycles of an administration, by exact instants.
+fn exact_book(
+    alloc: Global,
+    admission: &Admission,
+    cycles: u32,
+    offers: &[Offer],
+    background: &[Background],
+) -> Result<Book, Memory>
+    requires offers { AreOffers admission.now.domain offers.now }
+    requires order { StandInOrder offers.now }
+    requires few { length offers.now ≤ 1000000 }
+    requires background { AreBackground admission.now.domain background.now }
+    requires few_background { length background.now ≤ 1000000 }
+{
+    let domain = admission.domain();
+    let (granted, covered) = judged(alloc, admission, cycles, offers)?;
+    let rows = granted.as_slice();
+    let judgements = covered.as_slice();
+    let starts = starts_of_history(alloc, domain, cycles, rows, offers, judgements)?;
+    let starting = starts.as_slice();
+    let backed = background_of_history(alloc, domain, cycles, starting, background)?;
+    let drops = drops_of(alloc, domain, cycles, offers, judgements)?;
+    Ok(book_of_parts(starts, backed, drops))
+}
+
+/// The book by ports and gates, by the tables of the administration.
+fn plain_book(
+    alloc: Global,
+    administration: &Administration,
+    cycles: u32,
+    offers: &[Offer],
+    background: &[Background],
+) -> Option<Book>
+    requires offers { AreOffers administration.now.admission.domain offers.now }
+    requires few { length offers.now ≤ 1000000 }
+    requires background { AreBackground administration.now.admission.domain background.now }
+    requires few_background { length background.now ≤ 1000000 }
+{
+    let many = cycles as usize;
+    let tables = administration.tables.as_slice();
+    if cycles > 100_000 || tables.len() < many {
+        return None;
+    }
+    let Ok(plan) = compile(alloc, administration.admission.domain()) else {
+        return None;
+    };
+    match run(alloc, &plan, &tables[..many], offers, background, cycles) {
+        Ok(book) => Some(book),
+        Err(_) => None,
+    }
+}
+
+/// Whether both ways give one book of a run over so many cycles of an administration, and it has what is wanted.
+pub(crate) fn agree(
+    alloc: Global,
+    administration: &Administration,
+    cycles: u32,
+    offers: &[Offer],
+    background: &[Background],
+    wanted: &Wanted,
+) -> bool
+    requires offers { AreOffers administration.now.admission.domain offers.now }
+    requires order { StandInOrder offers.now }
+    requires few { length offers.now ≤ 1000000 }
+    requires background { AreBackground administration.now.admission.domain background.now }
+    requires few_background { length background.now ≤ 1000000 }
+{
+    let Ok(exact) = exact_book(alloc, &administration.admission, cycles, offers, background) else {
+        return false;
+    };
+    let Some(plain) = plain_book(alloc, administration, cycles, offers, background) else {
+        return false;
+    };
+    is_wanted(alloc, &exact, wanted) && are_alike(&exact, &plain)
+}

@@ -1,0 +1,65 @@
+//! Pages that a world has posted, beside those that are expected.
+use cqf_book::Pages;
+use cqf_model::Page;
+use cqf_test_fixtures::{Begun, Fell, are_begun, are_dropped};
+use cqf_units::Cycle;
+
+/// A page that isn't empty: its bridge and its cycle, and what stands on it.
+pub(crate) struct Written {
+    pub(crate) bridge: u8,
+    pub(crate) cycle: u32,
+    pub(crate) starts: &'static [Begun],
+    pub(crate) background: &'static [Begun],
+    pub(crate) drops: &'static [Fell],
+}
+
+/// Whether a page is of the bridge and cycle, and has these starts and drops.
+fn has(
+    page: &Page,
+    bridge: u8,
+    cycle: u32,
+    starts: &[Begun],
+    background: &[Begun],
+    drops: &[Fell],
+) -> bool {
+    page.bridge == bridge
+        && page.cycle.0 == cycle
+        && are_begun(page.starts.as_slice(), starts)
+        && are_begun(page.background.as_slice(), background)
+        && are_dropped(page.drops.as_slice(), drops)
+}
+
+/// Whether a page is the expected one of its bridge and cycle: that which is written, or else an empty one.
+fn is_expected(page: &Page, bridge: u8, cycle: u32, written: &[Written]) -> bool {
+    for other in written {
+        if other.bridge == bridge && other.cycle == cycle {
+            return has(
+                page,
+                bridge,
+                cycle,
+                other.starts,
+                other.background,
+                other.drops,
+            );
+        }
+    }
+    has(page, bridge, cycle, &[], &[], &[])
+}
+
+/// Whether so many first cycles of each of so many bridges are posted, and no other, and their pages are those that are written, and
+/// else empty.
+pub(crate) fn are_written(pages: &Pages, bridges: u8, cycles: u32, written: &[Written]) -> bool {
+    for bridge in 0..bridges {
+        for cycle in 0..cycles {
+            match pages.page(bridge, Cycle(cycle)) {
+                Some(page) => {
+                    if !is_expected(page, bridge, cycle, written) {
+                        return false;
+                    }
+                }
+                None => return false,
+            }
+        }
+    }
+    pages.whole_cycles() == cycles
+}

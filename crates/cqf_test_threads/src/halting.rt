@@ -1,0 +1,56 @@
+//! Each thread that still takes is told that nothing comes any more, and once.
+
+use cqf_admission::Table;
+use cqf_units::Memory;
+use cqf_worker_loops::{Carried, LinkEnd, stop_each, stop_tables};
+use cqf_worker_pipe::{PipeOut, pipe};
+use std::alloc::Global;
+use std::sync::Wait;
+
+/// Whether a Stop comes, and nothing behind it.
+fn is_told<T: Drop, R: Wait>(rt: &R, end: &mut PipeOut<Carried<T>>) -> bool {
+    match end.take(rt) {
+        Some(Carried::Stop) => end.take(rt).is_none(),
+        _ => false,
+    }
+}
+
+/// Whether two workers are told so for their tables, past one that has ended.
+fn workers_are_told<R: Wait>(rt: &R, alloc: Global) -> Result<bool, Memory> {
+    let (one, mut first) = pipe::<Carried<Table>>(alloc)?;
+    let (other, ended) = pipe::<Carried<Table>>(alloc)?;
+    let (another, mut last) = pipe::<Carried<Table>>(alloc)?;
+    drop(ended);
+    let mut tables = [one, other, another];
+    stop_tables(rt, &mut tables);
+    drop(tables);
+    Ok(is_told(rt, &mut first) && is_told(rt, &mut last))
+}
+
+/// Whether two that take from a worker are told so, past one that has ended.
+fn takers_are_told<R: Wait>(rt: &R, alloc: Global) -> Result<bool, Memory> {
+    let (one, mut first) = pipe::<Carried<u8>>(alloc)?;
+    let (other, ended) = pipe::<Carried<u8>>(alloc)?;
+    let (another, mut last) = pipe::<Carried<u8>>(alloc)?;
+    drop(ended);
+    let mut outs = [
+        LinkEnd { link: 0, pipe: one },
+        LinkEnd {
+            link: 1,
+            pipe: other,
+        },
+        LinkEnd {
+            link: 2,
+            pipe: another,
+        },
+    ];
+    stop_each(rt, &mut outs);
+    drop(outs);
+    Ok(is_told(rt, &mut first) && is_told(rt, &mut last))
+}
+
+#[test]
+fn each_that_still_takes_is_told_once(rt: HostRuntime) {
+    assert!(rt; matches!(workers_are_told(&rt, rt.alloc()), Ok(true)));
+    assert!(rt; matches!(takers_are_told(&rt, rt.alloc()), Ok(true)));
+}

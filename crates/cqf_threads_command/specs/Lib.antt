@@ -1,2 +1,0 @@
-pub mod AccountTold
-pub mod ThreadsOutput

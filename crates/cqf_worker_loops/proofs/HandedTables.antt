@@ -1,0 +1,158 @@
+-- Ends of pipes at each of which items are put, in turn, passing over those whose other end is gone.
+use Rattle.std.proofs.Common.{ℕ, ◌≡◌, ◌<◌, ◌≤◌, ◌+◌, ◌⊎◌, ◌∷◌, ◌++◌, [], Bool, List, length, get_or, set, refl, sym, ap, ◌∙◌, arith, inl, inr}
+use Rattle.std.specs.Prelude.{All, true, false}
+use Rattle.std.proofs.lemmas.Bool.{cases_Bool, cases_eq, false≢true}
+use Rattle.std.proofs.lemmas.List.{get_or_default, get_or-set_other, get_or-set_same, length-set}
+use Rattle.std.proofs.Math.Seq.{map-set_same}
+use Rattle.cqf_worker_loops.specs.Handing.{GivesEach, GivesSome, pipes_of}
+use Rattle.cqf_worker_pipe.specs.PipeEnds.{End}
+use Rattle.cqf_worker_loops.specs.Rows.{MayGet, with_items}
+
+-- the first ends, so many, have the items more where all have them; those behind are as they were
+pub record HandsOn {T : Type 0} (xs : List T) (before after : List (End T)) (count : ℕ) (all : Bool) : Type 0 where
+  pub many : length after ≡ length before
+  pub pipes : pipes_of after ≡ pipes_of before
+  pub behind : (place : ℕ) (d : End T) → count ≤ place → get_or after place d ≡ get_or before place d
+  pub some : GivesSome xs before after
+  pub given : all ≡ true → (place : ℕ) (d : End T) → place < count → (get_or after place d).items ≡ (get_or before place d).items ++ xs
+
+-- an end at which at most these items were put
+pub record IsHanded {T : Type 0} (xs : List T) (before after : End T) (given : Bool) : Type 0 where
+  pub got : MayGet xs before after
+  pub has : given ≡ true → after.items ≡ before.items ++ xs
+
+-- the items that were put are known by what they equal
+pub handed_as : {T : Type 0} (xs ys : List T) (before after : End T) (given : Bool) → ys ≡ xs → (given ≡ true → after ≡ with_items before ys) →
+    (given ≡ false → after ≡ before) → IsHanded xs before after given
+handed_as {T} xs ys before after given same has gone = record {
+  got = elim (cases_Bool given) [
+    | inl is ↦ inr (has is ∙ ap (λ (zs : List T). with_items before zs) same)
+    | inr is ↦ inl (gone is)
+  ];
+  has = λ is. ap (λ (e : End T). e.items) (has is) ∙ ap (λ (zs : List T). before.items ++ zs) same;
+}
+
+-- the end stays that pipe's
+same_pipe : {T : Type 0} (xs : List T) (before after : End T) → MayGet xs before after → after.pipe ≡ before.pipe
+same_pipe {T} xs before after may =
+    elim may [
+      | inl same ↦ ap (λ (e : End T). e.pipe) same
+      | inr more ↦ ap (λ (e : End T). e.pipe) more
+    ]
+
+-- ends by what they equal
+got_as : {T : Type 0} (xs : List T) (before after was now : End T) → before ≡ was → now ≡ after → MayGet xs before after → MayGet xs was now
+got_as {T} xs before after was now is_was is_now may =
+    elim may [
+      | inl same ↦ inl (is_now ∙ same ∙ is_was)
+      | inr more ↦ inr (is_now ∙ more ∙ ap (λ (e : End T). with_items e xs) is_was)
+    ]
+
+-- where not all have it, one of the first ends is as it was
+abbrev pub MissesFirst : {T : Type 0} → List (End T) → List (End T) → ℕ → Bool → Type 0
+MissesFirst {T} before after count all = all ≡ false → (place : ℕ) × (place < count) × ((d : End T) → get_or after place d ≡ get_or before place d)
+
+-- whether all have it, by whether those before have and whether this one has
+abbrev pub HaveAll : Bool → Bool → Bool → Type 0
+HaveAll all given more = more ≡ true → (all ≡ true) × (given ≡ true)
+
+module _ {T : Type 0} (xs : List T) where
+  -- at first nothing was put
+  pub hands_none : (before : List (End T)) → HandsOn xs before before 0 true
+  hands_none before = record {
+    many = refl;
+    pipes = refl;
+    behind = λ place d h. refl;
+    some = λ place d inside. inl refl;
+    given = λ all place d h. absurd (omega (arith, h));
+  }
+
+  -- and all have that
+  pub misses_none : (before : List (End T)) → MissesFirst before before 0 true
+  misses_none before is = absurd (false≢true (sym is))
+
+  -- the same where it isn't asked whether all have it
+  pub hands_some : (before : List (End T)) → HandsOn xs before before 0 false
+  hands_some before = record {
+    many = refl;
+    pipes = refl;
+    behind = λ place d h. refl;
+    some = λ place d inside. inl refl;
+    given = λ all place d h. absurd (omega (arith, h));
+  }
+
+  module _ (before after : List (End T)) (count : ℕ) (all : Bool) (d end : End T) (given more : Bool) (so_far : HandsOn xs before after count all)
+      (below : count < length before) (handed : IsHanded xs (get_or after count d) end given) (have : HaveAll all given more) where
+    -- the end at a place, with the next one put there
+    at_next : (e : End T) → get_or (set after count end) count e ≡ end
+    at_next e = get_or-set_same after count end e (omega (arith, below, so_far.many))
+
+    -- each end has the items more, or nothing
+    some_next : GivesSome xs before (set after count end)
+    some_next place e inside =
+        elim (cases_eq place count) [
+          | inl here ↦
+              let now : get_or (set after count end) place e ≡ end = ap (λ (k : ℕ). get_or (set after count end) k e) here ∙ at_next e in
+              let was : get_or after count d ≡ get_or before place e =
+              so_far.behind count d (omega arith) ∙ get_or_default before count d e below ∙ ap (λ (k : ℕ). get_or before k e) (sym here) in
+              got_as xs (get_or after count d) end (get_or before place e) (get_or (set after count end) place e) was now handed.got
+          | inr other ↦
+              let same : get_or (set after count end) place e ≡ get_or after place e = get_or-set_other after count place end e other in
+              got_as xs (get_or before place e) (get_or after place e) (get_or before place e) (get_or (set after count end) place e) refl same
+              (so_far.some place e inside)
+        ]
+
+    -- each of those so far has the items where all have
+    given_next : more ≡ true → (place : ℕ) (e : End T) → place < count + 1 → (get_or (set after count end) place e).items ≡ (get_or before place e).items ++ xs
+    given_next is place e inside =
+        elim (cases_eq place count) [
+          | inl here ↦
+              let now : get_or (set after count end) place e ≡ end = ap (λ (k : ℕ). get_or (set after count end) k e) here ∙ at_next e in
+              let was : get_or after count d ≡ get_or before place e =
+              so_far.behind count d (omega arith) ∙ get_or_default before count d e below ∙ ap (λ (k : ℕ). get_or before k e) (sym here) in
+              ap (λ (z : End T). z.items) now ∙ handed.has (have is).1 ∙ ap (λ (z : End T). z.items ++ xs) was
+          | inr other ↦
+              ap (λ (z : End T). z.items) (get_or-set_other after count place end e other)
+              ∙ so_far.given (have is).0 place e (omega (arith, inside, other))
+        ]
+
+    -- so it goes on
+    pub hands_next : HandsOn xs before (set after count end) (count + 1) more
+    hands_next = record {
+      many = length-set after count end ∙ so_far.many;
+      pipes = map-set_same (λ (z : End T). z.pipe) after count end d (same_pipe xs (get_or after count d) end handed.got) ∙ so_far.pipes;
+      behind = λ place e h. get_or-set_other after count place end e (λ same. omega (arith, same, h)) ∙ so_far.behind place e (omega (arith, h));
+      some = some_next;
+      given = given_next;
+    }
+
+  -- where the next one isn't handed them, or one before wasn't, one of those so far is as it was
+  pub misses_next : (before after : List (End T)) (count : ℕ) (all : Bool) (d end : End T) (given more : Bool) → HandsOn xs before after count all →
+      count < length before → MissesFirst before after count all → (given ≡ false → end ≡ get_or after count d) →
+      (more ≡ false → (all ≡ false) ⊎ (given ≡ false)) → MissesFirst before (set after count end) (count + 1) more
+  misses_next before after count all d end given more so_far below missed gone lack is =
+      elim (lack is) [
+        | inl was ↦
+            let m = missed was in (
+              m.0,
+              omega (arith, m.1),
+              λ e. get_or-set_other after count m.0 end e (λ same. omega (arith, same, m.1)) ∙ m.2 e,
+            )
+        | inr now ↦ (
+          count,
+          omega arith,
+          λ e. get_or-set_same after count end e (omega (arith, below, so_far.many)) ∙ gone now ∙ so_far.behind count d (omega arith)
+              ∙ get_or_default before count d e below,
+        )
+      ]
+
+  -- in the end, so it is of all
+  pub hands_all : (before after : List (End T)) (count : ℕ) (all : Bool) → HandsOn xs before after count all → length before ≤ count → all ≡ true →
+      GivesEach xs before after
+  hands_all before after count all h upto is place d inside = h.given is place d (omega (arith, inside, upto))
+
+  -- the next end still has room
+  pub room_next : (more : ℕ) (before after : List (End T)) (count : ℕ) (all : Bool) (d : End T) → HandsOn xs before after count all →
+      All (λ (e : End T). length e.items + more < 1000000) before → count < length before → length (get_or after count d).items + more < 1000000
+  room_next more before after count all d h room below =
+      omega (arith, room count d below, ap (λ (e : End T). length e.items) (h.behind count d (omega arith)))

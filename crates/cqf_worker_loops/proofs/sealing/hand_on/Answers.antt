@@ -1,0 +1,38 @@
+use Rattle.std.proofs.Common.{◌∷◌, rules, sym, ap, ◌∙◌, arith, map, refl, inl, inr}
+use Rattle.std.proofs.lemmas.Bool.{false≢true}
+use Rattle.cqf_worker_loops.specs.declared.carried.Carried.{Carried}
+use Rattle.cqf_worker_loops.specs.declared.carried.Carried.TheVariants.{Item}
+use Rattle.cqf_worker_loops.specs.Handing.{tables_handed}
+use Rattle.cqf_worker_loops.proofs.HandedTables.{handed_as, hands_next, hands_none, misses_next, misses_none}
+use Rattle.cqf_worker_loops.proofs.sealing.hand_on.Goals.{then-not-hand, else-not-hand}
+use Rattle.cqf_worker_loops.proofs.sealing.hand_on.Goals as goal
+
+-- no end was handed them yet
+pub loop-place-init : goal.loop-place-init
+loop-place-init g c = (hands_none (map Item (tables_handed c.args.block.now)) c.args.tables.now, refl, misses_none (map Item (tables_handed c.args.block.now)) c.args.tables.now)
+
+-- the next end was handed them, unless its worker has ended
+pub loop-place-preserved : goal.loop-place-preserved
+loop-place-preserved g c =
+    let tables = map Item (tables_handed c.args.block.now) in (
+      hands_next tables c.args.tables.now c.loop-place.tables c.loop-place.place c.loop-place.all c.index-tables-place.result
+          c.hand.new.end c.hand.result c.if-not-hand.all c.loop-place.invariant.0 (omega arith)
+          (handed_as tables (Item c.in_ok-first.first ∷ c.in_ok-behind.behind.items) _ _ _ (search rules) c.hand.ensures.given c.hand.ensures.gone)
+          (λ is. elim c.if-not-hand.branch [
+            | then-not-hand w ↦ absurd (false≢true (sym w.all-is ∙ is))
+            | else-not-hand w ↦ (sym w.all-is ∙ is, search rules)
+          ]),
+      c.loop-place.invariant.1,
+      misses_next tables c.args.tables.now c.loop-place.tables c.loop-place.place c.loop-place.all c.index-tables-place.result
+          c.hand.new.end c.hand.result c.if-not-hand.all c.loop-place.invariant.0 (omega arith) c.loop-place.invariant.2 c.hand.ensures.gone
+          (λ is. elim c.if-not-hand.branch [
+            | then-not-hand w ↦ inr (search rules)
+            | else-not-hand w ↦ inl (sym w.all-is ∙ is)
+          ]),
+    )
+
+-- and where one wasn't, one of all is as it was
+pub returns-clause-missed : goal.returns-clause-missed
+returns-clause-missed g c is =
+    let missed = c.loop-place.invariant.2 is in
+    (missed.0, omega (arith, missed.1, c.loop-place.invariant.1), missed.2)

@@ -1,0 +1,19 @@
+use Rattle.std.proofs.Common.{[], sym}
+use Rattle.cqf_worker_loops.proofs.Each.{with_none}
+use Rattle.cqf_worker_loops.proofs.Onward.{onward_fits}
+use Rattle.cqf_worker_loops.proofs.stepping.send_on.Goals as goal
+
+-- the bridge refuses the cycle, and nothing was put
+pub returns-in-Err-clause-put : goal.returns-in-Err-clause-put
+returns-in-Err-clause-put g c = ([], sym (with_none c.args.outs.now))
+
+-- nor where there is no memory
+pub returns-in_default-clause-put : goal.returns-in_default-clause-put
+returns-in_default-clause-put g c = ([], sym (with_none c.args.outs.now))
+
+-- there is a batch for each port
+pub put_each-requires-clause-count : goal.put_each-requires-clause-count
+put_each-requires-clause-count g c =
+    onward_fits c.args.bridge.now c.send.new.self c.args.cycle.0 c.background.result.now c.new-batches.result.items c.send.new.batches.items
+    c.keep_onward.new.batches.items c.domain.result.now c.args.outs.now c.in-Ok.ensures.sends c.new-batches.ensures.items c.requires.ports c.requires.links
+    c.domain.ensures.value c.keep_onward.ensures

@@ -1,0 +1,118 @@
+-- What the conductor of a run hands to the workers: the table of each cycle, at the end of a pipe for each (profile).
+use Rattle.std.specs.Prelude.{ℕ, ◌≡◌, ◌<◌, ◌≤◌, ◌⊎◌, ◌++◌, List, [], ◌∷◌, All, Bool, true, false, length, map, replicate, slice_index_or}
+use Rattle.cqf_model.specs.History.{Seals}
+use Rattle.cqf_model.specs.Calls.{acts_of}
+use Rattle.cqf_admission.specs.declared.entries.SealFault.{SealFault}
+use Rattle.cqf_admission.specs.declared.entries.SealFault.TheVariants as seal
+use Rattle.cqf_admission.specs.Tables.{CycleTable}
+use Rattle.cqf_desk.specs.Desk.{Sitting}
+use Rattle.cqf_worker_pipe.specs.PipeEnds.{End, PipeId}
+use Rattle.cqf_worker_loops.specs.declared.carried.Carried.{Carried}
+use Rattle.cqf_worker_loops.specs.declared.carried.Carried.TheVariants.{Item}
+use Rattle.cqf_worker_loops.specs.declared.sealing.Block.{Block}
+use Rattle.cqf_worker_loops.specs.declared.sealing.SealingFault.{SealingFault}
+use Rattle.cqf_worker_loops.specs.declared.sealing.SealingFault.TheVariants as sealing
+use Rattle.cqf_worker_loops.specs.declared.sealing.Unsealed.{Unsealed}
+use Rattle.cqf_worker_loops.specs.Rows.{MayGet}
+use Rattle.cqf_worker_loops.specs.Stops.{AreItemsThenStop}
+
+-- a conductor's end of a worker's pipe for tables
+abbrev pub TableEnd : Type 0
+TableEnd = End (Carried CycleTable)
+
+-- whose pipes ends are
+abbrev pub pipes_of : {T : Type 0} → List (End T) → List (PipeId T)
+pipes_of ends = map (λ end. end.pipe) ends
+
+-- the tables of a block
+abbrev pub tables_handed : Block → List CycleTable
+tables_handed block = block.first ∷ block.behind.items
+
+-- at each end there are these items more
+abbrev pub GivesEach : {T : Type 0} → List T → List (End T) → List (End T) → Type 0
+GivesEach {T} xs before after = (place : ℕ) (d : End T) → place < length before →
+    (slice_index_or after place d).items ≡ (slice_index_or before place d).items ++ xs
+
+-- at each end there are these items more, or nothing
+abbrev pub GivesSome : {T : Type 0} → List T → List (End T) → List (End T) → Type 0
+GivesSome {T} xs before after = (place : ℕ) (d : End T) → place < length before →
+    MayGet xs (slice_index_or before place d) (slice_index_or after place d)
+
+-- at one of the ends nothing was put
+abbrev pub MissesOne : {T : Type 0} → List (End T) → List (End T) → Type 0
+MissesOne {T} before after = (place : ℕ) × (place < length before) × ((d : End T) → slice_index_or after place d ≡ slice_index_or before place d)
+
+-- at one of the ends fewer items were put than so many
+abbrev pub LacksOne : {T : Type 0} → List (End T) → ℕ → Type 0
+LacksOne {T} ends count = (place : ℕ) × (place < length ends) × ((d : End T) → length (slice_index_or ends place d).items < count)
+
+-- so many tables were put for some of the workers, or none for any
+abbrev pub GivesTables : ℕ → List TableEnd → List TableEnd → Type 0
+GivesTables count before after = (after ≡ before) ⊎ ((tables : List CycleTable) × (length tables ≡ count) × GivesSome (map Item tables) before after)
+
+-- one cycle is closed: the seat has its Seal and its table
+pub record SealsOne (old new : Sitting) (table : CycleTable) : Type 0 where
+  pub number : new.number ≡ old.number
+  pub acts : acts_of new.calls ≡ acts_of old.calls ++ Seals ∷ []
+  pub tables : new.tables ≡ old.tables ++ table ∷ []
+
+-- so many cycles are closed, one behind the other
+pub record SealsMany (count : ℕ) (old new : Sitting) (tables : List CycleTable) : Type 0 where
+  pub number : new.number ≡ old.number
+  pub acts : acts_of new.calls ≡ acts_of old.calls ++ replicate count Seals
+  pub many : length tables ≡ count
+  pub behind : new.tables ≡ old.tables ++ tables
+
+-- why the conductor gives up, by why a Seal is refused
+abbrev pub fault_of_seal : SealFault → SealingFault
+fault_of_seal seal.CyclesSpent = sealing.CyclesSpent
+fault_of_seal seal.Memory = sealing.Memory
+
+-- of so many cycles some are closed, one behind the other, all but one at most where no more can be closed
+pub record SealsSome (count : ℕ) (old new : Sitting) (fault : SealingFault) : Type 0 where
+  pub closed : ℕ
+  pub tables : List CycleTable
+  pub sealed : SealsMany closed old new tables
+  pub upto : closed ≤ count
+  pub spent : fault ≡ sealing.CyclesSpent → closed < count
+  pub not_lost : fault ≡ sealing.Lost → ⊥
+
+-- so many cycles are closed, and where all have their tables, each end has them, in order; else one of the ends was given none
+pub record SealsBlock (count : ℕ) (old new : Sitting) (before after : List TableEnd) (all : Bool) : Type 0 where
+  pub tables : List CycleTable
+  pub sealed : SealsMany count old new tables
+  pub given : all ≡ true → GivesEach (map Item tables) before after
+  pub missed : all ≡ false → MissesOne before after
+
+-- so many cycles are closed with a seat that had no calls
+pub record HasClosed (cycles : ℕ) (seat done : Sitting) : Type 0 where
+  pub number : done.number ≡ seat.number
+  pub acts : acts_of done.calls ≡ replicate cycles Seals
+  pub many : length done.tables ≡ cycles
+
+-- of so many cycles some are closed with it, not all where no more can be closed
+pub record ClosesSome (cycles : ℕ) (seat done : Sitting) (fault : SealingFault) : Type 0 where
+  pub count : ℕ
+  pub closed : HasClosed count seat done
+  pub upto : count ≤ cycles
+  pub spent : fault ≡ sealing.CyclesSpent → count < cycles
+  pub not_lost : fault ≡ sealing.Lost → ⊥
+
+-- so many cycles are closed, and each of the pipes was given their tables, in order
+pub record HasSealed (cycles : ℕ) (seat done : Sitting) (before after : List TableEnd) : Type 0 where
+  pub number : done.number ≡ seat.number
+  pub acts : acts_of done.calls ≡ replicate cycles Seals
+  pub many : length done.tables ≡ cycles
+  pub pipes : pipes_of after ≡ pipes_of before
+  pub given : (place : ℕ) (d : TableEnd) → place < length after → (slice_index_or after place d).items ≡ map Item done.tables
+
+-- a conductor that gives up: of the cycles some are closed, not all where no more can be closed, and all where a worker had ended, for
+-- whom tables are missing. At each end tables were put, and then at most one Stop
+pub record HasBrokenOff (cycles : ℕ) (seat : Sitting) (before : List TableEnd) (left : Unsealed) : Type 0 where
+  pub count : ℕ
+  pub closed : HasClosed count seat left.conductor.seat
+  pub upto : count ≤ cycles
+  pub spent : left.fault ≡ sealing.CyclesSpent → count < cycles
+  pub lost : left.fault ≡ sealing.Lost → (count ≡ cycles) × LacksOne left.conductor.tables.items cycles
+  pub pipes : pipes_of left.conductor.tables.items ≡ pipes_of before
+  pub put : All (λ (end : TableEnd). AreItemsThenStop end.items) left.conductor.tables.items

@@ -1,0 +1,85 @@
+//! What an administrator does on a thread of its own.
+ghost use Rattle.std.specs.Prelude.{◌≡◌, ◌++◌, [], ◌∷◌, true, Err, IfErr, IfOk, OnOk};
+ghost use Rattle.cqf_model.specs.Calls.{acts_of};
+ghost use Rattle.cqf_admission.specs.Admission.{is_entered};
+ghost use Rattle.cqf_admission.specs.Commands.{act_of_command};
+ghost use Rattle.cqf_desk.specs.Desk.{Keeps};
+ghost use Rattle.cqf_worker_loops.specs.Commands.{HasCalled, HasLeftOff, answer_of};
+
+use crate::pace::Pace;
+use cqf_admission::{Command, Receipt, Refused};
+use cqf_desk::{Desk, Seat};
+use std::sync::Wait;
+
+/// Why an administrator doesn't make all its commands.
+#[derive(Clone, Copy, Debug, PartialEq, Eq, Drop)]
+pub enum CallFault {
+    /// The history has no room for a call more.
+    HistoryFull,
+    /// A growth was refused.
+    Memory,
+}
+
+/// What comes back of an administrator that gives up: why, and its seat with the calls before.
+#[derive(Drop)]
+pub struct Unmade {
+    pub fault: CallFault,
+    pub seat: Seat,
+}
+
+/// Whether the call has entered the history, whatever its answer; else why it hasn't.
+fn settled(answer: Result<Receipt, Refused>) -> Result<(), CallFault>
+    ensures ok { OnOk result (is_entered answer ≡ true) }
+    ensures err { IfErr result (λ fault. answer ≡ Err (answer_of fault)) }
+{
+    match answer {
+        Err(Refused::HistoryFull) => Err(CallFault::HistoryFull),
+        Err(Refused::Memory) => Err(CallFault::Memory),
+        Err(_) => Ok(()),
+        Ok(_) => Ok(()),
+    }
+}
+
+/// Makes a command at the desk. The seat has it behind its other calls, unless it isn't entered.
+fn make_call<R: Wait>(
+    rt: &R,
+    desk: &Desk,
+    seat: &mut Seat,
+    command: &Command,
+) -> Result<(), CallFault>
+    ensures number { seat.new.number ≡ seat.old.number }
+    ensures ok { OnOk result (acts_of seat.new.calls ≡ acts_of seat.old.calls ++ act_of_command command.now ∷ []) }
+    ensures err { IfErr result (λ fault. Keeps seat.old seat.new (act_of_command command.now) (Err (answer_of fault))) }
+{
+    match command {
+        Command::Admit(request) => settled(desk.admit(rt, seat, request)),
+        Command::Withdraw(name) => settled(desk.withdraw(rt, seat, name.as_str())),
+    }
+}
+
+/// Makes an administrator's commands, in order, with its seat, which has no calls before, and gives the seat back with these calls.
+/// Before each it does what the pace asks, which alone is told `admin`, while it holds no lock. A call that is refused enters the
+/// history, and the next one is made. `HistoryFull` or `Memory` with the first that doesn't enter; then the seat comes back with the
+/// calls before it, which stand in the history. It waits for the desk's lock.
+pub fn make_calls<R: Wait, P: Pace>(
+    rt: &R,
+    pace: &P,
+    desk: &Desk,
+    admin: usize,
+    seat: Seat,
+    commands: Vec<Command>,
+) -> Result<Seat, Unmade>
+    requires fresh { seat.calls ≡ [] }
+    ensures ok { IfOk result (λ done. HasCalled commands.items seat done) }
+    ensures err { IfErr result (HasLeftOff commands.items seat) }
+{
+    let mut seat = seat;
+    for place in 0..commands.as_slice().len() {
+        pace.before_call(admin, place);
+        match make_call(rt, desk, &mut seat, &commands[place]) {
+            Ok(()) => {}
+            Err(fault) => return Err(Unmade { fault, seat }),
+        }
+    }
+    Ok(seat)
+}

@@ -1,0 +1,143 @@
+//! A bridge on a thread of its own.
+ghost use Rattle.std.specs.Prelude.{◌≡◌, ◌<◌, ◌≤◌, ℕ, All, IfErr, IfOk, OnOk, length};
+ghost use Rattle.cqf_laws_bridge.specs.Courses.{Traffic};
+ghost use Rattle.cqf_worker_loops.specs.GivingUp.{HasGivenUp, StopsEarly};
+ghost use Rattle.cqf_worker_loops.specs.Rows.{wires_of};
+ghost use Rattle.cqf_worker_loops.specs.Stops.{AreItems, AreItemsThenStop, AreStopped};
+ghost use Rattle.cqf_worker_loops.specs.Workers.{IsWorkerOf, Works};
+ghost use Rattle.cqf_model.specs.Limits.{most_cycles};
+
+use crate::carried::Carried;
+use crate::link_ends::LinkEnd;
+use crate::pace::Pace;
+use crate::rows::stop_each;
+use crate::stepping::work_cycle;
+use cqf_admission::Table;
+use cqf_book::{CycleBook, PageFault, Share};
+use cqf_bridge::{Batch, Bridge, BridgeFault};
+use cqf_bridge_turn::Agenda;
+use cqf_laws_bridge::new_bridge_follows;
+use cqf_units::Cycle;
+use cqf_worker_pipe::{PipeIn, PipeOut};
+use std::alloc::Global;
+use std::sync::Wait;
+
+/// A bridge with all that it needs on a thread of its own.
+#[derive(Drop)]
+pub struct Worker {
+    pub bridge: Bridge,
+    /// What the bridge is offered, and its background frames.
+    pub agenda: Agenda,
+    /// Where the table of each cycle comes.
+    pub tables: PipeOut<Carried<Table>>,
+    /// The ends of the pipes on the links that end in the bridge, by number.
+    pub ins: Vec<LinkEnd<PipeOut<Carried<Batch>>>>,
+    /// The ends of the pipes on the links that leave the bridge and end in another, by number.
+    pub outs: Vec<LinkEnd<PipeIn<Carried<Batch>>>>,
+    /// The bridge's share of the book.
+    pub share: Share,
+}
+
+/// Why a worker ends before its last cycle is over.
+#[derive(Clone, Copy, Debug, PartialEq, Eq, Drop)]
+pub enum WorkerFault {
+    /// Its bridge refused a cycle.
+    Bridge(BridgeFault),
+    /// A growth was refused to it, in the book too, but not in its bridge.
+    Memory,
+    /// The book refused its page for another cause than memory.
+    Book(PageFault),
+    /// A pipe carried that nothing comes any more, or its other end was gone. It is no fault of the worker's own.
+    Stopped,
+}
+
+/// What comes back of a worker that gives up: the number of its bridge, from 0, why, and the ends at which it put. What it put there is
+/// batches, and then at most one Stop.
+#[derive(Drop)]
+pub struct GaveUp {
+    pub bridge: u8,
+    pub fault: WorkerFault,
+    pub outs: Vec<LinkEnd<PipeIn<Carried<Batch>>>>,
+}
+
+/// Goes through the cycles, one after the other.
+fn work_cycles<R: Wait, P: Pace>(
+    rt: &R,
+    alloc: Global,
+    pace: &P,
+    book: &CycleBook,
+    cycles: u32,
+    worker: &mut Worker,
+) -> Result<(), WorkerFault>
+    requires few { cycles ≤ most_cycles }
+    requires new { (t : Traffic) × (number : ℕ) × IsWorkerOf t number worker.old }
+    ensures ok { OnOk result (Works cycles worker.old worker.new) }
+    ensures err { IfErr result (StopsEarly cycles worker.old) }
+    ensures outs { wires_of worker.new.outs.items ≡ wires_of worker.old.outs.items }
+    ensures room { All (λ port. length port.pipe.items < 1000000) worker.new.outs.items }
+    ensures batches { All (λ port. AreItems port.pipe.items) worker.new.outs.items }
+{
+    new_bridge_follows();
+    for cycle in 0..cycles {
+        work_cycle(rt, alloc, pace, book, Cycle(cycle), worker)?;
+    }
+    Ok(())
+}
+
+/// Lets go of a worker: first of the ends at which it takes, so that who puts there waits no more; then those who take from it are
+/// told that nothing comes any more. Gives the ends at which that was put, behind batches alone.
+fn let_go<R: Wait>(rt: &R, worker: Worker) -> Vec<LinkEnd<PipeIn<Carried<Batch>>>>
+    requires room { All (λ port. length port.pipe.items < 1000000) worker.outs.items }
+    requires batches { All (λ port. AreItems port.pipe.items) worker.outs.items }
+    ensures count { length result.items ≡ length worker.outs.items }
+    ensures stopped { AreStopped worker.outs.items result.items }
+    ensures outs { wires_of result.items ≡ wires_of worker.outs.items }
+    ensures carried { All (λ port. AreItemsThenStop port.pipe.items) result.items }
+{
+    let Worker {
+        tables,
+        ins,
+        mut outs,
+        bridge: _bridge,
+        agenda: _agenda,
+        share: _share,
+    } = worker;
+    drop(tables);
+    drop(ins);
+    stop_each(rt, outs.as_mut_slice());
+    outs
+}
+
+/// Goes through all cycles of a run with a bridge on its thread: the worker comes back with what went through its pipes and what it
+/// posted; it had done nothing before. The pace is asked in each cycle, once its table has come and while no lock is held. It waits for
+/// tables, for room in its pipes, for batches and for the book. Where it ends sooner it tells so first to those who put for it, and then
+/// to those who take from it; the ends at which they are told come back, and the rest is gone with its share, without which the book can't
+/// be closed. It may give up in each cycle for want of memory, in its bridge too, where it is stopped, and where the book refuses its page;
+/// for another cause of its bridge only where this, having sent the cycle, refuses to receive it. That the cycles are at most 100,000 is
+/// for the caller to see to.
+pub fn work<R: Wait, P: Pace>(
+    rt: &R,
+    alloc: Global,
+    pace: &P,
+    book: &CycleBook,
+    cycles: u32,
+    mut worker: Worker,
+) -> Result<Worker, GaveUp>
+    requires few { cycles ≤ most_cycles }
+    requires new { (t : Traffic) × (number : ℕ) × IsWorkerOf t number worker }
+    ensures ok { IfOk result (λ done. Works cycles worker done) }
+    ensures err { IfErr result (HasGivenUp cycles worker) }
+{
+    let bridge = worker.bridge.number();
+    match work_cycles(rt, alloc, pace, book, cycles, &mut worker) {
+        Ok(()) => Ok(worker),
+        Err(fault) => {
+            let outs = let_go(rt, worker);
+            Err(GaveUp {
+                bridge,
+                fault,
+                outs,
+            })
+        }
+    }
+}

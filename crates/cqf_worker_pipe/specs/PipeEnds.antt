@@ -1,0 +1,46 @@
+-- The two ends of a pipe: which pipe it is, and what was put or taken at the end (profile).
+use Rattle.std.specs.Prelude.{ℕ, ◌≡◌, ◌++◌, ◌-◌, List, [], true, false, length, take}
+use Rattle.atomic_table.specs.declared.badge.Badge.{Badge}
+use Rattle.atomic_table.specs.Seated.{TableId}
+use Rattle.crossbeam_channel.specs.Claims.{Pass, view}
+use Rattle.crossbeam_channel.specs.declared.flavors.array.Key.{Key}
+use Rattle.cqf_worker_pipe.specs.declared.pipe_rule.Bundle.{Bundle}
+use Rattle.cqf_worker_pipe.specs.declared.pipe_rule.Log.{Log}
+use Rattle.cqf_worker_pipe.specs.PipeRule.{log}
+
+-- which pipe it is
+pub record PipeId (T : Type 0) : Type 0 where
+  pub table : TableId
+  pub keys : Badge (Key (Bundle T))
+
+-- an end: its pipe, and the items that were put or taken there, in order
+pub record End (T : Type 0) : Type 0 where
+  pub pipe : PipeId T
+  pub items : List T
+
+module _ {T : Type 0} where
+  -- the pipe of a pass
+  abbrev pub pipe_of : Pass (Bundle T) (Log T) → PipeId T
+  pipe_of pass = record { table = pass.table_id; keys = pass.me.0.of }
+
+  -- what was put, and taken, by a pass: of what was taken some may wait to be handed out
+  abbrev pub put_by : Pass (Bundle T) (Log T) → List T
+  put_by pass = (view pass).put
+
+  abbrev pub taken_by : Pass (Bundle T) (Log T) → List T
+  taken_by pass = (view pass).taken
+
+  -- the pass may put alone, or take alone
+  abbrev pub IsPutter : Pass (Bundle T) (Log T) → Type 0
+  IsPutter pass = view pass ≡ log true false (put_by pass) []
+
+  abbrev pub IsTaker : Pass (Bundle T) (Log T) → Type 0
+  IsTaker pass = view pass ≡ log false true [] (taken_by pass)
+
+  -- of what was taken by a pass, what was handed out: all but what waits
+  abbrev pub handed_by : Pass (Bundle T) (Log T) → List T → List T
+  handed_by pass waiting = take (length (taken_by pass) - length waiting) (taken_by pass)
+
+  -- what was put is what was taken, and behind it so many items
+  abbrev pub AreLeft : List T → List T → ℕ → Type 0
+  AreLeft put taken left = (rest : List T) × (put ≡ taken ++ rest) × (length rest ≡ left)

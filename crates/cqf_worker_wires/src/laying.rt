@@ -1,0 +1,184 @@
+//! Laying the pipes of a run.
+ghost use Rattle.std.specs.Prelude.{◌≡◌, ◌<◌, ◌^◌, [], All, IfOk, OnOk, length, map};
+ghost use Rattle.cqf_book.specs.Shares.{new_shares};
+ghost use Rattle.cqf_worker_loops.specs.Workers.{MayWork};
+ghost use Rattle.cqf_model.specs.Run.{AreBackground, AreOffers};
+ghost use Rattle.cqf_worker_wires.specs.Laying.{AreBare, HasIn, HasOut, IsBare, LaysFirst, LaysLink, LaysPipe, traffic_of};
+ghost use Rattle.cqf_worker_wires.specs.Wires.{AreWired, AreWorkersOf, Wiring, pipe_of_tables, tables_pipe};
+
+use cqf_admission::Table;
+use cqf_book::Share;
+use cqf_bridge::{Batch, Bridge};
+use cqf_bridge_turn::Agenda;
+use cqf_compile::Plan;
+use cqf_model::{Background, Node, Offer};
+use cqf_topology::Domain;
+use cqf_units::Memory;
+use cqf_worker_loops::{Carried, LinkEnd, Worker};
+use cqf_worker_pipe::{PipeIn, PipeOut, pipe};
+use std::alloc::Global;
+
+/// What the threads of a run begin with: a worker for each bridge, by number, and the ends at which their tables are put, likewise.
+#[derive(Drop)]
+pub struct Laid {
+    pub workers: Vec<Worker>,
+    pub tables: Vec<PipeIn<Carried<Table>>>,
+}
+
+/// A bridge's worker with no ports, and the end at which its tables are put.
+fn ready_worker(
+    alloc: Global,
+    plan: &Plan,
+    offers: &[Offer],
+    background: &[Background],
+    share: Share,
+) -> Result<(Worker, PipeIn<Carried<Table>>), Memory>
+    requires bridge { share.bridge < length plan.now.bridges }
+    requires unposted { share.pages ≡ [] }
+    requires few_offers { length offers.now < 2 ^ 32 }
+    requires few_background { length background.now < 2 ^ 32 }
+    ensures worker { IfOk result (λ made. IsBare (traffic_of plan.now offers.now background.now) share.bridge made.0) }
+    ensures pipe { IfOk result (λ made. made.1.pipe ≡ tables_pipe made.0) }
+    ensures nothing_put { IfOk result (λ made. made.1.items ≡ []) }
+{
+    let number = share.bridge();
+    let bridge = Bridge::new(alloc, plan, number)?;
+    let agenda = Agenda::new(alloc, plan.domain(), offers, background, number)?;
+    let (putting, tables) = pipe(alloc)?;
+    let worker = Worker {
+        bridge,
+        agenda,
+        tables,
+        ins: Vec::new(alloc),
+        outs: Vec::new(alloc),
+        share,
+    };
+    Ok((worker, putting))
+}
+
+/// The workers of all bridges with no ports, and the ends at which their tables are put.
+fn ready_workers(
+    alloc: Global,
+    plan: &Plan,
+    offers: &[Offer],
+    background: &[Background],
+    shares: Vec<Share>,
+) -> Result<Laid, Memory>
+    requires shares { shares.items ≡ new_shares (length plan.now.bridges) }
+    requires few_offers { length offers.now < 2 ^ 32 }
+    requires few_background { length background.now < 2 ^ 32 }
+    ensures count { IfOk result (λ laid. length laid.workers.items ≡ length plan.now.bridges) }
+    ensures workers { IfOk result (λ laid. AreBare (traffic_of plan.now offers.now background.now) laid.workers.items) }
+    ensures pipes { IfOk result (λ laid. map pipe_of_tables laid.tables.items ≡ map tables_pipe laid.workers.items) }
+    ensures nothing_put { IfOk result (λ laid. All (λ end. end.items ≡ []) laid.tables.items) }
+{
+    let mut workers = Vec::new(alloc);
+    let mut tables = Vec::new(alloc);
+    for share in shares {
+        let (worker, putting) = ready_worker(alloc, plan, offers, background, share)?;
+        workers.push(worker)?;
+        tables.push(putting)?;
+    }
+    Ok(Laid { workers, tables })
+}
+
+/// Gives a worker a port at which it puts.
+fn add_out(worker: &mut Worker, port: LinkEnd<PipeIn<Carried<Batch>>>) -> Result<(), Memory>
+    ensures { OnOk result (HasOut worker.old worker.new port) }
+{
+    worker.outs.push(port)?;
+    Ok(())
+}
+
+/// Gives a worker a port at which it takes.
+fn add_in(worker: &mut Worker, port: LinkEnd<PipeOut<Carried<Batch>>>) -> Result<(), Memory>
+    ensures { OnOk result (HasIn worker.old worker.new port) }
+{
+    worker.ins.push(port)?;
+    Ok(())
+}
+
+/// Lays a pipe on a link between two bridges.
+fn lay_pipe(
+    alloc: Global,
+    workers: &mut Vec<Worker>,
+    link: u8,
+    from: u8,
+    to: u8,
+) -> Result<(), Memory>
+    requires from { from < length workers.old.items }
+    requires to { to < length workers.old.items }
+    ensures laid { OnOk result (LaysPipe link from to workers.old.items workers.new.items) }
+    ensures tables { OnOk result (map tables_pipe workers.new.items ≡ map tables_pipe workers.old.items) }
+{
+    let (putting, taking) = pipe(alloc)?;
+    let out = LinkEnd {
+        link,
+        pipe: putting,
+    };
+    add_out(&mut workers[usize::from(from)], out)?;
+    let into = LinkEnd { link, pipe: taking };
+    add_in(&mut workers[usize::from(to)], into)?;
+    Ok(())
+}
+
+/// Lays a pipe on a link, where it ends in a bridge.
+fn lay_link(
+    alloc: Global,
+    domain: &Domain,
+    workers: &mut Vec<Worker>,
+    link: u8,
+) -> Result<(), Memory>
+    requires link { link < length domain.now.links }
+    requires workers { length workers.old.items ≡ length domain.now.bridges }
+    ensures laid { OnOk result (LaysLink domain.now link workers.old.items workers.new.items) }
+    ensures tables { OnOk result (map tables_pipe workers.new.items ≡ map tables_pipe workers.old.items) }
+{
+    let _accepted = domain.cycle_time();
+    let between = domain.link(link);
+    match between.to {
+        Node::Bridge(to) => lay_pipe(alloc, workers, link, between.from, to)?,
+        Node::Station(_) => {}
+    }
+    Ok(())
+}
+
+/// Lays a pipe on each link between two bridges.
+fn lay_links(alloc: Global, domain: &Domain, workers: &mut Vec<Worker>) -> Result<(), Memory>
+    requires { length workers.old.items ≡ length domain.now.bridges }
+    ensures laid { OnOk result (LaysFirst domain.now (length domain.now.links) workers.old.items workers.new.items) }
+    ensures tables { OnOk result (map tables_pipe workers.new.items ≡ map tables_pipe workers.old.items) }
+{
+    for link in 0..domain.links() {
+        lay_link(alloc, domain, workers, link)?;
+    }
+    Ok(())
+}
+
+/// The workers of all bridges of a plan's domain, by number, which have done nothing, each with its share of a cycle book: on each
+/// link between two bridges a pipe from the one's worker to the other's, and a pipe for tables to each worker, whose putting ends
+/// stand by number too. The shares are one of each bridge, by number, with no page. There are fewer than 2^32 offers, each at a bridge of
+/// the domain, and fewer than 2^32 background frames, each on a link of it. `Memory` where a growth is refused; then the shares are gone.
+pub fn lay(
+    alloc: Global,
+    plan: &Plan,
+    offers: &[Offer],
+    background: &[Background],
+    shares: Vec<Share>,
+) -> Result<Laid, Memory>
+    requires shares { shares.items ≡ new_shares (length plan.now.bridges) }
+    requires few_offers { length offers.now < 2 ^ 32 }
+    requires few_background { length background.now < 2 ^ 32 }
+    requires offers { AreOffers plan.now offers.now }
+    requires background { AreBackground plan.now background.now }
+    ensures count { IfOk result (λ laid. length laid.workers.items ≡ length plan.now.bridges) }
+    ensures workers { IfOk result (λ laid. AreWorkersOf (traffic_of plan.now offers.now background.now) laid.workers.items) }
+    ensures may_work { IfOk result (λ laid. All MayWork laid.workers.items) }
+    ensures wired { IfOk result (λ laid. (wiring : Wiring) × AreWired wiring laid.workers.items) }
+    ensures tables { IfOk result (λ laid. map pipe_of_tables laid.tables.items ≡ map tables_pipe laid.workers.items) }
+    ensures nothing_put { IfOk result (λ laid. All (λ end. end.items ≡ []) laid.tables.items) }
+{
+    let mut laid = ready_workers(alloc, plan, offers, background, shares)?;
+    lay_links(alloc, plan.domain(), &mut laid.workers)?;
+    Ok(laid)
+}
