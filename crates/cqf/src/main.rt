@@ -45,9 +45,9 @@ mod terminal;
 
 use cqf_program_engine::{Heard, Told, engine, tell};
 use cqf_program_stop::Stop;
-use cqf_program_words::{Operands, split_operands};
+use cqf_program_words::operands_of;
 use files::input_of_files;
-use std::alloc::{AllocError, Global};
+use std::alloc::Global;
 use std::env::{Env, FillError};
 use std::io;
 use std::io::{Read, Write};
@@ -87,15 +87,6 @@ fn arguments<R: Env>(rt: &R, alloc: Global) -> io::Result<Vec<String>> {
         words.push(word)?;
     }
     Ok(words)
-}
-
-/// The words, with those that name files told from the others. The error is want of memory.
-fn operands_of(alloc: Global, words: &[String]) -> Result<Operands<'_>, AllocError> {
-    let mut texts = Vec::with_capacity(alloc, words.len())?;
-    for word in words {
-        texts.push(word.as_str())?;
-    }
-    split_operands(alloc, texts.as_slice())
 }
 
 /// The run of words that name no files, over what the reader has.

@@ -107,7 +107,8 @@ request_granted goes_on counted grants {d} {old} {reserved} {new} {rows} {same_r
     subst (λ (a : Administration). Leaves a (with_entries d new) grown (next + 1) sealed seat (Admits asked) (Ok (receipt_of next sealed))
     (λ (b : Administration). held_of b ++ granted_row b.domain next sealed asked ∷ [])) view
     (entered_leaves goes_on counted d old reserved new (record { seat = seat; call = Admit copy; reply = Accepted (receipt_of next sealed) }) rows grown next
-    (next + 1) sealed (Admits asked) (Ok (receipt_of next sealed)) (λ (a : Administration). held_of a ++ granted_row a.domain next sealed asked ∷ []) refl refl r
+    (next + 1) sealed (Admits asked) (Ok (receipt_of next sealed)) (λ (a : Administration). held_of a ++ granted_row a.domain next sealed asked ∷ [])
+    refl refl r
     few (omega arith) (ap Admits copied) refl (request_reply d entries rows next sealed asked None r refusal) kept put
     (subst (λ (rs : List Row). IsState d (with_entry entries seat (Admits asked) (reply_to d entries (Admits asked))) rs (next + 1))
     (ap (λ (k : ℕ). rows ++ granted_row d next k asked ∷ []) (sym r.counted) ∙ sym one_more)
@@ -166,7 +167,8 @@ pub record LeavesSealed (before after : Administration) (rows : List Row) (next 
 -- a Seal that is entered
 pub sealed_leaves : HistoryGoesOn → SealsAreCounted → SealLetsGo → SealClosesTable → HeldAreSound → {d : Domain} {old reserved new : List Entry}
     {rows kept_rows : List Row} {next sealed : ℕ} {before : Administration} → (seat : ℕ) (table : CycleTable) →
-    IsRunning d (map recorded_of old) rows next sealed → with_entries d old ≡ before → sealed < 100000 → reserved ≡ old → new ≡ reserved ++ record { seat = seat; call = Seal; reply = Sealed } ∷ [] →
+    IsRunning d (map recorded_of old) rows next sealed → with_entries d old ≡ before → sealed < 100000 → reserved ≡ old → new ≡ reserved
+    ++ record { seat = seat; call = Seal; reply = Sealed } ∷ [] →
     kept_rows ≡ filter (λ (row : Row). is_held row (sealed + 1)) rows → table.cycle ≡ sealed → table.rows ≡ rows →
     LeavesSealed before (with_entries d new) kept_rows next (sealed + 1) seat table
 sealed_leaves goes_on counted lets_go closes sound {d} {old} {reserved} {new} {rows} {kept_rows} {next} {sealed} {before} seat table r view few kept put

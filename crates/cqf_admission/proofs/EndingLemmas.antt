@@ -1,12 +1,14 @@
 -- Withdrawn rows by their ends: which of them a cycle lets go of.
-use Rattle.std.proofs.Common.{◌≡◌, ◌≢◌, ◌∙◌, ℕ, ◌+◌, ◌<◌, ◌≤◌, ◌++◌, ◌⊎◌, Bool, true, false, cond, List, Option, Some, None, [], ◌∷◌, All, Contains, filter, get_or}
+use Rattle.std.proofs.Common.{◌≡◌, ◌≢◌, ◌∙◌, ℕ, ◌+◌, ◌<◌, ◌≤◌, ◌++◌, ◌⊎◌, Bool, true, false, cond, List, Option, Some}
+use Rattle.std.proofs.Common.{None, [], ◌∷◌, All, Contains, filter, get_or}
 use Rattle.std.proofs.Common.{length, position, take, drop, inl, inr, refl, ap, sym, subst, arith}
 use Rattle.std.specs.Prelude.{AllPairs, insert, map, nat_le, nat_lt, not, remove, suc, zero, ◌&&◌}
 use Rattle.std.specs.List.{prefix_len}
 use Rattle.std.specs.Option.{option_map_or}
 use Rattle.std.proofs.lemmas.Bool.{both_ways, cases_Bool, le-leb, lt-ltb, ltb-true}
 use Rattle.std.proofs.lemmas.List.{get_or_default, map-append, take-map, drop-map, take_all, take_more}
-use Rattle.std.proofs.lemmas.List.Elements.{All-cons, All-contains, All-nil, Contains-get_or, Contains-append_cases, Contains-append_left, Contains-append_right}
+use Rattle.std.proofs.lemmas.List.Elements.{All-cons, All-contains, All-nil, Contains-get_or, Contains-append_cases}
+use Rattle.std.proofs.lemmas.List.Elements.{Contains-append_left, Contains-append_right}
 use Rattle.std.proofs.lemmas.Option.{cond_some, none-some, same_Some}
 use Rattle.cqf_lists.proofs.Members.{all_from_members, contains_cases, contains_here, contains_later, contains_none, contains_one}
 use Rattle.cqf_lists.proofs.Pairs.{pairs_cons, pairs_head, pairs_none, pairs_one, pairs_across, pairs_tail}
@@ -123,7 +125,8 @@ up_to_it rows place next end row order inside is later one_more =
     go : (rs : List Row) (k : ℕ) → AllPairs (λ (a b : Row). end_of_row b ≤ end_of_row a) rs → k < length rs → row ≡ get_or rs k row →
         All (λ (r : Row). end ≤ end_of_row r) (take (suc k) rs)
     go [] k order inside is = absurd (omega (arith, inside))
-    go (x ∷ rs) zero order inside is = All-cons (λ (r : Row). end ≤ end_of_row r) x [] (omega (arith, later, ap (λ (r : Row). end_of_row r) is)) (All-nil (λ (r : Row). end ≤ end_of_row r))
+    go (x ∷ rs) zero order inside is = All-cons (λ (r : Row). end ≤ end_of_row r) x [] (omega (arith, later, ap (λ (r : Row). end_of_row r) is))
+        (All-nil (λ (r : Row). end ≤ end_of_row r))
     go (x ∷ rs) (suc k) order inside is =
         let inner : k < length rs = omega (arith, inside) in
         let there : Contains rs row = subst (Contains rs) (sym is) (Contains-get_or rs k row inner) in
@@ -221,7 +224,8 @@ own_place (x ∷ rows) row apart c = elim (cases_Bool (is_text x.name row.name))
       let is : x ≡ row = elim (contains_cases x rows row c) [ inl e ↦ e | inr k ↦ absurd (other k) ] in
       subst (λ (n : ℕ). (n < length (x ∷ rows)) × (get_or (x ∷ rows) n row ≡ row) × (Contains (remove (x ∷ rows) n) row → ⊥)) (sym here)
       (omega arith, is, other))
-  | inr f ↦ (let there : prefix_len (λ (r : Row). not (is_text r.name row.name)) (x ∷ rows) ≡ suc (prefix_len (λ (r : Row). not (is_text r.name row.name)) rows) =
+  | inr f ↦ (let there : prefix_len (λ (r : Row). not (is_text r.name row.name)) (x ∷ rows)
+      ≡ suc (prefix_len (λ (r : Row). not (is_text r.name row.name)) rows) =
       ap (λ (b : Bool). cond (not b) (1 + prefix_len (λ (r : Row). not (is_text r.name row.name)) rows) 0) f
       ∙ one_more (prefix_len (λ (r : Row). not (is_text r.name row.name)) rows) in
       let differs : x ≡ row → ⊥ = λ e. both_ways (is_text x.name row.name) f (ap (λ (r : Row). is_text r.name row.name) e ∙ is_text_itself row.name) in
@@ -261,7 +265,8 @@ ends_before rows after ending before last ends is fewer gone = record {
       | inr own ↦ (let e : last ≡ r = contains_one last r own in inl (ap (λ (x : Row). x.withdrawn) (sym e) ∙ gone (subst (Contains after) (sym e) c)))
     ]
   ];
-  ordered = pairs_first (λ (a b : Row). end_of_row b ≤ end_of_row a) before (last ∷ []) (subst (AllPairs (λ (a b : Row). end_of_row b ≤ end_of_row a)) is ends.ordered);
+  ordered = pairs_first (λ (a b : Row). end_of_row b ≤ end_of_row a) before (last ∷ [])
+      (subst (AllPairs (λ (a b : Row). end_of_row b ≤ end_of_row a)) is ends.ordered);
 }
 
 module _ (cycle : ℕ) (all rows ending before : List Row) (last : Row) (g : IsLetGo cycle all rows ending)
@@ -282,7 +287,8 @@ module _ (cycle : ℕ) (all rows ending before : List Row) (last : Row) (g : IsL
 
     -- where it is there it is the row that is found
     found_it : Contains rows last → get_or rows place last ≡ last
-    found_it c = ap (λ (n : ℕ). get_or rows n last) (same_Some place (prefix_len (λ (r : Row). not (is_text r.name last.name)) rows) (sym found ∙ found_there rows last apart c)) ∙ (own_place rows last apart c).1
+    found_it c = ap (λ (n : ℕ). get_or rows n last) (same_Some place (prefix_len (λ (r : Row). not (is_text r.name last.name)) rows)
+        (sym found ∙ found_there rows last apart c)) ∙ (own_place rows last apart c).1
 
     -- where that is held it doesn't end
     pub held_still : is_held row cycle ≡ true → IsLetGo cycle all rows before
@@ -290,7 +296,8 @@ module _ (cycle : ℕ) (all rows ending before : List Row) (last : Row) (g : IsL
       kept = g.kept;
       begun = g.begun;
       ends = ends_before rows rows ending before last g.ends is (λ r c. c)
-          (λ c. not_held_after last cycle due (ap (λ (r : Row). is_held r cycle) (sym (found_it c) ∙ get_or_default rows place last row inside ∙ sym there) ∙ held));
+          (λ c. not_held_after last cycle due (ap (λ (r : Row). is_held r cycle) (sym (found_it c) ∙ get_or_default rows place last row inside ∙ sym there)
+          ∙ held));
     }
 
     -- and where it isn't it goes
@@ -301,20 +308,23 @@ module _ (cycle : ℕ) (all rows ending before : List Row) (last : Row) (g : IsL
       ends = ends_before rows (remove rows place) ending before last g.ends is (contains_from_remove rows place)
           (λ c. let own = contains_from_remove rows place last c in
           absurd ((own_place rows last apart own).2
-          (subst (λ (n : ℕ). Contains (remove rows n) last) (same_Some place (prefix_len (λ (r : Row). not (is_text r.name last.name)) rows) (sym found ∙ found_there rows last apart own)) c)));
+          (subst (λ (n : ℕ). Contains (remove rows n) last) (same_Some place (prefix_len (λ (r : Row). not (is_text r.name last.name)) rows)
+          (sym found ∙ found_there rows last apart own)) c)));
     })
 
 -- rows that are all held
 all_held : (cycle : ℕ) (rows : List Row) → ((row : Row) → Contains rows row → is_held row cycle ≡ true) → filter (λ (row : Row). is_held row cycle) rows ≡ rows
 all_held cycle [] held = refl
 all_held cycle (row ∷ rows) held =
-    ap (λ (b : Bool). cond b (row ∷ filter (λ (r : Row). is_held r cycle) rows) (filter (λ (r : Row). is_held r cycle) rows)) (held row (contains_here row rows))
+    ap (λ (b : Bool). cond b (row ∷ filter (λ (r : Row). is_held r cycle) rows) (filter (λ (r : Row). is_held r cycle) rows))
+    (held row (contains_here row rows))
     ∙ ap (λ (rs : List Row). row ∷ rs) (all_held cycle rows (λ r c. held r (contains_later row rows r c)))
 
 -- where none ends, or the last that does ends later, all that are left are held
 pub none_ends : (cycle : ℕ) (all rows : List Row) → IsLetGo cycle all rows [] → rows ≡ filter (λ (row : Row). is_held row cycle) all
 none_ends cycle all rows g =
-    sym (all_held cycle rows (λ r c. held_until r cycle (g.begun r c) (elim (g.ends.listed r c) [ inl none ↦ inl none | inr k ↦ absurd (contains_none r k) ]))) ∙ g.kept
+    sym (all_held cycle rows (λ r c. held_until r cycle (g.begun r c) (elim (g.ends.listed r c) [ inl none ↦ inl none | inr k ↦ absurd (contains_none r k) ])))
+    ∙ g.kept
 
 pub none_ends_yet : (cycle : ℕ) (all rows ending before : List Row) (last : Row) → IsLetGo cycle all rows ending → ending ≡ before ++ last ∷ [] →
     cycle < end_of_row last → rows ≡ filter (λ (row : Row). is_held row cycle) all

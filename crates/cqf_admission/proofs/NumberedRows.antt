@@ -1,5 +1,6 @@
 -- Rows that are found by the numbers of their names.
-use Rattle.std.proofs.Common.{◌≡◌, ◌∙◌, ℕ, Bool, ◌-◌, ◌<◌, ◌≤◌, ◌++◌, List, [], ◌∷◌, Some, None, true, cond, All, length, get_or, take, position, nat_eq, refl, ap, sym, subst, arith, inl, inr}
+use Rattle.std.proofs.Common.{◌≡◌, ◌∙◌, ℕ, Bool, ◌-◌, ◌<◌, ◌≤◌, ◌++◌, List, [], ◌∷◌, Some, None, true, cond, All}
+use Rattle.std.proofs.Common.{length, get_or, take, position, nat_eq, refl, ap, sym, subst, arith, inl, inr}
 use Rattle.std.specs.Prelude.{if◌then◌else◌, nat_lt, remove, slice_get, suc, zero}
 use Rattle.std.specs.List.{IsDistinct, position_or_len}
 use Rattle.std.specs.Cmp.Lexicographic.{pointwise}
@@ -25,7 +26,8 @@ place_of_own names rows are_names apart k d below =
     let test = pointwise nat_eq own in
     let first = position_or_len test names in
     let count : length names ≡ length rows = ap (λ (ns : List (List ℕ)). length ns) are_names ∙ length-map rows (λ (r : Row). r.name) in
-    let there : get_or names k d.name ≡ own = ap (λ (ns : List (List ℕ)). get_or ns k d.name) are_names ∙ get_or-map (λ (r : Row). r.name) rows k d d.name below in
+    let there : get_or names k d.name ≡ own = ap (λ (ns : List (List ℕ)). get_or ns k d.name) are_names
+    ∙ get_or-map (λ (r : Row). r.name) rows k d d.name below in
     let passes : test (get_or names k d.name) ≡ true = ap test there ∙ pointwise-is_text own own ∙ is_text_itself own in
     let not_behind : first ≤ k = elim (cases_lt k first) [
       | inl less ↦ absurd (both_ways (test (get_or names k d.name)) (fails_before_first test names k d.name less) passes)

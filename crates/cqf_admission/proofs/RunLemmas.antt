@@ -133,7 +133,8 @@ answers_entered old new seat act result is few same due entered =
     }
 
 -- a refused withdrawal is entered
-pub withdraw_entered : (effect : ℕ) (found : Option Row) (refused : Refused) → withdraw_reply effect found ≡ RefusedFor refused → is_entered (Err refused) ≡ true
+pub withdraw_entered : (effect : ℕ) (found : Option Row) (refused : Refused) → withdraw_reply effect found ≡ RefusedFor refused →
+    is_entered (Err refused) ≡ true
 withdraw_entered effect None refused e = let same : NotHeld ≡ refused = cc in subst (λ (r : Refused). is_entered (Err r) ≡ true) same refl
 withdraw_entered effect (Some row) refused e = by_end row.withdrawn e
   where

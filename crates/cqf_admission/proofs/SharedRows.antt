@@ -1,5 +1,6 @@
 -- The row of a name among rows of which the first are found by the numbers of their names.
-use Rattle.std.proofs.Common.{◌≡◌, ◌∙◌, ◌++◌, ◌<◌, ℕ, Bool, true, false, cond, List, [], ◌∷◌, Option, Some, None, map, take, drop, length, get_or, refl, ap, sym, subst, arith, inl, inr}
+use Rattle.std.proofs.Common.{◌≡◌, ◌∙◌, ◌++◌, ◌<◌, ℕ, Bool, true, false, cond, List, [], ◌∷◌, Option, Some, None, map}
+use Rattle.std.proofs.Common.{take, drop, length, get_or, refl, ap, sym, subst, arith, inl, inr}
 use Rattle.std.specs.Prelude.{Contains, find, suc, zero}
 use Rattle.std.proofs.lemmas.Bool.{cases_Bool}
 use Rattle.std.proofs.lemmas.List.{take-append-drop}

@@ -1,5 +1,6 @@
 -- The row of a name and of a number is the one that there is.
-use Rattle.std.proofs.Common.{◌≡◌, ◌≢◌, ℕ, ◌<◌, Bool, true, cond, List, Option, Some, None, Result, Ok, Err, [], ◌∷◌, ◌==◌, get_or, length, map, ap, refl, subst, ◌∙◌, sym, arith, inl, inr}
+use Rattle.std.proofs.Common.{◌≡◌, ◌≢◌, ℕ, ◌<◌, Bool, true, cond, List, Option, Some, None, Result, Ok, Err, [], ◌∷◌}
+use Rattle.std.proofs.Common.{◌==◌, get_or, length, map, ap, refl, subst, ◌∙◌, sym, arith, inl, inr}
 use Rattle.std.specs.declared.cmp.Ordering.TheVariants.{Equal, Greater, Less}
 use Rattle.std.specs.List.Sorted.{IsBinarySearchResult, IsNonDecreasingBy, IsSearchInRange}
 use Rattle.std.specs.Ordering.{nat_cmp, ordering_index}

@@ -10,10 +10,11 @@ use Rattle.cqf_model.specs.Domain.{Domain, budget, is_text}
 use Rattle.cqf_model.specs.History.{Asked, refusal_of, withdraw_reply}
 use Rattle.cqf_model.specs.Table.{link_cost, row_named}
 use Rattle.cqf_laws_history.specs.StateLaws.{granted_row}
+use Rattle.cqf_model.specs.Limits.{most_reserved, most_streams}
 
 -- the streams are within the limits of a reservation, and within each link's budget
 pub record CanBeAsked (d : Domain) (rows : List Row) : Type 0 where
-  pub octets : (row : Row) → Contains rows row → row.octets ≤ 60000
+  pub octets : (row : Row) → Contains rows row → row.octets ≤ most_reserved
   pub loads : (l : ℕ) → link_cost rows l ≤ budget d l
 
 -- a request that nothing speaks against, and its row: its name is free, and there is room for a stream more
@@ -21,8 +22,8 @@ pub record IsGranted (d : Domain) (rows : List Row) (asked : Asked) (number : �
   pub none : refusal_of d rows asked ≡ None
   pub is : row ≡ granted_row d number effect.0 asked
   pub free : list_any (λ (other : Row). is_text other.name row.name) rows ≡ false
-  pub few : length rows < 1024
-  pub most_octets : row.octets ≤ 60000
+  pub few : length rows < most_streams
+  pub most_octets : row.octets ≤ most_reserved
 
 -- a look at a request gives its row, or the first reason against it
 abbrev pub Grants : Domain → List Row → Asked → ℕ → Cycle → Result Row Refused → Type 0

@@ -12,12 +12,13 @@ use Rattle.cqf_model.specs.Domain.{Domain, is_text}
 use Rattle.cqf_model.specs.History.{Asked, left_on, refused_at, refused_if, short_link, tree_of}
 use Rattle.cqf_admission_trees.specs.Branches.{tree_refusal}
 use Rattle.cqf_admission.specs.declared.judged.Judged.{Judged}
+use Rattle.cqf_model.specs.Limits.{least_reserved, most_reserved, most_streams}
 
 -- why a request is refused whatever is held: for its form
 abbrev pub form_refusal : Domain → Asked → Option Refused
 form_refusal d asked =
     or_else (refused_if (not (is_name asked.name)) BadName)
-    (or_else (refused_if (not (nat_le 64 asked.octets && nat_le asked.octets 60000)) BadOctets) (tree_refusal d asked.paths))
+    (or_else (refused_if (not (nat_le least_reserved asked.octets && nat_le asked.octets most_reserved)) BadOctets) (tree_refusal d asked.paths))
 
 -- the first link that has too little left for a cost
 abbrev pub short_refusal : Domain → List Row → ℕ → List Hop → Option Refused
@@ -27,7 +28,7 @@ short_refusal d rows cost tree = refused_at (λ l. BudgetShort l (left_on d rows
 abbrev pub state_refusal : Domain → List Row → Asked → Option Refused
 state_refusal d rows asked =
     or_else (refused_if (list_any (λ (row : Row). is_text row.name asked.name) rows) NameHeld)
-    (or_else (refused_if (nat_le 1024 (length rows)) TooManyStreams)
+    (or_else (refused_if (nat_le most_streams (length rows)) TooManyStreams)
     (short_refusal d rows (cost_of asked.octets) (tree_of d asked.paths)))
 
 -- a request of good form
@@ -36,7 +37,7 @@ pub record IsOfGoodForm (d : Domain) (asked : Asked) (judged : Judged) : Type 0 
   pub named : judged.name ≡ asked.name
   pub costs : judged.cost.0 ≡ cost_of asked.octets
   pub linked : judged.tree.items ≡ tree_of d asked.paths
-  pub most_octets : asked.octets ≤ 60000
+  pub most_octets : asked.octets ≤ most_reserved
 
 -- a look at a request by itself gives what it is, or the first reason against its form
 abbrev pub Judges : Domain → Asked → Result Judged Refused → Type 0

@@ -1,11 +1,13 @@
 -- The rows of streams that are held, and the columns that are kept beside them.
-use Rattle.std.specs.Prelude.{ℕ, ◌≡◌, ◌≢◌, ◌≤◌, ◌⊎◌, AllPairs, Contains, None, ◌^◌, List, [], ◌∷◌, if◌then◌else◌, nat_lt, ◌+◌, ◌-◌, ◌<◌, bit_or, fold, length, map, slice_index_or, Some, zero, suc}
+use Rattle.std.specs.Prelude.{ℕ, ◌≡◌, ◌≢◌, ◌≤◌, ◌⊎◌, AllPairs, Contains, None, ◌^◌, List, [], ◌∷◌, if◌then◌else◌}
+use Rattle.std.specs.Prelude.{nat_lt, ◌+◌, ◌-◌, ◌<◌, bit_or, fold, length, map, slice_index_or, Some, zero, suc}
 use Rattle.std.specs.Option.{option_map_or}
 use Rattle.cqf_units.specs.Timing.{cost_of}
 use Rattle.cqf_units.specs.declared.reservations.Cycle.{Cycle}
 use Rattle.cqf_model.specs.declared.topology.Row.{Row}
 use Rattle.cqf_model.specs.Table.{link_cost, links_of, residence}
 use Rattle.cqf_lanes.specs.Kernels.{has_bit, masked_total}
+use Rattle.cqf_model.specs.Limits.{most_streams}
 
 -- the rows of held streams by number, and how many rows more have room
 pub record HeldRows : Type 0 where
@@ -34,7 +36,7 @@ pub record HaveColumns (names : List (List ℕ)) (rows : List Row) (costs masks 
   pub are_names : names ≡ map (λ (row : Row). row.name) rows
   pub are_costs : costs ≡ map (λ (row : Row). cost_of row.octets) rows
   pub are_masks : masks ≡ map mask_of rows
-  pub few : length rows ≤ 1024
+  pub few : length rows ≤ most_streams
   pub apart : AllPairs (λ (a b : List ℕ). a ≢ b) names
 
 -- by link, what the rows cost of it

@@ -12,7 +12,7 @@ use crate::refusals::{find_open, grant, taken_of};
 use crate::table::Table;
 use cqf_admission_trees::count_places;
 use cqf_laws_history::state_follows_history;
-use cqf_model::{Receipt, Refused, Reply};
+use cqf_model::{MOST_CALLS, MOST_SEALS, Receipt, Refused, Reply};
 use cqf_topology::{Domain, Request};
 use cqf_units::{Cycle, Memory, Octets};
 use std::alloc::Global;
@@ -39,12 +39,6 @@ impl Model for Admission {
 
     ghost invariant = { λ a. IsRunning a.domain (map recorded_of a.history.items) a.held.rows a.next a.sealed };
 }
-
-/// How many entries of a history may be other than Seals (profile).
-pub const MOST_CALLS: usize = 100_000;
-
-/// How many entries of a history may be Seals (profile).
-pub const MOST_SEALS: u32 = 100_000;
 
 impl Admission {
     /// An admission for a domain, with an empty history.
@@ -107,18 +101,12 @@ impl Admission {
         if self.history.len() - self.sealed as usize >= MOST_CALLS {
             return Err(Refused::HistoryFull);
         }
-        let Ok(asked) = request.try_copy(self.alloc) else {
-            return Err(Refused::Memory);
-        };
+        let asked = request.try_copy(self.alloc)?;
         if count_places(request.paths.as_slice()).is_none() {
             return Err(Refused::Memory);
         }
-        if self.history.reserve(1).is_err() {
-            return Err(Refused::Memory);
-        }
-        if self.held.reserve().is_err() {
-            return Err(Refused::Memory);
-        }
+        self.history.reserve(1)?;
+        self.held.reserve()?;
         state_follows_history();
         let effect = Cycle(self.sealed);
         let admit = Call::Admit(asked);
@@ -128,9 +116,7 @@ impl Admission {
         };
         match grant(&self.domain, &self.held, request, self.next, effect) {
             Ok(row) => {
-                let Ok(()) = self.held.push(self.alloc, row) else {
-                    return Err(Refused::Memory);
-                };
+                self.held.push(self.alloc, row)?;
                 self.next += 1;
                 enter(&mut self.history, seat, admit, Reply::Accepted(receipt));
                 Ok(receipt)
@@ -155,12 +141,8 @@ impl Admission {
         if self.history.len() - self.sealed as usize >= MOST_CALLS {
             return Err(Refused::HistoryFull);
         }
-        let Ok(asked) = String::from_str(self.alloc, name) else {
-            return Err(Refused::Memory);
-        };
-        if self.history.reserve(1).is_err() {
-            return Err(Refused::Memory);
-        }
+        let asked = String::from_str(self.alloc, name)?;
+        self.history.reserve(1)?;
         state_follows_history();
         let effect = Cycle(self.sealed);
         let withdraw = Call::Withdraw(asked);
@@ -170,9 +152,7 @@ impl Admission {
                     no: found.1,
                     effect,
                 };
-                let Ok(()) = self.held.end(self.alloc, found.0, effect) else {
-                    return Err(Refused::Memory);
-                };
+                self.held.end(self.alloc, found.0, effect)?;
                 enter(&mut self.history, seat, withdraw, Reply::Accepted(receipt));
                 Ok(receipt)
             }
@@ -193,12 +173,8 @@ impl Admission {
         if self.sealed >= MOST_SEALS {
             return Err(SealFault::CyclesSpent);
         }
-        let Ok(listed) = self.held.share(self.alloc) else {
-            return Err(SealFault::Memory);
-        };
-        if self.history.reserve(1).is_err() {
-            return Err(SealFault::Memory);
-        }
+        let listed = self.held.share(self.alloc)?;
+        self.history.reserve(1)?;
         state_follows_history();
         let cycle = Cycle(self.sealed);
         self.sealed += 1;

@@ -49,6 +49,16 @@ pub enum SealFault {
     Memory,
 }
 
+impl From<Memory> for SealFault {
+    ghost use Rattle.cqf_admission.specs.declared.entries.SealFault.TheVariants as variant;
+
+    ghost from_gives = { λ _ fault. fault ≡ variant.Memory };
+
+    fn from(_refused: Memory) -> SealFault {
+        SealFault::Memory
+    }
+}
+
 /// Adds an entry to a history behind the others, where there is room.
 pub(crate) fn enter(history: &mut Vec<Entry>, seat: u16, call: Call, reply: Reply)
     requires { vec_len history.old < vec_capacity history.old }

@@ -1,5 +1,7 @@
 //! The streams that are held, by number and by name, with their costs and their links in columns.
-ghost use Rattle.std.specs.Prelude.{◌≡◌, ◌≢◌, ◌+◌, ◌-◌, ◌<◌, ◌≤◌, ◌^◌, [], ◌∷◌, ◌++◌, All, AllPairs, Contains, drop, length, filter, if◌then◌else◌, map, nat_lt, position, slice_get, take, false, None, Some, OnErr, OnOk, IfOk, vec_len, vec_capacity};
+ghost use Rattle.std.specs.Prelude.{◌≡◌, ◌≢◌, ◌+◌, ◌-◌, ◌<◌, ◌≤◌, ◌^◌, [], ◌∷◌, ◌++◌, All, AllPairs, Contains, drop};
+ghost use Rattle.std.specs.Prelude.{length, filter, if◌then◌else◌, map, nat_lt, position, slice_get, take, false, None};
+ghost use Rattle.std.specs.Prelude.{Some, OnErr, OnOk, IfOk, vec_len, vec_capacity};
 ghost use Rattle.indexmap.specs.IndexSet.{spare};
 ghost use Rattle.std.specs.Arc.{arc_value};
 ghost use Rattle.std.specs.List.{list_any};
@@ -7,6 +9,7 @@ ghost use Rattle.cqf_model.specs.Domain.{is_text};
 ghost use Rattle.cqf_model.specs.Table.{is_held, link_cost};
 ghost use Rattle.cqf_admission.specs.Rows.{AreLessBy, AreMoreBy, AreHeldTotals, AreWithin, end_of_row, ended_at, part_on};
 ghost use Rattle.cqf_lanes.specs.Kernels.{has_bit, masked_total};
+ghost use Rattle.cqf_model.specs.Limits.{most_reserved, most_streams};
 
 use crate::listed::Listed;
 use crate::numbers::Numbers;
@@ -275,8 +278,8 @@ impl Held {
     /// Adds the row of a name that isn't held, behind the others, where there is room, unless memory runs out.
     pub(crate) fn push(&mut self, alloc: Global, row: Row) -> Result<(), Memory>
         requires room { 0 < self.old.room }
-        requires few { length self.old.rows < 1024 }
-        requires octets { row.octets ≤ 60000 }
+        requires few { length self.old.rows < most_streams }
+        requires octets { row.octets ≤ most_reserved }
         requires live { row.withdrawn ≡ None }
         requires free { list_any (λ other. is_text other.name row.name) self.old.rows ≡ false }
         ensures rows { OnOk result (self.new.rows ≡ self.old.rows ++ row ∷ []) }

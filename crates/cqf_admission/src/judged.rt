@@ -6,15 +6,9 @@ ghost use Rattle.cqf_admission.specs.Judging.{Judges};
 
 use arrayvec::ArrayVec;
 use cqf_admission_trees::find_tree;
-use cqf_model::{Hop, Refused};
+use cqf_model::{Hop, LEAST_OCTETS, MOST_OCTETS, Refused};
 use cqf_topology::{Domain, Request};
 use cqf_units::{Name, Octets, cost};
-
-/// The octets that a stream may reserve in a cycle (profile).
-pub const LEAST_OCTETS: u32 = 64;
-
-/// See [`LEAST_OCTETS`].
-pub const MOST_OCTETS: u32 = 60_000;
 
 /// A request of good form: its name, what it costs of each link of its tree in octets a cycle, and that tree.
 #[derive(Debug, Drop)]

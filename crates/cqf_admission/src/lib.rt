@@ -27,9 +27,10 @@ mod refusals;
 mod rows;
 mod table;
 
-pub use admission::{Admission, MOST_CALLS, MOST_SEALS};
-pub use cqf_model::{Receipt, Refused, Reply, Row};
+pub use admission::Admission;
+pub use cqf_model::{
+    LEAST_OCTETS, MOST_CALLS, MOST_OCTETS, MOST_SEALS, MOST_STREAMS, Receipt, Refused, Reply, Row,
+};
 pub use entries::{Call, Command, Entry, SealFault};
-pub use judged::{Judged, LEAST_OCTETS, MOST_OCTETS, judge};
-pub use refusals::MOST_STREAMS;
+pub use judged::{Judged, judge};
 pub use table::Table;

@@ -9,12 +9,9 @@ ghost use Rattle.cqf_admission.specs.Judging.{short_refusal};
 
 use crate::held::Held;
 use crate::judged::{Judged, judge};
-use cqf_model::{Hop, Refused, Row};
+use cqf_model::{Hop, MOST_STREAMS, Refused, Row};
 use cqf_topology::{Domain, Request};
 use cqf_units::{Cycle, Name, budget};
-
-/// How many streams may be held at once (profile).
-pub const MOST_STREAMS: usize = 1024;
 
 /// What a link has left of its budget beside the held streams, in octets a cycle.
 pub(crate) fn left_of(domain: &Domain, held: &Held, link: u8) -> u32

@@ -1,5 +1,7 @@
 -- What an entry more makes of the streams that were granted.
-use Rattle.std.proofs.Common.{◌≡◌, ℕ, ◌+◌, ◌<◌, ◌≤◌, ◌∷◌, [], ◌++◌, List, true, false, Option, Some, None, inl, inr, refl, sym, ap, ◌∙◌, arith, length, take, map, Contains, option_map, cond, drop, length-take-le}
+use Rattle.std.proofs.Common.{◌≡◌, ℕ, ◌+◌, ◌<◌, ◌≤◌, ◌∷◌, [], ◌++◌, List, true, false, Option, Some, None, inl, inr}
+use Rattle.std.proofs.Common.{refl, sym, ap, ◌∙◌, arith, length, take, map, Contains, option_map, cond, drop}
+use Rattle.std.proofs.Common.{length-take-le}
 use Rattle.std.specs.Prelude.{slice_get, slice_index_or, slice_set}
 use Rattle.std.proofs.lemmas.Bool.{cases_lt}
 use Rattle.std.proofs.lemmas.Grind.{take_at_read}
@@ -18,7 +20,9 @@ use Rattle.cqf_model.specs.declared.history.Reply.{Reply}
 use Rattle.cqf_model.specs.declared.history.Reply.TheVariants.{Accepted, Sealed, Refused as RefusedFor}
 use Rattle.cqf_model.specs.declared.topology.Row.{Row}
 use Rattle.cqf_model.specs.Domain.{Domain}
-use Rattle.cqf_model.specs.History.{Act, Admits, Asked, IsLegalHistory, Recorded, Seals, is_seal, Withdraws, admit_reply, held_in, next_number, refusal_of, refused_at, reply_to, seals, stream_by, streams_of, withdraw_reply, withdraw_row, withdrawal_by}
+use Rattle.cqf_model.specs.History.{Act, Admits, Asked, IsLegalHistory, Recorded, Seals, is_seal, Withdraws}
+use Rattle.cqf_model.specs.History.{admit_reply, held_in, next_number, refusal_of, refused_at, reply_to, seals}
+use Rattle.cqf_model.specs.History.{stream_by, streams_of, withdraw_reply, withdraw_row, withdrawal_by}
 use Rattle.cqf_model.specs.Table.{is_held, row_named}
 use Rattle.cqf_laws_history.specs.StateLaws.{ended_row, granted_row}
 use Rattle.cqf_laws_history.specs.StreamLaws.{GrantedIsLast, WithdrawnEnds}
@@ -121,7 +125,8 @@ module _ (d : Domain) (all : List Recorded) (legal : IsLegalHistory d all) (k : 
   pub nothing : accepts e.reply ≡ false → streams_of d (take (k + 1) all) ≡ streams_of d (take k all)
   nothing refused_so =
       ap (streams_of d) grown
-      ∙ streams_same d (take k all) e (no_stream d (seals (take k all)) e.act e.reply refused_so) (λ number. no_end (seals (take k all)) number e.act e.reply refused_so)
+      ∙ streams_same d (take k all) e (no_stream d (seals (take k all)) e.act e.reply refused_so)
+      (λ number. no_end (seals (take k all)) number e.act e.reply refused_so)
 
   pub sealed : e.act ≡ Seals → streams_of d (take (k + 1) all) ≡ streams_of d (take k all)
   sealed act =
@@ -170,7 +175,8 @@ module _ (d : Domain) (all : List Recorded) (legal : IsLegalHistory d all) (k : 
             ∙ law d before e.seat name row front_legal one.is one.open_end
             ∙ ap (λ n. map (ended_row n (seals before)) rows) (sym is_number)
             ∙ one_ends rows 0 receipt.no (seals before) receipt.no row (λ i r is. numbered d before front_legal i r is ∙ omega arith) (omega arith) there
-            ∙ ap (λ (r : Row). slice_set rows receipt.no (record r { withdrawn = Some (record { 0 = seals before }) })) (same_Some row ends.row (sym there ∙ ends.is))
+            ∙ ap (λ (r : Row). slice_set rows receipt.no (record r { withdrawn = Some (record { 0 = seals before }) }))
+            (same_Some row ends.row (sym there ∙ ends.is))
             ∙ ap (λ (c : Cycle). slice_set rows receipt.no (record ends.row { withdrawn = Some c })) (sym is_effect)
             ∙ sym ends.ended,
       )
@@ -191,5 +197,6 @@ recorded_at recorded entries k item inside is =
 pub is_there : {d : Domain} (requests : List Asked) (place : ℕ) → IsAdmissible d (request_at requests place) → place < length requests
 is_there requests place admitted = elim (cases_lt place (length requests)) [
   | inl low ↦ low
-  | inr past ↦ absurd (true_not_false (sym admitted.named ∙ ap (λ (asked : Asked). is_name asked.name) (get_or_past requests place (record { name = []; octets = 0; paths = [] }) past)))
+  | inr past ↦ absurd (true_not_false (sym admitted.named ∙ ap (λ (asked : Asked). is_name asked.name)
+      (get_or_past requests place (record { name = []; octets = 0; paths = [] }) past)))
 ]

@@ -78,7 +78,8 @@ module _ (d : Domain) (requests : List Request) (script : List ℕ) (log reserve
       (there_behind (map asked_of requests) script log reserved after e kept put there (omega (arith, low, length-map requests asked_of)))
 
   -- and one that is granted
-  pub admit_granted : HistoryGoesOn → SealsAreCounted → HeldAreSound → GrantedIsHeld → GrantedIsLast → IsAccepted d → (seat place : ℕ) (request : Request) (form : Form)
+  pub admit_granted : HistoryGoesOn → SealsAreCounted → HeldAreSound → GrantedIsHeld → GrantedIsLast → IsAccepted d →
+      (seat place : ℕ) (request : Request) (form : Form)
       (stand : Stand) (grown : List Stand) (receipt : Receipt) →
       place < length requests → request ≡ get_or requests place request → IsFormOf d requests (asked_of request) form → Weighs d stands form (Ok stand) →
       receipt ≡ record { no = length stands; effect = record { 0 = sealed } } → grown ≡ stands ++ stand ∷ [] →
@@ -92,7 +93,8 @@ module _ (d : Domain) (requests : List Request) (script : List ℕ) (log reserve
       let new = weighs_one d requests entries stands slots sealed r sound ok asked form stand of_asked weighs in
       called seat (λ k. Admits (request_at k.requests place)) (Ok receipt)
       (λ k. held_of k.administration ++ granted_row k.administration.domain receipt.no receipt.effect.0 (request_at k.requests place) ∷ []) grown slots
-      (granted_leaves d requests entries (entries_of requests script after) stands slots sealed r goes_on count grants last seat asked receipt stand grown few_calls
+      (granted_leaves d requests entries (entries_of requests script after) stands slots sealed r goes_on count grants last seat asked
+      receipt stand grown few_calls
       new.none new.known is_receipt new.is more (logged_behind (map asked_of requests) script log reserved after e kept put))
       (there_behind (map asked_of requests) script log reserved after e kept put there (omega (arith, low, length-map requests asked_of)))
 
@@ -101,18 +103,21 @@ module _ (d : Domain) (requests : List Request) (script : List ℕ) (log reserve
       word ≡ word_at script from octets → StandsIn (map asked_of requests) script (Withdraw from octets) →
       FindsOpenForm stands (length requests) (number_of_form requests word) (Err refused) →
       after ≡ reserved ++ record { seat = seat; what = Withdraw from octets; reply = RefusedFor refused } ∷ [] →
-      Called d requests script before after stands slots sealed seat (λ k. Withdraws (word_at k.script from octets)) (Err refused) (λ k. held_of k.administration)
+      Called d requests script before after stands slots sealed seat (λ k. Withdraws (word_at k.script from octets)) (Err refused)
+      (λ k. held_of k.administration)
   withdraw_refused goes_on count sound seat from octets word refused is stands_there finds put =
       let e : Logged = record { seat = seat; what = Withdraw from octets; reply = RefusedFor refused } in
       let due : reply_to d entries (Withdraws (word_at script from octets)) ≡ RefusedFor refused =
       ap (λ (w : List ℕ). reply_to d entries (Withdraws w)) (sym is) ∙ not_open d requests entries stands slots sealed r sound word refused finds in
       called seat (λ k. Withdraws (word_at k.script from octets)) (Err refused) (λ k. held_of k.administration) stands slots
-      (refused_leaves d requests entries (entries_of requests script after) stands slots sealed r goes_on count seat (Withdraws (word_at script from octets)) refused
+      (refused_leaves d requests entries (entries_of requests script after) stands slots sealed r goes_on count seat
+      (Withdraws (word_at script from octets)) refused
       (withdraw_entered (seals entries) _ refused due) few_calls due (logged_behind (map asked_of requests) script log reserved after e kept put))
       (there_behind (map asked_of requests) script log reserved after e kept put there stands_there)
 
   -- and one that is done
-  pub withdraw_done : HistoryGoesOn → SealsAreCounted → WithdrawnIsHeldOn → HeldAreSound → WithdrawnEnds → (seat from octets : ℕ) (word : List ℕ) (number slot : ℕ)
+  pub withdraw_done : HistoryGoesOn → SealsAreCounted → WithdrawnIsHeldOn → HeldAreSound → WithdrawnEnds →
+      (seat from octets : ℕ) (word : List ℕ) (number slot : ℕ)
       (stand : Stand) (less : List Stand) (more : List (List ℕ)) (receipt : Receipt) →
       word ≡ word_at script from octets → StandsIn (map asked_of requests) script (Withdraw from octets) →
       IsOpenFormAt stands (number_of_form requests word) number → ((s : Stand) → get_or stands number s ≡ stand) → slot ≡ (sealed + stand.residence) % 32 →
@@ -121,10 +126,12 @@ module _ (d : Domain) (requests : List Request) (script : List ℕ) (log reserve
       after ≡ reserved ++ record { seat = seat; what = Withdraw from octets; reply = Accepted receipt } ∷ [] →
       Called d requests script before after less more sealed seat (λ k. Withdraws (word_at k.script from octets)) (Ok receipt)
       (λ k. map (ended_row receipt.no receipt.effect.0) (held_of k.administration))
-  withdraw_done goes_on count withdraws sound ends seat from octets word number slot stand less more receipt is stands_there opened is_stand is_slot is_less is_more
+  withdraw_done goes_on count withdraws sound ends seat from octets word number slot stand less more receipt is stands_there opened is_stand
+      is_slot is_less is_more
       is_receipt put =
       let e : Logged = record { seat = seat; what = Withdraw from octets; reply = Accepted receipt } in
-      called seat (λ k. Withdraws (word_at k.script from octets)) (Ok receipt) (λ k. map (ended_row receipt.no receipt.effect.0) (held_of k.administration)) less more
+      called seat (λ k. Withdraws (word_at k.script from octets)) (Ok receipt) (λ k. map (ended_row receipt.no receipt.effect.0) (held_of k.administration))
+      less more
       (withdrawn_leaves d requests entries (entries_of requests script after) stands slots sealed r goes_on count withdraws sound ends seat
       (word_at script from octets) number slot stand less more receipt few_calls
       (subst (λ (w : List ℕ). IsOpenFormAt stands (number_of_form requests w) number) is opened) is_stand is_slot is_less is_more is_receipt
@@ -149,7 +156,8 @@ module _ (d : Domain) (requests : List Request) (script : List ℕ) (log reserve
       let e : Logged = record { seat = seat; what = Seal; reply = Sealed } in
       let entries = entries_of requests script log in
       let entered = logged_behind (map asked_of requests) script log reserved after e kept put in
-      let leaves = sealed_leaves d requests entries (entries_of requests script after) stands slots sealed r goes_on count lets_go seat next_sealed let_go some gone
+      let leaves = sealed_leaves d requests entries (entries_of requests script after) stands slots sealed r goes_on count lets_go seat
+      next_sealed let_go some gone
       next entered in
       subst (λ (k : Kept). Closed d requests script k after let_go emptied next_sealed seat cycle) view (record {
         of = subst (λ (ss : List (List ℕ)). AreOf d requests (entries_of requests script after) let_go ss next_sealed) (sym is_emptied) leaves.0;

@@ -1,5 +1,6 @@
 -- The figures of streams with one more, with one withdrawn, and with one let go.
-use Rattle.std.proofs.Common.{◌≡◌, ◌≢◌, ℕ, ◌+◌, ◌-◌, ◌<◌, ◌≤◌, ◌^◌, ◌⊎◌, Bool, true, false, replicate, List, [], ◌∷◌, ◌++◌, get_or, set, length, refl, sym, ap, ◌∙◌, subst}
+use Rattle.std.proofs.Common.{◌≡◌, ◌≢◌, ℕ, ◌+◌, ◌-◌, ◌<◌, ◌≤◌, ◌^◌, ◌⊎◌, Bool, true, false, replicate, List, [], ◌∷◌}
+use Rattle.std.proofs.Common.{◌++◌, get_or, set, length, refl, sym, ap, ◌∙◌, subst}
 use Rattle.std.proofs.Common.{arith, inl, inr, length-append}
 use Rattle.std.specs.Prelude.{if◌then◌else◌, zero, suc}
 use Rattle.std.proofs.lemmas.Bool.{cases_lt, both_ways}
@@ -8,7 +9,8 @@ use Rattle.std.proofs.lemmas.List.Sums.{sum_by-cons, sum_by_push, sum_by-set}
 use Rattle.cqf_units.specs.declared.reservations.Cycle.{Cycle}
 use Rattle.cqf_admission.specs.Rows.{AreLessBy, AreWithin, part_on}
 use Rattle.cqf_admission_ledger.specs.declared.holdings.Stand.{Stand}
-use Rattle.cqf_admission_ledger.specs.Holdings.{AreMoreHoldingsBy, HaveFigures, HaveRoom, IsFree, IsHeldAt, IsHolder, holding_ended, held_cost, held_count, held_one, held_part}
+use Rattle.cqf_admission_ledger.specs.Holdings.{AreMoreHoldingsBy, HaveFigures, HaveRoom, IsFree, IsHeldAt, IsHolder}
+use Rattle.cqf_admission_ledger.specs.Holdings.{holding_ended, held_cost, held_count, held_one, held_part}
 use Rattle.cqf_admission_ledger.specs.Holdings.{released}
 
 -- two numbers are the same, or not

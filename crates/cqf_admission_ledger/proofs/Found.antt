@@ -52,7 +52,8 @@ module _ (d : Domain) (requests : List Request) (entries : List Recorded) (stand
       ∙ get_or-map as_stand (streams_of d entries) number row s (slice_get_within (streams_of d entries) number row at)
       ∙ ap as_stand (get_or_from_slice_get (streams_of d entries) number row row at)
 
-  pub found : HeldAreSound → (name : List ℕ) (number : ℕ) → IsHolder stands (number_of_form requests name) number → IsFound d requests entries stands name number
+  pub found : HeldAreSound → (name : List ℕ) (number : ℕ) → IsHolder stands (number_of_form requests name) number →
+      IsFound d requests entries stands name number
   found sound name number holder =
       let inside : number < length (streams_of d entries) = omega (arith, holder.is_held.inside, many) in
       let one = entry_at (streams_of d entries) number inside in
@@ -60,7 +61,8 @@ module _ (d : Domain) (requests : List Request) (entries : List Recorded) (stand
       let among = contains_at (streams_of d entries) number row one.1 in
       let is = stands_at number row one.1 in
       let held : is_held row (seals entries) ≡ true = ap (λ (s : Stand). s.held) (sym (is (as_stand row))) ∙ holder.is_held.held (as_stand row) in
-      let numbers : number_of_form requests row.name ≡ number_of_form requests name = ap (λ (s : Stand). s.name) (sym (is (as_stand row))) ∙ holder.named (as_stand row) in
+      let numbers : number_of_form requests row.name ≡ number_of_form requests name = ap (λ (s : Stand). s.name) (sym (is (as_stand row)))
+      ∙ holder.named (as_stand row) in
       let same : row.name ≡ name =
       is_text_same row.name name (sym (number_tells requests row.name name (r.known row among))
       ∙ eq-eqb (number_of_form requests row.name) (number_of_form requests name) numbers) in

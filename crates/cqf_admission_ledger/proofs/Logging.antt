@@ -37,7 +37,8 @@ asked_at requests place request low is =
     get_or-map asked_of requests place request (record { name = []; octets = 0; paths = [] }) low ∙ ap asked_of (sym is)
 
 -- it is one of them
-pub among : (requests names : List Request) (place : ℕ) (request : Request) → names ≡ requests → place < length requests → request ≡ get_or requests place request →
+pub among : (requests names : List Request) (place : ℕ) (request : Request) → names ≡ requests → place < length requests → request
+    ≡ get_or requests place request →
     Contains names request
 among requests names place request same low is =
     subst (λ (rs : List Request). Contains rs request) (sym same) (subst (Contains requests) (sym is) (Contains-get_or requests place request low))
@@ -46,12 +47,14 @@ among requests names place request same low is =
 
 -- the form at a place is of the request there
 pub form_at : (d : Domain) (requests names : List Request) (forms : List Form) (place : ℕ) (request : Request) (form : Form) → AreForms d requests forms →
-    names ≡ requests → place < length requests → request ≡ get_or requests place request → form ≡ get_or forms place form → IsFormOf d names (asked_of request) form
+    names ≡ requests → place < length requests → request ≡ get_or requests place request → form ≡ get_or forms place form →
+    IsFormOf d names (asked_of request) form
 form_at d requests names forms place request form known same low is at =
     let inside : place < length forms = omega (arith, low, known.as_many) in
     subst (λ (rs : List Request). IsFormOf d rs (asked_of request) form) (sym same)
     (subst (λ (x : Request). IsFormOf d requests (asked_of x) form) (sym is)
-    (subst (IsFormOf d requests (asked_of (get_or requests place request))) (get_or_default forms place Unseen form inside ∙ sym at) (known.each place request low)))
+    (subst (IsFormOf d requests (asked_of (get_or requests place request))) (get_or_default forms place Unseen form inside ∙ sym at)
+    (known.each place request low)))
 
 -- and with another one of it they are of the requests
 pub forms_set : (d : Domain) (requests names : List Request) (forms : List Form) (place : ℕ) (request : Request) (form : Form) → AreForms d requests forms →
@@ -66,8 +69,10 @@ forms_set d requests names forms place request form known same low is of = recor
         let one : get_or requests k other ≡ request =
         ap (λ (n : ℕ). get_or requests n other) here ∙ get_or_default requests place other request low ∙ sym is in
         subst (IsFormOf d requests (asked_of (get_or requests k other))) (sym at)
-        (subst (λ (x : Request). IsFormOf d requests (asked_of x) form) (sym one) (subst (λ (rs : List Request). IsFormOf d rs (asked_of request) form) same of)))
-    | inr differ ↦ subst (IsFormOf d requests (asked_of (get_or requests k other))) (sym (get_or-set_other forms place k form Unseen differ)) (known.each k other below)
+        (subst (λ (x : Request). IsFormOf d requests (asked_of x) form) (sym one)
+        (subst (λ (rs : List Request). IsFormOf d rs (asked_of request) form) same of)))
+    | inr differ ↦ subst (IsFormOf d requests (asked_of (get_or requests k other))) (sym (get_or-set_other forms place k form Unseen differ))
+        (known.each k other below)
   ];
 }
 

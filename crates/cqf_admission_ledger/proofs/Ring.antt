@@ -1,5 +1,6 @@
 -- The ring with one stream withdrawn, and with one slot emptied.
-use Rattle.std.proofs.Common.{◌≡◌, ◌≢◌, ℕ, ◌+◌, ◌<◌, ◌%◌, Bool, true, false, List, Option, Some, None, [], ◌∷◌, ◌++◌, get_or, set, length, refl, sym, ap, ◌∙◌, subst, arith}
+use Rattle.std.proofs.Common.{◌≡◌, ◌≢◌, ℕ, ◌+◌, ◌<◌, ◌%◌, Bool, true, false, List, Option, Some, None, [], ◌∷◌, ◌++◌}
+use Rattle.std.proofs.Common.{get_or, set, length, refl, sym, ap, ◌∙◌, subst, arith}
 use Rattle.std.proofs.Common.{◌≤◌, inl, inr, length-append}
 use Rattle.std.specs.Prelude.{AllPairs, Contains, if◌then◌else◌, ◌==◌, ◌||◌, ◌&&◌}
 use Rattle.std.specs.Option.{option_map_or}
@@ -34,7 +35,8 @@ one_slot : (stand : Stand) (slot other : ℕ) → in_slot slot stand ≡ true �
 one_slot stand slot other here differ = by_end stand.withdrawn refl
   where
     by_end : (o : Option Cycle) → stand.withdrawn ≡ o → in_slot other stand ≡ false
-    by_end None e = ap (λ (x : Option Cycle). stand.held && option_map_or (λ (w : Cycle). (w.0 + stand.residence) % 32 == other) x false) e ∙ and_none stand.held
+    by_end None e = ap (λ (x : Option Cycle). stand.held && option_map_or (λ (w : Cycle). (w.0 + stand.residence) % 32 == other) x false) e
+        ∙ and_none stand.held
       where
         and_none : (b : Bool) → (b && false) ≡ false
         and_none true = refl
@@ -104,7 +106,8 @@ module _ (stands : List Stand) (slots : List (List ℕ)) (r : IsRing stands slot
             omega (arith, old, gone.as_many))
       ];
       once = λ other below. elim (same_or_not other slot) [
-        | inl same ↦ subst (AllPairs (λ (a b : ℕ). a ≢ b)) (sym (ap (λ (s : ℕ). get_or (set slots slot []) s []) same ∙ emptied)) (pairs_none (λ (a b : ℕ). a ≢ b))
+        | inl same ↦ subst (AllPairs (λ (a b : ℕ). a ≢ b)) (sym (ap (λ (s : ℕ). get_or (set slots slot []) s []) same ∙ emptied))
+            (pairs_none (λ (a b : ℕ). a ≢ b))
         | inr differ ↦ subst (AllPairs (λ (a b : ℕ). a ≢ b)) (sym (others other differ)) (r.once other below)
       ];
     }

@@ -1,5 +1,7 @@
 -- The figures of a history with one entry more.
-use Rattle.std.proofs.Common.{◌≡◌, ◌≢◌, ℕ, ◌+◌, ◌-◌, ◌<◌, ◌≤◌, ◌%◌, true, false, List, None, Result, Ok, Err, [], ◌∷◌, ◌++◌, filter, map, get_or, set, length, refl, sym, ap, ◌∙◌, subst, arith, inl, inr, length-append, mod-lt}
+use Rattle.std.proofs.Common.{◌≡◌, ◌≢◌, ℕ, ◌+◌, ◌-◌, ◌<◌, ◌≤◌, ◌%◌, true, false, List, None, Result, Ok, Err, [], ◌∷◌}
+use Rattle.std.proofs.Common.{◌++◌, filter, map, get_or, set, length, refl, sym, ap, ◌∙◌, subst, arith, inl, inr}
+use Rattle.std.proofs.Common.{length-append, mod-lt}
 use Rattle.std.specs.Prelude.{AllPairs, Contains, ◌==◌}
 use Rattle.std.proofs.lemmas.List.{length-map, map-append}
 use Rattle.std.proofs.lemmas.List.Elements.{Contains-append_cases}
@@ -12,7 +14,8 @@ use Rattle.cqf_model.specs.declared.history.Refused.{Refused}
 use Rattle.cqf_model.specs.declared.history.Reply.TheVariants.{Accepted, Sealed, Refused as RefusedFor}
 use Rattle.cqf_model.specs.declared.topology.Row.{Row}
 use Rattle.cqf_model.specs.Domain.{Domain}
-use Rattle.cqf_model.specs.History.{Act, Admits, Asked, IsLegalHistory, Recorded, Seals, held_in, is_seal, next_number, refusal_of, reply_to, seals, streams_of, admit_reply}
+use Rattle.cqf_model.specs.History.{Act, Admits, Asked, IsLegalHistory, Recorded, Seals, held_in, is_seal, next_number}
+use Rattle.cqf_model.specs.History.{refusal_of, reply_to, seals, streams_of, admit_reply}
 use Rattle.cqf_model.specs.Table.{is_held}
 use Rattle.cqf_laws_history.specs.StateLaws.{GrantedIsHeld, HistoryGoesOn, IsState, SealLetsGo, SealsAreCounted, granted_row, with_entry}
 use Rattle.cqf_laws_history.specs.StreamLaws.{GrantedIsLast}
@@ -36,7 +39,8 @@ abbrev pub of_entries : Domain → List Recorded → Administration
 of_entries d entries = record { domain = d; entries = entries }
 
 -- what a call leaves that is entered
-pub record Leaves (d : Domain) (requests : List Request) (entries after : List Recorded) (stands : List Stand) (slots : List (List ℕ)) (sealed seat : ℕ) (act : Act)
+pub record Leaves (d : Domain) (requests : List Request) (entries after : List Recorded) (stands : List Stand) (slots : List (List ℕ))
+    (sealed seat : ℕ) (act : Act)
     (result : Result Receipt Refused) (held : List Row) : Type 0 where
   pub of : AreOf d requests after stands slots sealed
   pub answers : Answers (of_entries d entries) (of_entries d after) seat act result
@@ -62,7 +66,8 @@ module _ (d : Domain) (requests : List Request) (entries after : List Recorded) 
     running more =
         let all = with_entry entries seat act (reply_to d entries act) in
         subst (λ (es : List Recorded). IsRunning d es (held_in d es (seals es)) (next_number d es) sealed) same
-        (run_on goes_on count d entries (held_in d entries (seals entries)) (held_in d all (seals all)) (next_number d entries) (next_number d all) sealed seat act
+        (run_on goes_on count d entries (held_in d entries (seals entries)) (held_in d all (seals all)) (next_number d entries)
+        (next_number d all) sealed seat act
         no_seal r.running few (omega (arith, more, ap (next_number d) same)) (record { held = refl; number = refl }))
 
     pub answered : is_entered result ≡ true → Answers (of_entries d entries) (of_entries d after) seat act result
@@ -110,7 +115,8 @@ module _ (d : Domain) (requests : List Request) (entries after : List Recorded) 
     new = granted_row d (next_number d entries) (seals entries) asked
 
     streams : streams_of d after ≡ streams_of d entries ++ new ∷ []
-    streams = ap (streams_of d) (sym (same goes_on count seat (Admits asked) (Ok receipt) refl few due entered)) ∙ last d entries seat asked r.running.legal none
+    streams = ap (streams_of d) (sym (same goes_on count seat (Admits asked) (Ok receipt) refl few due entered))
+        ∙ last d entries seat asked r.running.legal none
 
     cycle : seals after ≡ seals entries
     cycle = sealed_same goes_on count seat (Admits asked) (Ok receipt) refl few due entered
@@ -157,7 +163,8 @@ module _ (d : Domain) (requests : List Request) (entries after : List Recorded) 
       let gone_in : AreLetGo (get_or slots ((seals entries + 1) % 32) []) (stands_in d requests entries) let_go =
       subst (λ (n : ℕ). AreLetGo (get_or slots ((n + 1) % 32) []) (stands_in d requests entries) let_go) c
       (subst (λ (ss : List Stand). AreLetGo (get_or slots ((sealed + 1) % 32) []) ss let_go) r.are_streams gone) in
-      let lists = ring_lists_ends (number_of_form requests) mask_of d entries slots r.running.legal (subst (λ (ss : List Stand). IsRing ss slots) r.are_streams r.ring) in (
+      let lists = ring_lists_ends (number_of_form requests) mask_of d entries slots r.running.legal
+      (subst (λ (ss : List Stand). IsRing ss slots) r.are_streams r.ring) in (
         record {
           running = record {
             legal = subst (IsLegalHistory d) (sym entered) ran.legal;
@@ -183,7 +190,8 @@ module _ (d : Domain) (requests : List Request) (entries after : List Recorded) 
       record {
         inside = inside;
         held = λ s. (and_parts (get_or stands number s).held _
-            (sym (r.ring.lists ((sealed + 1) % 32) number s low inside) ∙ member_any (λ other. other == number) (get_or slots ((sealed + 1) % 32) []) number there
+            (sym (r.ring.lists ((sealed + 1) % 32) number s low inside) ∙ member_any (λ other. other == number)
+            (get_or slots ((sealed + 1) % 32) []) number there
             (eq-eqb number number refl))).0;
       }
 

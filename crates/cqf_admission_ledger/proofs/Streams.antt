@@ -1,5 +1,6 @@
 -- The figures are those of the streams.
-use Rattle.std.proofs.Common.{◌≡◌, ℕ, ◌+◌, ◌<◌, ◌≤◌, Bool, true, false, cond, not, List, [], ◌∷◌, map, filter, get_or, length, refl, sym, ap, ◌∙◌, arith, inl, inr, zero, suc}
+use Rattle.std.proofs.Common.{◌≡◌, ℕ, ◌+◌, ◌<◌, ◌≤◌, Bool, true, false, cond, not, List, [], ◌∷◌, map, filter, get_or}
+use Rattle.std.proofs.Common.{length, refl, sym, ap, ◌∙◌, arith, inl, inr, zero, suc}
 use Rattle.std.specs.Prelude.{if◌then◌else◌, ◌&&◌}
 use Rattle.std.proofs.lemmas.Bool.{both_ways, cases_Bool}
 use Rattle.std.proofs.lemmas.List.{get_or-map, length-map}
@@ -22,7 +23,8 @@ held_cost_is_link_cost number mask [] cycle l parts = refl
 held_cost_is_link_cost number mask (row ∷ rows) cycle l parts =
     by_flag (is_held row cycle) refl (held_cost_is_link_cost number mask rows cycle l (λ r c. parts r (contains_later row rows r c)))
   where
-    by_flag : (b : Bool) → is_held row cycle ≡ b → held_cost (map (stand_of number mask cycle) rows) l ≡ link_cost (filter (λ (r : Row). is_held r cycle) rows) l →
+    by_flag : (b : Bool) → is_held row cycle ≡ b → held_cost (map (stand_of number mask cycle) rows) l
+        ≡ link_cost (filter (λ (r : Row). is_held r cycle) rows) l →
         held_cost (map (stand_of number mask cycle) (row ∷ rows)) l ≡ link_cost (cond (is_held row cycle) (row ∷ filter (λ (r : Row). is_held r cycle) rows)
         (filter (λ (r : Row). is_held r cycle) rows)) l
     by_flag true e rest =

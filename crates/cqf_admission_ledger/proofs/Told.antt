@@ -1,5 +1,6 @@
 -- What the figures tell of held streams is so.
-use Rattle.std.proofs.Common.{◌≡◌, ℕ, ◌<◌, ◌-◌, Bool, true, false, cond, List, Some, [], ◌∷◌, find, get_or, length, nat_lt, refl, sym, ap, ◌∙◌, arith, zero, suc}
+use Rattle.std.proofs.Common.{◌≡◌, ℕ, ◌<◌, ◌-◌, Bool, true, false, cond, List, Some, [], ◌∷◌, find, get_or, length}
+use Rattle.std.proofs.Common.{nat_lt, refl, sym, ap, ◌∙◌, arith, zero, suc}
 use Rattle.std.specs.Prelude.{All, Contains, ◌==◌, ◌&&◌, ◌||◌, if◌then◌else◌, nat_le}
 use Rattle.std.specs.List.{list_any}
 use Rattle.std.proofs.lemmas.Bool.{and_from, both_ways, eq-eqb}
@@ -45,7 +46,8 @@ module _ (d : Domain) (requests : List Request) (entries : List Recorded)
     (known : (row : Row) → Contains (streams_of d entries) row → number_of_form requests row.name < length requests) where
   -- a name is held under its number
   pub taken : (name : List ℕ) →
-      is_taken (stands_in d requests entries) (number_of_form requests name) ≡ list_any (λ (row : Row). is_text row.name name) (held_in d entries (seals entries))
+      is_taken (stands_in d requests entries) (number_of_form requests name) ≡ list_any (λ (row : Row). is_text row.name name)
+      (held_in d entries (seals entries))
   taken name =
       list_any-map (λ (stand : Stand). stand.held && (stand.name == number_of_form requests name)) (stand_of (number_of_form requests) mask_of (seals entries))
       (streams_of d entries)
@@ -84,11 +86,13 @@ short_alike d stands rows cost (x ∷ links) same low =
         ≡ refused_at (λ l. BudgetShort l (left_on d rows l))
         (cond (nat_lt (left_on d rows x) cost) (Some x) (find (λ l. nat_lt (left_on d rows l) cost) links))
     by true test left rest is =
-        ap (λ (c : Bool). refused_at (λ l. BudgetShort l (left_by d stands l)) (cond c (Some x) (find (λ l. nat_lt (left_by d stands l) cost) links))) (test ∙ is)
+        ap (λ (c : Bool). refused_at (λ l. BudgetShort l (left_by d stands l)) (cond c (Some x) (find (λ l. nat_lt (left_by d stands l) cost) links)))
+        (test ∙ is)
         ∙ ap (λ (n : ℕ). Some (BudgetShort x n)) left
         ∙ sym (ap (λ (c : Bool). refused_at (λ l. BudgetShort l (left_on d rows l)) (cond c (Some x) (find (λ l. nat_lt (left_on d rows l) cost) links))) is)
     by false test left rest is =
-        ap (λ (c : Bool). refused_at (λ l. BudgetShort l (left_by d stands l)) (cond c (Some x) (find (λ l. nat_lt (left_by d stands l) cost) links))) (test ∙ is)
+        ap (λ (c : Bool). refused_at (λ l. BudgetShort l (left_by d stands l)) (cond c (Some x) (find (λ l. nat_lt (left_by d stands l) cost) links)))
+        (test ∙ is)
         ∙ rest
         ∙ sym (ap (λ (c : Bool). refused_at (λ l. BudgetShort l (left_on d rows l)) (cond c (Some x) (find (λ l. nat_lt (left_on d rows l) cost) links))) is)
 

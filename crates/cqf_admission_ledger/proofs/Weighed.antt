@@ -96,7 +96,17 @@ module _ (d : Domain) (requests : List Request) (entries : List Recorded) (stand
     fits l low =
         let part : part_on j.mask j.cost l ≤ j.cost = part_within (has_bit j.mask l) j.cost in
         let most : budget d l ≤ d.cycle_time - d.guard = div-le_self (d.cycle_time - d.guard) (octet_time_of d l) in
-        omega (arith, within d requests entries stands slots sealed r sound l low, most, ok.cycle_most, part, g.costs, div-le_self asked.octets 64, g.most_octets)
+        omega (
+          arith,
+          within d requests entries stands slots sealed r sound l low,
+          most,
+          ok.cycle_most,
+          part,
+          g.costs,
+          div-le_self asked.octets
+              64,
+          g.most_octets,
+        )
 
   pub weighs_none : (form : Form) (refused : Refused) → IsFormOf d requests asked form → Weighs d stands form (Err refused) →
       refusal_of d (held_in d entries (seals entries)) asked ≡ Some refused
@@ -106,7 +116,8 @@ module _ (d : Domain) (requests : List Request) (entries : List Recorded) (stand
       refusal_form d (held_in d entries (seals entries)) asked refused (of ∙ ap (λ (x : Refused). Some x) same)
   weighs_none (Good j) refused of w = refusal_told j of ∙ w
 
-  pub weighs_one : (form : Form) (stand : Stand) → IsFormOf d requests asked form → Weighs d stands form (Ok stand) → IsNew d requests entries stands asked stand
+  pub weighs_one : (form : Form) (stand : Stand) → IsFormOf d requests asked form → Weighs d stands form (Ok stand) →
+      IsNew d requests entries stands asked stand
   weighs_one Unseen stand of w = absurd w
   weighs_one (Bad reason) stand of w = absurd cc
   weighs_one (Good j) stand of w =

@@ -1,5 +1,6 @@
 -- The ring of a history's streams.
-use Rattle.std.proofs.Common.{◌≡◌, ℕ, ◌+◌, ◌<◌, ◌%◌, Bool, true, false, List, Option, Some, None, map, get_or, length, refl, sym, ap, ◌∙◌, arith, mod-lt, inl, inr}
+use Rattle.std.proofs.Common.{◌≡◌, ℕ, ◌+◌, ◌<◌, ◌%◌, Bool, true, false, List, Option, Some, None, map, get_or, length}
+use Rattle.std.proofs.Common.{refl, sym, ap, ◌∙◌, arith, mod-lt, inl, inr}
 use Rattle.std.specs.Prelude.{Contains, ◌==◌, ◌&&◌}
 use Rattle.std.specs.Option.{option_map_or}
 use Rattle.std.proofs.lemmas.Bool.{cases_Bool}
@@ -31,12 +32,15 @@ slot_is_end number mask d entries row legal c = elim (cases_Bool (is_held row (s
     by_end : is_held row (seals entries) ≡ true → (o : Option Cycle) → row.withdrawn ≡ o →
         in_slot ((seals entries + 1) % 32) (stand_of number mask (seals entries) row) ≡ (is_held row (seals entries) && ends_in (seals entries + 1) row)
     by_end t None e =
-        ap (λ (x : Option Cycle). is_held row (seals entries) && option_map_or (λ (w : Cycle). (w.0 + residence row) % 32 == (seals entries + 1) % 32) x false) e
+        ap (λ (x : Option Cycle). is_held row (seals entries) && option_map_or (λ (w : Cycle). (w.0 + residence row) % 32 == (seals entries + 1) % 32) x false)
+        e
         ∙ sym (ap (λ (x : Option Cycle). is_held row (seals entries) && option_map_or (λ (w : Cycle). end_from row w == seals entries + 1) x false) e)
     by_end t (Some w) e =
         let held = contains_filter (λ (r : Row). is_held r (seals entries)) (streams_of d entries) row c t in
-        let soon = ends_are_soon d entries (held_in d entries (seals entries)) (next_number d entries) row w legal (record { held = refl; number = refl }) held e in
-        ap (λ (x : Option Cycle). is_held row (seals entries) && option_map_or (λ (w : Cycle). (w.0 + residence row) % 32 == (seals entries + 1) % 32) x false) e
+        let soon = ends_are_soon d entries (held_in d entries (seals entries)) (next_number d entries) row w legal
+        (record { held = refl; number = refl }) held e in
+        ap (λ (x : Option Cycle). is_held row (seals entries) && option_map_or (λ (w : Cycle). (w.0 + residence row) % 32 == (seals entries + 1) % 32) x false)
+        e
         ∙ ap (λ (b : Bool). is_held row (seals entries) && b) (sym (slot_tells (seals entries) (end_from row w) soon.later soon.soon))
         ∙ sym (ap (λ (x : Option Cycle). is_held row (seals entries) && option_map_or (λ (w : Cycle). end_from row w == seals entries + 1) x false) e)
 

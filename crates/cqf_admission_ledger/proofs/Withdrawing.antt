@@ -1,5 +1,6 @@
 -- The figures of a history with a withdrawal more.
-use Rattle.std.proofs.Common.{◌≡◌, ℕ, ◌+◌, ◌-◌, ◌<◌, ◌%◌, Bool, true, false, List, Some, None, Ok, [], ◌∷◌, ◌++◌, map, get_or, set, length, refl, sym, ap, ◌∙◌, subst, arith, mod-lt}
+use Rattle.std.proofs.Common.{◌≡◌, ℕ, ◌+◌, ◌-◌, ◌<◌, ◌%◌, Bool, true, false, List, Some, None, Ok, [], ◌∷◌, ◌++◌, map}
+use Rattle.std.proofs.Common.{get_or, set, length, refl, sym, ap, ◌∙◌, subst, arith, mod-lt}
 use Rattle.std.specs.Prelude.{Contains, ◌==◌, if◌then◌else◌}
 use Rattle.std.proofs.lemmas.Bool.{eq-eqb}
 use Rattle.std.proofs.lemmas.List.{length-map}
@@ -38,7 +39,8 @@ name_stays number cycle row = by (row.no == number)
     by false = refl
 
 module _ (d : Domain) (requests : List Request) (entries after : List Recorded) (stands : List Stand) (slots : List (List ℕ)) (sealed : ℕ)
-    (r : AreOf d requests entries stands slots sealed) (goes_on : HistoryGoesOn) (count : SealsAreCounted) (withdraws : WithdrawnIsHeldOn) (sound : HeldAreSound)
+    (r : AreOf d requests entries stands slots sealed) (goes_on : HistoryGoesOn) (count : SealsAreCounted) (withdraws : WithdrawnIsHeldOn)
+    (sound : HeldAreSound)
     (ends : WithdrawnEnds) (seat : ℕ) (name : List ℕ) (number slot : ℕ) (stand : Stand) (less : List Stand) (more : List (List ℕ)) (receipt : Receipt)
     (few : length entries - sealed < 100000) (opened : IsOpenFormAt stands (number_of_form requests name) number)
     (is_stand : (s : Stand) → get_or stands number s ≡ stand) (is_slot : slot ≡ (sealed + stand.residence) % 32)
@@ -121,7 +123,8 @@ module _ (d : Domain) (requests : List Request) (entries after : List Recorded) 
     holds =
         ap (λ (es : List Recorded). held_in d es (seals es))
         (sym (same d requests entries after stands slots sealed r goes_on count seat (Withdraws name) (Ok receipt) refl few due entered))
-        ∙ (withdraws d entries (held_in d entries (seals entries)) (next_number d entries) seat name f.row r.running.legal (record { held = refl; number = refl })
+        ∙ (withdraws d entries (held_in d entries (seals entries)) (next_number d entries) seat name f.row r.running.legal
+        (record { held = refl; number = refl })
         f.named open_end).held
         ∙ (λ i. map (ended_row (f.number_is i) (sym r.running.counted i)) (held_in d entries (seals entries)))
         ∙ ap (λ (x : Receipt). map (ended_row x.no x.effect.0) (held_in d entries (seals entries))) (sym is_receipt);

@@ -20,6 +20,7 @@ use Rattle.cqf_admission_ledger.specs.declared.forms.Form.TheVariants.{Bad, Good
 use Rattle.cqf_admission_ledger.specs.declared.forms.Judgement.{Judgement}
 use Rattle.cqf_admission_ledger.specs.declared.holdings.Stand.{Stand}
 use Rattle.cqf_admission_ledger.specs.Holdings.{IsFree, IsHolder, held_cost, held_count}
+use Rattle.cqf_model.specs.Limits.{most_reserved, most_streams}
 
 -- the number of a name: the place of the first request of it, and behind all where none has it
 abbrev pub number_of_form : List Request → List ℕ → ℕ
@@ -34,12 +35,12 @@ pub record IsJudgementOf (d : Domain) (requests : List Request) (asked : Asked) 
   pub masked : judgement.mask ≡ mask_of (granted_row d 0 0 asked)
   pub resides : judgement.residence ≡ residence (granted_row d 0 0 asked)
   pub linked : judgement.links.items ≡ links_of (granted_row d 0 0 asked)
-  pub most_octets : asked.octets ≤ 60000
+  pub most_octets : asked.octets ≤ most_reserved
 
 -- a request of good form, and its row as that of number 0 and of cycle 0
 pub record IsRowOfGoodForm (d : Domain) (asked : Asked) (row : Row) : Type 0 where
   pub none : form_refusal d asked ≡ None
-  pub most_octets : asked.octets ≤ 60000
+  pub most_octets : asked.octets ≤ most_reserved
   pub is : row ≡ granted_row d 0 0 asked
 
 -- what is known of a request's form is so
@@ -78,7 +79,7 @@ stand_short d stands cost links = refused_at (λ l. BudgetShort l (left_by d sta
 abbrev pub stand_refusal : Domain → List Stand → ℕ → ℕ → List ℕ → Option Refused
 stand_refusal d stands name cost links =
     or_else (refused_if (is_taken stands name) NameHeld)
-    (or_else (refused_if (nat_le 1024 (held_count stands)) TooManyStreams) (stand_short d stands cost links))
+    (or_else (refused_if (nat_le most_streams (held_count stands)) TooManyStreams) (stand_short d stands cost links))
 
 -- the stream of a request of good form, as it is held
 abbrev pub stand_by : Judgement → Stand

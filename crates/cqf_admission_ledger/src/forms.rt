@@ -4,6 +4,7 @@ ghost use Rattle.cqf_model.specs.Table.{links_of, residence};
 ghost use Rattle.cqf_admission.specs.Asking.{asked_of};
 ghost use Rattle.cqf_admission.specs.Rows.{mask_of, with_link};
 ghost use Rattle.cqf_admission_ledger.specs.Forms.{AreUnseen, IsFormOf, IsRowOfGoodForm, IsSeen};
+ghost use Rattle.cqf_model.specs.Limits.{most_reserved};
 
 use cqf_admission::judge;
 use cqf_admission_requests::Names;
@@ -123,7 +124,7 @@ fn form_by_row(
 ) -> Result<Form, Memory>
     requires among { Contains names.now request.now }
     requires row { IsRowOfGoodForm _domain.now (asked_of request.now) row.now }
-    requires most { row.now.octets ≤ 60000 }
+    requires most { row.now.octets ≤ most_reserved }
     ensures { IfOk result (IsFormOf _domain.now names.now (asked_of request.now)) }
 {
     let Some(name) = names.place_of(request.name.as_str()) else {

@@ -1,5 +1,6 @@
 //! Accepted streams by number, of which some are held.
-ghost use Rattle.std.specs.Prelude.{◌≡◌, ◌+◌, ◌-◌, ◌<◌, ◌≤◌, ◌^◌, ℕ, [], ◌∷◌, ◌++◌, length, true, IfOk, OnOk, MatchOption, slice_index_or, slice_set, vec_len, vec_capacity};
+ghost use Rattle.std.specs.Prelude.{◌≡◌, ◌+◌, ◌-◌, ◌<◌, ◌≤◌, ◌^◌, ℕ, [], ◌∷◌, ◌++◌, length, true, IfOk, OnOk};
+ghost use Rattle.std.specs.Prelude.{MatchOption, slice_index_or, slice_set, vec_len, vec_capacity};
 ghost use Rattle.cqf_admission.specs.Rows.{part_on};
 ghost use Rattle.cqf_admission_ledger.specs.Holdings.{IsFree, IsHolder, IsHeldAt, holding_ended, held_cost, held_count, released};
 

@@ -145,17 +145,11 @@ impl<'s> Ledger<'s> {
         if self.log.len() - self.sealed as usize >= MOST_CALLS {
             return Err(Refused::HistoryFull);
         }
-        if self.log.reserve(1).is_err() {
-            return Err(Refused::Memory);
-        }
-        if self.holdings.reserve().is_err() {
-            return Err(Refused::Memory);
-        }
+        self.log.reserve(1)?;
+        self.holdings.reserve()?;
         let request = &self.requests[place];
         let form = &mut self.forms[place];
-        let Ok(()) = see(self.alloc, self.domain, &self.names, request, form) else {
-            return Err(Refused::Memory);
-        };
+        see(self.alloc, self.domain, &self.names, request, form)?;
         state_follows_history();
         streams_follow_history();
         know_domain(self.domain);
@@ -215,9 +209,7 @@ impl<'s> Ledger<'s> {
         if self.log.len() - self.sealed as usize >= MOST_CALLS {
             return Err(Refused::HistoryFull);
         }
-        if self.log.reserve(1).is_err() {
-            return Err(Refused::Memory);
-        }
+        self.log.reserve(1)?;
         state_follows_history();
         streams_follow_history();
         let effect = Cycle(self.sealed);
@@ -226,9 +218,7 @@ impl<'s> Ledger<'s> {
         match find_open(&self.names, &self.holdings, word) {
             Ok(number) => {
                 let slot = slot_of(self.sealed, self.holdings.stand(number).residence);
-                let Ok(()) = self.slots.put(slot, number) else {
-                    return Err(Refused::Memory);
-                };
+                self.slots.put(slot, number)?;
                 self.holdings.end(number, effect);
                 let receipt = Receipt { no: number, effect };
                 enter(&mut self.log, seat, what, Reply::Accepted(receipt));
@@ -252,9 +242,7 @@ impl<'s> Ledger<'s> {
         if self.sealed >= MOST_SEALS {
             return Err(SealFault::CyclesSpent);
         }
-        if self.log.reserve(1).is_err() {
-            return Err(SealFault::Memory);
-        }
+        self.log.reserve(1)?;
         state_follows_history();
         let cycle = Cycle(self.sealed);
         let slot = (self.sealed + 1) % 32;

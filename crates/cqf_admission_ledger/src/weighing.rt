@@ -17,6 +17,7 @@ use cqf_units::budget;
 pub(crate) fn know_domain(domain: &Domain)
     ensures { IsAccepted domain.now }
 {
+    // the domain is accepted: a fact
     let _ = domain.cycle_time();
 }
 

@@ -43,7 +43,8 @@ or_nothing (Some x) = refl
 module _ {K : Type 0} (entries : List (K × ℕ)) (text : K → List ℕ) (requests after : List Request) (request : Request)
     (leads : LeadToFirst entries text requests) (more : after ≡ requests ++ request ∷ []) where
   -- the first place of a name behind one request more
-  placed : (name : List ℕ) → place_named after name ≡ or_else (lookup (λ key. is_text (text key) name) entries) (cond (has_name name request) (Some (length requests)) None)
+  placed : (name : List ℕ) → place_named after name ≡ or_else (lookup (λ key. is_text (text key) name) entries)
+      (cond (has_name name request) (Some (length requests)) None)
   placed name = ap (λ rs. place_named rs name) more ∙ position-push (has_name name) requests request
       ∙ ap (λ o. or_else o (cond (has_name name request) (Some (length requests)) None)) (sym (leads name))
 

@@ -13,7 +13,9 @@ use Rattle.cqf_admission_script.specs.declared.lines.Wish.{Wish}
 use Rattle.cqf_admission_script.specs.declared.lines.Wish.TheVariants.{Admit, Withdraw}
 use Rattle.cqf_admission_script.specs.Lines.{Written, is_seal_line, order_of_line}
 use Rattle.cqf_model.specs.Limits.{most_calls}
-use Rattle.cqf_admission_script.specs.Script.{AreFew, Called, act_for, administrators, call_of_line, call_of_order, call_of_seal, called_behind, calls_from, others_among, request_named, script_of, sealed_behind, seals_among}
+use Rattle.cqf_admission_script.specs.Script.{AreFew, Called, act_for, administrators, call_of_line, call_of_order}
+use Rattle.cqf_admission_script.specs.Script.{call_of_seal, called_behind, calls_from, others_among, request_named}
+use Rattle.cqf_admission_script.specs.Script.{script_of, sealed_behind, seals_among}
 
 -- what a step and the rest gave, where both gave something
 pub parted : {A E : Type 0} (first : Result A E) (rest : Result (List A) E) (found : List A) → and_first first rest ≡ Ok found →
@@ -124,7 +126,8 @@ AreSoFew-more cycles sealed called line call found false off c few =
     record { seals = omega (arith, few.seals, none, still); others = omega (arith, few.others, one, behind) }
 
 -- so few calls stay within the bounds
-AreSoFew-behind : (cycles sealed called : ℕ) (line : List ℕ) (call : Called) (test : Bool) → is_seal_line line ≡ test → IsCounted cycles sealed called line call →
+AreSoFew-behind : (cycles sealed called : ℕ) (line : List ℕ) (call : Called) (test : Bool) → is_seal_line line ≡ test →
+    IsCounted cycles sealed called line call →
     sealed ≤ cycles → called ≤ 100000 → (sealed_behind sealed line ≤ cycles) × (called_behind called line ≤ 100000)
 AreSoFew-behind cycles sealed called line call true is c s o =
     let behind : sealed_behind sealed line ≡ sealed + 1 = ap (λ b. if b then sealed + 1 else sealed) is in

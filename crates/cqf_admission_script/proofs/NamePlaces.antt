@@ -1,5 +1,7 @@
 -- Where a line's name stands: at the line's end.
-use Rattle.std.proofs.Common.{◌≡◌, ◌∙◌, ◌+◌, ◌-◌, ◌≤◌, ℕ, Bool, true, false, List, [], ◌∷◌, ◌++◌, Option, Some, None, length, length-append, take, drop, take-append-drop, refl, sym, ap, subst, arith, append_assoc}
+use Rattle.std.proofs.Common.{◌≡◌, ◌∙◌, ◌+◌, ◌-◌, ◌≤◌, ℕ, Bool, true, false, List, [], ◌∷◌, ◌++◌, Option, Some, None}
+use Rattle.std.proofs.Common.{length, length-append, take, drop, take-append-drop, refl, sym, ap, subst, arith}
+use Rattle.std.proofs.Common.{append_assoc}
 use Rattle.std.specs.Prelude.{option_and_then, if◌then◌else◌}
 use Rattle.std.proofs.lemmas.List.{take_at}
 use Rattle.std.proofs.Math.Seq.{drop-append_seam, drop-drop}
@@ -63,7 +65,8 @@ name_ends (digit ∷ rest) order h = by (seat_of_digit digit) h
     by None h = absurd (cc)
     by (Some seat) h =
         let found : EndsIn rest order.name =
-        behind_ends rest seat order (order_of Admit seat (word_behind (codes " admit ") rest)) (order_of Withdraw seat (word_behind (codes " withdraw ") rest)) h
+        behind_ends rest seat order (order_of Admit seat (word_behind (codes " admit ") rest))
+        (order_of Withdraw seat (word_behind (codes " withdraw ") rest)) h
         (λ first. order_ends Admit seat rest (word_behind (codes " admit ") rest) order first (word_ends (codes " admit ") rest))
         (λ second. order_ends Withdraw seat rest (word_behind (codes " withdraw ") rest) order second (word_ends (codes " withdraw ") rest)) in
         record { start = digit ∷ found.start; is = ap (λ (xs : List ℕ). digit ∷ xs) found.is; word = found.word }

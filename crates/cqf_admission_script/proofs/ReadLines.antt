@@ -1,5 +1,6 @@
 -- How far the lines of a script have been read.
-use Rattle.std.proofs.Common.{ℕ, ◌≡◌, ◌+◌, ◌<◌, ◌≤◌, List, [], ◌∷◌, ◌++◌, length, Result, Ok, Err, refl, ap, subst, sym, ◌∙◌, append_assoc, arith, ◌-◌, All, drop, take, length-drop, length-take-le, inl, inr}
+use Rattle.std.proofs.Common.{ℕ, ◌≡◌, ◌+◌, ◌<◌, ◌≤◌, List, [], ◌∷◌, ◌++◌, length, Result, Ok, Err, refl, ap, subst, sym}
+use Rattle.std.proofs.Common.{◌∙◌, append_assoc, arith, ◌-◌, All, drop, take, length-drop, length-take-le, inl, inr}
 use Rattle.std.proofs.lemmas.List.{append-nil}
 use Rattle.cqf_text.specs.Lines.{lines_of}
 use Rattle.cqf_model.specs.History.{Asked}

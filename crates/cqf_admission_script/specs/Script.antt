@@ -1,5 +1,6 @@
 -- What a script calls for (profile).
-use Rattle.std.specs.Prelude.{ℕ, ◌+◌, ◌≤◌, List, [], ◌∷◌, Option, Some, None, Result, Ok, Err, count_by, find, max, nat_le, not, ok_or, option_map, if◌then◌else◌}
+use Rattle.std.specs.Prelude.{ℕ, ◌+◌, ◌≤◌, List, [], ◌∷◌, Option, Some, None, Result, Ok, Err, count_by, find, max}
+use Rattle.std.specs.Prelude.{nat_le, not, ok_or, option_map, if◌then◌else◌}
 use Rattle.cqf_lists.specs.Results.{and_then}
 use Rattle.cqf_text.specs.Lines.{lines_of}
 use Rattle.cqf_model.specs.Domain.{is_text}

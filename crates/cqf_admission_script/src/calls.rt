@@ -9,7 +9,8 @@ ghost use Rattle.cqf_admission_requests.specs.Orders.{StandsIn, ordered_in};
 ghost use Rattle.cqf_admission_script.specs.Lines.{order_of_line};
 ghost use Rattle.cqf_admission_script.specs.Placed.{LineEnds, NameEnds};
 ghost use Rattle.cqf_admission_script.specs.Written.{written};
-ghost use Rattle.cqf_admission_script.specs.Script.{AreFew, administrators, call_of_line, call_of_order, call_of_seal, called_behind, called_of, script_of, sealed_behind, seats_up_to};
+ghost use Rattle.cqf_admission_script.specs.Script.{AreFew, administrators, call_of_line, call_of_order, call_of_seal};
+ghost use Rattle.cqf_admission_script.specs.Script.{called_behind, called_of, script_of, sealed_behind, seats_up_to};
 
 use crate::ScriptFault;
 use crate::lines::{Order, Wish, is_seal_line, read_order};

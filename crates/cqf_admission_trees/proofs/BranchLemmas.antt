@@ -1,5 +1,6 @@
 -- Places of a branch.
-use Rattle.std.proofs.Common.{◌≡◌, ℕ, ◌+◌, ◌-◌, ◌<◌, ◌≤◌, Bool, true, false, List, Option, Some, None, [], ◌∷◌, ◌++◌, ◌||◌, ◌&&◌, ◌==◌, not, length, get_or, refl, ap}
+use Rattle.std.proofs.Common.{◌≡◌, ℕ, ◌+◌, ◌-◌, ◌<◌, ◌≤◌, Bool, true, false, List, Option, Some, None, [], ◌∷◌, ◌++◌}
+use Rattle.std.proofs.Common.{◌||◌, ◌&&◌, ◌==◌, not, length, get_or, refl, ap}
 use Rattle.std.proofs.Common.{◌∙◌, sym, arith, inl, inr, take, length-append}
 use Rattle.std.specs.Prelude.{All, String, Vec, string_bytes, map, option_map, if◌then◌else◌, zero, suc, slice_get, nat_le, nat_lt, is_none}
 use Rattle.std.specs.List.{flat_map, list_any}
@@ -97,7 +98,8 @@ pub not_looping_past : {S : Type 0} (bytes : S → List ℕ) (d : Domain) (path 
     → false ≡ is_loop_at d (map bytes path) place
 not_looping_past bytes d path place past =
     not_looping d (map bytes path) place
-    (ap (λ (o : Option (List ℕ)). option_map_or (λ name. node_named d name) o None) (slice_get_past (map bytes path) place (omega (arith, length-map path bytes))))
+    (ap (λ (o : Option (List ℕ)). option_map_or (λ name. node_named d name) o None)
+    (slice_get_past (map bytes path) place (omega (arith, length-map path bytes))))
 
 -- the node at a place is that of the name there
 pub node_of_name : {S : Type 0} (bytes : S → List ℕ) (d : Domain) (path : List S) (place : ℕ) (name : S) → place < length path

@@ -31,7 +31,8 @@ module _ (pages others : ℕ → List Page) (bridges : ℕ)
   }
 
 -- pages that say what those from before and the shares' say stand in order, so these do: none stands twice, and none is missing
-module _ (opening posted : Posted) (shares : List Own) (before : ArePosted opening) (are : ArePosted posted) (agree : Agree opening shares posted opening.bridges) where
+module _ (opening posted : Posted) (shares : List Own) (before : ArePosted opening) (are : ArePosted posted)
+    (agree : Agree opening shares posted opening.bridges) where
   -- the rows of pages, by bridge
   abbrev rows : List (List Page)
   rows = (with_shares opening shares).pages
@@ -52,7 +53,13 @@ module _ (opening posted : Posted) (shares : List Own) (before : ArePosted openi
   row_in_cycles bridge = elim (cases_lt bridge opening.bridges) [
     | inl inside ↦
         let agrees = agree bridge inside in
-        omega (arith, ap length (row_at bridge inside), agrees.in_cycles, said_count (pages_of posted bridge) (all_pages_of opening shares bridge) (sym agrees.same))
+        omega (
+          arith,
+          ap length (row_at bridge inside),
+          agrees.in_cycles,
+          said_count (pages_of posted bridge) (all_pages_of opening shares bridge)
+              (sym agrees.same),
+        )
     | inr past ↦ omega (arith, ap length (row_past bridge past))
   ]
 

@@ -16,7 +16,8 @@ abbrev rows_said : List (List Page) → List (List Said)
 rows_said rows = map (map said) rows
 
 -- a sum over all pages hangs on what they say
-pub summed : (of_said : Said → ℕ) (rows : List (List Page)) → sum_by (λ row. sum_by of_said row) (rows_said rows) ≡ over_pages (λ (page : Page). of_said (said page)) rows
+pub summed : (of_said : Said → ℕ) (rows : List (List Page)) → sum_by (λ row. sum_by of_said row) (rows_said rows)
+    ≡ over_pages (λ (page : Page). of_said (said page)) rows
 summed of_said rows = sum_map (λ row. sum_by of_said row) (map said) rows ∙ (λ i. sum_by (λ (row : List Page). sum_map of_said said row i) rows)
 
 -- so does how many there are
@@ -50,12 +51,15 @@ module _ (posted other : Posted) (same : rows_said other.pages ≡ rows_said pos
   same_count bridge = said_count (pages_of posted bridge) (pages_of other bridge) (same_row bridge)
 
   -- the page at a place says the same
-  same_page : (bridge cycle : ℕ) (page : Page) → page_at other bridge cycle ≡ Some page → (p : Page) × (page_at posted bridge cycle ≡ Some p) × (said p ≡ said page)
+  same_page : (bridge cycle : ℕ) (page : Page) → page_at other bridge cycle ≡ Some page → (p : Page) × (page_at posted bridge cycle ≡ Some p)
+      × (said p ≡ said page)
   same_page bridge cycle page found = said_at (pages_of posted bridge) (pages_of other bridge) (same_row bridge) cycle page found
 
   -- a sum over all pages is the same
-  same_sum : (of_said : Said → ℕ) → over_pages (λ (page : Page). of_said (said page)) other.pages ≡ over_pages (λ (page : Page). of_said (said page)) posted.pages
-  same_sum of_said = sym (summed of_said other.pages) ∙ ap (λ (rows : List (List Said)). sum_by (λ row. sum_by of_said row) rows) same ∙ summed of_said posted.pages
+  same_sum : (of_said : Said → ℕ) → over_pages (λ (page : Page). of_said (said page)) other.pages
+      ≡ over_pages (λ (page : Page). of_said (said page)) posted.pages
+  same_sum of_said = sym (summed of_said other.pages) ∙ ap (λ (rows : List (List Said)). sum_by (λ row. sum_by of_said row) rows) same
+      ∙ summed of_said posted.pages
 
   -- no page twice and none missing
   copy_posted : other.bridges ≡ posted.bridges → other.cycles ≡ posted.cycles → ArePosted posted → ArePosted other

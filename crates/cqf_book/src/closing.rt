@@ -4,7 +4,8 @@ ghost use Rattle.std.specs.List.{flat_map};
 ghost use Rattle.cqf_model.specs.Book.{contents_of};
 ghost use Rattle.cqf_book.specs.Faults.{IsBookCloseFault, IsFaultOver};
 ghost use Rattle.cqf_book.specs.Pages.{ArePosted, pages_of};
-ghost use Rattle.cqf_book.specs.Shares.{Agree, AreOneEach, IsBookOfPages, IsBookOfShares, IsLeastToDisagree, all_pages_of, is_of, on_pages, pages_by, said, with_shares};
+ghost use Rattle.cqf_book.specs.Shares.{Agree, AreOneEach, IsBookOfPages, IsBookOfShares, IsLeastToDisagree};
+ghost use Rattle.cqf_book.specs.Shares.{all_pages_of, is_of, on_pages, pages_by, said, with_shares};
 
 use crate::cycle_book::Share;
 use crate::faults::BookClose;

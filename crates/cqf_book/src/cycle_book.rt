@@ -2,7 +2,8 @@
 ghost use Rattle.std.specs.Prelude.{◌≡◌, ◌≢◌, ◌↔◌, ◌≤◌, ◌+◌, ◌⊎◌, [], IfErr, IfNone, IfOk, IsErrOf, OnErr, OnOk, Some, vec_len, vec_capacity};
 ghost use Rattle.cqf_model.specs.Book.{contents_of};
 ghost use Rattle.cqf_book.specs.Faults.{IsBookCloseFault, IsPostFault};
-ghost use Rattle.cqf_book.specs.Pages.{ArePosted, AreTotalsOfSome, IsDouble, IsOfStrangeBridge, IsOfStrangeCycle, MayBeNext, MayBeWhole, SkipsCycle, frames_posted, octets_posted};
+ghost use Rattle.cqf_book.specs.Pages.{ArePosted, AreTotalsOfSome, IsDouble, IsOfStrangeBridge, IsOfStrangeCycle};
+ghost use Rattle.cqf_book.specs.Pages.{MayBeNext, MayBeWhole, SkipsCycle, frames_posted, octets_posted};
 ghost use Rattle.cqf_book.specs.Shares.{Agree, AreOneEach, IsBookOfShares, new_shares, said, with_own, with_shares};
 
 use crate::closing::{check_shares, closed};

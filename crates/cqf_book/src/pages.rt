@@ -32,7 +32,8 @@ impl Model for Pages {
 
     ghost view = { λ p. record { bridges = p.bridges; cycles = p.cycles; pages = p.posted.items } };
 
-    ghost invariant = { λ p. AreKeptTotals (record { bridges = p.bridges; cycles = p.cycles; pages = p.posted.items }) p.totals.frames.items p.totals.octets.items };
+    ghost invariant = { λ p. AreKeptTotals (record { bridges = p.bridges; cycles = p.cycles; pages = p.posted.items }) p.totals.frames.items
+        p.totals.octets.items };
 }
 
 impl Pages {

@@ -1,5 +1,6 @@
 -- What becomes of a frame by the gates is what becomes of it behind the frames that they have counted.
-use Rattle.std.proofs.Common.{◌≡◌, ◌+◌, ◌<◌, ℕ, Bool, true, false, not, List, [], ◌∷◌, ◌++◌, ◌∙◌, sym, ap, refl, arith, map, filter, Contains, Option, Some, None}
+use Rattle.std.proofs.Common.{◌≡◌, ◌+◌, ◌<◌, ℕ, Bool, true, false, not, List, [], ◌∷◌, ◌++◌, ◌∙◌, sym, ap, refl, arith}
+use Rattle.std.proofs.Common.{map, filter, Contains, Option, Some, None}
 use Rattle.std.specs.Prelude.{◌==◌, if◌then◌else◌, slice_get, sum_by}
 use Rattle.std.specs.Option.{option_map_or}
 use Rattle.std.proofs.lemmas.Bool.{eq-eqb}
@@ -13,7 +14,9 @@ use Rattle.cqf_model.specs.declared.topology.Row.{Row}
 use Rattle.cqf_model.specs.Domain.{Domain, cycle_of, is_text}
 use Rattle.cqf_model.specs.StreamGate.{Call, octets_in, place_at, same_interval, stream_list, within}
 use Rattle.cqf_model.specs.Table.{begins_at, goes_on, is_live, row_named, row_of, table_of}
-use Rattle.cqf_model.specs.Traffic.{AtEdge, DroppedFor, ExceedsGate, LacksRow, Policed, Queued, Received, Relayed, Verdict, Way, calls_of, edge_verdict, inside_verdict, is_queued_of, police, verdict_by, within_gate}
+use Rattle.cqf_model.specs.Traffic.{AtEdge, DroppedFor, ExceedsGate, LacksRow, Policed, Queued, Received, Relayed}
+use Rattle.cqf_model.specs.Traffic.{Verdict, Way, calls_of, edge_verdict, inside_verdict, is_queued_of, police}
+use Rattle.cqf_model.specs.Traffic.{verdict_by, within_gate}
 use Rattle.cqf_laws_cycle.specs.Compiled.{GateCountsCycles}
 use Rattle.cqf_bridge_gates.specs.declared.gates.KeptGate.{KeptGate}
 use Rattle.cqf_bridge.specs.declared.policing.Outcome.{Outcome}
@@ -23,7 +26,8 @@ use Rattle.cqf_bridge.proofs.Verdicts.{gate_entries}
 
 -- tests that agree on the table's rows give one verdict
 module _ (d : Domain) (rows : List Row) (bridge cycle : ℕ) (p q : Row → Bool) (agree : (row : Row) → Contains rows row → p row ≡ q row) where
-  at_edge : (found : Option Row) → ((row : Row) → found ≡ Some row → Contains rows row) → edge_verdict d bridge cycle p found ≡ edge_verdict d bridge cycle q found
+  at_edge : (found : Option Row) → ((row : Row) → found ≡ Some row → Contains rows row) → edge_verdict d bridge cycle p found
+      ≡ edge_verdict d bridge cycle q found
   at_edge None held = refl
   at_edge (Some row) held =
       let by : Bool → Verdict = λ b.
@@ -33,7 +37,8 @@ module _ (d : Domain) (rows : List Row) (bridge cycle : ℕ) (p q : Row → Bool
       else Queued row)) in
       ap by (agree row (held row refl))
 
-  inside : (m : ℕ) (found : Option Row) → ((row : Row) → found ≡ Some row → Contains rows row) → inside_verdict d bridge m p found ≡ inside_verdict d bridge m q found
+  inside : (m : ℕ) (found : Option Row) → ((row : Row) → found ≡ Some row → Contains rows row) → inside_verdict d bridge m p found
+      ≡ inside_verdict d bridge m q found
   inside m None held = refl
   inside m (Some row) held =
       let by : Bool → Verdict = λ b. if not (goes_on d row (Some m) bridge) then LacksRow else (if not b then ExceedsGate else Queued row) in

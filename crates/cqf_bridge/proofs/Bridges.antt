@@ -1,5 +1,6 @@
 -- A bridge from cycle to cycle.
-use Rattle.std.proofs.Common.{◌≡◌, ◌+◌, ◌*◌, ◌<◌, ℕ, suc, List, [], ◌∷◌, ◌++◌, ◌∙◌, inl, inr, sym, ap, refl, arith, length, map, filter, true, false, if◌then◌else◌, Contains, subst, append-nil}
+use Rattle.std.proofs.Common.{◌≡◌, ◌+◌, ◌*◌, ◌<◌, ℕ, suc, List, [], ◌∷◌, ◌++◌, ◌∙◌, inl, inr, sym, ap, refl, arith}
+use Rattle.std.proofs.Common.{length, map, filter, true, false, if◌then◌else◌, Contains, subst, append-nil}
 use Rattle.std.specs.List.{zip}
 use Rattle.std.proofs.Math.Seq.{drop-length}
 use Rattle.std.proofs.lemmas.Bool.{cond-true, cond-false, true≢false}
@@ -24,7 +25,8 @@ use Rattle.cqf_bridge.specs.Sending.{FirstSend}
 
 -- a member of the firsts of pairs
 first_of_pair : {A B : Type 0} (xs : List A) (ys : List B) (p : A × B) → length ys ≡ length xs → Contains (zip xs ys) p → Contains xs p.0
-first_of_pair {A} {B} xs ys p even held = subst (λ (zs : List A). Contains zs p.0) (firsts-zip xs ys even) (contains_map (λ (q : A × B). q.0) (zip xs ys) p held)
+first_of_pair {A} {B} xs ys p even held = subst (λ (zs : List A). Contains zs p.0) (firsts-zip xs ys even)
+    (contains_map (λ (q : A × B). q.0) (zip xs ys) p held)
 
 -- the ports of the links below one more
 pub one_port_more : (d : Domain) (number link : ℕ) → leaves d link number ≡ true →
@@ -48,8 +50,17 @@ pub bridge_begins : (d own : Domain) (number : ℕ) (ports : List PortRecord) (b
     own ≡ d → ports ≡ (new_bridge d number).ports →
     IsBridge (record { domain = own; number = number; sent = 0; received = 0; spent = false; ports = ports; background = background })
 bridge_begins d own number ports background accepted inside is_own are_ports =
-    subst (λ (x : Domain). IsBridge (record { domain = x; number = number; sent = 0; received = 0; spent = false; ports = ports; background = background })) (sym is_own)
-    (subst (λ (rs : List PortRecord). IsBridge (record { domain = d; number = number; sent = 0; received = 0; spent = false; ports = rs; background = background })) (sym are_ports)
+    subst (λ (x : Domain). IsBridge (record { domain = x; number = number; sent = 0; received = 0; spent = false; ports = ports; background = background }))
+    (sym is_own)
+    (subst (λ (rs : List PortRecord). IsBridge (record {
+      domain = d;
+      number = number;
+      sent = 0;
+      received = 0;
+      spent = false;
+      ports = rs;
+      background = background;
+    })) (sym are_ports)
     (record {
       accepted = accepted;
       inside = inside;
@@ -76,7 +87,8 @@ module _ (b : BridgeState) (is : IsBridge b) (fresh : b.spent ≡ false) (cycle 
   -- its ports are in step to send the cycle
   pub ready_to_send : (r : PortRecord) → Contains b.ports r → IsInStep b.domain cycle cycle r
   ready_to_send r held =
-      subst (λ (n : ℕ). IsInStep b.domain n cycle r) (next.1 ∙ sym next.0) (subst (λ (n : ℕ). IsInStep b.domain b.sent n r) (sym next.0) (is.in_step fresh r held))
+      subst (λ (n : ℕ). IsInStep b.domain n cycle r) (next.1 ∙ sym next.0)
+      (subst (λ (n : ℕ). IsInStep b.domain b.sent n r) (sym next.0) (is.in_step fresh r held))
 
   module _ (ports : List PortRecord) (given batches : List LinkBatch) (others : List Started)
       (h : FirstSend b.domain cycle backed (length b.ports) b.ports ports given batches [] others) where
@@ -114,7 +126,14 @@ module _ (b : BridgeState) (is : IsBridge b) (fresh : b.spent ≡ false) (cycle 
                 let f = contains_from_map (λ (y : QueuedFrame). y.arrival) (backed_on r.link backed) a new in
                 let e = contains_from_map backed_frame (filter (is_for_link r.link) backed) f.0 f.1 in
                 let y = contains_from_filter (is_for_link r.link) backed e.0 e.1 in
-                absurd (omega (arith, high, (frames.each e.0 y.0).good.class_most, ap (λ (g : Arrival). g.class) f.2, ap (λ (g : QueuedFrame). g.arrival.class) e.2))
+                absurd (omega (
+                  arith,
+                  high,
+                  (frames.each e.0 y.0).good.class_most,
+                  ap (λ (g : Arrival). g.class) f.2,
+                  ap
+                      (λ (g : QueuedFrame). g.arrival.class) e.2,
+                ))
           ];
         }
 
@@ -143,7 +162,8 @@ module _ (b : BridgeState) (is : IsBridge b) (fresh : b.spent ≡ false) (cycle 
           ∙ ap (map (λ (r : PortRecord). r.link)) (firsts-zip b.ports h.made h.one_each)
           ∙ is.links fresh;
       in_step = λ _ r held.
-          let f = contains_from_map (port_behind b.domain cycle backed) (zip b.ports h.made) r (subst (λ (rs : List PortRecord). Contains rs r) all_ports held) in
+          let f = contains_from_map (port_behind b.domain cycle backed) (zip b.ports h.made) r (subst (λ (rs : List PortRecord). Contains rs r) all_ports held)
+          in
           subst (IsInStep b.domain (b.sent + 1) b.received) f.2 (in_step_behind f.0 f.1);
     }
 

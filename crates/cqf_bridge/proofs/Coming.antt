@@ -15,7 +15,8 @@ use Rattle.cqf_bridge.specs.Taking.{IsBatchOf}
 pub batch_enters : (d : Domain) (bridge : ℕ) (batches : List LinkBatch) (b : LinkBatch) → map (λ (x : LinkBatch). x.link) batches ≡ links_into d bridge →
     Contains batches b → enters d b.link bridge ≡ true
 batch_enters d bridge batches b are held =
-    let among : Contains (links_into d bridge) b.link = subst (λ (ls : List ℕ). Contains ls b.link) are (contains_map (λ (x : LinkBatch). x.link) batches b held) in
+    let among : Contains (links_into d bridge) b.link = subst (λ (ls : List ℕ). Contains ls b.link) are
+    (contains_map (λ (x : LinkBatch). x.link) batches b held) in
     (kept_number (λ l. enters d l bridge) (length d.links) b.link among).1
 
 -- what holds of the first elements, and of one more

@@ -7,6 +7,7 @@ pub mod InOrder
 mod MadeBatch
 mod PutGates
 mod Receives
+mod Resting
 mod Offering
 pub mod OfferedRuns
 mod RunCycle

@@ -17,7 +17,8 @@ abbrev at_place : List Offer → ℕ → Offer → Offered
 at_place offers k d = record { frame = k + 1; offer = get_or offers k d }
 
 -- the numbered offers before a place, and one more
-numbered_more : (offers : List Offer) (k : ℕ) (d : Offer) → k < length offers → numbered (take (k + 1) offers) ≡ numbered (take k offers) ++ at_place offers k d ∷ []
+numbered_more : (offers : List Offer) (k : ℕ) (d : Offer) → k < length offers → numbered (take (k + 1) offers) ≡ numbered (take k offers)
+    ++ at_place offers k d ∷ []
 numbered_more offers k d below =
     let le : k ≤ length offers = omega arith in
     let count : 1 + length (take k offers) ≡ k + 1 = omega (arith, length-take-le k offers le) in
@@ -35,15 +36,18 @@ module _ (d : Domain) (offers : List Offer) (bridge cycle k : ℕ) (offer : Offe
   more : filter (is_offered_in d bridge cycle) (numbered (take (k + 1) offers))
       ≡ filter (is_offered_in d bridge cycle) (numbered (take k offers)) ++ (if is_offered_in d bridge cycle own then own ∷ [] else [])
   more =
-      ap (filter (is_offered_in d bridge cycle)) (numbered_more offers k offer below ∙ ap (λ (o : Offer). numbered (take k offers) ++ record { frame = k + 1; offer = o } ∷ []) (sym is))
+      ap (filter (is_offered_in d bridge cycle)) (numbered_more offers k offer below
+      ∙ ap (λ (o : Offer). numbered (take k offers) ++ record { frame = k + 1; offer = o } ∷ []) (sym is))
       ∙ filter-append (is_offered_in d bridge cycle) (numbered (take k offers)) (own ∷ [])
 
   -- an offer more is listed
-  pub one_listed : is_offered_in d bridge cycle own ≡ true → (list after : List Offered) → list ≡ filter (is_offered_in d bridge cycle) (numbered (take k offers)) →
+  pub one_listed : is_offered_in d bridge cycle own ≡ true → (list after : List Offered) → list
+      ≡ filter (is_offered_in d bridge cycle) (numbered (take k offers)) →
       after ≡ list ++ own ∷ [] → after ≡ filter (is_offered_in d bridge cycle) (numbered (take (k + 1) offers))
   one_listed hit list after before pushed =
       pushed ∙ ap (λ (xs : List Offered). xs ++ own ∷ []) before
-      ∙ ap (λ (xs : List Offered). filter (is_offered_in d bridge cycle) (numbered (take k offers)) ++ xs) (sym (cond-true (is_offered_in d bridge cycle own) (own ∷ []) [] hit))
+      ∙ ap (λ (xs : List Offered). filter (is_offered_in d bridge cycle) (numbered (take k offers)) ++ xs)
+      (sym (cond-true (is_offered_in d bridge cycle own) (own ∷ []) [] hit))
       ∙ sym more
 
   -- or it is passed by
@@ -51,7 +55,8 @@ module _ (d : Domain) (offers : List Offer) (bridge cycle k : ℕ) (offer : Offe
       list ≡ filter (is_offered_in d bridge cycle) (numbered (take (k + 1) offers))
   one_passed miss list before =
       before ∙ sym (append-nil (filter (is_offered_in d bridge cycle) (numbered (take k offers))))
-      ∙ ap (λ (xs : List Offered). filter (is_offered_in d bridge cycle) (numbered (take k offers)) ++ xs) (sym (cond-false (is_offered_in d bridge cycle own) (own ∷ []) [] miss))
+      ∙ ap (λ (xs : List Offered). filter (is_offered_in d bridge cycle) (numbered (take k offers)) ++ xs)
+      (sym (cond-false (is_offered_in d bridge cycle own) (own ∷ []) [] miss))
       ∙ sym more
 
 -- the instant of an offer, and an offer of any instant

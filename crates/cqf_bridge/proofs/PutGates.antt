@@ -14,7 +14,8 @@ gate_put (x ∷ gates) g = elim (cases_eq x.number g.number) [
       ap (find (λ (k : KeptGate). k.number == g.number)) (cond-true (x.number == g.number) (g ∷ gates) (x ∷ with_gate gates g) (eq-eqb x.number g.number same))
       ∙ cond-true (g.number == g.number) (Some g) (find (λ (k : KeptGate). k.number == g.number) gates) (eq-eqb g.number g.number refl)
   | inr other ↦
-      ap (find (λ (k : KeptGate). k.number == g.number)) (cond-false (x.number == g.number) (g ∷ gates) (x ∷ with_gate gates g) (ne_eqb x.number g.number other))
+      ap (find (λ (k : KeptGate). k.number == g.number)) (cond-false (x.number == g.number) (g ∷ gates) (x ∷ with_gate gates g)
+      (ne_eqb x.number g.number other))
       ∙ cond-false (x.number == g.number) (Some x) (find (λ (k : KeptGate). k.number == g.number) (with_gate gates g)) (ne_eqb x.number g.number other)
       ∙ gate_put gates g
 ]
@@ -38,12 +39,14 @@ pub kept_cases : (gates : List KeptGate) (g k : KeptGate) → Contains (with_gat
 kept_cases [] g k held = elim (contains_cases g [] k held) [ inl e ↦ inr e | inr never ↦ absurd (contains_none k never) ]
 kept_cases (x ∷ gates) g k held = elim (cases_eq x.number g.number) [
   | inl same ↦
-      elim (contains_cases g gates k (subst (λ (gs : List KeptGate). Contains gs k) (cond-true (x.number == g.number) (g ∷ gates) (x ∷ with_gate gates g) (eq-eqb x.number g.number same)) held)) [
+      elim (contains_cases g gates k (subst (λ (gs : List KeptGate). Contains gs k)
+      (cond-true (x.number == g.number) (g ∷ gates) (x ∷ with_gate gates g) (eq-eqb x.number g.number same)) held)) [
         | inl e ↦ inr e
         | inr old ↦ inl (contains_later x gates k old)
       ]
   | inr other ↦
-      elim (contains_cases x (with_gate gates g) k (subst (λ (gs : List KeptGate). Contains gs k) (cond-false (x.number == g.number) (g ∷ gates) (x ∷ with_gate gates g) (ne_eqb x.number g.number other)) held)) [
+      elim (contains_cases x (with_gate gates g) k (subst (λ (gs : List KeptGate). Contains gs k)
+      (cond-false (x.number == g.number) (g ∷ gates) (x ∷ with_gate gates g) (ne_eqb x.number g.number other)) held)) [
         | inl e ↦ inl (subst (Contains (x ∷ gates)) e (contains_here x gates))
         | inr later ↦ elim (kept_cases gates g k later) [
           | inl old ↦ inl (contains_later x gates k old)

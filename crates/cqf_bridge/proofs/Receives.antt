@@ -24,7 +24,7 @@ use Rattle.cqf_bridge.specs.BridgeState.{BridgeState, IsBridge, IsInStep, IsSpen
 use Rattle.cqf_bridge_gates.specs.Gates.{AreKept}
 use Rattle.cqf_bridge.specs.PortRecord.{PortRecord}
 use Rattle.cqf_bridge.specs.Receiving.{CanReceive, Handed, IsNextToReceive, IsReceiveFault, IsRunOfBridge, ReceivesCycle, carried_by, port_queued, verdicts_in}
-use Rattle.cqf_bridge.specs.Taking.{AreReady, HasGates, TakesCycle, stop_of_run}
+use Rattle.cqf_bridge.specs.Taking.{AreReady, HasGates, TakesCycle, IsFaultInRun}
 use Rattle.cqf_bridge.proofs.Bridges.{bridge_spent}
 
 -- what is queued in a cycle comes before its end
@@ -83,13 +83,16 @@ module _ (b : BridgeState) (gates : List KeptGate) (is : HasGates b gates) (fres
       background = b.background;
     }
 
-    module _ (run : Run) (of_run : IsRunOfBridge b.domain b.number cycle rows offers run) (takes : TakesCycle run b.number cycle batches b.ports ports drops) where
+    module _ (run : Run) (of_run : IsRunOfBridge b.domain b.number cycle rows offers run)
+        (takes : TakesCycle run b.number cycle batches b.ports ports drops) where
       -- a port with what was queued to it is in step
-      port_in_step : (r : PortRecord) → Contains b.ports r → IsInStep b.domain b.sent (b.received + 1) (port_queued run (verdicts_in run b.number cycle batches) r)
+      port_in_step : (r : PortRecord) → Contains b.ports r → IsInStep b.domain b.sent (b.received + 1)
+          (port_queued run (verdicts_in run b.number cycle batches) r)
       port_in_step r held =
           let step = is.bridge.in_step fresh r held in
           let time = b.domain.cycle_time in
-          let early : (a : Arrival) → Contains (arrivals_of (queued_to run.domain r.link (verdicts_in run b.number cycle batches))) a → a.at.0 < (b.received + 1) * time =
+          let early : (a : Arrival) → Contains (arrivals_of (queued_to run.domain r.link (verdicts_in run b.number cycle batches))) a →
+          a.at.0 < (b.received + 1) * time =
           λ a new. omega (
             arith,
             queued_early run b.number cycle batches r.link a new,
@@ -99,14 +102,16 @@ module _ (b : BridgeState) (gates : List KeptGate) (is : HasGates b gates) (fres
           record {
             rules = step.rules;
             reached = step.reached;
-            background = λ a inside low. elim (Contains-append_cases r.port.arrivals (arrivals_of (queued_to run.domain r.link (verdicts_in run b.number cycle batches))) a inside) [
-              | inl old ↦ step.background a old low
-              | inr new ↦ omega (arith, early a new, ap (λ (n : ℕ). n * time) next.1)
-            ];
-            of_streams = λ a inside high. elim (Contains-append_cases r.port.arrivals (arrivals_of (queued_to run.domain r.link (verdicts_in run b.number cycle batches))) a inside) [
-              | inl old ↦ omega (arith, step.of_streams a old high)
-              | inr new ↦ early a new
-            ];
+            background = λ a inside low. elim (Contains-append_cases r.port.arrivals
+                (arrivals_of (queued_to run.domain r.link (verdicts_in run b.number cycle batches))) a inside) [
+                  | inl old ↦ step.background a old low
+                  | inr new ↦ omega (arith, early a new, ap (λ (n : ℕ). n * time) next.1)
+                ];
+            of_streams = λ a inside high. elim (Contains-append_cases r.port.arrivals
+                (arrivals_of (queued_to run.domain r.link (verdicts_in run b.number cycle batches))) a inside) [
+                  | inl old ↦ omega (arith, step.of_streams a old high)
+                  | inr new ↦ early a new
+                ];
           }
 
       -- the bridge is one again
@@ -122,7 +127,8 @@ module _ (b : BridgeState) (gates : List KeptGate) (is : HasGates b gates) (fres
               ∙ map-map (λ (r : PortRecord). r.link) (port_queued run (verdicts_in run b.number cycle batches)) b.ports
               ∙ is.bridge.links fresh;
           in_step = λ _ r held.
-              let f = contains_from_map (port_queued run (verdicts_in run b.number cycle batches)) b.ports r (subst (λ (rs : List PortRecord). Contains rs r) takes.queued held) in
+              let f = contains_from_map (port_queued run (verdicts_in run b.number cycle batches)) b.ports r
+              (subst (λ (rs : List PortRecord). Contains rs r) takes.queued held) in
               subst (IsInStep b.domain b.sent (b.received + 1)) f.2 (port_in_step f.0 f.1);
         };
         gates_kept = λ _. subst (λ (n : ℕ). AreKept b.domain.cycle_time ((n + 1) * b.domain.cycle_time) gates_after) next.0 kept;
@@ -145,12 +151,13 @@ module _ (b : BridgeState) (gates : List KeptGate) (is : HasGates b gates) (fres
       }
 
 -- a spent bridge keeps what gates it will
-pub gates_spent : (b : BridgeState) (gates gates_after : List KeptGate) (ports : List PortRecord) → HasGates b gates → HasGates (record b { spent = true; ports = ports }) gates_after
+pub gates_spent : (b : BridgeState) (gates gates_after : List KeptGate) (ports : List PortRecord) → HasGates b gates →
+    HasGates (record b { spent = true; ports = ports }) gates_after
 gates_spent b gates gates_after ports is = record { bridge = bridge_spent b ports is.bridge; gates_kept = λ never. absurd (true≢false never) }
 
 -- why a bridge stops
 pub stop_is_fault : (run : Run) (before after : BridgeState) (cycle : ℕ) (handed : Handed) (why : BridgeFault) → CanReceive before cycle handed →
-    IsSpentBy before after → stop_of_run run before.number cycle handed.batches why → IsReceiveFault run before after cycle handed why
+    IsSpentBy before after → IsFaultInRun run before.number cycle handed.batches why → IsReceiveFault run before after cycle handed why
 stop_is_fault run before after cycle handed fault.Spent can spent stop = absurd stop
 stop_is_fault run before after cycle handed fault.WrongCycle can spent stop = absurd stop
 stop_is_fault run before after cycle handed fault.StrangeBatch can spent stop = absurd stop

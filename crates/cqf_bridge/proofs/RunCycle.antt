@@ -1,5 +1,7 @@
 -- What a cycle of a run brings to a bridge.
-use Rattle.std.proofs.Common.{◌≡◌, ◌+◌, ◌*◌, ◌≤◌, ◌<◌, ℕ, suc, Bool, true, false, List, [], ◌∷◌, ◌++◌, ◌∙◌, inl, inr, sym, ap, refl, arith, length, map, filter, flat_map, get_or, AllPairs, Contains, Some, subst, eq-eqb, eqb-true, mul-le-mul_right}
+use Rattle.std.proofs.Common.{◌≡◌, ◌+◌, ◌*◌, ◌≤◌, ◌<◌, ℕ, suc, Bool, true, false, List, [], ◌∷◌, ◌++◌, ◌∙◌, inl, inr}
+use Rattle.std.proofs.Common.{sym, ap, refl, arith, length, map, filter, flat_map, get_or, AllPairs, Contains, Some}
+use Rattle.std.proofs.Common.{subst, eq-eqb, eqb-true, mul-le-mul_right}
 use Rattle.std.specs.Prelude.{◌==◌, if◌then◌else◌, replicate, zero}
 use Rattle.std.specs.List.Sorted.{IsNonDecreasingBy}
 use Rattle.std.proofs.lemmas.Bool.{and_parts, cases_Bool, cases_lt, cond-false, cond-true, ne_eqb, true≢false}
@@ -47,7 +49,8 @@ of_link m [] = refl
 of_link m (b ∷ batches) = by (b.link == m) (of_link m batches)
   where
     by : (t : Bool) → flat_map (λ (x : LinkBatch). x.frames) (filter (λ (x : LinkBatch). x.link == m) batches) ≡ carried_by batches m →
-        flat_map (λ (x : LinkBatch). x.frames) (if t then b ∷ filter (λ (x : LinkBatch). x.link == m) batches else filter (λ (x : LinkBatch). x.link == m) batches)
+        flat_map (λ (x : LinkBatch). x.frames) (if t then b ∷ filter (λ (x : LinkBatch). x.link == m) batches
+        else filter (λ (x : LinkBatch). x.link == m) batches)
         ≡ (if t then b.frames else []) ++ carried_by batches m
     by true rest = ap (λ (ys : List Sent). b.frames ++ ys) rest
     by false rest = rest
@@ -99,7 +102,8 @@ module _ (d : Domain) (bridge cycle : ℕ) (rows : List Row) (batches : List Lin
   of_one_link m = elim (cases_Bool (enters d m bridge)) [
     | inl ends ↦
         flat_map_same brings (λ (b : LinkBatch). map (sent_received d m) b.frames) (filter (λ (b : LinkBatch). b.link == m) batches)
-        (λ b held. ap (λ (l : ℕ). map (sent_received d l) b.frames) (eqb-true b.link m (contains_from_filter (λ (x : LinkBatch). x.link == m) batches b held).1))
+        (λ b held. ap (λ (l : ℕ). map (sent_received d l) b.frames)
+        (eqb-true b.link m (contains_from_filter (λ (x : LinkBatch). x.link == m) batches b held).1))
         ∙ mapped_flat (sent_received d m) (λ (b : LinkBatch). b.frames) (filter (λ (b : LinkBatch). b.link == m) batches)
         ∙ ap (map (sent_received d m)) (of_link m batches)
         ∙ sym (cond-true (enters d m bridge) (map (sent_received d m) (carried_by batches m)) [] ends)
@@ -110,7 +114,8 @@ module _ (d : Domain) (bridge cycle : ℕ) (rows : List Row) (batches : List Lin
   ]
 
   -- the frames of the batches are those of the links
-  pub batches_by_link : flat_map brings batches ≡ each_below (λ m. if enters d m bridge then map (sent_received d m) (carried_by batches m) else []) (length d.links)
+  pub batches_by_link : flat_map brings batches ≡ each_below (λ m. if enters d m bridge then map (sent_received d m) (carried_by batches m) else [])
+      (length d.links)
   batches_by_link =
       ap (flat_map brings) (by_key (λ (b : LinkBatch). b.link) (length d.links) batches by_link
       (λ b held. enters_inside d b.link bridge (batch_enters d bridge batches b are.one_each held)))
@@ -145,14 +150,16 @@ module _ (d : Domain) (bridge cycle : ℕ) (rows : List Row) (batches : List Lin
       product : (n t : ℕ) → n ≤ 100000 → t ≤ 10000000 → n * t ≤ 100000 * 10000000
       product n t few short = omega (arith, mul-le-mul_right t few, mul-le-mul_right 100000 short)
 
-  module _ (run : Run) (offers : List Offered) (is_domain : run.domain ≡ d) (here : offered_for d run.offers bridge cycle ≡ offers) (some : 0 < d.cycle_time) where
+  module _ (run : Run) (offers : List Offered) (is_domain : run.domain ≡ d) (here : offered_for d run.offers bridge cycle ≡ offers)
+      (some : 0 < d.cycle_time) where
     -- what is offered comes in the cycle
     offered_in_cycle : (x : Offered) → Contains offers x → cycle_of d x.offer.at.0 ≡ cycle
     offered_in_cycle x held =
         let f = contains_from_below (λ offset. filter (is_offered_at bridge (cycle * d.cycle_time + offset)) (numbered run.offers)) d.cycle_time x
         (subst (λ (xs : List Offered). Contains xs x) (sym here) held) in
         let g = contains_from_filter (is_offered_at bridge (cycle * d.cycle_time + f.0)) (numbered run.offers) x f.2 in
-        let e : x.offer.at.0 ≡ cycle * d.cycle_time + f.0 = eqb-true x.offer.at.0 (cycle * d.cycle_time + f.0) (and_parts (x.offer.bridge == bridge) (x.offer.at.0 == cycle * d.cycle_time + f.0) g.1).1 in
+        let e : x.offer.at.0 ≡ cycle * d.cycle_time + f.0 = eqb-true x.offer.at.0 (cycle * d.cycle_time + f.0)
+        (and_parts (x.offer.bridge == bridge) (x.offer.at.0 == cycle * d.cycle_time + f.0) g.1).1 in
         cycle_is d.cycle_time cycle x.offer.at.0 (omega (arith, e)) (omega (arith, e, f.1))
 
     -- a frame that is gathered may be taken
@@ -184,7 +191,8 @@ module _ (d : Domain) (bridge cycle : ℕ) (rows : List Row) (batches : List Lin
       sorted_may x held =
           let same = λ (y : Received). y.at == x.at in
           let own : Contains (filter same sorted) x = contains_filter same sorted x held (eq-eqb x.at x.at refl) in
-          gathered_may x (contains_from_filter same (gathered_by d batches offers) x (subst (λ (xs : List Received). Contains xs x) (in_order.stable x.at) own)).0
+          gathered_may x (contains_from_filter same (gathered_by d batches offers) x
+          (subst (λ (xs : List Received). Contains xs x) (in_order.stable x.at) own)).0
 
       -- they are what comes in the cycle
       pub sorted_received : FramesAreTakenInOrder → sorted ≡ received_in run (carried_by batches) bridge cycle
@@ -206,7 +214,8 @@ module _ (d : Domain) (bridge cycle : ℕ) (rows : List Row) (batches : List Lin
           ∙ (λ i. police_all (sym is_domain i) run.tables bridge [] (sorted_received law i))
 
       -- so the cycle is taken
-      pub cycle_taken : FramesAreTakenInOrder → DropsAreByFrame → table_of run.tables cycle ≡ rows → (gates : List KeptGate) (ports_before ports : List PortRecord) (drops in_frames : List Dropped) →
+      pub cycle_taken : FramesAreTakenInOrder → DropsAreByFrame → table_of run.tables cycle ≡ rows →
+          (gates : List KeptGate) (ports_before ports : List PortRecord) (drops in_frames : List Dropped) →
           HasPoliced d rows bridge cycle ports_before [] (policed_by d rows bridge cycle sorted) gates ports drops →
           IsInOrderOf (λ (x : Dropped). x.frame) drops in_frames → TakesCycle run bridge cycle batches ports_before ports in_frames
       cycle_taken law by_frame table gates ports_before ports drops in_frames h order =

@@ -1,5 +1,6 @@
 -- Ports that send a cycle one after the other.
-use Rattle.std.proofs.Common.{◌≡◌, ◌+◌, ◌<◌, ℕ, List, [], ◌∷◌, ◌++◌, ◌∙◌, inl, inr, sym, ap, refl, arith, length, map, flat_map, drop, get_or, set, Contains, append_assoc, append-nil, length-append, subst}
+use Rattle.std.proofs.Common.{◌≡◌, ◌+◌, ◌<◌, ℕ, List, [], ◌∷◌, ◌++◌, ◌∙◌, inl, inr, sym, ap, refl, arith, length, map}
+use Rattle.std.proofs.Common.{flat_map, drop, get_or, set, Contains, append_assoc, append-nil, length-append, subst}
 use Rattle.std.specs.List.{zip}
 use Rattle.std.proofs.Math.Seq.{get_or-append_seam, set-append_seam}
 use Rattle.std.proofs.lemmas.List.{drop_more, length-map, map-append}
@@ -39,7 +40,8 @@ module _ (d : Domain) (cycle : ℕ) (backed : List Backed) (before : List PortRe
         demanded = λ x held. absurd (contains_none x (subst (λ (xs : List (PortRecord × List Transmission)). Contains xs x) none held));
         ports = ap (λ (xs : List (PortRecord × List Transmission)). map (port_behind d cycle backed) xs ++ before) (sym none);
         batches = sym (append-nil given) ∙ ap (λ (xs : List (PortRecord × List Transmission)). given ++ map (batch_from cycle backed) xs) (sym none);
-        others = sym (append-nil background) ∙ ap (λ (xs : List (PortRecord × List Transmission)). background ++ flat_map (background_from cycle backed) xs) (sym none);
+        others = sym (append-nil background) ∙ ap (λ (xs : List (PortRecord × List Transmission)). background ++ flat_map (background_from cycle backed) xs)
+            (sym none);
       }
 
   module _ (count : ℕ) (now : List PortRecord) (batches : List LinkBatch) (others : List Started)
@@ -70,16 +72,18 @@ module _ (d : Domain) (cycle : ℕ) (backed : List Backed) (before : List PortRe
         record {
           made = h.made ++ sends.made ∷ [];
           one_each = length-append h.made (sends.made ∷ []) ∙ ap (λ (n : ℕ). n + 1) h.one_each;
-          demanded = λ x held. elim (Contains-append_cases (zip before h.made) (one ∷ []) x (subst (λ (xs : List (PortRecord × List Transmission)). Contains xs x) longer held)) [
-            | inl old ↦ h.demanded x old
-            | inr new ↦ elim (contains_cases one [] x new) [
-              | inl e ↦ subst (λ (y : PortRecord × List Transmission). AreDemanded (port_with backed y.0) (end_of_cycle d cycle) y.1) e sends.demanded
-              | inr never ↦ absurd (contains_none x never)
-            ]
-          ];
+          demanded = λ x held. elim (Contains-append_cases (zip before h.made) (one ∷ []) x
+              (subst (λ (xs : List (PortRecord × List Transmission)). Contains xs x) longer held)) [
+                | inl old ↦ h.demanded x old
+                | inr new ↦ elim (contains_cases one [] x new) [
+                  | inl e ↦ subst (λ (y : PortRecord × List Transmission). AreDemanded (port_with backed y.0) (end_of_cycle d cycle) y.1) e sends.demanded
+                  | inr never ↦ absurd (contains_none x never)
+                ]
+              ];
           ports =
               ap (λ (xs : List PortRecord). set xs count after) (next_port r)
-              ∙ ap (λ (n : ℕ). set (map (port_behind d cycle backed) (zip before h.made) ++ get_or before count r ∷ drop (count + 1) before) n after) (sym first_len)
+              ∙ ap (λ (n : ℕ). set (map (port_behind d cycle backed) (zip before h.made) ++ get_or before count r ∷ drop (count + 1) before) n after)
+              (sym first_len)
               ∙ set-append_seam (map (port_behind d cycle backed) (zip before h.made)) (get_or before count r) (drop (count + 1) before) after
               ∙ ap (λ (x : PortRecord). map (port_behind d cycle backed) (zip before h.made) ++ x ∷ drop (count + 1) before) sends.port
               ∙ sym (append_assoc (map (port_behind d cycle backed) (zip before h.made)) (port_behind d cycle backed one ∷ []) (drop (count + 1) before))

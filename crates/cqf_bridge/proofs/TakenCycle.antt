@@ -1,5 +1,7 @@
 -- Frames of a cycle that are taken one after the other.
-use Rattle.std.proofs.Common.{◌≡◌, ◌+◌, ◌*◌, ◌≤◌, ◌<◌, ℕ, Bool, true, false, List, [], ◌∷◌, ◌++◌, ◌∙◌, inl, inr, sym, ap, refl, arith, length, map, find, take, drop, get_or, Contains, Option, Some, None, subst, append-nil, append_assoc, ◌-◌, ◌/◌}
+use Rattle.std.proofs.Common.{◌≡◌, ◌+◌, ◌*◌, ◌≤◌, ◌<◌, ℕ, Bool, true, false, List, [], ◌∷◌, ◌++◌, ◌∙◌, inl, inr, sym}
+use Rattle.std.proofs.Common.{ap, refl, arith, length, map, find, take, drop, get_or, Contains, Option, Some, None}
+use Rattle.std.proofs.Common.{subst, append-nil, append_assoc, ◌-◌, ◌/◌}
 use Rattle.std.specs.Prelude.{◌==◌, if◌then◌else◌, replicate, slice_get}
 use Rattle.std.specs.List.Sorted.{IsNonDecreasingBy}
 use Rattle.std.proofs.Math.Seq.{take-append_seam}
@@ -32,7 +34,8 @@ use Rattle.cqf_bridge.specs.declared.faults.BridgeFault.TheVariants as fault
 use Rattle.cqf_bridge_gates.specs.declared.gates.KeptGate.{KeptGate}
 use Rattle.cqf_bridge_gates.specs.Gates.{AreKept, IsKeptGate, gate_or}
 use Rattle.cqf_bridge.specs.PortRecord.{PortRecord, with_frames}
-use Rattle.cqf_bridge.specs.Taking.{AreReady, HasPoliced, IsStopBy, IsStopOf, IsWaiting, MayBeTaken, TakesFrame, policed_by, taken_in_cycle, verdict_taken, with_verdict}
+use Rattle.cqf_bridge.specs.Taking.{AreReady, HasPoliced, IsFaultByVerdict, IsFaultByPoliced, IsWaiting, MayBeTaken}
+use Rattle.cqf_bridge.specs.Taking.{TakesFrame, policed_by, taken_in_cycle, verdict_taken, with_verdict}
 use Rattle.cqf_bridge.proofs.Behind.{counted_behind, verdict_behind}
 use Rattle.cqf_bridge.proofs.Taking.{frames_more, frames_none}
 
@@ -73,7 +76,8 @@ module _ (d : Domain) (rows : List Row) (bridge cycle : ℕ) (ports_before : Lis
   abbrev policed_next : List Policed → Received → Policed
   policed_next policed x = police d (replicate (cycle + 1) rows) bridge policed x
 
-  module _ (counts : GateCountsCycles) (some : 0 < d.cycle_time) (policed : List Policed) (x : Received) (gates : List KeptGate) (ports : List PortRecord) (drops : List Dropped)
+  module _ (counts : GateCountsCycles) (some : 0 < d.cycle_time) (policed : List Policed) (x : Received) (gates : List KeptGate)
+      (ports : List PortRecord) (drops : List Dropped)
       (may : MayBeTaken d bridge cycle rows x) (kept : AreKept d.cycle_time (x.at + 1) gates)
       (h : HasPoliced d rows bridge cycle ports_before drops_before policed gates ports drops) where
     -- so the verdict is the one of the definitions
@@ -89,7 +93,8 @@ module _ (d : Domain) (rows : List Row) (bridge cycle : ℕ) (ports_before : Lis
           let v = verdict_taken d rows bridge cycle gates x in
           let p = policed_next policed x in
           record {
-            counted = counted_behind d (replicate (cycle + 1) rows) rows bridge cycle counts some (table_held cycle rows) policed x gates may.in_cycle kept h.counted
+            counted = counted_behind d (replicate (cycle + 1) rows) rows bridge cycle counts some (table_held cycle rows) policed x gates
+                may.in_cycle kept h.counted
                 gates_after takes.counted;
             queued =
                 takes.queued
@@ -114,7 +119,8 @@ module _ (d : Domain) (rows : List Row) (bridge cycle : ℕ) (ports_before : Lis
           }
 
   -- at first none is
-  pub none_policed : (gates : List KeptGate) (ports : List PortRecord) (drops : List Dropped) → AreKept d.cycle_time (cycle * d.cycle_time) gates → ports ≡ ports_before → drops ≡ drops_before →
+  pub none_policed : (gates : List KeptGate) (ports : List PortRecord) (drops : List Dropped) → AreKept d.cycle_time (cycle * d.cycle_time) gates
+      → ports ≡ ports_before → drops ≡ drops_before →
       GateCountsCycles → 0 < d.cycle_time → HasPoliced d rows bridge cycle ports_before drops_before [] gates ports drops
   none_policed gates ports drops kept same_ports same_drops counts some = record {
     counted = λ row held t in_cycle. none_taken_yet d cycle counts some gates kept row t in_cycle;
@@ -128,7 +134,8 @@ module _ (d : Domain) (rows : List Row) (bridge cycle : ℕ) (ports_before : Lis
       no_queue (r ∷ rs) = λ i. sym (frames_none r) i ∷ no_queue rs i
 
 -- what is ready by an instant is so by a later one
-pub ready_later : (d : Domain) (cycle u v : ℕ) (gates : List KeptGate) (ports : List PortRecord) → u ≤ v → AreReady d cycle u gates ports → AreReady d cycle v gates ports
+pub ready_later : (d : Domain) (cycle u v : ℕ) (gates : List KeptGate) (ports : List PortRecord) → u ≤ v → AreReady d cycle u gates ports →
+    AreReady d cycle v gates ports
 ready_later d cycle u v gates ports le h = record {
   gates_before = λ k held. let is = h.gates_before k held in record { entries = is.entries; sooner = omega (arith, is.sooner, le) };
   ports_before = λ r held. let is = h.ports_before r held in record {
@@ -177,9 +184,11 @@ module _ (d : Domain) (rows : List Row) (bridge cycle : ℕ) (ports_before : Lis
     policed = none_policed d rows bridge cycle ports_before drops_before gates ports_before drops_before h.gates_before refl refl counts some;
   }
 
-  module _ (may : (x : Received) → Contains frames x → MayBeTaken d bridge cycle rows x) (count : ℕ) (gates : List KeptGate) (ports : List PortRecord) (drops : List Dropped)
+  module _ (may : (x : Received) → Contains frames x → MayBeTaken d bridge cycle rows x) (count : ℕ) (gates : List KeptGate)
+      (ports : List PortRecord) (drops : List Dropped)
       (h : IsTaking d rows bridge cycle ports_before drops_before frames count gates ports drops) where
-    module _ (ordered : IsNonDecreasingBy (λ (x : Received). x.at) frames) (inside : count < length frames) (x : Received) (is : x ≡ get_or frames count x) where
+    module _ (ordered : IsNonDecreasingBy (λ (x : Received). x.at) frames) (inside : count < length frames) (x : Received)
+        (is : x ≡ get_or frames count x) where
       pub among : Contains frames x
       among = subst (Contains frames) (sym is) (Contains-get_or frames count x inside)
 
@@ -216,7 +225,8 @@ module _ (d : Domain) (rows : List Row) (bridge cycle : ℕ) (ports_before : Lis
       }
 
       -- or nothing more is
-      pub taking_stops : (why : BridgeFault) → IsStopBy (verdict_taken d rows bridge cycle gates x) x.frame why → IsStopOf (policed_by d rows bridge cycle frames) why
+      pub taking_stops : (why : BridgeFault) → IsFaultByVerdict (verdict_taken d rows bridge cycle gates x) x.frame why →
+          IsFaultByPoliced (policed_by d rows bridge cycle frames) why
       taking_stops fault.Spent stops = stops
       taking_stops fault.WrongCycle stops = stops
       taking_stops fault.StrangeBatch stops = stops
@@ -232,7 +242,8 @@ module _ (d : Domain) (rows : List Row) (bridge cycle : ℕ) (ports_before : Lis
             over = p;
             there = ap (λ (ps : List Policed). slice_get ps (length done)) parts ∙ slice_get_behind done p rest (length done) refl;
             exceeds =
-                sym (same_verdict d rows bridge cycle ports_before drops_before counts some done x gates ports drops (may x among) next_ready.gates_before h.policed)
+                sym (same_verdict d rows bridge cycle ports_before drops_before counts some done x gates ports drops (may x among)
+                next_ready.gates_before h.policed)
                 ∙ stops.0;
             is_frame = stops.1;
             first = λ q held exceeds.

@@ -1,5 +1,7 @@
 -- Arrivals that a port takes: they come neither too late nor out of order.
-use Rattle.std.proofs.Common.{◌≡◌, ◌≢◌, ◌+◌, ◌*◌, ◌≤◌, ◌<◌, ℕ, List, [], ◌∷◌, ◌++◌, ◌∙◌, inl, inr, sym, ap, arith, length, map, filter, take, drop, get_or, AllPairs, Contains, append_assoc, append-nil, subst, Option}
+use Rattle.std.proofs.Common.{◌≡◌, ◌≢◌, ◌+◌, ◌*◌, ◌≤◌, ◌<◌, ℕ, List, [], ◌∷◌, ◌++◌, ◌∙◌, inl, inr, sym, ap, arith}
+use Rattle.std.proofs.Common.{length, map, filter, take, drop, get_or, AllPairs, Contains, append_assoc, append-nil}
+use Rattle.std.proofs.Common.{subst, Option}
 use Rattle.std.proofs.lemmas.Bool.{cond-true, cond-false, eq-eqb, ne_eqb}
 use Rattle.std.proofs.lemmas.List.{drop_more, map-append, take-append-drop, take_all, take_more}
 use Rattle.std.proofs.lemmas.List.Elements.{Contains-append_cases, Contains-get_or, filter-append}
@@ -24,7 +26,12 @@ not_late p a from h = absurd (omega (arith, from, h.from_first, h.before_last))
 pub not_out_of_order : (p : PortState) (a : Arrival) →
     ((b : Arrival) → Contains p.arrivals b → b.class ≡ a.class → b.at.0 ≤ a.at.0) → ¬ IsOutOfOrder p a
 not_out_of_order p a before h =
-    absurd (omega (arith, h.earlier, before (get_or p.arrivals h.place no_arrival) (Contains-get_or p.arrivals h.place no_arrival h.last.inside) h.last.of_class))
+    absurd (omega (
+      arith,
+      h.earlier,
+      before (get_or p.arrivals h.place no_arrival) (Contains-get_or p.arrivals h.place no_arrival h.last.inside)
+          h.last.of_class,
+    ))
 
 -- frames that are recorded one after the other
 pub frames_more : (r : PortRecord) (xs ys : List QueuedFrame) → with_frames (with_frames r xs) ys ≡ with_frames r (xs ++ ys)
@@ -118,6 +125,7 @@ module _ (r : PortRecord) (backed : List Backed) (can : CanTake backed r) where
               let order : e.0.background.at.0 ≤ x.background.at.0 =
               pairs_across (λ (p q : Backed). p.background.at.0 ≤ q.background.at.0) (take count backed) (drop count backed) e.0 x
               (subst (AllPairs (λ (p q : Backed). p.background.at.0 ≤ q.background.at.0)) (sym (take-append-drop count backed)) can.frames.in_order)
-              y.0 (subst (λ (zs : List Backed). Contains zs x) (sym (drop_more backed count d inside)) (subst (λ (z : Backed). Contains (z ∷ drop (count + 1) backed) x) is_x (contains_here x (drop (count + 1) backed)))) in
+              y.0 (subst (λ (zs : List Backed). Contains zs x) (sym (drop_more backed count d inside))
+              (subst (λ (z : Backed). Contains (z ∷ drop (count + 1) backed) x) is_x (contains_here x (drop (count + 1) backed)))) in
               omega (arith, order, ap (λ (g : Arrival). g.at.0) f.2, ap (λ (g : QueuedFrame). g.arrival.at.0) e.2, ap (λ (g : Arrival). g.at.0) is)
         ])

@@ -1,5 +1,7 @@
 -- What becomes of a frame at a bridge, and what its stream's gate counts.
-use Rattle.std.proofs.Common.{◌≡◌, ◌≢◌, ◌+◌, ◌*◌, ◌≤◌, ◌<◌, ◌%◌, ◌⊎◌, ℕ, Bool, true, false, not, List, [], ◌∷◌, ◌++◌, ◌∙◌, inl, inr, sym, ap, refl, arith, length, map, find, Contains, Option, Some, None, subst, append-nil, append_assoc, drop, get_or, set, take}
+use Rattle.std.proofs.Common.{◌≡◌, ◌≢◌, ◌+◌, ◌*◌, ◌≤◌, ◌<◌, ◌%◌, ◌⊎◌, ℕ, Bool, true, false, not, List, [], ◌∷◌, ◌++◌}
+use Rattle.std.proofs.Common.{◌∙◌, inl, inr, sym, ap, refl, arith, length, map, find, Contains, Option, Some, None}
+use Rattle.std.proofs.Common.{subst, append-nil, append_assoc, drop, get_or, set, take}
 use Rattle.std.specs.Prelude.{◌==◌, if◌then◌else◌, nat_le, slice_get}
 use Rattle.std.specs.List.{list_any}
 use Rattle.std.specs.Option.{option_map_or}
@@ -21,7 +23,8 @@ use Rattle.cqf_model.specs.GateList.{IsOpen}
 use Rattle.cqf_model.specs.Port.{PortRules}
 use Rattle.cqf_model.specs.StreamGate.{gate_class, place_at, same_interval, stream_list, within}
 use Rattle.cqf_model.specs.Table.{begins_at, goes_on, goes_to, is_live, row_named, row_of}
-use Rattle.cqf_model.specs.Traffic.{AtEdge as Offering, DroppedFor, ExceedsGate, LacksRow, Queued, Received, Relayed, Verdict, Way, came_by, edge_verdict, inside_verdict, is_queued_of, verdict_by}
+use Rattle.cqf_model.specs.Traffic.{AtEdge as Offering, DroppedFor, ExceedsGate, LacksRow, Queued, Received, Relayed}
+use Rattle.cqf_model.specs.Traffic.{Verdict, Way, came_by, edge_verdict, inside_verdict, is_queued_of, verdict_by}
 use Rattle.cqf_units.specs.Timing.{cycle_at}
 use Rattle.cqf_gates.specs.StreamGate.{Gate, gate_after, lets_pass, octet_max_at, taken_at, taken_behind}
 use Rattle.cqf_gates.specs.declared.streams.Passed.TheVariants.{Class, OverOctets}
@@ -32,7 +35,9 @@ use Rattle.cqf_bridge_gates.specs.declared.gates.KeptGate.{KeptGate}
 use Rattle.cqf_bridge_gates.specs.Gates.{AreKept, IsKeptGate, gate_in, gate_or, with_gate}
 use Rattle.cqf_bridge.specs.PortRecord.{PortRecord}
 use Rattle.cqf_bridge.specs.declared.policing.Outcome.{Outcome}
-use Rattle.cqf_bridge.specs.Taking.{CanRecord, HasClass, IsWaiting, MayBeTaken, PassesGate, Polices, TakesFrame, class_in, passes_by, queue_on, taken_in_cycle, verdict_as, verdict_if, verdict_taken, with_verdict}
+use Rattle.cqf_bridge.specs.Taking.{CanRecord, HasClass, IsWaiting, MayBeTaken, PassesGate, Polices, TakesFrame}
+use Rattle.cqf_bridge.specs.Taking.{class_in, passes_by, queue_on, taken_in_cycle, verdict_as, verdict_if}
+use Rattle.cqf_bridge.specs.Taking.{verdict_taken, with_verdict}
 use Rattle.cqf_bridge.proofs.PutGates.{gate_beside, gate_put, kept_cases}
 use Rattle.cqf_model.proofs.Reservations.{max_of_reservation, within_reservation}
 use Rattle.cqf_bridge.proofs.Taking.{frames_none, not_out_of_order}
@@ -180,8 +185,10 @@ module _ (d : Domain) (cycle : ℕ) (x : Received) (row : Row) (gates gates_afte
       decided = decided;
       counted = λ other t same in_cycle. elim (cases_eq row.no other.no) [
         | inl e ↦
-            subst (λ (n : ℕ). taken_at (gate_in time gates_after n other.octets) t ≡ taken_at (gate_in time gates n other.octets) t + (if is_queued_of n (verdict_if went row) then x.octets else 0)) e
-            (subst (λ (r : ℕ). taken_at (gate_in time gates_after row.no r) t ≡ taken_at (gate_in time gates row.no r) t + (if is_queued_of row.no (verdict_if went row) then x.octets else 0)) (same e)
+            subst (λ (n : ℕ). taken_at (gate_in time gates_after n other.octets) t ≡ taken_at (gate_in time gates n other.octets) t
+            + (if is_queued_of n (verdict_if went row) then x.octets else 0)) e
+            (subst (λ (r : ℕ). taken_at (gate_in time gates_after row.no r) t ≡ taken_at (gate_in time gates row.no r) t
+            + (if is_queued_of row.no (verdict_if went row) then x.octets else 0)) (same e)
             (own_counted t in_cycle))
         | inr apart ↦ other_counted other t apart
       ];
@@ -199,7 +206,8 @@ class_of_stream gives time reserved t some = either (cycle_at time t % 2 == 0) (
     either false e = inr e
 
 module _ (d : Domain) (cycle : ℕ) (x : Received) (row : Row) (ports : List PortRecord) (short : d.guard < d.cycle_time) (gives : GateGivesClass)
-    (wait : QueuedFramesWait) (here : cycle_of d x.at ≡ cycle) (each_waits : (r : PortRecord) → Contains ports r → IsWaiting d cycle (x.at + 1) r) (arrival : Arrival)
+    (wait : QueuedFramesWait) (here : cycle_of d x.at ≡ cycle) (each_waits : (r : PortRecord) → Contains ports r → IsWaiting d cycle (x.at + 1) r)
+    (arrival : Arrival)
     (is : arrival ≡ (queued_frame d x row).arrival) where
   -- a frame that passed may be recorded at each port by whose link it goes on
   pub may_record : (r : PortRecord) → Contains ports r → list_any (λ next. next == r.link) (goes_to row (came_by x.way)) ≡ true → CanRecord r.port arrival
@@ -209,7 +217,8 @@ module _ (d : Domain) (cycle : ℕ) (x : Received) (row : Row) (ports : List Por
         let frame = queued_frame d x row in
         let queued : Contains (queued_to d r.link (record { received = x; verdict = Queued row } ∷ [])) frame =
         subst (λ (fs : List QueuedFrame). Contains fs frame)
-        (sym (append-nil (queued_by d r.link x (Queued row)) ∙ cond-true (list_any (λ next. next == r.link) (goes_to row (came_by x.way))) (frame ∷ []) [] goes))
+        (sym (append-nil (queued_by d r.link x (Queued row)) ∙ cond-true (list_any (λ next. next == r.link) (goes_to row (came_by x.way)))
+        (frame ∷ []) [] goes))
         (contains_here frame []) in
         let from : x.at ≤ late.instant = omega (arith, late.from_first, ap (λ (a : Arrival). a.at.0) is) in
         let before : late.instant < (cycle_of d x.at + 1) * d.cycle_time =
@@ -236,11 +245,13 @@ none_queued d x reason [] = refl
 none_queued d x reason (r ∷ ports) = λ i. sym (frames_none r) i ∷ none_queued d x reason ports i
 
 -- frames that go to the ports in the class that their gate gives are queued as the verdict has it
-pub queued_as : (d : Domain) (x : Received) (row : Row) (class : ℕ) (way : Option ℕ) (ports after : List PortRecord) → class ≡ class_in d x row → way ≡ came_by x.way →
+pub queued_as : (d : Domain) (x : Received) (row : Row) (class : ℕ) (way : Option ℕ) (ports after : List PortRecord) → class ≡ class_in d x row
+    → way ≡ came_by x.way →
     after ≡ map (queue_on row way (record { at = record { 0 = x.at }; class = class; octets = x.octets; frame = x.frame })) ports →
     after ≡ map (with_verdict d x (Queued row)) ports
 queued_as d x row class way ports after gives came is =
-    let on : Option ℕ → ℕ → PortRecord → PortRecord = λ w k. queue_on row w (record { at = record { 0 = x.at }; class = k; octets = x.octets; frame = x.frame }) in
+    let on : Option ℕ → ℕ → PortRecord → PortRecord = λ w k.
+    queue_on row w (record { at = record { 0 = x.at }; class = k; octets = x.octets; frame = x.frame }) in
     is ∙ (λ i. map (on (came i) (gives i)) ports)
 
 module _ (d : Domain) (rows : List Row) (bridge cycle : ℕ) (x : Received) (gates gates_after : List KeptGate) where
@@ -263,7 +274,8 @@ module _ (d : Domain) (rows : List Row) (bridge cycle : ℕ) (x : Received) (gat
       plus_none n = omega arith
 
   -- one that goes by the gate of its row
-  pub polices_row : (row : Row) → AreInOrder rows → Contains rows row → (class : Option ℕ) → PassesGate d cycle x row gates gates_after class → (made : Outcome) →
+  pub polices_row : (row : Row) → AreInOrder rows → Contains rows row → (class : Option ℕ) → PassesGate d cycle x row gates gates_after class
+      → (made : Outcome) →
       verdict_as made ≡ verdict_taken d rows bridge cycle gates x → HasClass d x made →
       ((number : ℕ) → is_queued_of number (verdict_if (passes_by d.cycle_time gates x row) row) ≡ is_queued_of number (verdict_as made)) →
       Polices d rows bridge cycle x gates gates_after made
@@ -277,7 +289,8 @@ module _ (d : Domain) (rows : List Row) (bridge cycle : ℕ) (x : Received) (gat
     kept = p.kept;
   }
 
-  module _ (ports ports_after : List PortRecord) (drops drops_after : List Dropped) (made : Outcome) (p : Polices d rows bridge cycle x gates gates_after made) where
+  module _ (ports ports_after : List PortRecord) (drops drops_after : List Dropped) (made : Outcome)
+      (p : Polices d rows bridge cycle x gates gates_after made) where
     -- a frame that is policed is taken, where the ports and the drops get it
     takes_so : ports_after ≡ map (with_verdict d x (verdict_as made)) ports → drops_after ≡ drops ++ drop_by cycle bridge x (verdict_as made) →
         ¬ IsLoss (verdict_as made) → TakesFrame d rows bridge cycle x gates gates_after ports ports_after drops drops_after
@@ -298,7 +311,8 @@ module _ (d : Domain) (rows : List Row) (bridge cycle : ℕ) (x : Received) (gat
         (subst (λ (v : Verdict). ¬ IsLoss v) (sym is) (λ lost. lost))
 
     -- one that is dropped
-    pub takes_dropped : (reason : Reason) → verdict_as made ≡ DroppedFor reason → ports_after ≡ ports → drops_after ≡ drops ++ drop_by cycle bridge x (DroppedFor reason) →
+    pub takes_dropped : (reason : Reason) → verdict_as made ≡ DroppedFor reason → ports_after ≡ ports → drops_after ≡ drops
+        ++ drop_by cycle bridge x (DroppedFor reason) →
         TakesFrame d rows bridge cycle x gates gates_after ports ports_after drops drops_after
     takes_dropped reason is same more =
         takes_so (same ∙ none_queued d x reason ports ∙ ap (λ (v : Verdict). map (with_verdict d x v) ports) (sym is))
@@ -363,7 +377,8 @@ edge_lacks_none d bridge cycle passes None lacks = absurd cc
 edge_lacks_none d bridge cycle passes (Some row) lacks = reasons (not (is_live row cycle)) (not (begins_at d row bridge)) (not (passes row)) lacks
   where
     -- whichever reason fits
-    reasons : (a b c : Bool) → (if a then DroppedFor Withdrawn else (if b then DroppedFor OtherBridge else (if c then DroppedFor Octets else Queued row))) ≡ LacksRow → ⊥
+    reasons : (a b c : Bool) → (if a then DroppedFor Withdrawn else (if b then DroppedFor OtherBridge else (if c then DroppedFor Octets else Queued row)))
+        ≡ LacksRow → ⊥
     reasons true b c e = absurd cc
     reasons false true c e = absurd cc
     reasons false false true e = absurd cc
@@ -408,7 +423,8 @@ module _ (f : PortRecord → PortRecord) (before now : List PortRecord) (count :
       ∙ get_or-append_seam (map f (take count before)) (get_or before count r) (drop (count + 1) before) r
 
   -- and is done
-  pub next_done : (r after : PortRecord) → r ≡ get_or now count r → after ≡ f r → set now count after ≡ map f (take (count + 1) before) ++ drop (count + 1) before
+  pub next_done : (r after : PortRecord) → r ≡ get_or now count r → after ≡ f r → set now count after ≡ map f (take (count + 1) before)
+      ++ drop (count + 1) before
   next_done r after is done =
       ap (λ (xs : List PortRecord). set xs count after) (seam r)
       ∙ ap (λ (n : ℕ). set (map f (take count before) ++ get_or before count r ∷ drop (count + 1) before) n after) (sym done_len)

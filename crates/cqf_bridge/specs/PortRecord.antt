@@ -23,9 +23,13 @@ pub record PortRecord : Type 0 where
 abbrev pub frame_with : Arrival × Option ℕ → QueuedFrame
 frame_with x = record { arrival = x.0; stream = x.1 }
 
+-- arrivals as frames, each of the stream beside it
+abbrev pub frames_of : List Arrival → List (Option ℕ) → List QueuedFrame
+frames_of arrivals streams = map frame_with (zip arrivals streams)
+
 -- all frames that were recorded, in order
 abbrev pub recorded : PortRecord → List QueuedFrame
-recorded r = map frame_with (zip r.port.arrivals r.streams)
+recorded r = frames_of r.port.arrivals r.streams
 
 -- what a port of the domain goes by
 abbrev pub rules_on : Domain → ℕ → PortRules
@@ -71,23 +75,3 @@ pub record RunsTo (before after : PortRecord) (cycle until : ℕ) (batch : LinkB
   pub port : after ≡ with_starts before until made
   pub batch_made : batch ≡ batch_by before cycle made
   pub background_made : background_after ≡ background ++ background_by before cycle made
-
--- what a start is as a frame of the batch, or as a background frame, by its stream
-abbrev pub sent_as : Option ℕ → Start → List Sent
-sent_as None start = []
-sent_as (Some stream) start = record { start = start.start; frame = start.frame; stream = stream; octets = start.octets } ∷ []
-
-abbrev pub backed_as : Option ℕ → Start → List Start
-backed_as None start = start ∷ []
-backed_as (Some stream) start = []
-
--- what the starts of these transmissions are, by the streams of their arrivals
-abbrev pub sent_all : List (Option ℕ) → List Transmission → List Start → List Sent
-sent_all streams [] starts = []
-sent_all streams (x ∷ made) [] = []
-sent_all streams (x ∷ made) (start ∷ starts) = sent_as (slice_index_or streams x.0 None) start ++ sent_all streams made starts
-
-abbrev pub backed_all : List (Option ℕ) → List Transmission → List Start → List Start
-backed_all streams [] starts = []
-backed_all streams (x ∷ made) [] = []
-backed_all streams (x ∷ made) (start ∷ starts) = backed_as (slice_index_or streams x.0 None) start ++ backed_all streams made starts

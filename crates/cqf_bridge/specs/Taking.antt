@@ -1,5 +1,6 @@
 -- The receive phase of a cycle, step by step.
-use Rattle.std.specs.Prelude.{ℕ, ◌≡◌, ◌+◌, ◌*◌, ◌≤◌, ◌<◌, ◌++◌, ◌==◌, Bool, false, true, not, List, [], ◌∷◌, Contains, Option, Some, None, if◌then◌else◌, length, map, replicate}
+use Rattle.std.specs.Prelude.{ℕ, ◌≡◌, ◌+◌, ◌*◌, ◌≤◌, ◌<◌, ◌++◌, ◌==◌, Bool, false, true, not, List, [], ◌∷◌, Contains}
+use Rattle.std.specs.Prelude.{Option, Some, None, if◌then◌else◌, length, map, replicate}
 use Rattle.std.specs.List.{flat_map, list_any}
 use Rattle.cqf_model.specs.declared.frames.Dropped.{Dropped}
 use Rattle.cqf_model.specs.declared.frames.Offered.{Offered}
@@ -14,7 +15,9 @@ use Rattle.cqf_model.specs.Network.{IsLoss, queued_by, queued_to}
 use Rattle.cqf_model.specs.Run.{Run}
 use Rattle.cqf_model.specs.StreamGate.{gate_class, stream_list}
 use Rattle.cqf_model.specs.Table.{goes_on, goes_to, row_of}
-use Rattle.cqf_model.specs.Traffic.{AtEdge as Offering, DroppedFor, ExceedsGate, LacksRow, Policed, Queued, Received, Relayed, Verdict, Way, is_queued_of, offer_received, police, police_all, sent_received, verdict_by}
+use Rattle.cqf_model.specs.Traffic.{AtEdge as Offering, DroppedFor, ExceedsGate, LacksRow, Policed, Queued, Received}
+use Rattle.cqf_model.specs.Traffic.{Relayed, Verdict, Way, is_queued_of, offer_received, police, police_all}
+use Rattle.cqf_model.specs.Traffic.{sent_received, verdict_by}
 use Rattle.cqf_laws_cycle.specs.Gathered.{dropped_of}
 use Rattle.cqf_gates.specs.StreamGate.{lets_pass, taken_at}
 use Rattle.cqf_port.specs.PortState.{IsLate, IsOutOfOrder, PortState}
@@ -160,12 +163,12 @@ pub record TakesFrame (d : Domain) (rows : List Row) (bridge cycle : ℕ) (x : R
   pub not_lost : ¬ IsLoss (verdict_taken d rows bridge cycle gates x)
 
 -- why frames aren't taken any more: the verdict on one is that it exceeds its gate, or a growth was refused
-abbrev pub IsStopBy : Verdict → ℕ → BridgeFault → Type 0
-IsStopBy verdict frame Spent = ⊥
-IsStopBy verdict frame WrongCycle = ⊥
-IsStopBy verdict frame StrangeBatch = ⊥
-IsStopBy verdict frame (OverOctets over) = (verdict ≡ ExceedsGate) × (frame ≡ over)
-IsStopBy verdict frame Memory = Unit {0}
+abbrev pub IsFaultByVerdict : Verdict → ℕ → BridgeFault → Type 0
+IsFaultByVerdict verdict frame Spent = ⊥
+IsFaultByVerdict verdict frame WrongCycle = ⊥
+IsFaultByVerdict verdict frame StrangeBatch = ⊥
+IsFaultByVerdict verdict frame (OverOctets over) = (verdict ≡ ExceedsGate) × (frame ≡ over)
+IsFaultByVerdict verdict frame Memory = Unit {0}
 
 -- what becomes of frames of a cycle at a bridge, by the rows of the cycle's table
 abbrev pub policed_by : Domain → List Row → ℕ → ℕ → List Received → List Policed
@@ -180,12 +183,12 @@ pub record HasPoliced (d : Domain) (rows : List Row) (bridge cycle : ℕ) (ports
   pub none_lost : (p : Policed) → Contains policed p → ¬ IsLoss p.verdict
 
 -- why the frames of a cycle aren't all taken: one is the first that exceeds its gate, or a growth was refused
-abbrev pub IsStopOf : List Policed → BridgeFault → Type 0
-IsStopOf policed Spent = ⊥
-IsStopOf policed WrongCycle = ⊥
-IsStopOf policed StrangeBatch = ⊥
-IsStopOf policed (OverOctets frame) = IsFirstOver policed frame
-IsStopOf policed Memory = Unit {0}
+abbrev pub IsFaultByPoliced : List Policed → BridgeFault → Type 0
+IsFaultByPoliced policed Spent = ⊥
+IsFaultByPoliced policed WrongCycle = ⊥
+IsFaultByPoliced policed StrangeBatch = ⊥
+IsFaultByPoliced policed (OverOctets frame) = IsFirstOver policed frame
+IsFaultByPoliced policed Memory = Unit {0}
 
 -- all that comes in a cycle is taken: each port gets what goes on by its link, nothing is lost, and the drops come by frame
 pub record TakesCycle (run : Run) (bridge cycle : ℕ) (batches : List LinkBatch) (ports ports_after : List PortRecord) (drops : List Dropped) :
@@ -195,8 +198,8 @@ pub record TakesCycle (run : Run) (bridge cycle : ℕ) (batches : List LinkBatch
   pub dropped : drops ≡ drops_in run.domain (length run.offers) (λ b. verdicts_in run b cycle batches) cycle bridge
 
 -- or it isn't
-abbrev pub stop_of_run : Run → ℕ → ℕ → List LinkBatch → BridgeFault → Type 0
-stop_of_run run bridge cycle batches fault = IsStopOf (verdicts_in run bridge cycle batches) fault
+abbrev pub IsFaultInRun : Run → ℕ → ℕ → List LinkBatch → BridgeFault → Type 0
+IsFaultInRun run bridge cycle batches fault = IsFaultByPoliced (verdicts_in run bridge cycle batches) fault
 
 -- a bridge, with the gates that it keeps: where it isn't spent, each was last called before the cycle that is received next
 pub record HasGates (b : BridgeState) (gates : List KeptGate) : Type 0 where

@@ -1,22 +1,25 @@
 //! A bridge, which goes on cycle by cycle.
 ghost use Rattle.std.specs.Prelude.{◌≡◌, ◌+◌, ◌<◌, IfErr, IfOk, OnErr, OnOk, false, length};
 ghost use Rattle.cqf_model.specs.Run.{Run};
-ghost use Rattle.cqf_bridge.specs.BridgeState.{AreBackedOf, IsBridge, IsNextToSend, SendsCycle, new_bridge};
+ghost use Rattle.cqf_bridge.specs.BridgeState.{AreBackedOf, IsBridge, IsNextToSend, IsSpentBy, SendsCycle, new_bridge};
 ghost use Rattle.cqf_bridge.specs.Faults.{IsSendFault};
+ghost use Rattle.cqf_bridge.specs.Quiet.{IsNextAt, MayPass, passed};
 ghost use Rattle.cqf_bridge.specs.Receiving.{CanReceive, IsReceiveFault, IsRunOfBridge, ReceivesCycle};
 ghost use Rattle.cqf_model.specs.Limits.{most_cycles};
 
 use crate::checking::are_batches;
 use crate::outgoing::Outgoing;
+use crate::phases::{ReceivePhase, TransmitPhase};
+use crate::quiet::rest_ports;
 use crate::receiving::receive_frames;
-use crate::sending::send_ports;
+use crate::sending::{end_of, send_ports};
 use crate::{Batch, BridgeFault};
 use cqf_admission::Table;
 use cqf_bridge_gates::StreamGates;
 use cqf_compile::Plan;
 use cqf_model::{Backed, Dropped, Offered, Started};
 use cqf_topology::Domain;
-use cqf_units::{Cycle, Memory};
+use cqf_units::{Cycle, Memory, Nanos};
 use std::alloc::Global;
 use std::marker::Model;
 
@@ -140,15 +143,12 @@ impl Bridge {
         }
         let kept = batches.len();
         let mut started = Vec::new(alloc);
-        let sent = send_ports(
-            alloc,
-            &self.domain,
+        let phase = TransmitPhase {
+            domain: &self.domain,
             cycle,
             background,
-            &mut self.ports,
-            batches,
-            &mut started,
-        );
+        };
+        let sent = send_ports(alloc, phase, &mut self.ports, batches, &mut started);
         match sent {
             Ok(()) => {
                 self.sent += 1;
@@ -197,12 +197,15 @@ impl Bridge {
         if !are_batches(&self.domain, self.number, cycle, table, batches) {
             return Err(BridgeFault::StrangeBatch);
         }
-        let received = receive_frames(
-            alloc,
-            &self.domain,
-            self.number,
+        let phase = ReceivePhase {
+            domain: &self.domain,
+            number: self.number,
             cycle,
             table,
+        };
+        let received = receive_frames(
+            alloc,
+            phase,
             batches,
             offers,
             &mut self.gates,
@@ -226,5 +229,46 @@ impl Bridge {
         ensures { result.now ≡ self.now.background }
     {
         self.background.as_slice()
+    }
+
+    /// How many links leave the bridge.
+    pub fn links(&self) -> usize
+        ensures { result ≡ length self.now.ports }
+    {
+        self.ports.len()
+    }
+
+    /// The next start on the link at this place among those that leave the bridge, by number, from what it has sent on, if
+    /// nothing more comes to it; with the link's number. None where none would come. It takes no memory.
+    pub fn next_start(&self, place: usize) -> Option<(Nanos, u8)>
+        requires { place < length self.now.ports }
+        ensures { IsNextAt self.now.ports place result }
+    {
+        self.ports[place].next_start()
+    }
+
+    /// Passes over cycles in which the bridge does nothing, from the next one to this one: its ports run to the end of the
+    /// cycle with nothing started, as if it had sent and received each of them with nothing in it (profile). That nothing comes
+    /// to the bridge in them is for the caller to see to.
+    ///
+    /// Where a growth is refused, the bridge is spent.
+    pub fn pass(&mut self, cycle: Cycle) -> Result<(), Memory>
+        requires { MayPass self.old cycle.0 }
+        ensures passes { OnOk result (self.new ≡ passed cycle.0 self.old) }
+        ensures refused { OnErr result (IsSpentBy self.old self.new) }
+    {
+        let end = end_of(&self.domain, cycle);
+        match rest_ports(&mut self.ports, end) {
+            Ok(()) => {
+                self.sent = cycle.0 + 1;
+                self.received = cycle.0 + 1;
+                self.background.clear();
+                Ok(())
+            }
+            Err(refused) => {
+                self.spent = true;
+                Err(refused)
+            }
+        }
     }
 }

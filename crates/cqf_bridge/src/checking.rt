@@ -116,6 +116,7 @@ pub fn incoming_links(domain: &Domain, number: u8) -> ArrayVec<u8, 64>
     ensures { result.items ≡ links_into domain.now number }
 {
     let mut links = ArrayVec::new();
+    // the domain is accepted: a fact
     let _time = domain.cycle_time();
     for link in 0..domain.links() {
         if ends_in(domain, link, number) {

@@ -1,7 +1,8 @@
 //! Why a bridge refuses a call.
-ghost use Rattle.std.specs.Prelude.{Some};
+ghost use Rattle.std.specs.Prelude.{◌≡◌, Some};
 ghost use Rattle.cqf_bridge.specs.Faults.{text_of_fault};
 
+use cqf_units::Memory;
 use std::fmt;
 use thiserror::Error;
 
@@ -34,5 +35,16 @@ impl fmt::Display for BridgeFault {
             BridgeFault::OverOctets(frame) => write!(f, "OverOctets {frame}"),
             BridgeFault::Memory => f.write_str("Memory"),
         }
+    }
+}
+
+/// Want of memory, as a fault.
+impl From<Memory> for BridgeFault {
+    ghost use Rattle.cqf_bridge.specs.declared.faults.BridgeFault.TheVariants as variant;
+
+    ghost from_gives = { λ _ fault. fault ≡ variant.Memory };
+
+    fn from(_refused: Memory) -> BridgeFault {
+        BridgeFault::Memory
     }
 }

@@ -1,13 +1,16 @@
 //! A port of a bridge, with what the bridge recorded at it.
 ghost use Rattle.std.specs.Prelude.{◌≡◌, ◌+◌, ◌^◌, ◌<◌, ◌≤◌, [], ◌∷◌, ◌++◌, All, IfOk, OnOk, OnErr, length, map};
+ghost use Rattle.std.specs.List.{flat_map};
 ghost use Rattle.cqf_model.specs.Book.{started_backed};
+ghost use Rattle.cqf_model.specs.Network.{backed_by, backed_of, sent_by, sent_of};
 ghost use Rattle.cqf_model.specs.Port.{Transmission};
 ghost use Rattle.cqf_port.specs.PortState.{IsLate, IsOutOfOrder, IsPort};
-ghost use Rattle.cqf_bridge.specs.PortRecord.{RunsTo, backed_all, backed_as, new_record, sent_all, sent_as, with_frames};
+ghost use Rattle.cqf_bridge.specs.PortRecord.{RunsTo, frames_of, new_record, with_frames};
+ghost use Rattle.cqf_bridge.specs.Quiet.{IsNextOf, IsQuiet, rested};
 
 use crate::Batch;
 use cqf_compile::Plan;
-use cqf_model::{Arrival, Sent, Start, Started};
+use cqf_model::{Arrival, Sent, Started};
 use cqf_port::{Port, PortFault};
 use cqf_units::{Cycle, Memory, Nanos};
 use std::alloc::{AllocError, Global};
@@ -56,6 +59,7 @@ impl Outgoing {
         ensures beside { length self.now.streams ≡ length self.now.port.arrivals }
         ensures facts { IsPort self.now.port }
     {
+        // what holds of the port: a fact
         let _now = self.port.now();
         self.link
     }
@@ -95,46 +99,66 @@ impl Outgoing {
         ensures { IfOk result (λ batch. RunsTo self.old self.new cycle.0 end.0 batch background.old.items background.new.items) }
     {
         let kept = self.port.starts().len();
-        let mut handed = Vec::new(alloc);
-        self.port.advance(end, &mut handed)?;
+        self.port.run_to(end)?;
         let mut batch = Batch::new(alloc, self.link, cycle);
-        let made = &self.port.starts()[kept..];
         hand_all(
             self.streams.as_slice(),
-            made,
-            handed.as_slice(),
+            self.port.arrivals(),
+            &self.port.starts()[kept..],
             &mut batch,
             background,
         )?;
         Ok(batch)
     }
+
+    /// The next start of its port, and the link, if nothing more is recorded; none where none would come.
+    pub(crate) fn next_start(&self) -> Option<(Nanos, u8)>
+        ensures { IsNextOf self.now result }
+    {
+        match self.port.next_start() {
+            Some(instant) => Some((instant, self.link)),
+            None => None,
+        }
+    }
+
+    /// Runs to an instant, before which nothing starts.
+    pub(crate) fn rest_to(&mut self, until: Nanos) -> Result<(), Memory>
+        requires later { self.old.port.reached < until.0 }
+        requires early { until.0 < 2 ^ 62 }
+        requires quiet { IsQuiet until.0 self.old }
+        ensures { OnOk result (self.new ≡ rested until.0 self.old) }
+    {
+        self.port.run_to(until)?;
+        Ok(())
+    }
 }
 
-/// Puts a start into the batch, or where it is of no stream to the background frames.
+/// Puts the start of an arrival into the batch, or where it is of no stream to the background frames.
 fn hand_one(
     stream: Option<u32>,
-    start: &Start,
+    arrival: &Arrival,
+    start: Nanos,
     batch: &mut Batch,
     background: &mut Vec<Started>,
 ) -> Result<(), Memory>
     requires { length batch.old.frames + 1 < 2 ^ 32 }
-    ensures batch { OnOk result (batch.new ≡ record batch.old { frames = batch.old.frames ++ sent_as stream start.now }) }
+    ensures batch { OnOk result (batch.new ≡ record batch.old { frames = batch.old.frames ++ sent_by start.0 arrival.now stream }) }
     ensures background { OnOk result (background.new.items ≡ background.old.items
-        ++ map (started_backed batch.old.cycle batch.old.link) (backed_as stream start.now)) }
+        ++ map (started_backed batch.old.cycle batch.old.link) (backed_by start.0 arrival.now stream)) }
 {
     match stream {
         Some(stream) => batch.push(Sent {
-            start: start.start,
-            frame: start.frame,
+            start,
+            frame: arrival.frame,
             stream,
-            octets: start.octets,
+            octets: arrival.octets,
         })?,
         None => background.push(Started {
             cycle: batch.cycle(),
             link: batch.link(),
-            frame: start.frame,
-            octets: start.octets,
-            start: start.start,
+            frame: arrival.frame,
+            octets: arrival.octets,
+            start,
         })?,
     }
     Ok(())
@@ -143,21 +167,29 @@ fn hand_one(
 /// Puts the starts of these transmissions where each belongs.
 fn hand_all(
     streams: &[Option<u32>],
+    arrivals: &[Arrival],
     made: &[(usize, u64)],
-    handed: &[Start],
     batch: &mut Batch,
     background: &mut Vec<Started>,
 ) -> Result<(), Memory>
-    requires even { length handed.now ≡ length made.now }
-    requires inside { All (λ (x : Transmission). x.0 < length streams.now) made.now }
+    requires beside { length streams.now ≡ length arrivals.now }
+    requires inside { All (λ (x : Transmission). x.0 < length arrivals.now) made.now }
     requires few { length batch.old.frames + length made.now < 2 ^ 32 }
-    ensures batch { OnOk result (batch.new ≡ record batch.old { frames = batch.old.frames ++ sent_all streams.now made.now handed.now }) }
+    ensures batch { OnOk result (batch.new ≡ record batch.old {
+      frames = batch.old.frames ++ flat_map (sent_of (frames_of arrivals.now streams.now)) made.now;
+    }) }
     ensures background { OnOk result (background.new.items ≡ background.old.items
-        ++ map (started_backed batch.old.cycle batch.old.link) (backed_all streams.now made.now handed.now)) }
+        ++ map (started_backed batch.old.cycle batch.old.link) (flat_map (backed_of (frames_of arrivals.now streams.now)) made.now)) }
 {
-    for (place, start) in handed.iter().enumerate() {
-        let stream = streams[made[place].0];
-        hand_one(stream, start, batch, background)?;
+    for sent in made {
+        let (place, start) = *sent;
+        hand_one(
+            streams[place],
+            &arrivals[place],
+            Nanos(start),
+            batch,
+            background,
+        )?;
     }
     Ok(())
 }

@@ -9,6 +9,7 @@ ghost use Rattle.cqf_bridge.specs.Taking.{IsPolicedBehind, PassesGate, Polices, 
 
 use crate::checking::leads_on;
 use crate::gathering::{Came, Incoming};
+use crate::phases::ReceivePhase;
 use cqf_admission::Table;
 use cqf_bridge_gates::StreamGates;
 use cqf_gates::Passed;
@@ -45,6 +46,7 @@ fn pass_gate(
     ensures err { OnErr result (gates.new ≡ gates.old) }
 {
     gate_counts_cycles();
+    // the domain is accepted: a fact
     let _time = domain.cycle_time();
     match gates.pass(domain, row, frame.at, Octets(frame.octets))? {
         Passed::Class(class) => Ok(Some(class)),
@@ -67,28 +69,27 @@ fn refused(domain: &Domain, number: u8, cycle: Cycle, row: &Row) -> Option<Reaso
 
 /// What becomes of an offer: it goes on, or is dropped for the first reason that fits.
 fn police_offer<'a>(
-    domain: &Domain,
-    number: u8,
-    cycle: Cycle,
-    table: &'a Table,
+    phase: ReceivePhase<'_, 'a>,
     frame: &Incoming,
     name: &Name,
     gates: &mut StreamGates,
 ) -> Result<Outcome<'a>, Memory>
     requires way { way_taken frame.now.came ≡ Offering name.now }
-    requires in_cycle { cycle_of domain.now frame.now.at.0 ≡ cycle.0 }
-    requires kept { AreKept domain.now.cycle_time (frame.now.at.0 + 1) gates.old }
-    ensures polices { IfOk result (λ outcome. Polices domain.now table.now.rows number cycle.0 (received_as frame.now) gates.old gates.new outcome) }
+    requires in_cycle { cycle_of phase.domain.now frame.now.at.0 ≡ phase.cycle.0 }
+    requires kept { AreKept phase.domain.now.cycle_time (frame.now.at.0 + 1) gates.old }
+    ensures polices { IfOk result (λ outcome. Polices phase.entry.domain.now phase.entry.table.now.rows phase.entry.number phase.entry.cycle.0
+        (received_as frame.now) gates.old gates.new outcome) }
     ensures err { OnErr result (gates.new ≡ gates.old) }
 {
-    let _order = table.rows();
-    let Some(row) = table.row_named(name) else {
+    // the table's rows stand in order of number: a fact
+    let _order = phase.table.rows();
+    let Some(row) = phase.table.row_named(name) else {
         return Ok(Outcome::Dropped(Reason::Unknown));
     };
-    if let Some(reason) = refused(domain, number, cycle, row) {
+    if let Some(reason) = refused(phase.domain, phase.number, phase.cycle, row) {
         return Ok(Outcome::Dropped(reason));
     }
-    match pass_gate(domain, cycle, row, frame, gates)? {
+    match pass_gate(phase.domain, phase.cycle, row, frame, gates)? {
         Some(class) => Ok(Outcome::GoesOn(row, class)),
         None => Ok(Outcome::Dropped(Reason::Octets)),
     }
@@ -96,29 +97,28 @@ fn police_offer<'a>(
 
 /// What becomes of a frame that came by a link: it goes on, or is lost inside.
 fn police_inside<'a>(
-    domain: &Domain,
-    number: u8,
-    cycle: Cycle,
-    table: &'a Table,
+    phase: ReceivePhase<'_, 'a>,
     frame: &Incoming,
     link: u8,
     stream: u32,
     gates: &mut StreamGates,
 ) -> Result<Outcome<'a>, Memory>
     requires way { way_taken frame.now.came ≡ Relayed link stream }
-    requires in_cycle { cycle_of domain.now frame.now.at.0 ≡ cycle.0 }
-    requires kept { AreKept domain.now.cycle_time (frame.now.at.0 + 1) gates.old }
-    ensures polices { IfOk result (λ outcome. Polices domain.now table.now.rows number cycle.0 (received_as frame.now) gates.old gates.new outcome) }
+    requires in_cycle { cycle_of phase.domain.now frame.now.at.0 ≡ phase.cycle.0 }
+    requires kept { AreKept phase.domain.now.cycle_time (frame.now.at.0 + 1) gates.old }
+    ensures polices { IfOk result (λ outcome. Polices phase.entry.domain.now phase.entry.table.now.rows phase.entry.number phase.entry.cycle.0
+        (received_as frame.now) gates.old gates.new outcome) }
     ensures err { OnErr result (gates.new ≡ gates.old) }
 {
-    let _order = table.rows();
-    let Some(row) = table.row_of(stream) else {
+    // the table's rows stand in order of number: a fact
+    let _order = phase.table.rows();
+    let Some(row) = phase.table.row_of(stream) else {
         return Ok(Outcome::LacksRow);
     };
-    if !leads_on(domain, row, Some(link), number) {
+    if !leads_on(phase.domain, row, Some(link), phase.number) {
         return Ok(Outcome::LacksRow);
     }
-    match pass_gate(domain, cycle, row, frame, gates)? {
+    match pass_gate(phase.domain, phase.cycle, row, frame, gates)? {
         Some(class) => Ok(Outcome::GoesOn(row, class)),
         None => Ok(Outcome::ExceedsGate),
     }
@@ -144,16 +144,21 @@ pub fn police<'a>(
     ensures err { OnErr result (gates.new ≡ gates.old) }
 {
     gate_counts_cycles();
+    // the domain is accepted: a fact
     let _time = domain.cycle_time();
+    let phase = ReceivePhase {
+        domain,
+        number,
+        cycle,
+        table,
+    };
     match &frame.came {
         Came::ByLink(link, stream) => {
-            let outcome = police_inside(
-                domain, number, cycle, table, frame, *link, *stream, gates,
-            )?;
+            let outcome = police_inside(phase, frame, *link, *stream, gates)?;
             Ok(outcome)
         }
         Came::AtEdge(name) => {
-            let outcome = police_offer(domain, number, cycle, table, frame, name, gates)?;
+            let outcome = police_offer(phase, frame, name, gates)?;
             Ok(outcome)
         }
     }

@@ -6,15 +6,15 @@ ghost use Rattle.cqf_model.specs.Domain.{cycle_of};
 ghost use Rattle.cqf_model.specs.Table.{goes_to};
 ghost use Rattle.cqf_model.specs.Traffic.{DroppedFor, Queued};
 ghost use Rattle.cqf_bridge.specs.PortRecord.{PortRecord};
-ghost use Rattle.cqf_bridge.specs.Taking.{AreReady, CanRecord, IsStopBy, IsWaiting, MayBeTaken, TakesFrame};
+ghost use Rattle.cqf_bridge.specs.Taking.{AreReady, CanRecord, IsFaultByVerdict, IsWaiting, MayBeTaken, TakesFrame};
 ghost use Rattle.cqf_bridge.specs.Taking.{class_in, queue_on, received_as, verdict_taken, with_verdict};
 ghost use Rattle.cqf_model.specs.Limits.{most_cycles};
 
 use crate::BridgeFault;
 use crate::gathering::Incoming;
 use crate::outgoing::Outgoing;
+use crate::phases::ReceivePhase;
 use crate::policing::{Outcome, police};
-use cqf_admission::Table;
 use cqf_bridge_gates::StreamGates;
 use cqf_laws_cycle::{gate_gives_class, queued_frames_wait};
 use cqf_model::{Arrival, Dropped, Reason, Row};
@@ -74,6 +74,7 @@ fn queue_frame(
 {
     gate_gives_class();
     queued_frames_wait();
+    // the domain is accepted: a fact
     let _time = domain.cycle_time();
     let arrival = Arrival {
         at: frame.at,
@@ -106,36 +107,37 @@ fn drop_offer(
 
 /// Takes a frame, behind those before it in the cycle.
 pub(crate) fn take_frame(
-    domain: &Domain,
-    number: u8,
-    cycle: Cycle,
-    table: &Table,
+    phase: ReceivePhase<'_, '_>,
     frame: &Incoming,
     gates: &mut StreamGates,
     ports: &mut Vec<Outgoing>,
     drops: &mut Vec<Dropped>,
 ) -> Result<(), BridgeFault>
-    requires early { cycle.0 < most_cycles }
-    requires may { MayBeTaken domain.now number cycle.0 table.now.rows (received_as frame.now) }
-    requires ready { AreReady domain.now cycle.0 (frame.now.at.0 + 1) gates.old ports.old.items }
-    ensures takes { OnOk result (TakesFrame domain.now table.now.rows number cycle.0 (received_as frame.now) gates.old gates.new
-        ports.old.items ports.new.items drops.old.items drops.new.items) }
-    ensures stops { IfErr result (λ fault.
-        IsStopBy (verdict_taken domain.now table.now.rows number cycle.0 gates.old (received_as frame.now)) frame.now.frame fault) }
+    requires early { phase.cycle.0 < most_cycles }
+    requires may { MayBeTaken phase.domain.now phase.number phase.cycle.0 phase.table.now.rows (received_as frame.now) }
+    requires ready { AreReady phase.domain.now phase.cycle.0 (frame.now.at.0 + 1) gates.old ports.old.items }
+    ensures takes { OnOk result (TakesFrame phase.entry.domain.now phase.entry.table.now.rows phase.entry.number phase.entry.cycle.0
+        (received_as frame.now) gates.old gates.new ports.old.items ports.new.items drops.old.items drops.new.items) }
+    ensures stops { IfErr result (λ fault. IsFaultByVerdict (verdict_taken phase.entry.domain.now phase.entry.table.now.rows phase.entry.number
+        phase.entry.cycle.0 gates.old (received_as frame.now)) frame.now.frame fault) }
 {
-    let outcome = match police(domain, number, cycle, table, frame, gates) {
-        Ok(outcome) => outcome,
-        Err(_) => return Err(BridgeFault::Memory),
-    };
+    let outcome = police(
+        phase.domain,
+        phase.number,
+        phase.cycle,
+        phase.table,
+        frame,
+        gates,
+    )?;
     match outcome {
-        Outcome::GoesOn(row, class) => match queue_frame(domain, cycle, row, class, frame, ports) {
-            Ok(()) => Ok(()),
-            Err(_) => Err(BridgeFault::Memory),
-        },
-        Outcome::Dropped(reason) => match drop_offer(number, cycle, frame, reason, drops) {
-            Ok(()) => Ok(()),
-            Err(_) => Err(BridgeFault::Memory),
-        },
+        Outcome::GoesOn(row, class) => {
+            queue_frame(phase.domain, phase.cycle, row, class, frame, ports)?;
+            Ok(())
+        }
+        Outcome::Dropped(reason) => {
+            drop_offer(phase.number, phase.cycle, frame, reason, drops)?;
+            Ok(())
+        }
         // the batch was checked
         Outcome::LacksRow => unreachable!(),
         Outcome::ExceedsGate => Err(BridgeFault::OverOctets(frame.frame)),

@@ -7,6 +7,7 @@ ghost use Rattle.cqf_model.specs.Limits.{end_of_starts, longest_cycle, most_cycl
 
 use crate::Batch;
 use crate::outgoing::Outgoing;
+use crate::phases::TransmitPhase;
 use cqf_model::{Arrival, Backed, Started};
 use cqf_topology::Domain;
 use cqf_units::{Cycle, Memory, Nanos};
@@ -57,22 +58,21 @@ pub(crate) fn end_of(domain: &Domain, cycle: Cycle) -> Nanos
 /// Sends a cycle at a port: it gets its background frames, and runs to the end of the cycle.
 fn send_port(
     alloc: Global,
-    domain: &Domain,
-    cycle: Cycle,
-    background: &[Backed],
+    phase: TransmitPhase<'_, '_>,
     port: &mut Outgoing,
     batches: &mut Vec<Batch>,
     started: &mut Vec<Started>,
 ) -> Result<(), Memory>
-    requires early { cycle.0 < most_cycles }
-    requires frames { (bridge : ℕ) × AreBackedOf domain.now bridge cycle.0 background.now }
-    requires in_step { IsInStep domain.now cycle.0 cycle.0 port.old }
+    requires early { phase.cycle.0 < most_cycles }
+    requires frames { (bridge : ℕ) × AreBackedOf phase.domain.now bridge phase.cycle.0 phase.background.now }
+    requires in_step { IsInStep phase.domain.now phase.cycle.0 phase.cycle.0 port.old }
     ensures given { OnErr result (batches.new.items ≡ batches.old.items) }
-    ensures sends { OnOk result (PortSends domain.now cycle.0 background.now port.old port.new batches.old.items batches.new.items started.old.items
-        started.new.items) }
+    ensures sends { OnOk result (PortSends phase.entry.domain.now phase.entry.cycle.0 phase.entry.background.now port.old port.new
+        batches.old.items batches.new.items started.old.items started.new.items) }
 {
-    take_background(port, background)?;
-    let batch = port.run_to(alloc, cycle, end_of(domain, cycle), started)?;
+    take_background(port, phase.background)?;
+    let end = end_of(phase.domain, phase.cycle);
+    let batch = port.run_to(alloc, phase.cycle, end, started)?;
     batches.push(batch)?;
     Ok(())
 }
@@ -80,30 +80,20 @@ fn send_port(
 /// Sends a cycle at each port of a bridge.
 pub(crate) fn send_ports(
     alloc: Global,
-    domain: &Domain,
-    cycle: Cycle,
-    background: &[Backed],
+    phase: TransmitPhase<'_, '_>,
     ports: &mut Vec<Outgoing>,
     batches: &mut Vec<Batch>,
     started: &mut Vec<Started>,
 ) -> Result<(), Memory>
-    requires early { cycle.0 < most_cycles }
-    requires frames { (bridge : ℕ) × AreBackedOf domain.now bridge cycle.0 background.now }
-    requires in_step { (r : PortRecord) → Contains ports.old.items r → IsInStep domain.now cycle.0 cycle.0 r }
+    requires early { phase.cycle.0 < most_cycles }
+    requires frames { (bridge : ℕ) × AreBackedOf phase.domain.now bridge phase.cycle.0 phase.background.now }
+    requires in_step { (r : PortRecord) → Contains ports.old.items r → IsInStep phase.domain.now phase.cycle.0 phase.cycle.0 r }
     ensures given { OnErr result (take (length batches.old.items) batches.new.items ≡ batches.old.items) }
-    ensures sends { OnOk result (FirstSend domain.now cycle.0 background.now (length ports.old.items) ports.old.items ports.new.items
-        batches.old.items batches.new.items started.old.items started.new.items) }
+    ensures sends { OnOk result (FirstSend phase.entry.domain.now phase.entry.cycle.0 phase.entry.background.now (length ports.old.items)
+        ports.old.items ports.new.items batches.old.items batches.new.items started.old.items started.new.items) }
 {
     for place in 0..ports.len() {
-        send_port(
-            alloc,
-            domain,
-            cycle,
-            background,
-            &mut ports[place],
-            batches,
-            started,
-        )?;
+        send_port(alloc, phase, &mut ports[place], batches, started)?;
     }
     Ok(())
 }

@@ -1,6 +1,7 @@
 -- Where the gate of a number stands among those that are kept: the first few are looked through, and the numbers of the others
 -- are listed.
-use Rattle.std.proofs.Common.{◌≡◌, ◌+◌, ◌<◌, ◌≤◌, ℕ, Bool, false, not, List, [], ◌∷◌, ◌++◌, ◌∙◌, inl, inr, sym, ap, ap₂, refl, arith, length, map, nat_eq, nat_lt, position, drop, take, Option, Some, None}
+use Rattle.std.proofs.Common.{◌≡◌, ◌+◌, ◌<◌, ◌≤◌, ℕ, Bool, false, not, List, [], ◌∷◌, ◌++◌, ◌∙◌, inl, inr, sym, ap, ap₂}
+use Rattle.std.proofs.Common.{refl, arith, length, map, nat_eq, nat_lt, position, drop, take, Option, Some, None}
 use Rattle.std.specs.Prelude.{◌==◌, ◌||◌, if◌then◌else◌, is_some, option_map}
 use Rattle.std.specs.List.{list_any, prefix_len}
 use Rattle.std.proofs.lemmas.Bool.{cases_eq, cases_lt, cond-false, cond-true, eq-eqb, le-ltb, lt-ltb, ne_eqb, or_parts}

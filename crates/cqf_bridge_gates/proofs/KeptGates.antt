@@ -1,5 +1,6 @@
 -- Gates that are looked up by number, and what they count.
-use Rattle.std.proofs.Common.{◌≡◌, ◌<◌, ℕ, zero, suc, Bool, true, false, List, [], ◌∷◌, ◌++◌, ◌∙◌, sym, ap, refl, arith, length, map, find, get_or, position, Contains, Some, None}
+use Rattle.std.proofs.Common.{◌≡◌, ◌<◌, ℕ, zero, suc, Bool, true, false, List, [], ◌∷◌, ◌++◌, ◌∙◌, sym, ap, refl, arith}
+use Rattle.std.proofs.Common.{length, map, find, get_or, position, Contains, Some, None}
 use Rattle.std.specs.Prelude.{◌==◌, if◌then◌else◌, is_some, slice_set}
 use Rattle.std.proofs.lemmas.Bool.{cond-false, cond-true, eq-eqb, eqb-true}
 use Rattle.std.proofs.lemmas.List.Quantifiers.{position-Some}
@@ -70,7 +71,8 @@ not_found number gates is =
 
 -- a gate that was made for a reservation is the one that it goes by
 pub own_gate : (cycle_time number reserved : ℕ) →
-    gate_or cycle_time reserved (Some (record { number = number; reserved = reserved; gate = fresh (stream_list cycle_time reserved) })) ≡ fresh (stream_list cycle_time reserved)
+    gate_or cycle_time reserved (Some (record { number = number; reserved = reserved; gate = fresh (stream_list cycle_time reserved) }))
+    ≡ fresh (stream_list cycle_time reserved)
 own_gate cycle_time number reserved = same_either (reserved == reserved) (fresh (stream_list cycle_time reserved))
   where
     -- either way the same

@@ -49,6 +49,7 @@ module _ (counts : GateCountsCycles) (n reserved last cycle before t octets take
   within_it gives class given less =
       let test = le-leb (taken + octets) reserved less in (
         ap Class (given ∙ sym (gives n reserved t some))
-            ∙ sym (cond-true (lets_pass (reserved_gate n reserved last before) t octets) (Class (gate_class (stream_list n reserved) t)) OverOctets (passes ∙ test)),
+            ∙ sym (cond-true (lets_pass (reserved_gate n reserved last before) t octets) (Class (gate_class (stream_list n reserved) t))
+            OverOctets (passes ∙ test)),
         behind (taken + octets) (cond-true (nat_le (taken + octets) reserved) (taken + octets) taken test),
       )

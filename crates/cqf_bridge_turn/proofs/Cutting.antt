@@ -1,5 +1,6 @@
 -- A list in order of instant is cut by cycle.
-use Rattle.std.proofs.Common.{◌≡◌, ℕ, ◌+◌, ◌-◌, ◌*◌, ◌<◌, ◌≤◌, ◌++◌, List, drop, get_or, length, sym, ap, ◌∙◌, arith, take, subst, true, false, Contains, eq-eqb, ne_eqb, append-nil, inl, inr}
+use Rattle.std.proofs.Common.{◌≡◌, ℕ, ◌+◌, ◌-◌, ◌*◌, ◌<◌, ◌≤◌, ◌++◌, List, drop, get_or, length, sym, ap, ◌∙◌, arith}
+use Rattle.std.proofs.Common.{take, subst, true, false, Contains, eq-eqb, ne_eqb, append-nil, inl, inr}
 use Rattle.std.specs.Prelude.{◌==◌, [], filter, nat_lt}
 use Rattle.std.specs.List.Sorted.{IsNonDecreasingBy, IsPartitionPoint, IsPartitionedBy}
 use Rattle.std.proofs.lemmas.List.Sorted.{IsNonDecreasingBy-drop, IsPartitionedBy-ltb}
@@ -45,7 +46,13 @@ module _ {X : Type 0} (key : X → ℕ) where
       let of_cycle = λ (x : X). cycle_at time (key x) == cycle in
       let rest = drop from xs in
       let none_before : filter of_cycle (take from xs) ≡ [] = filter_none of_cycle (take from xs) (λ x h.
-      ne_eqb (cycle_at time (key x)) cycle (λ e. omega (arith, sooner (cycle * time) xs from first upto x h, cycle_from time (key x), ap (λ (c : ℕ). c * time) e))) in
+      ne_eqb (cycle_at time (key x)) cycle (λ e. omega (
+        arith,
+        sooner (cycle * time) xs from first upto x h,
+        cycle_from time (key x),
+        ap
+            (λ (c : ℕ). c * time) e,
+      ))) in
       let none_behind : filter of_cycle (drop count rest) ≡ [] = filter_none of_cycle (drop count rest) (λ x h.
       ne_eqb (cycle_at time (key x)) cycle
       (λ e. omega (arith, later (cycle * time + time) rest count last within x h, cycle_upto time (key x) some, ap (λ (c : ℕ). c * time) e))) in
@@ -74,6 +81,7 @@ module _ {X : Type 0} (key : X → ℕ) where
       (IsPartitionedBy-ltb key (drop from xs) (begin * time + time) (IsNonDecreasingBy-drop key from xs up))) in
       ap (take count) whole
       ∙ cut_is time begin xs from count some point upto
-      (subst (λ (ys : List X). IsPartitionPoint (λ y. nat_lt (key y) (begin * time + time) ≡ true) (λ y. nat_lt (key y) (begin * time + time) ≡ false) ys count) whole next)
+      (subst (λ (ys : List X). IsPartitionPoint (λ y. nat_lt (key y) (begin * time + time) ≡ true) (λ y. nat_lt (key y) (begin * time + time)
+      ≡ false) ys count) whole next)
       (subst (λ (ys : List X). count ≤ length ys) whole within)
       ∙ ap (λ (c : ℕ). filter (λ x. cycle_at time (key x) == c) xs) at

@@ -68,10 +68,12 @@ is_agenda d offers background bridge a offers_stand background_stands some time 
   offers_are = λ cycle.
       ap (λ (t : ℕ). filter (λ (x : Offered). cycle_at t (instant_of_offer x) == cycle) a.offers) time
       ∙ offers_stand d offers bridge cycle (filter (λ (x : Offered). cycle_at d.cycle_time (instant_of_offer x) == cycle) a.offers) some
-      (kept_in_order instant_of_offer (is_offered_to bridge) (λ (x : Offered). cycle_at d.cycle_time (instant_of_offer x) == cycle) (numbered offers) a.offers own);
+      (kept_in_order instant_of_offer (is_offered_to bridge) (λ (x : Offered). cycle_at d.cycle_time (instant_of_offer x) == cycle)
+      (numbered offers) a.offers own);
   background_are = λ cycle.
       ap (λ (t : ℕ). filter (λ (x : Backed). cycle_at t (instant_of_backed x) == cycle) a.background) time
       ∙ background_stands d background bridge cycle (filter (λ (x : Backed). cycle_at d.cycle_time (instant_of_backed x) == cycle) a.background) some
-      (kept_in_order instant_of_backed (is_backed_from d bridge) (λ (x : Backed). cycle_at d.cycle_time (instant_of_backed x) == cycle) (numbered_background background)
+      (kept_in_order instant_of_backed (is_backed_from d bridge) (λ (x : Backed). cycle_at d.cycle_time (instant_of_backed x) == cycle)
+      (numbered_background background)
       a.background own_background);
 }

@@ -1,4 +1,3 @@
 mod Cutting
 mod InCycles
-mod Listing
 mod Paged

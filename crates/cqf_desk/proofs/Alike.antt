@@ -1,16 +1,18 @@
 -- Requests, rows and domains that compare as the same are the same.
-use Rattle.std.proofs.Common.{◌≡◌, ℕ, ◌+◌, Bool, true, List, Some, [], ◌∷◌, map, nat_eq, take, refl, sym, ◌∙◌}
-use Rattle.std.specs.Prelude.{String, Vec, slice_get, string_bytes}
+use Rattle.std.proofs.Common.{◌≡◌, ℕ, ◌+◌, ◌<◌, Bool, true, List, Some, [], ◌∷◌, map, nat_eq, take, drop, get_or, length, refl, ap, sym, ◌∙◌}
+use Rattle.std.specs.Prelude.{String, Vec, option_map, slice_get, string_bytes}
 use Rattle.std.specs.Cmp.Lexicographic.{pointwise}
 use Rattle.std.specs.declared.alloc.Global.{Global}
-use Rattle.std.proofs.lemmas.Bool.{and_parts}
+use Rattle.std.proofs.lemmas.Bool.{and_from, and_parts}
 use Rattle.std.proofs.lemmas.List.{take_more_same}
-use Rattle.std.proofs.lemmas.Option.{get_or_from_slice_get, slice_get_within}
+use Rattle.std.proofs.lemmas.Option.{get_or_from_slice_get, same_Some, slice_get-map, slice_get_within}
 use Rattle.std.proofs.lemmas.Slice.Eq.{bytes_eq-Decides}
 use Rattle.cqf_admission_trees.specs.Branches.{branch_of, branches_of}
+use Rattle.cqf_desk.proofs.Rests.{is_at}
 
 -- lists whose elements compare as the same make the same of each
-pub same_made : {X Y : Type 0} (E : X → X → Bool) (f : X → Y) → ((x y : X) → E x y ≡ true → f x ≡ f y) → (xs ys : List X) → pointwise E xs ys ≡ true → map f xs ≡ map f ys
+pub same_made : {X Y : Type 0} (E : X → X → Bool) (f : X → Y) → ((x y : X) → E x y ≡ true → f x ≡ f y) → (xs ys : List X) → pointwise E xs ys
+    ≡ true → map f xs ≡ map f ys
 same_made E f each [] [] h = refl
 same_made E f each [] (y ∷ ys) h = absurd cc
 same_made E f each (x ∷ xs) [] h = absurd cc
@@ -20,7 +22,8 @@ same_made E f each (x ∷ xs) (y ∷ ys) h =
 
 -- branches that compare as the same have the same names
 pub same_branches : (xs ys : List (Vec (String Global) Global)) →
-    pointwise (λ (x y : Vec (String Global) Global). pointwise (λ (s t : String Global). pointwise nat_eq (string_bytes s) (string_bytes t)) x.items y.items) xs ys ≡ true →
+    pointwise (λ (x y : Vec (String Global) Global). pointwise (λ (s t : String Global). pointwise nat_eq (string_bytes s) (string_bytes t)) x.items y.items)
+    xs ys ≡ true →
     branches_of xs ≡ branches_of ys
 same_branches xs ys h =
     same_made (λ (x y : Vec (String Global) Global). pointwise (λ (s t : String Global). pointwise nat_eq (string_bytes s) (string_bytes t)) x.items y.items)
@@ -34,3 +37,32 @@ pub one_more_same : {X : Type 0} (xs ys : List X) (k : ℕ) (x y : X) → take k
 one_more_same xs ys k x y so_far there also same =
     take_more_same xs ys k x (slice_get_within xs k x there) (slice_get_within ys k y also) so_far
     (get_or_from_slice_get xs k x x there ∙ same ∙ sym (get_or_from_slice_get ys k y x also))
+
+-- lists of which the same is made compare as the same
+pub made_same : {X Y : Type 0} (E : X → X → Bool) (f : X → Y) → ((x y : X) → f x ≡ f y → E x y ≡ true) → (xs ys : List X) → map f xs
+    ≡ map f ys → pointwise E xs ys ≡ true
+made_same E f each [] [] h = refl
+made_same E f each [] (y ∷ ys) h = absurd cc
+made_same E f each (x ∷ xs) [] h = absurd cc
+made_same {X} {Y} E f each (x ∷ xs) (y ∷ ys) h =
+    let first : f x ≡ f y = ap (λ (zs : List Y). get_or zs 0 (f x)) h in
+    let others : map f xs ≡ map f ys = ap (drop 1) h in
+    and_from (E x y) (pointwise E xs ys) (each x y first) (made_same E f each xs ys others)
+
+-- branches that have the same names compare as the same
+pub branches_same : (xs ys : List (Vec (String Global) Global)) → branches_of xs ≡ branches_of ys →
+    pointwise (λ (x y : Vec (String Global) Global). pointwise (λ (s t : String Global). pointwise nat_eq (string_bytes s) (string_bytes t)) x.items y.items)
+    xs ys ≡ true
+branches_same xs ys h =
+    made_same (λ (x y : Vec (String Global) Global). pointwise (λ (s t : String Global). pointwise nat_eq (string_bytes s) (string_bytes t)) x.items y.items)
+    (λ (x : Vec (String Global) Global). branch_of x.items)
+    (λ x y same. made_same (λ (s t : String Global). pointwise nat_eq (string_bytes s) (string_bytes t)) (λ (s : String Global). string_bytes s)
+    (λ s t alike. (bytes_eq-Decides (string_bytes s) (string_bytes t)).1 alike) x.items y.items same) xs ys h
+
+-- elements at one place of lists of which the same is made are alike
+pub alike_at : {X Y : Type 0} (f : X → Y) (xs ys : List X) (k : ℕ) (x y : X) → k < length xs → k < length ys → x ≡ get_or xs k x → y ≡ get_or ys k y →
+    map f xs ≡ map f ys → f x ≡ f y
+alike_at {X} {Y} f xs ys k x y inside also is too same =
+    same_Some (f x) (f y)
+    (sym (slice_get-map f xs k ∙ ap (option_map f) (is_at xs k x inside is)) ∙ ap (λ (zs : List Y). slice_get zs k) same
+    ∙ slice_get-map f ys k ∙ ap (option_map f) (is_at ys k y also too))

@@ -1,19 +1,21 @@
 -- What a history is that bears out its seats.
-use Rattle.std.proofs.Common.{◌≡◌, ℕ, ◌<◌, ◌==◌, Bool, List, ◌++◌, true, false, map, length, take, drop, ap, sym, subst, ◌∙◌}
-use Rattle.std.specs.Prelude.{All}
+use Rattle.std.proofs.Common.{◌≡◌, ℕ, ◌<◌, ◌==◌, Bool, List, ◌++◌, true, false, map, length, take, drop, ap, sym, subst, ◌∙◌, inl, inr}
+use Rattle.std.specs.Prelude.{All, Err, IfOk, Ok, Result}
 use Rattle.std.specs.List.{list_any}
 use Rattle.std.proofs.lemmas.List.Elements.{All-map}
 use Rattle.std.proofs.lemmas.List.{map-append, take-append-drop}
+use Rattle.cqf_model.specs.Domain.{Domain}
 use Rattle.cqf_model.specs.History.{Recorded}
 use Rattle.cqf_model.specs.Calls.{calls_by}
 use Rattle.cqf_admission.specs.declared.entries.Entry.{Entry}
 use Rattle.cqf_admission.specs.Admission.{Administration, recorded_of}
-use Rattle.cqf_desk.specs.Closing.{AreItsSeats, GoesOnBySeats, IsBorneOut, IsOfSeats, tables_by}
+use Rattle.cqf_desk.specs.Closing.{AreItsSeats, ClosesOthers, GoesOnBySeats, IsAgainst, IsBorneOut, IsOfSeats, tables_by}
 use Rattle.cqf_desk.specs.Desk.{Sitting}
 use Rattle.cqf_desk.proofs.Rests.{front_is, rest_is}
 
 -- a number that no seat has isn't one of the desk's
-pub none_there : (count : ℕ) (seats : List Sitting) (number : ℕ) (found : Bool) → number < count → found ≡ list_any (λ (s : Sitting). s.number == number) seats →
+pub none_there : (count : ℕ) (seats : List Sitting) (number : ℕ) (found : Bool) → number < count → found
+    ≡ list_any (λ (s : Sitting). s.number == number) seats →
     found ≡ false → AreItsSeats count seats → false ≡ true
 none_there count seats number found below is none all = sym none ∙ is ∙ all.each number below
 
@@ -52,3 +54,12 @@ of_parts start count seats all first rest n front back goes own =
     of_seats start count seats all n
     (subst (λ (xs : List Entry). GoesOnBySeats start count xs (drop n all)) front (subst (λ (ys : List Entry). GoesOnBySeats start count first ys) back goes))
     (subst (λ (ys : List Entry). All (IsBorneOut start.domain (start.entries ++ map recorded_of ys) (length start.entries)) seats) back own)
+
+-- where its tables are others, a seat isn't borne out
+pub against_by : {E : Type 0} (d : Domain) (entries : List Recorded) (first : ℕ) (seat : Sitting) (result : Result Bool E) →
+    IfOk result (λ so. so ≡ false → ClosesOthers d entries first seat.number seat.tables) → IfOk result (λ so. so ≡ false → IsAgainst d entries first seat)
+against_by d entries first seat (Ok so) differs = λ none. elim (differs none) [
+  | inl other ↦ inl (λ borne. other borne.tables)
+  | inr illegal ↦ inr illegal
+]
+against_by d entries first seat (Err fault) differs = tt

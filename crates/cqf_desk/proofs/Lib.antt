@@ -4,6 +4,8 @@ mod Borne
 mod Calls
 mod ClosedTables
 mod Followers
+mod Leasts
 mod Longer
+mod Nowhere
 mod Rests
 mod Steps

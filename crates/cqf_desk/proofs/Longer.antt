@@ -1,5 +1,6 @@
 -- The tables that a seat closes in a history that goes on.
-use Rattle.std.proofs.Common.{◌≡◌, ℕ, ◌+◌, ◌-◌, ◌<◌, ◌≤◌, ◌==◌, Bool, List, Some, [], ◌∷◌, ◌++◌, true, false, map, length, take, drop, refl, ap, sym, ◌∙◌, arith, length-append, subst}
+use Rattle.std.proofs.Common.{◌≡◌, ℕ, ◌+◌, ◌-◌, ◌<◌, ◌≤◌, ◌==◌, Bool, List, Some, [], ◌∷◌, ◌++◌, true, false, map}
+use Rattle.std.proofs.Common.{length, take, drop, refl, ap, sym, ◌∙◌, arith, length-append, subst}
 use Rattle.std.specs.Prelude.{slice_get}
 use Rattle.std.specs.List.{list_any}
 use Rattle.std.proofs.lemmas.Bool.{and_parts, or_parts}
@@ -25,7 +26,7 @@ use Rattle.cqf_desk.proofs.Rests.{front_is, parts_at}
 use Rattle.cqf_desk.proofs.Steps.{closes, one_place, some_at}
 
 -- entries more have no fewer Seals
-not_fewer : SealsAreCounted → (es more : List Recorded) → seals es ≤ seals (es ++ more)
+pub not_fewer : SealsAreCounted → (es more : List Recorded) → seals es ≤ seals (es ++ more)
 not_fewer counted es [] =
     let same : seals (es ++ []) ≡ seals es = ap seals (append-nil es) in
     omega (arith, same)
@@ -36,10 +37,12 @@ not_fewer counted es (e ∷ more) =
     omega (arith, longer, further, same)
 
 -- the cycle of a Seal within is closed by the end
-is_closed : SealsAreCounted → (es : List Recorded) (place : ℕ) (e : Recorded) → slice_get es place ≡ Some e → is_seal e.act ≡ true → seals (take place es) < seals es
+is_closed : SealsAreCounted → (es : List Recorded) (place : ℕ) (e : Recorded) → slice_get es place ≡ Some e → is_seal e.act ≡ true →
+    seals (take place es) < seals es
 is_closed counted es place e at its =
     let parts = parts_at es place e at in
-    let entry_is : e ≡ record { seat = e.seat; act = Seals; reply = e.reply } = (λ i. record { seat = e.seat; act = is_the_seal e.act its i; reply = e.reply }) in
+    let entry_is : e ≡ record { seat = e.seat; act = Seals; reply = e.reply } =
+    (λ i. record { seat = e.seat; act = is_the_seal e.act its i; reply = e.reply }) in
     let one_more : seals (take place es ++ e ∷ []) ≡ seals (take place es) + 1 =
     ap (λ (r : Recorded). seals (take place es ++ r ∷ [])) entry_is ∙ counted (take place es) e.seat Seals e.reply in
     let further = not_fewer counted (take place es ++ e ∷ []) parts.0 in
@@ -127,7 +130,8 @@ gone_on old new e first after number same goes =
     (λ i. tables_by (sym goes.domain i) (sym goes.entries i) (sym same i) number)
 
 -- a follower that goes on has begun with as many entries
-begun_so : (old new : Administration) (e : Recorded) (first after : ℕ) → after ≡ first → FollowerGoesOn old new e → first ≤ length old.entries → after ≤ length new.entries
+begun_so : (old new : Administration) (e : Recorded) (first after : ℕ) → after ≡ first → FollowerGoesOn old new e → first ≤ length old.entries
+    → after ≤ length new.entries
 begun_so old new e first after same goes begun =
     let long : length new.entries ≡ length (old.entries ++ e ∷ []) = ap length goes.entries in
     let longer = length-append old.entries (e ∷ []) in
@@ -163,8 +167,10 @@ keeps_tables stay counted old new e number same goes none = λ tables has. recor
 }
 
 -- and by one of its Seals
-pub adds_table : ClosedTablesStay → SealsAreCounted → SealClosesTable → (old new : Follower) (e : Recorded) (number : ℕ) (table : CycleTable) → new.first ≡ old.first →
-    FollowerGoesOn old.admission new.admission e → is_seal_by number e ≡ true → e.reply ≡ Sealed → table ≡ next_table old.admission → AddsTable old new number table
+pub adds_table : ClosedTablesStay → SealsAreCounted → SealClosesTable → (old new : Follower) (e : Recorded) (number : ℕ) (table : CycleTable)
+    → new.first ≡ old.first →
+    FollowerGoesOn old.admission new.admission e → is_seal_by number e ≡ true → e.reply ≡ Sealed → table ≡ next_table old.admission →
+    AddsTable old new number table
 adds_table stay counted closing old new e number table same goes its sealed is = λ tables has. record {
   begun = begun_so old.admission new.admission e old.first new.first same goes has.begun;
   own = ap (λ ts. ts ++ table ∷ []) has.own
@@ -174,7 +180,8 @@ adds_table stay counted closing old new e number table same goes its sealed is =
 }
 
 -- calls that come first, and behind them no Seal of the seat
-pub up_to_seal : (followed rest front behind : List Entry) (number n : ℕ) → front ≡ take n rest → behind ≡ drop n rest → map recorded_of followed ≡ map recorded_of front →
+pub up_to_seal : (followed rest front behind : List Entry) (number n : ℕ) → front ≡ take n rest → behind ≡ drop n rest → map recorded_of followed
+    ≡ map recorded_of front →
     list_any (λ (e : Entry). is_seal_by number (recorded_of e)) behind ≡ false → IsUpToSeal (map recorded_of followed) (map recorded_of rest) number
 up_to_seal followed rest front behind number n is_front is_behind same none = (
   map recorded_of behind,
@@ -192,7 +199,8 @@ in_parts history first followed entries start n is is_first is_followed begins =
 
 -- a follower of the history up to the seat's last Seal has its tables
 followed_so : ClosedTablesStay → SealsAreCounted → (f : Follower) (opening : Administration) (followed rest : List Recorded) (number : ℕ) →
-    f.first ≡ length opening.entries → f.admission.domain ≡ opening.domain → f.admission.entries ≡ opening.entries ++ followed → IsUpToSeal followed rest number →
+    f.first ≡ length opening.entries → f.admission.domain ≡ opening.domain → f.admission.entries ≡ opening.entries ++ followed →
+    IsUpToSeal followed rest number →
     HasFollowed f opening rest number
 followed_so stay counted f opening followed rest number first domain entries up = λ tables has.
     let longer = length-append opening.entries followed in
@@ -203,8 +211,10 @@ followed_so stay counted f opening followed rest number first domain entries up 
     (append_assoc opening.entries followed up.0 ∙ ap (λ (es : List Recorded). opening.entries ++ es) (sym up.1))
 
 -- the same of lists of entries that were compared
-pub has_followed : ClosedTablesStay → SealsAreCounted → (f : Follower) (opening : Administration) (history start first followed : List Entry) (rest : List Recorded) (n number : ℕ) →
-    f.first ≡ n → n ≡ length start → map recorded_of start ≡ opening.entries → f.admission.domain ≡ opening.domain → map recorded_of history ≡ f.admission.entries →
+pub has_followed : ClosedTablesStay → SealsAreCounted → (f : Follower) (opening : Administration) (history start first followed : List Entry)
+    (rest : List Recorded) (n number : ℕ) →
+    f.first ≡ n → n ≡ length start → map recorded_of start ≡ opening.entries → f.admission.domain ≡ opening.domain → map recorded_of history
+    ≡ f.admission.entries →
     first ≡ take n history → followed ≡ drop n history → map recorded_of first ≡ map recorded_of start → IsUpToSeal (map recorded_of followed) rest number →
     HasFollowed f opening rest number
 has_followed stay counted f opening history start first followed rest n number begun many starts domain is is_first is_followed same up =

@@ -9,7 +9,8 @@ pub is_at : {X : Type 0} (xs : List X) (k : ℕ) (x : X) → k < length xs → x
 is_at xs k x inside is = slice_get-get_or xs k x inside ∙ ap Some (sym is)
 
 -- one element more
-pub one_more : {X Y : Type 0} (f : X → Y) (xs : List X) (k : ℕ) (x : X) → k < length xs → x ≡ get_or xs k x → map f (take (k + 1) xs) ≡ map f (take k xs) ++ f x ∷ []
+pub one_more : {X Y : Type 0} (f : X → Y) (xs : List X) (k : ℕ) (x : X) → k < length xs → x ≡ get_or xs k x → map f (take (k + 1) xs)
+    ≡ map f (take k xs) ++ f x ∷ []
 one_more f xs k x inside is =
     ap (map f) (take_more xs k x inside ∙ ap (λ y. take k xs ++ y ∷ []) (sym is)) ∙ map-append f (take k xs) (x ∷ [])
 

@@ -1,5 +1,7 @@
 -- Calls made once more, one by one.
-use Rattle.std.proofs.Common.{◌≡◌, ℕ, ◌+◌, ◌-◌, ◌<◌, ◌≤◌, ◌==◌, Bool, List, Option, Some, [], ◌∷◌, ◌++◌, true, false, map, length, take, get_or, refl, ap, sym, ◌∙◌, arith, length-append, subst, add-one, if◌then◌else◌}
+use Rattle.std.proofs.Common.{◌≡◌, ℕ, ◌+◌, ◌-◌, ◌<◌, ◌≤◌, ◌==◌, Bool, List, Option, Some, [], ◌∷◌, ◌++◌, true, false}
+use Rattle.std.proofs.Common.{map, length, take, get_or, refl, ap, sym, ◌∙◌, arith, length-append, subst, add-one}
+use Rattle.std.proofs.Common.{if◌then◌else◌}
 use Rattle.std.specs.Prelude.{IfSome, slice_get, option_map, suc, zero}
 use Rattle.std.specs.List.{list_any}
 use Rattle.std.specs.Option.{option_map_or}
@@ -33,7 +35,8 @@ pub none_made : (start : Administration) (rest : List Entry) → HasGoneOn start
 none_made start rest = record { domain = refl; entries = sym (append-nil start.entries) }
 
 -- with one more
-pub one_made : (start again new : Administration) (rest : List Entry) (k : ℕ) (e : Entry) → HasGoneOn start again rest k → k < length rest → e ≡ get_or rest k e →
+pub one_made : (start again new : Administration) (rest : List Entry) (k : ℕ) (e : Entry) → HasGoneOn start again rest k → k < length rest →
+    e ≡ get_or rest k e →
     FollowerGoesOn again new (recorded_of e) → HasGoneOn start new rest (k + 1)
 one_made start again new rest k e gone inside is goes =
     record {
@@ -44,7 +47,8 @@ one_made start again new rest k e gone inside is goes =
     }
 
 -- with all of them it has the history that they make
-pub all_made : (start again : Administration) (rest : List Entry) (k : ℕ) → HasGoneOn start again rest k → length rest ≤ k → IsLegalHistory again.domain again.entries →
+pub all_made : (start again : Administration) (rest : List Entry) (k : ℕ) → HasGoneOn start again rest k → length rest ≤ k →
+    IsLegalHistory again.domain again.entries →
     IsLegalHistory start.domain (start.entries ++ map recorded_of rest)
 all_made start again rest k gone through legal =
     let all : again.entries ≡ start.entries ++ map recorded_of rest = gone.entries ∙ ap (λ xs. start.entries ++ map recorded_of xs) (take_all k rest through) in
@@ -100,27 +104,40 @@ closes_nothing start again new rest number tables next k e has inside is goes no
           ∙ append-nil (each_below (λ i. closed_by start.domain all number (length start.entries + i)) k));
     }
 
--- a Seal of the seat
-pub closes_its_table : ClosedTablesStay → SealsAreCounted → SealClosesTable → (start again new : Administration) (rest : List Entry) (number : ℕ) (tables : List CycleTable) (next k : ℕ) (e : Entry) (table : CycleTable) →
-    HasClosed start again rest number tables next k → k < length rest → e ≡ get_or rest k e → FollowerGoesOn again new (recorded_of e) →
-    is_seal_by number (recorded_of e) ≡ true → e.reply ≡ Sealed → next < length tables → table ≡ get_or tables next table → table ≡ next_table again →
-    HasClosed start new rest number tables (next + 1) (k + 1)
-closes_its_table stay counted closing start again new rest number tables next k e table has inside is goes its sealed there own next_is =
+-- the history so far is the beginning of the whole one
+pub so_far : (start again : Administration) (rest : List Entry) (k : ℕ) → HasGoneOn start again rest k →
+    take (length start.entries + k) (start.entries ++ map recorded_of rest) ≡ again.entries
+so_far start again rest k gone =
+    before start.entries (map recorded_of rest) k ∙ ap (λ xs. start.entries ++ xs) (take-map recorded_of rest k) ∙ sym gone.entries
+
+-- the table that the seat closes by a Seal there
+pub closes_there : ClosedTablesStay → SealsAreCounted → SealClosesTable → (start again : Administration) (rest : List Entry) (number k : ℕ) (e : Entry) →
+    HasGoneOn start again rest k → k < length rest → e ≡ get_or rest k e → is_seal_by number (recorded_of e) ≡ true → e.reply ≡ Sealed →
+    closed_by start.domain (start.entries ++ map recorded_of rest) number (length start.entries + k) ≡ next_table again ∷ []
+closes_there stay counted closing start again rest number k e gone inside is its sealed =
     let all = start.entries ++ map recorded_of rest in
-    let so_far : take (length start.entries + k) all ≡ again.entries =
-    before start.entries (map recorded_of rest) k ∙ ap (λ xs. start.entries ++ xs) (take-map recorded_of rest k) ∙ sym has.gone.entries in
     let parts = parts_at all (length start.entries + k) (recorded_of e) (stands start.entries rest k e inside is) in
     let front = take (length start.entries + k) all in
     let its_rows : table_at start.domain all (seals front) ≡ held_in start.domain front (seals front) =
     ap (λ (es : List Recorded). table_at start.domain es (seals front)) parts.1
     ∙ table_there stay counted closing start.domain front parts.0 (recorded_of e) (and_parts (e.seat == number) (is_seal (recorded_of e).act) its).1 sealed in
-    let the_table : table_closed start.domain all (length start.entries + k) ≡ table =
+    let the_table : table_closed start.domain all (length start.entries + k) ≡ next_table again =
     (λ i. record { cycle = seals front; rows = its_rows i })
-    ∙ ap (λ (es : List Recorded). next_table (record { domain = start.domain; entries = es })) so_far
-    ∙ ap (λ (d : Domain). next_table (record { domain = d; entries = again.entries })) (sym has.gone.domain) ∙ sym next_is in
-    let one_table : closed_by start.domain all number (length start.entries + k) ≡ table ∷ [] =
+    ∙ ap (λ (es : List Recorded). next_table (record { domain = start.domain; entries = es })) (so_far start again rest k gone)
+    ∙ ap (λ (d : Domain). next_table (record { domain = d; entries = again.entries })) (sym gone.domain) in
     closes start.domain all number (length start.entries + k) (recorded_of e) true (stands start.entries rest k e inside is) its
-    ∙ ap (λ t. t ∷ []) the_table in
+    ∙ ap (λ t. t ∷ []) the_table
+
+-- a Seal of the seat
+pub closes_its_table : ClosedTablesStay → SealsAreCounted → SealClosesTable → (start again new : Administration) (rest : List Entry)
+    (number : ℕ) (tables : List CycleTable) (next k : ℕ) (e : Entry) (table : CycleTable) →
+    HasClosed start again rest number tables next k → k < length rest → e ≡ get_or rest k e → FollowerGoesOn again new (recorded_of e) →
+    is_seal_by number (recorded_of e) ≡ true → e.reply ≡ Sealed → next < length tables → table ≡ get_or tables next table → table ≡ next_table again →
+    HasClosed start new rest number tables (next + 1) (k + 1)
+closes_its_table stay counted closing start again new rest number tables next k e table has inside is goes its sealed there own next_is =
+    let all = start.entries ++ map recorded_of rest in
+    let one_table : closed_by start.domain all number (length start.entries + k) ≡ table ∷ [] =
+    closes_there stay counted closing start again rest number k e has.gone inside is its sealed ∙ ap (λ t. t ∷ []) (sym next_is) in
     record {
       gone = one_made start again new rest k e has.gone inside is goes;
       few = omega (arith, there);
@@ -131,24 +148,30 @@ closes_its_table stay counted closing start again new rest number tables next k 
     }
 
 -- one step
-pub steps_on : ClosedTablesStay → SealsAreCounted → SealClosesTable → (start again new : Administration) (rest : List Entry) (number : ℕ) (tables : List CycleTable) (next after k : ℕ) (e : Entry) →
-    HasClosed start again rest number tables next k → k < length rest → e ≡ get_or rest k e → FollowerStepsTo again new (recorded_of e) number tables next after →
+pub steps_on : ClosedTablesStay → SealsAreCounted → SealClosesTable → (start again new : Administration) (rest : List Entry) (number : ℕ)
+    (tables : List CycleTable) (next after k : ℕ) (e : Entry) →
+    HasClosed start again rest number tables next k → k < length rest → e ≡ get_or rest k e → FollowerStepsTo again new (recorded_of e)
+    number tables next after →
     HasClosed start new rest number tables after (k + 1)
-steps_on stay counted closing start again new rest number tables next after k e has inside is steps = by_seal (is_seal_by number (recorded_of e)) refl steps.moves
+steps_on stay counted closing start again new rest number tables next after k e has inside is steps =
+    by_seal (is_seal_by number (recorded_of e)) refl steps.moves
   where
     -- whether or not it is a Seal of the seat
-    by_seal : (b : Bool) → is_seal_by number (recorded_of e) ≡ b → MovesOn b tables next after (next_table again) → HasClosed start new rest number tables after (k + 1)
+    by_seal : (b : Bool) → is_seal_by number (recorded_of e) ≡ b → MovesOn b tables next after (next_table again) →
+        HasClosed start new rest number tables after (k + 1)
     by_seal true its moves =
         let there = slice_get_within tables next (next_table again) moves.0 in
-        let own : next_table again ≡ get_or tables next (next_table again) = sym (get_or_from_slice_get tables next (next_table again) (next_table again) moves.0) in
+        let own : next_table again ≡ get_or tables next (next_table again) =
+        sym (get_or_from_slice_get tables next (next_table again) (next_table again) moves.0) in
         subst (λ n. HasClosed start new rest number tables n (k + 1)) (sym moves.1)
         (closes_its_table stay counted closing start again new rest number tables next k e (next_table again) has inside is steps.goes its
         (steps.sealed (and_parts (e.seat == number) (is_seal (recorded_of e).act) its).1) there own refl)
     by_seal false none moves =
-        subst (λ n. HasClosed start new rest number tables n (k + 1)) (sym moves) (closes_nothing start again new rest number tables next k e has inside is steps.goes none)
+        subst (λ n. HasClosed start new rest number tables n (k + 1)) (sym moves)
+        (closes_nothing start again new rest number tables next k e has inside is steps.goes none)
 
 -- how many calls there are behind the opening part
-rest_length : (start : List Recorded) (rest : List Entry) → length (start ++ map recorded_of rest) - length start ≡ length rest
+pub rest_length : (start : List Recorded) (rest : List Entry) → length (start ++ map recorded_of rest) - length start ≡ length rest
 rest_length start rest =
     let both = length-append start (map recorded_of rest) in
     let same = length-map rest recorded_of in

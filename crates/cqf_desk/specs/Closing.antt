@@ -1,6 +1,7 @@
 -- What a closed desk's history is to its seats (profile).
-use Rattle.std.specs.Prelude.{ℕ, Bool, ◌≡◌, ◌+◌, ◌-◌, ◌<◌, ◌≤◌, ◌⊎◌, ◌++◌, List, [], ◌∷◌, ◌==◌, ◌&&◌, if◌then◌else◌, true, Option, None, Some, Result, Ok, Err}
-use Rattle.std.specs.Prelude.{All, drop, length, map, slice_get, take}
+use Rattle.std.specs.Prelude.{ℕ, Bool, ◌≡◌, ◌≢◌, ◌+◌, ◌-◌, ◌<◌, ◌≤◌, ◌⊎◌, ◌++◌, List, [], ◌∷◌, ◌==◌, ◌&&◌}
+use Rattle.std.specs.Prelude.{if◌then◌else◌, true, Option, None, Some, Result, Ok, Err}
+use Rattle.std.specs.Prelude.{All, Contains, drop, length, map, slice_get, take}
 use Rattle.std.specs.List.{list_any}
 use Rattle.std.specs.Option.{option_map_or}
 use Rattle.cqf_lists.specs.Lists.{each_below}
@@ -33,10 +34,18 @@ closed_by d entries number place =
 abbrev pub tables_by : Domain → List Recorded → ℕ → ℕ → List CycleTable
 tables_by d entries first number = each_below (λ i. closed_by d entries number (first + i)) (length entries - first)
 
+-- these aren't the tables that a seat's Seals close there, or the history isn't legal
+abbrev pub ClosesOthers : Domain → List Recorded → ℕ → ℕ → List CycleTable → Type 0
+ClosesOthers d entries first number tables = (tables ≢ tables_by d entries first number) ⊎ (¬ IsLegalHistory d entries)
+
 -- the seat has just its calls of the history behind so many entries, and the tables of its Seals there
 pub record IsBorneOut (d : Domain) (entries : List Recorded) (first : ℕ) (seat : Sitting) : Type 0 where
   pub calls : seat.calls ≡ calls_by seat.number (drop first entries)
   pub tables : seat.tables ≡ tables_by d entries first seat.number
+
+-- the seat hasn't, or the history isn't legal
+abbrev pub IsAgainst : Domain → List Recorded → ℕ → Sitting → Type 0
+IsAgainst d entries first seat = (¬ IsBorneOut d entries first seat) ⊎ (¬ IsLegalHistory d entries)
 
 -- as many seats as the desk has, and one of each number
 pub record AreItsSeats (count : ℕ) (seats : List Sitting) : Type 0 where
@@ -50,22 +59,28 @@ pub record IsOfSeats (opening : List Recorded) (d : Domain) (count : ℕ) (seats
   pub known : All (λ (e : Recorded). e.seat < count) (drop (length opening) entries)
   pub own : All (IsBorneOut d entries (length opening)) seats
 
--- what a comparison of the seats comes to: each is so; or one of them has the number, and those of lesser numbers are so
-abbrev pub ComesToLeast : (Sitting → Type 0) → List Sitting → Option ℕ → Type 0
-ComesToLeast IsSo seats None = All IsSo seats
-ComesToLeast IsSo seats (Some number) =
-    (list_any (λ (s : Sitting). s.number == number) seats ≡ true) × All (λ (s : Sitting). s.number < number → IsSo s) seats
+-- one of the seats has the number and is so
+abbrev pub HasSuch : (Sitting → Type 0) → List Sitting → ℕ → Type 0
+HasSuch IsSuch seats number = (seat : Sitting) × Contains seats seat × (seat.number ≡ number) × IsSuch seat
 
--- a seat by the history that the opening part makes with what stands behind it in this one
-abbrev pub IsBorneOutBy : List Recorded → Domain → List Recorded → Sitting → Type 0
-IsBorneOutBy opening d entries seat = IsBorneOut d (opening ++ drop (length opening) entries) (length opening) seat
+-- what a comparison of the seats comes to: all are borne out; or this is the least number of a seat that isn't, or may not be where the
+-- history isn't legal, and those of lesser numbers are borne out
+abbrev pub ComesToLeast : Domain → List Recorded → ℕ → List Sitting → Option ℕ → Type 0
+ComesToLeast d entries first seats None = All (IsBorneOut d entries first) seats
+ComesToLeast d entries first seats (Some number) =
+    HasSuch (IsAgainst d entries first) seats number × All (λ (s : Sitting). s.number < number → IsBorneOut d entries first s) seats
 
--- whom a disagreement names: one of the seats, where those of lesser numbers are borne out; or none of them, but how many there
--- are, where all are borne out, unless the history is shorter than the opening part
+-- the seats by the history that the opening part makes with what stands behind it in this one
+abbrev pub ComesToLeastBy : List Recorded → Domain → List Recorded → List Sitting → Option ℕ → Type 0
+ComesToLeastBy opening d entries seats least = ComesToLeast d (opening ++ drop (length opening) entries) (length opening) seats least
+
+-- whom a disagreement names: the least of the seats that aren't borne out; or none of them, but how many there are, where all are borne
+-- out, unless the history is shorter than the opening part, and it isn't that part with the seats' calls behind it
 abbrev pub Disagrees : List Recorded → Domain → ℕ → List Recorded → List Sitting → ℕ → Type 0
 Disagrees opening d count entries seats number =
-    ComesToLeast (IsBorneOutBy opening d entries) seats (Some number)
-    ⊎ ((number ≡ count) × (length opening ≤ length entries → All (IsBorneOutBy opening d entries) seats))
+    ComesToLeastBy opening d entries seats (Some number)
+    ⊎ ((number ≡ count) × (length opening ≤ length entries → ComesToLeastBy opening d entries seats None) ×
+    (¬ IsOfSeats opening d count seats entries))
 
 -- the number of one of the seats, or how many there are
 abbrev pub IsOneOrCount : ℕ → List Sitting → ℕ → Type 0

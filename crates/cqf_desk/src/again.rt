@@ -1,9 +1,9 @@
 //! A history's calls, made once more.
-ghost use Rattle.std.specs.Prelude.{◌≡◌, ◌++◌, true, Some, length, map, slice_get, IfOk, IfSome};
+ghost use Rattle.std.specs.Prelude.{◌≡◌, ◌↔◌, ◌++◌, true, false, Some, length, map, slice_get, IfOk};
 ghost use Rattle.cqf_model.specs.History.{IsLegalHistory};
 ghost use Rattle.cqf_admission.specs.Admission.{recorded_of};
-ghost use Rattle.cqf_desk.specs.Again.{ComesTo, FollowerHasGone, IsAnsweredSo, IsClosedSo, FollowerStepsTo};
-ghost use Rattle.cqf_desk.specs.Closing.{tables_by};
+ghost use Rattle.cqf_desk.specs.Again.{ComesTo, FollowerComesTo, FollowerHasGone, IsAnsweredSo, IsClosedSo};
+ghost use Rattle.cqf_desk.specs.Closing.{ClosesOthers, tables_by};
 
 use crate::same::is_same_table;
 use crate::seats::{enters, reply_of};
@@ -59,6 +59,7 @@ fn closed(answer: Result<Table, SealFault>, reply: Reply) -> Made
 pub(crate) fn make(admission: &mut Admission, entry: &Entry) -> Made
     ensures { ComesTo admission.old admission.new (recorded_of entry.now) result }
 {
+    state_follows_history();
     match &entry.call {
         Call::Admit(request) => answered(admission.admit(entry.seat, request), entry.reply),
         Call::Withdraw(name) => answered(
@@ -71,7 +72,7 @@ pub(crate) fn make(admission: &mut Admission, entry: &Entry) -> Made
 
 /// Whether an admission goes on with these calls, each with the answer that it got.
 pub(crate) fn goes_on(again: &mut Admission, rest: &[Entry]) -> Result<bool, Memory>
-    ensures { IfOk result (λ same. same ≡ true → IsLegalHistory again.old.domain (again.old.entries ++ map recorded_of rest.now)) }
+    ensures { IfOk result (λ same. (same ≡ true) ↔ IsLegalHistory again.old.domain (again.old.entries ++ map recorded_of rest.now)) }
 {
     for entry in rest {
         match make(again, entry) {
@@ -81,13 +82,14 @@ pub(crate) fn goes_on(again: &mut Admission, rest: &[Entry]) -> Result<bool, Mem
             Made::Memory => return Err(AllocError),
         }
     }
+    // its history is legal: a fact
     let _legal = again.history();
     Ok(true)
 }
 
 /// Whether the table at a place is this one.
 fn is_at(tables: &[Table], place: usize, table: &Table) -> bool
-    ensures { result ≡ true → slice_get tables.now place ≡ Some table.now }
+    ensures { (result ≡ true) ↔ (slice_get tables.now place ≡ Some table.now) }
 {
     match tables.get(place) {
         Some(kept) => is_same_table(kept, table),
@@ -104,7 +106,7 @@ fn step(
     tables: &[Table],
     next: usize,
 ) -> Result<Option<usize>, Memory>
-    ensures { IfOk result (λ after. IfSome after (FollowerStepsTo again.old again.new (recorded_of entry.now) number tables.now next)) }
+    ensures { IfOk result (FollowerComesTo again.old again.new (recorded_of entry.now) number tables.now next) }
 {
     match make(again, entry) {
         Made::Answered => Ok(Some(next)),
@@ -134,6 +136,8 @@ pub(crate) fn has_tables(
 ) -> Result<bool, Memory>
     ensures closes { IfOk result (λ same. same ≡ true →
         tables.now ≡ tables_by again.old.domain (again.old.entries ++ map recorded_of rest.now) (length again.old.entries) number) }
+    ensures differs { IfOk result (λ same. same ≡ false →
+        ClosesOthers again.old.domain (again.old.entries ++ map recorded_of rest.now) (length again.old.entries) number tables.now) }
     ensures goes { IfOk result (λ same. same ≡ true → FollowerHasGone again.old again.new (map recorded_of rest.now)) }
 {
     closed_tables_stay();

@@ -1,11 +1,12 @@
 //! The comparisons by which a desk is closed.
-ghost use Rattle.std.specs.Prelude.{ℕ, ◌≡◌, ◌↔◌, ◌++◌, ◌==◌, ◌<◌, true, false, None, length, map, min, All, IfErr, IfOk, IsErrOf};
+ghost use Rattle.std.specs.Prelude.{ℕ, ◌≡◌, ◌↔◌, ◌++◌, ◌==◌, ◌<◌, true, false, None, Some, length, map, min, All, Err, IfErr, IfOk, IsErrOf};
 ghost use Rattle.std.specs.List.{list_any};
 ghost use Rattle.std.specs.Option.{option_map_or};
 ghost use Rattle.cqf_model.specs.History.{IsLegalHistory};
 ghost use Rattle.cqf_model.specs.Calls.{calls_by};
 ghost use Rattle.cqf_admission.specs.Admission.{recorded_of};
-ghost use Rattle.cqf_desk.specs.Closing.{AreItsSeats, ComesToLeast, GoesOnBySeats, IsBorneOut, IsCloseFault, IsClosed, IsOneOrCount, Settles, tables_by};
+ghost use Rattle.cqf_desk.specs.Closing.{AreItsSeats, ClosesOthers, ComesToLeast, GoesOnBySeats, IsAgainst, IsBorneOut};
+ghost use Rattle.cqf_desk.specs.Closing.{IsClosed, IsOneOrCount, Settles, tables_by};
 
 use crate::again::{goes_on, has_tables};
 use crate::faults::CloseFault;
@@ -41,14 +42,14 @@ pub(crate) fn are_its_seats(count: u16, seats: &[Seat]) -> bool
 
 /// Whether each of the calls is of one of so many seats.
 fn are_known(rest: &[Entry], count: u16) -> bool
-    ensures { result ≡ true → All (λ e. e.seat < count) rest.now }
+    ensures { (result ≡ true) ↔ All (λ e. e.seat < count) rest.now }
 {
     rest.iter().all(|entry| entry.seat < count)
 }
 
 /// Whether these are the calls of the seat among all calls.
 fn has_calls(calls: &[Entry], rest: &[Entry], number: u16) -> bool
-    ensures { result ≡ true → map recorded_of calls.now ≡ calls_by number (map recorded_of rest.now) }
+    ensures { (result ≡ true) ↔ (map recorded_of calls.now ≡ calls_by number (map recorded_of rest.now)) }
 {
     let mut next = 0;
     for entry in rest {
@@ -73,8 +74,10 @@ fn closes_tables(
     number: u16,
     tables: &[Table],
 ) -> Result<bool, Memory>
-    ensures { IfOk result (λ so. so ≡ true →
+    ensures closes { IfOk result (λ so. so ≡ true →
         tables.now ≡ tables_by opening.now.domain (opening.now.entries ++ map recorded_of rest.now) (length opening.now.entries) number) }
+    ensures differs { IfOk result (λ so. so ≡ false →
+        ClosesOthers opening.now.domain (opening.now.entries ++ map recorded_of rest.now) (length opening.now.entries) number tables.now) }
 {
     let mut again = opening.try_copy(alloc)?;
     let so = has_tables(&mut again, rest, number, tables)?;
@@ -89,8 +92,10 @@ fn has_its_tables(
     rest: &[Entry],
     seat: &Seat,
 ) -> Result<bool, Memory>
-    ensures { IfOk result (λ so. so ≡ true →
+    ensures closes { IfOk result (λ so. so ≡ true →
         seat.now.tables ≡ tables_by opening.now.domain (opening.now.entries ++ map recorded_of rest.now) (length opening.now.entries) seat.now.number) }
+    ensures differs { IfOk result (λ so. so ≡ false →
+        ClosesOthers opening.now.domain (opening.now.entries ++ map recorded_of rest.now) (length opening.now.entries) seat.now.number seat.now.tables) }
 {
     let tables = seat.tables();
     let number = seat.number();
@@ -110,8 +115,10 @@ fn bears_out(
     rest: &[Entry],
     seat: &Seat,
 ) -> Result<bool, Memory>
-    ensures { IfOk result (λ so. so ≡ true →
+    ensures borne { IfOk result (λ so. so ≡ true →
         IsBorneOut opening.now.domain (opening.now.entries ++ map recorded_of rest.now) (length opening.now.entries) seat.now) }
+    ensures against { IfOk result (λ so. so ≡ false →
+        IsAgainst opening.now.domain (opening.now.entries ++ map recorded_of rest.now) (length opening.now.entries) seat.now) }
 {
     if !has_calls(seat.calls(), rest, seat.number()) {
         return Ok(false);
@@ -126,18 +133,25 @@ fn first_against(
     rest: &[Entry],
     seats: &[Seat],
 ) -> Result<Option<u16>, Memory>
-    ensures { IfOk result (ComesToLeast
-        (IsBorneOut opening.now.domain (opening.now.entries ++ map recorded_of rest.now) (length opening.now.entries)) seats.now) }
+    ensures { IfOk result (ComesToLeast opening.now.domain (opening.now.entries ++ map recorded_of rest.now) (length opening.now.entries) seats.now) }
 {
     let mut least = None;
     for seat in seats {
-        match bears_out(alloc, opening, rest, seat) {
-            Ok(true) => {}
-            Ok(false) => least = Some(lesser(least, seat.number())),
-            Err(fault) => return Err(fault),
-        }
+        let is_borne = bears_out(alloc, opening, rest, seat)?;
+        least = least_with(least, is_borne, seat.number());
     }
     Ok(least)
+}
+
+/// The least number so far, with one more seat's that is borne out or isn't.
+fn least_with(least: Option<u16>, is_borne: bool, number: u16) -> Option<u16>
+    ensures borne { is_borne ≡ true → result ≡ least }
+    ensures against { is_borne ≡ false → result ≡ Some (option_map_or (λ n. min n number) least number) }
+{
+    if is_borne {
+        return least;
+    }
+    Some(lesser(least, number))
 }
 
 /// The lesser of two numbers, of which one may be missing.
@@ -152,7 +166,7 @@ fn lesser(least: Option<u16>, number: u16) -> u16
 
 /// Whether an admission goes on with these calls.
 fn is_legal_behind(alloc: Global, opening: &Admission, rest: &[Entry]) -> Result<bool, Memory>
-    ensures { IfOk result (λ legal. legal ≡ true → IsLegalHistory opening.now.domain (opening.now.entries ++ map recorded_of rest.now)) }
+    ensures { IfOk result (λ legal. (legal ≡ true) ↔ IsLegalHistory opening.now.domain (opening.now.entries ++ map recorded_of rest.now)) }
 {
     let mut again = opening.try_copy(alloc)?;
     goes_on(&mut again, rest)
@@ -166,7 +180,7 @@ fn is_of_seats(
     first: &[Entry],
     rest: &[Entry],
 ) -> Result<bool, Memory>
-    ensures { IfOk result (λ so. so ≡ true → GoesOnBySeats opening.now count first.now rest.now) }
+    ensures { IfOk result (λ so. (so ≡ true) ↔ GoesOnBySeats opening.now count first.now rest.now) }
 {
     if !are_same_entries(first, opening.history()) {
         return Ok(false);
@@ -216,7 +230,7 @@ pub(crate) fn settle(
     ensures missing { IsErrOf result CloseFault.SeatMissing → ⊥ }
     ensures named { (number : ℕ) → IsErrOf result (CloseFault.SeatsDisagree number) → IsOneOrCount count seats.now number }
     ensures closed { IfOk result (λ history. IsClosed (record { opening = opening.now; seats = count }) seats.now history) }
-    ensures fault { IfErr result (λ fault. IsCloseFault (record { opening = opening.now; seats = count }) seats.now fault) }
+    ensures fault { IfErr result (λ fault. Settles opening.now count (map recorded_of entries.items) seats.now (Err fault)) }
 {
     match check(alloc, opening, count, entries.as_slice(), seats) {
         Ok(()) => Ok(History {

@@ -11,8 +11,8 @@ use thiserror::Error;
 pub enum CloseFault {
     /// The seats that are handed in aren't those of the desk, one of each number.
     SeatMissing,
-    /// The least number of a seat whose calls or tables aren't those of the history. It is the number of seats where the
-    /// history isn't the opening part with calls of the desk's seats behind it.
+    /// The least number of a seat whose calls or tables aren't those of the history or, where the history isn't legal, perhaps
+    /// another. It is the number of seats where the history isn't the opening part with calls of the desk's seats behind it.
     SeatsDisagree(u16),
     /// A growth was refused.
     Memory,

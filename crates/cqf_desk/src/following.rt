@@ -1,5 +1,5 @@
 //! What follows the history of a desk for a seat that seals.
-ghost use Rattle.std.specs.Prelude.{ℕ, ◌≡◌, ◌++◌, List, [], ◌∷◌, Ok, true, false, drop, length, map, IfOk, IfSome, OnOk};
+ghost use Rattle.std.specs.Prelude.{ℕ, ◌≡◌, ◌++◌, List, [], ◌∷◌, Ok, true, false, drop, length, map, IfOk, IfSome};
 ghost use Rattle.std.specs.List.{list_any};
 ghost use Rattle.cqf_admission.specs.Admission.{recorded_of};
 ghost use Rattle.cqf_desk.specs.Closing.{is_seal_by};
@@ -215,29 +215,21 @@ fn go_on(follower: &mut Vec<Follower>, history: &[Entry], number: u16) -> Result
     Ok(())
 }
 
-/// Brings what follows a seat's history up to its end: where it `joins`, it is made, and is to be made no more, and else it goes
+/// Brings what follows a seat's history up to its end: where an opening part is given, it is made anew from there, and else it goes
 /// on. The error is want of memory.
 pub(crate) fn catch_up(
     follower: &mut Vec<Follower>,
-    joins: &mut bool,
     alloc: Global,
-    opening: &Admission,
+    opening: Option<&Admission>,
     history: &[Entry],
     number: u16,
     tables: &[Table],
 ) -> Result<(), Memory>
-    ensures followed { AreFollowed follower.old.items number tables.now → AreFollowed follower.new.items number tables.now }
-    ensures joined { OnOk result (joins.new ≡ false) }
+    ensures { AreFollowed follower.old.items number tables.now → AreFollowed follower.new.items number tables.now }
 {
-    if !*joins {
-        return go_on(follower, history, number);
-    }
-    match join(follower, alloc, opening, history, number, tables) {
-        Ok(()) => {
-            *joins = false;
-            Ok(())
-        }
-        Err(fault) => Err(fault),
+    match opening {
+        Some(opening) => join(follower, alloc, opening, history, number, tables),
+        None => go_on(follower, history, number),
     }
 }
 

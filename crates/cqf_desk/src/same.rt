@@ -1,6 +1,6 @@
 //! Whether what a seat kept is what a history has.
 ghost use Rattle.std.specs.Arc.{arc_value};
-ghost use Rattle.std.specs.Prelude.{◌≡◌, true, map};
+ghost use Rattle.std.specs.Prelude.{◌≡◌, ◌↔◌, true, map};
 ghost use Rattle.cqf_admission.specs.Admission.{act_of, recorded_of};
 ghost use Rattle.cqf_admission.specs.Asking.{asked_of};
 ghost use Rattle.cqf_admission_trees.specs.Branches.{branches_of};
@@ -12,21 +12,21 @@ use std::sync::Arc;
 
 /// Whether two texts are the same.
 fn is_same_text(one: &str, other: &str) -> bool
-    ensures { result ≡ true → one.now ≡ other.now }
+    ensures { (result ≡ true) ↔ (one.now ≡ other.now) }
 {
     one == other
 }
 
 /// Whether two lists of branches have the same names.
 fn are_same_paths(these: &[Vec<String>], those: &[Vec<String>]) -> bool
-    ensures { result ≡ true → branches_of these.now ≡ branches_of those.now }
+    ensures { (result ≡ true) ↔ (branches_of these.now ≡ branches_of those.now) }
 {
     these == those
 }
 
 /// Whether two requests ask for the same.
 fn is_same_request(one: &Request, other: &Request) -> bool
-    ensures { result ≡ true → asked_of one.now ≡ asked_of other.now }
+    ensures { (result ≡ true) ↔ (asked_of one.now ≡ asked_of other.now) }
 {
     if !is_same_text(one.name.as_str(), other.name.as_str()) {
         return false;
@@ -39,7 +39,7 @@ fn is_same_request(one: &Request, other: &Request) -> bool
 
 /// Whether two calls are for the same.
 fn is_same_call(one: &Call, other: &Call) -> bool
-    ensures { result ≡ true → act_of one.now ≡ act_of other.now }
+    ensures { (result ≡ true) ↔ (act_of one.now ≡ act_of other.now) }
 {
     match (one, other) {
         (Call::Admit(asked), Call::Admit(again)) => is_same_request(asked, again),
@@ -54,7 +54,7 @@ fn is_same_call(one: &Call, other: &Call) -> bool
 
 /// Whether two entries are of the same seat, call and answer.
 pub(crate) fn is_same_entry(one: &Entry, other: &Entry) -> bool
-    ensures { result ≡ true → recorded_of one.now ≡ recorded_of other.now }
+    ensures { (result ≡ true) ↔ (recorded_of one.now ≡ recorded_of other.now) }
 {
     if one.seat != other.seat {
         return false;
@@ -67,7 +67,7 @@ pub(crate) fn is_same_entry(one: &Entry, other: &Entry) -> bool
 
 /// Whether two lists have the same entries.
 pub(crate) fn are_same_entries(these: &[Entry], those: &[Entry]) -> bool
-    ensures { result ≡ true → map recorded_of these.now ≡ map recorded_of those.now }
+    ensures { (result ≡ true) ↔ (map recorded_of these.now ≡ map recorded_of those.now) }
 {
     if these.len() != those.len() {
         return false;
@@ -82,21 +82,21 @@ pub(crate) fn are_same_entries(these: &[Entry], those: &[Entry]) -> bool
 
 /// Whether two lists have the same bytes.
 fn are_same_bytes(these: &[u8], those: &[u8]) -> bool
-    ensures { result ≡ true → these.now ≡ those.now }
+    ensures { (result ≡ true) ↔ (these.now ≡ those.now) }
 {
     these == those
 }
 
 /// Whether two hops are the same.
 fn is_same_hop(one: &Hop, other: &Hop) -> bool
-    ensures { result ≡ true → one.now ≡ other.now }
+    ensures { (result ≡ true) ↔ (one.now ≡ other.now) }
 {
     one.link == other.link && one.depth == other.depth && one.from == other.from
 }
 
 /// Whether two lists have the same hops.
 fn are_same_hops(these: &[Hop], those: &[Hop]) -> bool
-    ensures { result ≡ true → these.now ≡ those.now }
+    ensures { (result ≡ true) ↔ (these.now ≡ those.now) }
 {
     if these.len() != those.len() {
         return false;
@@ -111,7 +111,7 @@ fn are_same_hops(these: &[Hop], those: &[Hop]) -> bool
 
 /// Whether two rows say the same of one stream.
 fn is_same_row(one: &Row, other: &Row) -> bool
-    ensures { result ≡ true → one.now ≡ other.now }
+    ensures { (result ≡ true) ↔ (one.now ≡ other.now) }
 {
     if one.no != other.no || one.octets != other.octets {
         return false;
@@ -127,7 +127,7 @@ fn is_same_row(one: &Row, other: &Row) -> bool
 
 /// Whether two lists have the same rows.
 fn are_same_rows(these: &[Arc<Row>], those: &[Arc<Row>]) -> bool
-    ensures { result ≡ true → map (λ row. arc_value row) these.now ≡ map (λ row. arc_value row) those.now }
+    ensures { (result ≡ true) ↔ (map (λ row. arc_value row) these.now ≡ map (λ row. arc_value row) those.now) }
 {
     if these.len() != those.len() {
         return false;
@@ -142,7 +142,7 @@ fn are_same_rows(these: &[Arc<Row>], those: &[Arc<Row>]) -> bool
 
 /// Whether two tables are of one cycle, with the same rows.
 pub(crate) fn is_same_table(one: &Table, other: &Table) -> bool
-    ensures { result ≡ true → one.now ≡ other.now }
+    ensures { (result ≡ true) ↔ (one.now ≡ other.now) }
 {
     one.cycle() == other.cycle() && are_same_rows(one.rows(), other.rows())
 }

@@ -1,5 +1,6 @@
 //! The seats of a desk.
-ghost use Rattle.std.specs.Prelude.{◌≡◌, ◌↔◌, ◌-◌, ◌≤◌, ◌<◌, ◌++◌, [], ◌∷◌, true, false, length, map, option_copied, slice_get, string_bytes, vec_len, vec_capacity, Err};
+ghost use Rattle.std.specs.Prelude.{◌≡◌, ◌↔◌, ◌-◌, ◌≤◌, ◌<◌, ◌++◌, [], ◌∷◌, true, false, length, map, option_copied};
+ghost use Rattle.std.specs.Prelude.{slice_get, string_bytes, vec_len, vec_capacity, Err};
 ghost use Rattle.cqf_model.specs.History.{Admits, IsLegalHistory, Withdraws};
 ghost use Rattle.cqf_admission.specs.Admission.{Closes, calls, is_entered, recorded_of, reply_of};
 ghost use Rattle.cqf_admission.specs.Asking.{asked_of};
@@ -164,11 +165,11 @@ impl Seat {
             return Err(unsealed(admission));
         }
         let (history, tables) = (admission.history(), self.tables.as_slice());
+        let start = if self.joins { Some(opening) } else { None };
         if catch_up(
             &mut self.follower,
-            &mut self.joins,
             alloc,
-            opening,
+            start,
             history,
             self.number,
             tables,
@@ -177,6 +178,7 @@ impl Seat {
         {
             return Err(unsealed(admission));
         }
+        self.joins = false;
         let Ok(own) = close_own(&mut self.follower, self.number) else {
             return Err(unsealed(admission));
         };

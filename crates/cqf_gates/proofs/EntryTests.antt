@@ -14,24 +14,28 @@ fails_where_not false never = refl
 
 -- where no element passes a test, each fails it
 list_any-false : {X : Type 0} (xs : List X) (p : X → Bool) → list_any p xs ≡ false → All (λ x. p x ≡ false) xs
-list_any-false xs p none k d inside = fails_where_not (p (get_or xs k d)) (λ passes. let some : list_any p xs ≡ true = list_any_at p xs k d inside passes in absurd (cc))
+list_any-false xs p none k d inside = fails_where_not (p (get_or xs k d)) (λ passes. let some : list_any p xs ≡ true =
+    list_any_at p xs k d inside passes in absurd (cc))
 
 -- where no interval is 0, each is longer
 pub lasting-from_test : (entries : List Entry) → list_any (λ (entry : Entry). entry.1 == 0) entries ≡ false → All (λ (entry : Entry). 0 < entry.1) entries
 lasting-from_test entries none k d inside =
     elim (eqb_tells (get_or entries k d).1 0) [
       | inl zero_there ↦
-          let some : list_any (λ (entry : Entry). entry.1 == 0) entries ≡ true = list_any_at (λ (entry : Entry). entry.1 == 0) entries k d inside zero_there.0 in
+          let some : list_any (λ (entry : Entry). entry.1 == 0) entries ≡ true =
+          list_any_at (λ (entry : Entry). entry.1 == 0) entries k d inside zero_there.0 in
           absurd (cc)
       | inr longer ↦ omega arith
     ]
 
 -- where no interval of a stream gate is 0, each is longer
-pub stream_lasting-from_test : (entries : List StreamEntry) → list_any (λ (entry : StreamEntry). entry.interval == 0) entries ≡ false → All (λ (entry : StreamEntry). 0 < entry.interval) entries
+pub stream_lasting-from_test : (entries : List StreamEntry) → list_any (λ (entry : StreamEntry). entry.interval == 0) entries ≡ false →
+    All (λ (entry : StreamEntry). 0 < entry.interval) entries
 stream_lasting-from_test entries none k d inside =
     elim (eqb_tells (get_or entries k d).interval 0) [
       | inl zero_there ↦
-          let some : list_any (λ (entry : StreamEntry). entry.interval == 0) entries ≡ true = list_any_at (λ (entry : StreamEntry). entry.interval == 0) entries k d inside zero_there.0 in
+          let some : list_any (λ (entry : StreamEntry). entry.interval == 0) entries ≡ true =
+          list_any_at (λ (entry : StreamEntry). entry.interval == 0) entries k d inside zero_there.0 in
           absurd (cc)
       | inr longer ↦ omega arith
     ]
@@ -48,11 +52,13 @@ valued-from_good entry good =
     ]
 
 -- where no entry has a bad value, each value is 6 or 7
-pub valued-from_test : (entries : List StreamEntry) → list_any is_bad_ipv entries ≡ false → All (λ (entry : StreamEntry). (entry.ipv ≡ 6) ⊎ (entry.ipv ≡ 7)) entries
+pub valued-from_test : (entries : List StreamEntry) → list_any is_bad_ipv entries ≡ false →
+    All (λ (entry : StreamEntry). (entry.ipv ≡ 6) ⊎ (entry.ipv ≡ 7)) entries
 valued-from_test entries none k d inside = valued-from_good (get_or entries k d) (list_any-false entries is_bad_ipv none k d inside)
 
 -- entries that pass the tests are those of a list
-pub IsStreamList-from_tests : (entries : List StreamEntry) → 0 < length entries → length entries ≤ 16 → list_any (λ (entry : StreamEntry). entry.interval == 0) entries ≡ false → list_any is_bad_ipv entries ≡ false → IsStreamList entries
+pub IsStreamList-from_tests : (entries : List StreamEntry) → 0 < length entries → length entries ≤ 16 →
+    list_any (λ (entry : StreamEntry). entry.interval == 0) entries ≡ false → list_any is_bad_ipv entries ≡ false → IsStreamList entries
 IsStreamList-from_tests entries some few no_zero no_bad = record {
   some = some;
   few = few;

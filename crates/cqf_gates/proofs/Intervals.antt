@@ -1,5 +1,7 @@
 -- Rounds and intervals of a stream gate.
-use Rattle.std.proofs.Common.{eq-eqb, ℕ, ◌≡◌, ◌+◌, ◌-◌, ◌*◌, ◌/◌, ◌%◌, ◌<◌, ◌≤◌, zero, suc, List, [], ◌∷◌, get_or, All, refl, ap, sym, ◌∙◌, ltb, eqb, true, false, Bool, ◌&&◌, ◌++◌, ◌⊎◌, inl, inr, cond, arith, Option, Some, None}
+use Rattle.std.proofs.Common.{eq-eqb, ℕ, ◌≡◌, ◌+◌, ◌-◌, ◌*◌, ◌/◌, ◌%◌, ◌<◌, ◌≤◌, zero, suc, List, [], ◌∷◌, get_or, All}
+use Rattle.std.proofs.Common.{refl, ap, sym, ◌∙◌, ltb, eqb, true, false, Bool, ◌&&◌, ◌++◌, ◌⊎◌, inl, inr, cond, arith}
+use Rattle.std.proofs.Common.{Option, Some, None}
 use Rattle.std.proofs.lemmas.Bool.Decides.{nat_tests, leb_tells, eqb_tells}
 use Rattle.std.proofs.lemmas.List.Sums.{sum_by_more_le, sum_by-cons, sum_by-append}
 use Rattle.std.proofs.lemmas.List.Elements.{All-append}
@@ -40,13 +42,15 @@ equal-from_test : (x y : ℕ) → eqb x y ≡ true → x ≡ y
 equal-from_test x y h = elim (eqb_tells x y) [ inl same ↦ same.1 | inr other ↦ absurd (cc (h, other.0)) ]
 
 -- both instants lie in one interval, in equations
-pub same_interval-equations : (entries : List StreamEntry) (s t : ℕ) → same_interval entries s t ≡ true → (round_at entries s ≡ round_at entries t) × (place_at entries s ≡ place_at entries t)
+pub same_interval-equations : (entries : List StreamEntry) (s t : ℕ) → same_interval entries s t ≡ true → (round_at entries s ≡ round_at entries t)
+    × (place_at entries s ≡ place_at entries t)
 same_interval-equations entries s t same =
     let both = both_true _ _ same in
     (equal-from_test _ _ both.0, equal-from_test _ _ both.1)
 
 -- and where the equations hold, both lie in one interval
-pub same_interval-from_equations : (entries : List StreamEntry) (s t : ℕ) → round_at entries s ≡ round_at entries t → place_at entries s ≡ place_at entries t → same_interval entries s t ≡ true
+pub same_interval-from_equations : (entries : List StreamEntry) (s t : ℕ) → round_at entries s ≡ round_at entries t → place_at entries s
+    ≡ place_at entries t → same_interval entries s t ≡ true
 same_interval-from_equations entries s t round place =
     let rounds : eqb (round_at entries s) (round_at entries t) ≡ true = eq-eqb _ _ round in
     let places : eqb (place_at entries s) (place_at entries t) ≡ true = eq-eqb _ _ place in
@@ -88,7 +92,8 @@ other_interval entries s last t before behind other =
     ]
 
 -- no call of an earlier interval counts in a later one
-octets_in-later : (entries : List StreamEntry) (passed : List Call) (last t : ℕ) → All (λ (call : Call). call.0 ≤ last) passed → last ≤ t → same_interval entries last t ≡ false → octets_in entries passed t ≡ 0
+octets_in-later : (entries : List StreamEntry) (passed : List Call) (last t : ℕ) → All (λ (call : Call). call.0 ≤ last) passed → last ≤ t →
+    same_interval entries last t ≡ false → octets_in entries passed t ≡ 0
 octets_in-later entries [] last t before behind other = refl
 octets_in-later entries (call ∷ passed) last t before behind other =
     let count : Call → ℕ = λ (c : Call). cond (same_interval entries c.0 t) c.1 0 in
@@ -98,13 +103,15 @@ octets_in-later entries (call ∷ passed) last t before behind other =
     omega (arith, sum_by-cons count call passed, none, rest)
 
 -- the calls of one interval count alike at each of its instants
-octets_in-same : (entries : List StreamEntry) (passed : List Call) (s t : ℕ) → same_interval entries s t ≡ true → octets_in entries passed s ≡ octets_in entries passed t
+octets_in-same : (entries : List StreamEntry) (passed : List Call) (s t : ℕ) → same_interval entries s t ≡ true → octets_in entries passed s
+    ≡ octets_in entries passed t
 octets_in-same entries passed s t same =
     let both = same_interval-equations entries s t same in
     rw (both.0, both.1)
 
 -- one more call of the interval counts with its octets
-octets_in-one_more : (entries : List StreamEntry) (passed : List Call) (t octets : ℕ) → octets_in entries (passed ++ (t, octets) ∷ []) t ≡ octets_in entries passed t + octets
+octets_in-one_more : (entries : List StreamEntry) (passed : List Call) (t octets : ℕ) → octets_in entries (passed ++ (t, octets) ∷ []) t
+    ≡ octets_in entries passed t + octets
 octets_in-one_more entries passed t octets =
     let count : Call → ℕ = λ (c : Call). cond (same_interval entries c.0 t) c.1 0 in
     let same : same_interval entries t t ≡ true = same_interval-from_equations entries t t refl refl in
@@ -112,7 +119,8 @@ octets_in-one_more entries passed t octets =
     omega (arith, sum_by-append count passed ((t, octets) ∷ []), one)
 
 -- what the gate holds as taken is what its calls passed in the interval
-pub taken_at-counts : (gate : Gate) (passed : List Call) (t most : ℕ) → Counts gate passed → gate.last ≤ t → octet_max_at gate.entries t ≡ Some most → taken_at gate t ≡ octets_in gate.entries passed t
+pub taken_at-counts : (gate : Gate) (passed : List Call) (t most : ℕ) → Counts gate passed → gate.last ≤ t → octet_max_at gate.entries t
+    ≡ Some most → taken_at gate t ≡ octets_in gate.entries passed t
 taken_at-counts gate passed t most counts behind has =
     elim (true_or_false (same_interval gate.entries gate.last t)) [
       | inl same ↦
@@ -128,14 +136,16 @@ within-same None a b octets same = refl
 within-same (Some most) a b octets same = ap (λ taken. within (Some most) (taken + octets)) (same most refl)
 
 -- the gate decides as its calls do
-decides : (gate : Gate) (passed : List Call) (t octets : ℕ) (e : Option StreamEntry) → entry_at gate.entries t ≡ e → Counts gate passed → gate.last ≤ t → lets_pass gate t octets ≡ gate_passes gate.entries passed t octets
+decides : (gate : Gate) (passed : List Call) (t octets : ℕ) (e : Option StreamEntry) → entry_at gate.entries t ≡ e → Counts gate passed →
+    gate.last ≤ t → lets_pass gate t octets ≡ gate_passes gate.entries passed t octets
 decides gate passed t octets None is counts behind = rw is
 decides gate passed t octets (Some entry) is counts behind =
     let limit : octet_max_at gate.entries t ≡ entry.octet_max = rw is in
     rw is (within-same entry.octet_max _ _ octets (λ most has. taken_at-counts gate passed t most counts behind (limit ∙ has)))
 
 -- below an octet maximum the test is that of the octets
-lets_pass-limited : (gate : Gate) (t octets most : ℕ) (e : Option StreamEntry) → entry_at gate.entries t ≡ e → octet_max_at gate.entries t ≡ Some most → lets_pass gate t octets ≡ within (Some most) (taken_at gate t + octets)
+lets_pass-limited : (gate : Gate) (t octets most : ℕ) (e : Option StreamEntry) → entry_at gate.entries t ≡ e → octet_max_at gate.entries t
+    ≡ Some most → lets_pass gate t octets ≡ within (Some most) (taken_at gate t + octets)
 lets_pass-limited gate t octets most None is has =
     let none : octet_max_at gate.entries t ≡ None = rw is in
     absurd (cc)
@@ -149,17 +159,21 @@ one-in_time t octets zero d inside = omega arith
 one-in_time t octets (suc k) d inside = absurd (omega arith)
 
 -- the calls that passed stay in time
-passed-in_time : (b : Bool) (passed : List Call) (last t octets : ℕ) → All (λ (call : Call). call.0 ≤ last) passed → last ≤ t → All (λ (call : Call). call.0 ≤ t) (cond b (passed ++ (t, octets) ∷ []) passed)
-passed-in_time true passed last t octets before behind = All-append (λ (call : Call). call.0 ≤ t) passed ((t, octets) ∷ []) (λ k d inside. omega (arith, before k d inside)) (one-in_time t octets)
+passed-in_time : (b : Bool) (passed : List Call) (last t octets : ℕ) → All (λ (call : Call). call.0 ≤ last) passed → last ≤ t →
+    All (λ (call : Call). call.0 ≤ t) (cond b (passed ++ (t, octets) ∷ []) passed)
+passed-in_time true passed last t octets before behind = All-append (λ (call : Call). call.0 ≤ t) passed ((t, octets) ∷ [])
+    (λ k d inside. omega (arith, before k d inside)) (one-in_time t octets)
 passed-in_time false passed last t octets before behind = λ k d inside. omega (arith, before k d inside)
 
 -- what is taken goes on as the list of calls does
-taken-along : (b : Bool) (entries : List StreamEntry) (passed : List Call) (taken t octets : ℕ) → taken ≡ octets_in entries passed t → cond b (taken + octets) taken ≡ octets_in entries (cond b (passed ++ (t, octets) ∷ []) passed) t
+taken-along : (b : Bool) (entries : List StreamEntry) (passed : List Call) (taken t octets : ℕ) → taken ≡ octets_in entries passed t →
+    cond b (taken + octets) taken ≡ octets_in entries (cond b (passed ++ (t, octets) ∷ []) passed) t
 taken-along true entries passed taken t octets same = omega (arith, octets_in-one_more entries passed t octets)
 taken-along false entries passed taken t octets same = same
 
 -- the gate goes on counting
-counts_on : (gate : Gate) (passed : List Call) (t octets : ℕ) → Counts gate passed → gate.last ≤ t → Counts (gate_after gate t octets) (passed_after gate passed t octets)
+counts_on : (gate : Gate) (passed : List Call) (t octets : ℕ) → Counts gate passed → gate.last ≤ t →
+    Counts (gate_after gate t octets) (passed_after gate passed t octets)
 counts_on gate passed t octets counts behind = record {
   before = passed-in_time (lets_pass gate t octets) passed gate.last t octets counts.before behind;
   counted = λ most has.

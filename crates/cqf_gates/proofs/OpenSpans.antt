@@ -1,9 +1,12 @@
 -- How long a run of entries keeps a class open.
-use Rattle.std.proofs.Common.{ℕ, ◌≡◌, ◌+◌, ◌-◌, ◌*◌, ◌%◌, ◌^◌, ◌<◌, ◌≤◌, zero, suc, List, [], ◌∷◌, ◌++◌, All, length, take, drop, map, get_or, bit_and, IsBitSet, inl, inr, sym, ap, ◌∙◌, subst, ltb, eqb, not, true, false, arith}
+use Rattle.std.proofs.Common.{ℕ, ◌≡◌, ◌+◌, ◌-◌, ◌*◌, ◌%◌, ◌^◌, ◌<◌, ◌≤◌, zero, suc, List, [], ◌∷◌, ◌++◌, All, length}
+use Rattle.std.proofs.Common.{take, drop, map, get_or, bit_and, IsBitSet, inl, inr, sym, ap, ◌∙◌, subst, ltb, eqb, not}
+use Rattle.std.proofs.Common.{true, false, arith}
 use Rattle.std.specs.List.{prefix_len}
 use Rattle.std.proofs.lemmas.Bool.Decides.{leb_tells}
 use Rattle.std.proofs.lemmas.List.Sums.{sum_by-cons, sum_by-append, sum_by-take-drop, prefix_len-le-length, prefix_len_passes, prefix_len_stops}
-use Rattle.std.proofs.lemmas.List.{take_all, take-append-drop, get_or-drop, get_or-map, get_or_append_left, get_or-append-add, length-append, length-drop, length-take, length-map}
+use Rattle.std.proofs.lemmas.List.{take_all, take-append-drop, get_or-drop, get_or-map, get_or_append_left}
+use Rattle.std.proofs.lemmas.List.{get_or-append-add, length-append, length-drop, length-take, length-map}
 use Rattle.std.proofs.lemmas.List.Elements.{All-append, All-drop, All-take, All-from_get_or}
 use Rattle.std.proofs.lemmas.Bool.{true≢false, eq-eqb, eqb-true, not-false}
 use Rattle.cqf_model.specs.GateList.{Entry, round_of, states_in, states_at, IsOpen, IsOpenThrough, InForce}
@@ -12,7 +15,8 @@ use Rattle.cqf_gates.specs.TxList.{IsTxList}
 use Rattle.cqf_gates.proofs.Rounds.{states_in-past, states_in-behind, states_in-at, states_at-in_round, states_at-in_force, in_round}
 
 -- within a run of entries that open the class, the class is open
-pub run_opens : (entries : List Entry) (class run offset : ℕ) → ((k : ℕ) → k < run → IsBitSet (get_or entries k (0, 0)).0 class) → offset < round_of (take run entries) → IsBitSet (states_in entries offset) class
+pub run_opens : (entries : List Entry) (class run offset : ℕ) → ((k : ℕ) → k < run → IsBitSet (get_or entries k (0, 0)).0 class) →
+    offset < round_of (take run entries) → IsBitSet (states_in entries offset) class
 run_opens [] class zero offset opened within = absurd (omega arith)
 run_opens [] class (suc run) offset opened within = absurd (omega arith)
 run_opens (entry ∷ entries) class zero offset opened within = absurd (omega arith)
@@ -67,14 +71,17 @@ abbrev pub turned_to : ℕ → List Entry → List Entry
 turned_to place entries = drop place entries ++ take place entries
 
 -- from the first instant of an entry on, the states of a whole round are those of the list turned to begin there
-states_at-turned : (entries : List Entry) (round place offset : ℕ) → offset < round_of entries → states_at entries (round * round_of entries + round_of (take place entries) + offset) ≡ states_in (turned_to place entries) offset
+states_at-turned : (entries : List Entry) (round place offset : ℕ) → offset < round_of entries →
+    states_at entries (round * round_of entries + round_of (take place entries) + offset) ≡ states_in (turned_to place entries) offset
 states_at-turned entries round place offset within =
     let parts = sum_by-take-drop (λ (e : Entry). e.1) entries place in
     elim (leb_tells (suc offset) (round_of (drop place entries))) [
       | inl first ↦
           let here : offset < round_of (drop place entries) = first.1 in
-          let e : round * round_of entries + round_of (take place entries) + offset ≡ round * round_of entries + (round_of (take place entries) + offset) = omega arith in
-          ap (states_at entries) e ∙ states_at-in_round entries round _ (omega arith) ∙ states_in-behind place entries offset ∙ sym (states_in-front (drop place entries) (take place entries) offset here)
+          let e : round * round_of entries + round_of (take place entries) + offset ≡ round * round_of entries + (round_of (take place entries) + offset) =
+          omega arith in
+          ap (states_at entries) e ∙ states_at-in_round entries round _ (omega arith) ∙ states_in-behind place entries offset
+          ∙ sym (states_in-front (drop place entries) (take place entries) offset here)
       | inr later ↦
           let rest : ℕ = offset - round_of (drop place entries) in
           let behind : round_of (drop place entries) + rest ≡ offset = omega (arith, later.1) in
@@ -82,12 +89,18 @@ states_at-turned entries round place offset within =
           let e : round * round_of entries + round_of (take place entries) + offset ≡ (round + 1) * round_of entries + rest = omega arith in
           let front : states_in entries rest ≡ states_in (take place entries) rest =
           ap (λ xs. states_in xs rest) (sym (take-append-drop place entries)) ∙ states_in-front (take place entries) (drop place entries) rest short in
-          ap (states_at entries) e ∙ states_at-in_round entries (round + 1) rest (omega arith) ∙ front ∙ sym (states_in-append (drop place entries) (take place entries) rest) ∙ ap (states_in (turned_to place entries)) behind
+          ap (states_at entries) e ∙ states_at-in_round entries (round + 1) rest (omega arith) ∙ front
+          ∙ sym (states_in-append (drop place entries) (take place entries) rest) ∙ ap (states_in (turned_to place entries)) behind
     ]
 
 -- the turned list takes as long
 round_of-turned : (entries : List Entry) (place : ℕ) → round_of (turned_to place entries) ≡ round_of entries
-round_of-turned entries place = omega (arith, sum_by-append (λ (e : Entry). e.1) (drop place entries) (take place entries), sum_by-take-drop (λ (e : Entry). e.1) entries place)
+round_of-turned entries place = omega (
+  arith,
+  sum_by-append (λ (e : Entry). e.1) (drop place entries) (take place entries),
+  sum_by-take-drop
+      (λ (e : Entry). e.1) entries place,
+)
 
 -- has as many entries
 pub length-turned : (entries : List Entry) (place : ℕ) → length (turned_to place entries) ≡ length entries
@@ -95,7 +108,8 @@ length-turned entries place = omega (arith, length-append (drop place entries) (
 
 -- and begins with the one at the place
 first_of-turned : (entries : List Entry) (place : ℕ) → place < length entries → get_or (turned_to place entries) 0 (0, 0) ≡ get_or entries place (0, 0)
-first_of-turned entries place inside = get_or_append_left (drop place entries) (take place entries) (0, 0) 0 (omega (arith, length-drop place entries)) ∙ get_or-drop place entries 0 (0, 0) ∙ ap (λ k. get_or entries k (0, 0)) (omega arith)
+first_of-turned entries place inside = get_or_append_left (drop place entries) (take place entries) (0, 0) 0 (omega (arith, length-drop place entries))
+    ∙ get_or-drop place entries 0 (0, 0) ∙ ap (λ k. get_or entries k (0, 0)) (omega arith)
 
 -- states whose bit was tested open the class
 open_from_test : (states class : ℕ) → has_bit states class ≡ true → IsBitSet states class
@@ -118,7 +132,8 @@ state_of : (entries : List Entry) (k : ℕ) → k < length entries → get_or (m
 state_of entries k inside = get_or-map (λ (entry : Entry). entry.0) entries k (0, 0) 0 inside
 
 -- each entry of a run opens the class
-opened_by_run : (entries : List Entry) (class run : ℕ) → run ≡ open_run_of class (map (λ (entry : Entry). entry.0) entries) → (k : ℕ) → k < run → IsBitSet (get_or entries k (0, 0)).0 class
+opened_by_run : (entries : List Entry) (class run : ℕ) → run ≡ open_run_of class (map (λ (entry : Entry). entry.0) entries) → (k : ℕ) →
+    k < run → IsBitSet (get_or entries k (0, 0)).0 class
 opened_by_run entries class run is k below =
     let states : List ℕ = map (λ (entry : Entry). entry.0) entries in
     let most = prefix_len-le-length (λ gates. has_bit gates class) states in
@@ -130,10 +145,16 @@ opened_by_run entries class run is k below =
 pub run_inside : (entries : List Entry) (class run : ℕ) → run ≡ open_run_of class (map (λ (entry : Entry). entry.0) entries) → run ≤ length entries
 run_inside entries class run is =
     let run_is : run ≡ prefix_len (λ gates. has_bit gates class) (map (λ (entry : Entry). entry.0) entries) = is in
-    omega (arith, prefix_len-le-length (λ gates. has_bit gates class) (map (λ (entry : Entry). entry.0) entries), length-map entries (λ (entry : Entry). entry.0))
+    omega (
+      arith,
+      prefix_len-le-length (λ gates. has_bit gates class) (map (λ (entry : Entry). entry.0) entries),
+      length-map entries
+          (λ (entry : Entry). entry.0),
+    )
 
 -- the one behind the run closes it
-closed_behind_run : (entries : List Entry) (class run : ℕ) → run ≡ open_run_of class (map (λ (entry : Entry). entry.0) entries) → run < length entries → ¬ IsBitSet (get_or entries run (0, 0)).0 class
+closed_behind_run : (entries : List Entry) (class run : ℕ) → run ≡ open_run_of class (map (λ (entry : Entry). entry.0) entries) →
+    run < length entries → ¬ IsBitSet (get_or entries run (0, 0)).0 class
 closed_behind_run entries class run is inside =
     let states : List ℕ = map (λ (entry : Entry). entry.0) entries in
     let long = length-map entries (λ (entry : Entry). entry.0) in
@@ -142,50 +163,66 @@ closed_behind_run entries class run is inside =
     let here : has_bit (get_or states run 0) class ≡ false = ap (λ k. has_bit (get_or states k 0) class) run_is ∙ stops in
     subst (λ x. ¬ IsBitSet x class) (state_of entries run inside) (closed_from_test (get_or states run 0) class here)
 
-module _ (entries : List Entry) (class t place offset run : ℕ) (f : IsTxList entries) (force : InForce entries t place offset) (is : run ≡ open_run_of class (map (λ (entry : Entry). entry.0) (turned_to place entries))) where
+module _ (entries : List Entry) (class t place offset run : ℕ) (f : IsTxList entries) (force : InForce entries t place offset)
+    (is : run ≡ open_run_of class (map (λ (entry : Entry). entry.0) (turned_to place entries))) where
   -- a run of all entries: each opens the class
   pub all-open : run ≡ length (turned_to place entries) → All (λ (entry : Entry). IsBitSet entry.0 class) entries
   all-open whole =
       let opened : All (λ (entry : Entry). IsBitSet entry.0 class) (turned_to place entries) =
-      All-from_get_or (λ (entry : Entry). IsBitSet entry.0 class) (turned_to place entries) (0, 0) (λ k inside. opened_by_run (turned_to place entries) class run is k (omega arith)) in
+      All-from_get_or (λ (entry : Entry). IsBitSet entry.0 class) (turned_to place entries) (0, 0)
+      (λ k inside. opened_by_run (turned_to place entries) class run is k (omega arith)) in
       let behind = All-front (λ (entry : Entry). IsBitSet entry.0 class) (drop place entries) (take place entries) opened in
       let front = All-behind (λ (entry : Entry). IsBitSet entry.0 class) (drop place entries) (take place entries) opened in
-      subst (All (λ (entry : Entry). IsBitSet entry.0 class)) (take-append-drop place entries) (All-append (λ (entry : Entry). IsBitSet entry.0 class) (take place entries) (drop place entries) front behind)
+      subst (All (λ (entry : Entry). IsBitSet entry.0 class)) (take-append-drop place entries)
+      (All-append (λ (entry : Entry). IsBitSet entry.0 class) (take place entries) (drop place entries) front behind)
 
   -- and so it is open at every instant
   pub open-always : run ≡ length (turned_to place entries) → (s : ℕ) → IsOpen entries class s
   open-always whole s =
       let opened = all-open whole in
       let within : s % round_of entries < round_of entries = omega (arith, round_positive entries f) in
-      run_opens entries class (length entries) (s % round_of entries) (λ k inside. opened k (0, 0) inside) (rw (take_all (length entries) entries (omega arith)) within)
+      run_opens entries class (length entries) (s % round_of entries) (λ k inside. opened k (0, 0) inside)
+      (rw (take_all (length entries) entries (omega arith)) within)
 
   -- no run: the entry in force closes the class
   pub closed-now : run ≡ 0 → ¬ IsOpen entries class t
   closed-now none =
-      let first : ¬ IsBitSet (get_or (turned_to place entries) run (0, 0)).0 class = closed_behind_run (turned_to place entries) class run is (omega (arith, f.some, length-turned entries place)) in
-      let here : get_or (turned_to place entries) run (0, 0) ≡ get_or entries place (0, 0) = ap (λ k. get_or (turned_to place entries) k (0, 0)) none ∙ first_of-turned entries place force.inside in
+      let first : ¬ IsBitSet (get_or (turned_to place entries) run (0, 0)).0 class =
+      closed_behind_run (turned_to place entries) class run is (omega (arith, f.some, length-turned entries place)) in
+      let here : get_or (turned_to place entries) run (0, 0) ≡ get_or entries place (0, 0) =
+      ap (λ k. get_or (turned_to place entries) k (0, 0)) none ∙ first_of-turned entries place force.inside in
       subst (λ x. ¬ IsBitSet x class) (ap (λ (entry : Entry). entry.0) here ∙ sym (states_at-in_force entries t place offset force)) first
 
   -- a run that ends: the class is open up to its end, and closed there
-  pub open-to_end : (end : ℕ) → 0 < run → run < length (turned_to place entries) → end ≡ t - offset + round_of (take run (turned_to place entries)) → (t < end) × IsOpenThrough entries class t end × (¬ IsOpen entries class end)
+  pub open-to_end : (end : ℕ) → 0 < run → run < length (turned_to place entries) → end ≡ t - offset + round_of (take run (turned_to place entries))
+      → (t < end) × IsOpenThrough entries class t end × (¬ IsOpen entries class end)
   open-to_end end some followed end_is =
       let list : List Entry = turned_to place entries in
       let begun : t - offset ≡ force.round * round_of entries + round_of (take place entries) = omega (arith, force.spans) in
-      let first : (get_or entries place (0, 0)).1 ≤ round_of (take run list) = subst (λ (e : Entry). e.1 ≤ round_of (take run list)) (first_of-turned entries place force.inside) (first_le_run list run some) in
-      let lasts : 0 < (get_or list run (0, 0)).1 = All-append (λ (entry : Entry). 0 < entry.1) (drop place entries) (take place entries) (All-drop (λ (entry : Entry). 0 < entry.1) place entries f.lasting) (All-take (λ (entry : Entry). 0 < entry.1) place entries f.lasting) run (0, 0) followed in
+      let first : (get_or entries place (0, 0)).1 ≤ round_of (take run list) =
+      subst (λ (e : Entry). e.1 ≤ round_of (take run list)) (first_of-turned entries place force.inside) (first_le_run list run some) in
+      let lasts : 0 < (get_or list run (0, 0)).1 = All-append (λ (entry : Entry). 0 < entry.1) (drop place entries) (take place entries)
+      (All-drop (λ (entry : Entry). 0 < entry.1) place entries f.lasting) (All-take (λ (entry : Entry). 0 < entry.1) place entries f.lasting)
+      run (0, 0) followed in
       let short = in_round list run 0 followed lasts in
       let whole = round_of-turned entries place in
-      let at : (x : ℕ) → x < round_of entries → states_at entries (t - offset + x) ≡ states_in list x = λ x within. ap (λ b. states_at entries (b + x)) begun ∙ states_at-turned entries force.round place x within in (
+      let at : (x : ℕ) → x < round_of entries → states_at entries (t - offset + x) ≡ states_in list x =
+      λ x within. ap (λ b. states_at entries (b + x)) begun ∙ states_at-turned entries force.round place x within in (
         omega (arith, force.spans, force.within),
         λ s from to.
             let since : t - offset + (s - (t - offset)) ≡ s = omega (arith, force.spans) in
-            let states : states_at entries s ≡ states_in list (s - (t - offset)) = ap (states_at entries) (sym since) ∙ at (s - (t - offset)) (omega (arith, force.spans)) in
-            subst (λ x. IsBitSet x class) (sym states) (run_opens list class run (s - (t - offset)) (opened_by_run list class run is) (omega (arith, force.spans))),
-        (let states : states_at entries end ≡ (get_or list run (0, 0)).0 = ap (states_at entries) end_is ∙ at (round_of (take run list)) (omega arith) ∙ ap (states_in list) (let e : round_of (take run list) ≡ round_of (take run list) + 0 = omega arith in e) ∙ states_in-at list run 0 lasts in
+            let states : states_at entries s ≡ states_in list (s - (t - offset)) = ap (states_at entries) (sym since)
+            ∙ at (s - (t - offset)) (omega (arith, force.spans)) in
+            subst (λ x. IsBitSet x class) (sym states) (run_opens list class run (s - (t - offset)) (opened_by_run list class run is)
+            (omega (arith, force.spans))),
+        (let states : states_at entries end ≡ (get_or list run (0, 0)).0 = ap (states_at entries) end_is ∙ at (round_of (take run list)) (omega arith)
+            ∙ ap (states_in list) (let e : round_of (take run list) ≡ round_of (take run list) + 0 = omega arith in e) ∙ states_in-at list run 0 lasts in
             subst (λ x. ¬ IsBitSet x class) (sym states) (closed_behind_run list class run is followed)),
       )
 
 -- the run was counted among the states of the turned list
-pub run_of_turned : (list given turned seen : List Entry) (states shown : List ℕ) (place class run : ℕ) → given ≡ list → turned ≡ turned_to place given → seen ≡ turned → states ≡ map (λ (entry : Entry). entry.0) seen → shown ≡ states → run ≡ open_run_of class shown → run ≡ open_run_of class (map (λ (entry : Entry). entry.0) (turned_to place list))
+pub run_of_turned : (list given turned seen : List Entry) (states shown : List ℕ) (place class run : ℕ) → given ≡ list → turned
+    ≡ turned_to place given → seen ≡ turned → states ≡ map (λ (entry : Entry). entry.0) seen → shown ≡ states → run ≡ open_run_of class shown
+    → run ≡ open_run_of class (map (λ (entry : Entry). entry.0) (turned_to place list))
 run_of_turned list given turned seen states shown place class run given_is turned_is seen_is states_are shown_are is =
     is ∙ ap (open_run_of class) (shown_are ∙ states_are ∙ ap (map (λ (entry : Entry). entry.0)) (seen_is ∙ turned_is ∙ ap (turned_to place) given_is))

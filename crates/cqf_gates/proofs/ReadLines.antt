@@ -1,5 +1,7 @@
 -- How far the lines of a gate list have been read.
-use Rattle.std.proofs.Common.{ℕ, ◌≡◌, ◌+◌, ◌<◌, ◌≤◌, List, [], ◌∷◌, ◌++◌, length, take, Some, None, Result, Ok, Err, refl, ap, sym, ◌∙◌, append_assoc, arith, length-append, min, inl, inr, ltb, eqb, true, false}
+use Rattle.std.proofs.Common.{ℕ, ◌≡◌, ◌+◌, ◌<◌, ◌≤◌, List, [], ◌∷◌, ◌++◌, length, take, Some, None, Result, Ok, Err}
+use Rattle.std.proofs.Common.{refl, ap, sym, ◌∙◌, append_assoc, arith, length-append, min, inl, inr, ltb, eqb, true}
+use Rattle.std.proofs.Common.{false}
 use Rattle.std.proofs.lemmas.Bool.Decides.{nat_tests, leb_tells}
 use Rattle.std.proofs.lemmas.List.{take_all, take-append-le, length-take, length-take-le, append-nil}
 use Rattle.cqf_model.specs.GateList.{Entry}
@@ -29,12 +31,14 @@ pub read-none : (text : List ℕ) → IsReadSoFar text [] 1 text
 read-none text = record { read = []; keeps = refl; goes_on = behind_none _ }
 
 -- one more entry stands behind those that were read
-behind_one_more : (read : List Entry) (number : ℕ) (entry : Entry) (others : Result (List Entry) ℕ) → behind_entries read (with_gate_line number (Some entry) others) ≡ behind_entries (read ++ entry ∷ []) others
+behind_one_more : (read : List Entry) (number : ℕ) (entry : Entry) (others : Result (List Entry) ℕ) →
+    behind_entries read (with_gate_line number (Some entry) others) ≡ behind_entries (read ++ entry ∷ []) others
 behind_one_more read number entry (Ok others) = ap Ok (sym (append_assoc read (entry ∷ []) others))
 behind_one_more read number entry (Err line) = refl
 
 -- of one more entry the first 17 are kept
-keeps-one_more : (kept after read : List Entry) (entry : Entry) → kept ≡ take 17 read → (length kept < 17 → after ≡ kept ++ entry ∷ []) → (17 ≤ length kept → after ≡ kept) → after ≡ take 17 (read ++ entry ∷ [])
+keeps-one_more : (kept after read : List Entry) (entry : Entry) → kept ≡ take 17 read → (length kept < 17 → after ≡ kept ++ entry ∷ []) →
+    (17 ≤ length kept → after ≡ kept) → after ≡ take 17 (read ++ entry ∷ [])
 keeps-one_more kept after read entry keeps room full =
     let sizes : length kept ≡ min 17 (length read) = ap length keeps ∙ length-take 17 read in
     elim (leb_tells 17 (length read)) [
@@ -46,11 +50,14 @@ keeps-one_more kept after read entry keeps room full =
     ]
 
 -- one more line was read
-pub read-one_more : (text : List ℕ) (kept after : List Entry) (number : ℕ) (left line behind : List ℕ) (entry : Entry) → IsReadSoFar text kept number left → lines_of left ≡ line ∷ lines_of behind → entry_of_line line ≡ Some entry → (length kept < 17 → after ≡ kept ++ entry ∷ []) → (17 ≤ length kept → after ≡ kept) → IsReadSoFar text after (number + 1) behind
+pub read-one_more : (text : List ℕ) (kept after : List Entry) (number : ℕ) (left line behind : List ℕ) (entry : Entry) →
+    IsReadSoFar text kept number left → lines_of left ≡ line ∷ lines_of behind → entry_of_line line ≡ Some entry →
+    (length kept < 17 → after ≡ kept ++ entry ∷ []) → (17 ≤ length kept → after ≡ kept) → IsReadSoFar text after (number + 1) behind
 read-one_more text kept after number left line behind entry so_far first good room full =
     let others : Result (List Entry) ℕ = entries_of_lines (number + 1) (lines_of behind) in
     let now_first : entries_of_lines number (lines_of left) ≡ with_gate_line number (entry_of_line line) others = ap (entries_of_lines number) first in
-    let now_good : entries_of_lines number (lines_of left) ≡ with_gate_line number (Some entry) others = now_first ∙ ap (λ e. with_gate_line number e others) good in
+    let now_good : entries_of_lines number (lines_of left) ≡ with_gate_line number (Some entry) others =
+    now_first ∙ ap (λ e. with_gate_line number e others) good in
     record {
       read = so_far.read ++ entry ∷ [];
       keeps = keeps-one_more kept after so_far.read entry so_far.keeps room full;
@@ -58,7 +65,8 @@ read-one_more text kept after number left line behind entry so_far first good ro
     }
 
 -- the line that writes no entry is the first bad one
-pub read-bad_line : (text : List ℕ) (kept : List Entry) (number : ℕ) (left line behind : List ℕ) → IsReadSoFar text kept number left → lines_of left ≡ line ∷ lines_of behind → entry_of_line line ≡ None → entries_of_text text ≡ Err number
+pub read-bad_line : (text : List ℕ) (kept : List Entry) (number : ℕ) (left line behind : List ℕ) → IsReadSoFar text kept number left →
+    lines_of left ≡ line ∷ lines_of behind → entry_of_line line ≡ None → entries_of_text text ≡ Err number
 read-bad_line text kept number left line behind so_far first bad =
     let others : Result (List Entry) ℕ = entries_of_lines (number + 1) (lines_of behind) in
     let now_bad : entries_of_lines number (lines_of left) ≡ Err number = ap (entries_of_lines number) first ∙ ap (λ e. with_gate_line number e others) bad in
@@ -77,7 +85,8 @@ list_of_kept entries =
     ]
 
 -- at the end what is kept makes what the text makes
-pub read-all : (text : List ℕ) (kept : List Entry) (number : ℕ) (left : List ℕ) → IsReadSoFar text kept number left → lines_of left ≡ [] → list_of_text text ≡ in_text (tx_list_of kept)
+pub read-all : (text : List ℕ) (kept : List Entry) (number : ℕ) (left : List ℕ) → IsReadSoFar text kept number left → lines_of left ≡ [] →
+    list_of_text text ≡ in_text (tx_list_of kept)
 read-all text kept number left so_far none =
     let rest : entries_of_lines number (lines_of left) ≡ Ok [] = ap (entries_of_lines number) none in
     let whole : entries_of_text text ≡ Ok so_far.read = so_far.goes_on ∙ ap (behind_entries so_far.read) rest ∙ ap Ok (append-nil so_far.read) in

@@ -1,5 +1,7 @@
 -- What is written is read again.
-use Rattle.std.proofs.Common.{ℕ, ◌≡◌, ◌+◌, ◌-◌, ◌*◌, ◌/◌, ◌%◌, ◌^◌, ◌<◌, ◌≤◌, zero, suc, List, [], ◌∷◌, ◌++◌, length, take, drop, get_or, All, true, false, ltb, leb, eqb, Some, Ok, refl, ap, ◌∙◌, arith, length-append}
+use Rattle.std.proofs.Common.{ℕ, ◌≡◌, ◌+◌, ◌-◌, ◌*◌, ◌/◌, ◌%◌, ◌^◌, ◌<◌, ◌≤◌, zero, suc, List, [], ◌∷◌, ◌++◌, length}
+use Rattle.std.proofs.Common.{take, drop, get_or, All, true, false, ltb, leb, eqb, Some, Ok, refl, ap, ◌∙◌, arith}
+use Rattle.std.proofs.Common.{length-append}
 use Rattle.std.specs.Char.{digit_value, is_ascii_digit}
 use Rattle.std.specs.Fmt.{decimal}
 use Rattle.std.specs.List.{list_all, list_any, position_or_len, before_first, after_first}
@@ -63,14 +65,16 @@ entry_of_line-line entry states interval =
     simp (high, low, high_digit, low_digit, number, whole)
 
 -- a written line has no line feed
-line-no_feed : (entry : Entry) (k : ℕ) → entry.0 < 256 → entry.1 < 2 ^ 32 → k < length (line_of_gates entry) → is_line_feed (get_or (line_of_gates entry) k 0) ≡ false
+line-no_feed : (entry : Entry) (k : ℕ) → entry.0 < 256 → entry.1 < 2 ^ 32 → k < length (line_of_gates entry) →
+    is_line_feed (get_or (line_of_gates entry) k 0) ≡ false
 line-no_feed entry zero states interval inside = hex-no_feed (entry.0 / 16) (omega arith)
 line-no_feed entry (suc zero) states interval inside = hex-no_feed (entry.0 % 16) (omega arith)
 line-no_feed entry (suc (suc zero)) states interval inside = refl
 line-no_feed entry (suc (suc (suc k))) states interval inside = decimal-no_feed entry.1 k (omega arith) (omega arith)
 
 -- a line without a line feed is the first line
-lines_of-line : (line rest : List ℕ) → ((k : ℕ) → k < length line → is_line_feed (get_or line k 0) ≡ false) → lines_of (line ++ 10 ∷ rest) ≡ line ∷ lines_of rest
+lines_of-line : (line rest : List ℕ) → ((k : ℕ) → k < length line → is_line_feed (get_or line k 0) ≡ false) → lines_of (line ++ 10 ∷ rest)
+    ≡ line ∷ lines_of rest
 lines_of-line line rest none =
     let text : List ℕ = line ++ 10 ∷ rest in
     let longer : length line < length text = omega (arith, length-append line (10 ∷ rest)) in
@@ -83,15 +87,18 @@ lines_of-line line rest none =
     rw (first, front, back)
 
 -- the lines of what is written are read as the entries
-entries_of_lines-text : (number : ℕ) (entries : List Entry) → All (λ (entry : Entry). (entry.0 < 256) × (entry.1 < 2 ^ 32)) entries → entries_of_lines number (lines_of (text_of_entries entries)) ≡ Ok entries
+entries_of_lines-text : (number : ℕ) (entries : List Entry) → All (λ (entry : Entry). (entry.0 < 256) × (entry.1 < 2 ^ 32)) entries →
+    entries_of_lines number (lines_of (text_of_entries entries)) ≡ Ok entries
 entries_of_lines-text number [] ranges = refl
 entries_of_lines-text number (entry ∷ entries) ranges =
     let range = ranges 0 (0, 0) (omega arith) in
     let first : lines_of (text_of_entries (entry ∷ entries)) ≡ line_of_gates entry ∷ lines_of (text_of_entries entries) =
     lines_of-line (line_of_gates entry) (text_of_entries entries) (λ k inside. line-no_feed entry k range.0 range.1 inside) in
     let good : entry_of_line (line_of_gates entry) ≡ Some entry = entry_of_line-line entry range.0 range.1 in
-    let others : entries_of_lines (number + 1) (lines_of (text_of_entries entries)) ≡ Ok entries = entries_of_lines-text (number + 1) entries (λ k d inside. ranges (suc k) d (omega arith)) in
-    ap (entries_of_lines number) first ∙ ap (λ e. with_gate_line number e (entries_of_lines (number + 1) (lines_of (text_of_entries entries)))) good ∙ ap (with_gate_line number (Some entry)) others
+    let others : entries_of_lines (number + 1) (lines_of (text_of_entries entries)) ≡ Ok entries =
+    entries_of_lines-text (number + 1) entries (λ k d inside. ranges (suc k) d (omega arith)) in
+    ap (entries_of_lines number) first ∙ ap (λ e. with_gate_line number e (entries_of_lines (number + 1) (lines_of (text_of_entries entries)))) good
+    ∙ ap (with_gate_line number (Some entry)) others
 
 -- a number above 0 fails the test for 0
 longer-test : (n : ℕ) → 0 < n → eqb n 0 ≡ false
@@ -102,9 +109,11 @@ tx_list_of-list : (entries : List Entry) → IsTxList entries → tx_list_of ent
 tx_list_of-list entries f =
     let some : eqb (length entries) 0 ≡ false = grind (arith, nat_tests, f.some) in
     let few : ltb 16 (length entries) ≡ false = grind (arith, nat_tests, f.few) in
-    let none : list_any (λ (entry : Entry). eqb entry.1 0) entries ≡ false = list_any_none (λ (entry : Entry). eqb entry.1 0) entries (λ k d inside. longer-test (get_or entries k d).1 (f.lasting k d inside)) in
+    let none : list_any (λ (entry : Entry). eqb entry.1 0) entries ≡ false =
+    list_any_none (λ (entry : Entry). eqb entry.1 0) entries (λ k d inside. longer-test (get_or entries k d).1 (f.lasting k d inside)) in
     rw (some, few, none)
 
 -- what is written is read as the list again
-pub list_of_text-text : (entries : List Entry) → IsTxList entries → All (λ (entry : Entry). (entry.0 < 256) × (entry.1 < 2 ^ 32)) entries → list_of_text (text_of_entries entries) ≡ Ok entries
+pub list_of_text-text : (entries : List Entry) → IsTxList entries → All (λ (entry : Entry). (entry.0 < 256) × (entry.1 < 2 ^ 32)) entries →
+    list_of_text (text_of_entries entries) ≡ Ok entries
 list_of_text-text entries f ranges = rw (entries_of_lines-text 1 entries ranges, tx_list_of-list entries f)

@@ -1,5 +1,6 @@
 -- Which entry is in force so long after the beginning of a round, and what it opens.
-use Rattle.std.proofs.Common.{ℕ, ◌≡◌, ◌+◌, ◌-◌, ◌*◌, ◌/◌, ◌%◌, ◌<◌, ◌≤◌, zero, suc, List, [], ◌∷◌, length, take, drop, get_or, refl, ap, ◌∙◌, ltb, true, false, arith}
+use Rattle.std.proofs.Common.{ℕ, ◌≡◌, ◌+◌, ◌-◌, ◌*◌, ◌/◌, ◌%◌, ◌<◌, ◌≤◌, zero, suc, List, [], ◌∷◌, length, take, drop}
+use Rattle.std.proofs.Common.{get_or, refl, ap, ◌∙◌, ltb, true, false, arith}
 use Rattle.std.proofs.lemmas.Bool.Decides.{nat_tests}
 use Rattle.std.proofs.lemmas.List.Sums.{sum_by-cons, sum_by_more_le}
 use Rattle.std.proofs.lemmas.Nat.{mod-mul-add}
@@ -31,28 +32,34 @@ states_in-first (entry ∷ entries) offset within =
     rw inside
 
 -- so long after the first instant of an entry, within its interval, its states are in force
-pub states_in-at : (entries : List Entry) (place offset : ℕ) → offset < (get_or entries place (0, 0)).1 → states_in entries (round_of (take place entries) + offset) ≡ (get_or entries place (0, 0)).0
+pub states_in-at : (entries : List Entry) (place offset : ℕ) → offset < (get_or entries place (0, 0)).1 →
+    states_in entries (round_of (take place entries) + offset) ≡ (get_or entries place (0, 0)).0
 states_in-at entries place offset within =
-    let head : get_or (drop place entries) 0 (0, 0) ≡ get_or entries place (0, 0) = get_or-drop place entries 0 (0, 0) ∙ ap (λ k. get_or entries k (0, 0)) (omega arith) in
+    let head : get_or (drop place entries) 0 (0, 0) ≡ get_or entries place (0, 0) = get_or-drop place entries 0 (0, 0)
+    ∙ ap (λ k. get_or entries k (0, 0)) (omega arith) in
     let inside : offset < (get_or (drop place entries) 0 (0, 0)).1 = rw head within in
     states_in-behind place entries offset ∙ states_in-first (drop place entries) offset inside ∙ ap (λ (entry : Entry). entry.0) head
 
 -- an instant within the interval of an entry lies in the entry's round
-pub in_round : (entries : List Entry) (place offset : ℕ) → place < length entries → offset < (get_or entries place (0, 0)).1 → round_of (take place entries) + offset < round_of entries
+pub in_round : (entries : List Entry) (place offset : ℕ) → place < length entries → offset < (get_or entries place (0, 0)).1 →
+    round_of (take place entries) + offset < round_of entries
 in_round entries place offset inside within = omega (arith, sum_by_more_le (λ (entry : Entry). entry.1) entries place (0, 0) inside)
 
 -- rounds repeat
-pub states_at-in_round : (entries : List Entry) (round offset : ℕ) → offset < round_of entries → states_at entries (round * round_of entries + offset) ≡ states_in entries offset
+pub states_at-in_round : (entries : List Entry) (round offset : ℕ) → offset < round_of entries → states_at entries (round * round_of entries + offset)
+    ≡ states_in entries offset
 states_at-in_round entries round offset within = ap (states_in entries) (mod-mul-add round (round_of entries) offset within)
 
 -- the states of the entry in force
 pub states_at-in_force : (entries : List Entry) (t place offset : ℕ) → InForce entries t place offset → states_at entries t ≡ (get_or entries place (0, 0)).0
 states_at-in_force entries t place offset f =
     let e : t ≡ f.round * round_of entries + (round_of (take place entries) + offset) = omega (arith, f.spans) in
-    ap (states_at entries) e ∙ states_at-in_round entries f.round _ (in_round entries place offset f.inside f.within) ∙ states_in-at entries place offset f.within
+    ap (states_at entries) e ∙ states_at-in_round entries f.round _ (in_round entries place offset f.inside f.within)
+    ∙ states_in-at entries place offset f.within
 
 -- what is left of an offset in a round behind the entries before a place says that the place is in force
-pub InForce-from_rest : (entries : List Entry) (t place offset : ℕ) → place < length entries → round_of (take place entries) + offset ≡ t % round_of entries → offset < (get_or entries place (0, 0)).1 → InForce entries t place offset
+pub InForce-from_rest : (entries : List Entry) (t place offset : ℕ) → place < length entries → round_of (take place entries) + offset
+    ≡ t % round_of entries → offset < (get_or entries place (0, 0)).1 → InForce entries t place offset
 InForce-from_rest entries t place offset inside rest within = record {
   inside = inside;
   round = t / round_of entries;
@@ -61,7 +68,8 @@ InForce-from_rest entries t place offset inside rest within = record {
 }
 
 -- an entry stays in force to the end of its interval
-pub InForce-later : (entries : List Entry) (t place offset s : ℕ) → InForce entries t place offset → t ≤ s → s < t + (get_or entries place (0, 0)).1 - offset → InForce entries s place (offset + (s - t))
+pub InForce-later : (entries : List Entry) (t place offset s : ℕ) → InForce entries t place offset → t ≤ s → s < t
+    + (get_or entries place (0, 0)).1 - offset → InForce entries s place (offset + (s - t))
 InForce-later entries t place offset s f from to = record {
   inside = f.inside;
   round = f.round;

@@ -5,7 +5,7 @@
 //!   [`TxList::open_for`] how long a class stays open from then on.
 //! - [`StreamList`] is the list of a stream gate, and [`StreamGate`] the gate, which counts octets against it.
 //! - [`compiled_list`] and [`gate_of_reservation`] are the lists that a cycle and a reservation are compiled to.
-//! - [`read_tx`], [`write_tx`] and [`write_stream`] read and write lists as texts.
+//! - [`read_tx`], [`write_tx`] and [`write_stream`] read and write lists as texts, with states as [`hex_digit_of`] has them.
 //!
 //! ```text
 //! TxList::new(&[(0x80, 120_000), (0x00, 5000), (0x40, 120_000), (0x00, 5000)]) is Ok(list)
@@ -25,5 +25,5 @@ pub use compiled::{compiled_list, gate_of_reservation};
 pub use cqf_model::{OpenFor, StreamEntry};
 pub use faults::{ListFault, TextFault};
 pub use streams::{Passed, StreamGate, StreamList, gate_counts_calls};
-pub use text::{read_tx, write_stream, write_tx};
+pub use text::{hex_digit_of, read_tx, write_stream, write_tx};
 pub use transmission::TxList;

@@ -4,7 +4,8 @@ ghost use Rattle.std.specs.List.{list_any};
 ghost use Rattle.std.specs.Option.{SomeIff};
 ghost use Rattle.cqf_model.specs.declared.gates.StreamEntry.{StreamEntry as Entry};
 ghost use Rattle.cqf_model.specs.StreamGate.{gate_round, place_at, round_at, same_interval};
-ghost use Rattle.cqf_gates.specs.StreamGate.{Counts, DecidesByCalls, IsStreamList, entry_at, fresh, gate_after, is_bad_ipv, stream_list_of, taken_at, verdict_on};
+ghost use Rattle.cqf_gates.specs.StreamGate.{Counts, DecidesByCalls, IsStreamList, entry_at, fresh, gate_after};
+ghost use Rattle.cqf_gates.specs.StreamGate.{is_bad_ipv, stream_list_of, taken_at, verdict_on};
 
 use crate::faults::MOST_ENTRIES;
 use crate::{ListFault, StreamEntry};

@@ -41,7 +41,7 @@ pub fn read_tx(text: &[u8]) -> Result<TxList, TextFault>
 }
 
 /// The upper case hexadecimal digit of a number below 16.
-fn hex_digit_of(number: u8) -> u8
+pub fn hex_digit_of(number: u8) -> u8
     requires { number < 16 }
     ensures { result ≡ hex_digit number }
 {

@@ -31,10 +31,13 @@ first_way laws basis some now next starts frames one two are cap = record {
   some = some;
   within = omega arith;
   room = record {
-    now = room_for_all laws some.given basis.links.items basis.cycle_time basis.guard basis.cycles basis.branches.items basis.offers.items some.is now.items frames (vec_capacity starts) one are cap;
-    next = room_for_all laws some.given basis.links.items basis.cycle_time basis.guard basis.cycles basis.branches.items basis.offers.items some.is next.items frames (vec_capacity starts) two are cap;
+    now = room_for_all laws some.given basis.links.items basis.cycle_time basis.guard basis.cycles basis.branches.items basis.offers.items
+        some.is now.items frames (vec_capacity starts) one are cap;
+    next = room_for_all laws some.given basis.links.items basis.cycle_time basis.guard basis.cycles basis.branches.items basis.offers.items
+        some.is next.items frames (vec_capacity starts) two are cap;
   };
-  ready = λ given is. ready_first laws given basis.links.items basis.cycle_time basis.guard basis.cycles basis.branches.items basis.offers.items is now.items next.items one two;
+  ready = λ given is. ready_first laws given basis.links.items basis.cycle_time basis.guard basis.cycles basis.branches.items basis.offers.items
+      is now.items next.items one two;
 }
 
 module _ (laws : TheLaws) (basis : Basis) (cycle : ℕ) (old : Standing) (way : IsUnderWay basis cycle old) (in_run : cycle < basis.cycles)
@@ -77,7 +80,14 @@ module _ (laws : TheLaws) (basis : Basis) (cycle : ℕ) (old : Standing) (way : 
       within = omega (arith, in_run);
       room = record {
         now = omega (arith, way.room.next, cap, (rooms way.some.given way.some.is).0);
-        next = omega (arith, way.room.now, cap, (rooms way.some.given way.some.is).1, ap (λ (lanes : List (Vec Waiting Global)). caps_below lanes (length basis.links.items)) is_now);
+        next = omega (
+          arith,
+          way.room.now,
+          cap,
+          (rooms way.some.given way.some.is).1,
+          ap (λ (lanes : List (Vec Waiting Global)).
+              caps_below lanes (length basis.links.items)) is_now,
+        );
       };
       ready = λ given is. subst (λ (lanes : List (Vec Waiting Global)).
           IsReadyFor given basis.offers.items (length basis.links.items) basis.branches.items (cycle + 1) (old.begins + basis.cycle_time) to after.items lanes)
@@ -86,7 +96,9 @@ module _ (laws : TheLaws) (basis : Basis) (cycle : ℕ) (old : Standing) (way : 
           (sends given (may_send given is)) puts);
     }
       where
-        rooms : (given : Given) → IsBasisOf given basis → (caps_below after.items (length basis.links.items) ≡ caps_below old.next.items (length basis.links.items)) × (caps_below now (length basis.links.items) ≡ caps_below old.now.items (length basis.links.items))
+        rooms : (given : Given) → IsBasisOf given basis → (caps_below after.items (length basis.links.items)
+            ≡ caps_below old.next.items (length basis.links.items))
+            × (caps_below now (length basis.links.items) ≡ caps_below old.now.items (length basis.links.items))
         rooms given is =
             same_room laws given basis.links.items basis.cycle_time basis.guard basis.cycles basis.branches.items basis.offers.items is
             cycle old.begins old.from to old.now.items old.next.items now next after.items [] starts.items (way.ready given is)

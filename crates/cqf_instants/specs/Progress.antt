@@ -58,4 +58,5 @@ pub record IsUnderWay (basis : Basis) (told : ℕ) (standing : Standing) : Type 
   pub within : told ≤ basis.cycles
   pub room : LaneHasRoomFor (length basis.links.items) standing
   pub ready : (given : Given) → IsBasisOf given basis →
-      IsReadyFor given basis.offers.items (length basis.links.items) basis.branches.items told standing.begins standing.from standing.now.items standing.next.items
+      IsReadyFor given basis.offers.items (length basis.links.items) basis.branches.items told standing.begins standing.from standing.now.items
+      standing.next.items

@@ -5,8 +5,9 @@ ghost use Rattle.cqf_instants.specs.Meaning.{Given};
 ghost use Rattle.cqf_instants.specs.Progress.{IsBasisOf, IsUnderWay, SomeBasis, starts_of_cycle};
 
 use crate::basis::Basis;
-use crate::cycle::tell_waiting;
+use crate::cycle::tell_links;
 use crate::lanes::Waiting;
+use crate::link::TimedCycle;
 use crate::offers::put_offers;
 use crate::rooms::{empty_lanes, frames_in_all};
 use cqf_model::Started;
@@ -71,10 +72,12 @@ pub(crate) fn tell_cycle(basis: &Basis, cycle: u32, standing: &mut Standing)
     let ends = begins + u64::from(basis.cycle_time);
     let branches = basis.branches.as_slice();
     standing.starts.clear();
-    tell_waiting(
+    tell_links(
         basis.links.as_slice(),
-        Cycle(cycle),
-        begins,
+        TimedCycle {
+            number: Cycle(cycle),
+            begins,
+        },
         branches,
         &mut standing.now,
         &mut standing.next,

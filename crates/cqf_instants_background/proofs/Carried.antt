@@ -48,7 +48,8 @@ module _ (d : Domain) (cycles : ℕ) (carried : Carried) (some : 0 < d.cycle_tim
   of_batch cycle l x c = ap (λ (s : Started). s.link) (sym (contains_from_map (started cycle l) (batch d carried l cycle) x c).2)
 
   -- the starts of a cycle on a link
-  on_link_in : (l cycle : ℕ) → l < length d.links → filter (is_start_on l) (each_below (starts_in d carried cycle) (length d.links)) ≡ starts_in d carried cycle l
+  on_link_in : (l cycle : ℕ) → l < length d.links → filter (is_start_on l) (each_below (starts_in d carried cycle) (length d.links))
+      ≡ starts_in d carried cycle l
   on_link_in l cycle is_link =
       filter_one (is_start_on l) (starts_in d carried cycle) (length d.links) l is_link
       (λ j x other c. ne_eqb x.link l (λ e. other (sym (of_batch cycle j x c) ∙ e)))
@@ -64,7 +65,8 @@ module _ (d : Domain) (cycles : ℕ) (carried : Carried) (some : 0 < d.cycle_tim
 
   -- what a link carries is its batches
   batches : (l : ℕ) → l < length d.links → carried l ≡ each_below (batch d carried l) cycles
-  batches l is_link = by_key (λ (x : Sent). cycle_of d x.start.0) cycles (carried l) ascends (λ x c. cycle_below d.cycle_time x.start.0 cycles (turn.before_end l x c))
+  batches l is_link = by_key (λ (x : Sent). cycle_of d x.start.0) cycles (carried l) ascends
+      (λ x c. cycle_below d.cycle_time x.start.0 cycles (turn.before_end l x c))
     where
       -- its cycles ascend
       ascends : IsNonDecreasingBy (λ (x : Sent). cycle_of d x.start.0) (carried l)

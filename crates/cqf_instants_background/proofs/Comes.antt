@@ -9,7 +9,8 @@ use Rattle.cqf_lists.proofs.EachBelow.{below_plus, contains_from_below, filter_b
 use Rattle.cqf_lists.proofs.Members.{all_from_members, contains_filter, contains_from_filter, contains_from_map}
 use Rattle.cqf_model.specs.declared.frames.Backed.{Backed}
 use Rattle.cqf_model.specs.Domain.{Domain, bridge_of, cycle_of}
-use Rattle.cqf_model.specs.Network.{Network, QueuedFrame, arrivals_of, backed_at, backed_frame, backed_in, comes_before, comes_in, is_backed_at, numbered_background}
+use Rattle.cqf_model.specs.Network.{Network, QueuedFrame, arrivals_of, backed_at, backed_frame, backed_in, comes_before}
+use Rattle.cqf_model.specs.Network.{comes_in, is_backed_at, numbered_background}
 use Rattle.cqf_model.specs.Network.{queued_before, queued_in}
 use Rattle.cqf_model.specs.Run.{IsBackground, Run}
 use Rattle.cqf_model.specs.Traffic.{policed_before}
@@ -62,7 +63,8 @@ module _ (gives : GateGivesClass) (run : Run) (net : Network) (legal : IsLegalRu
         let low = (All-contains (IsBackground d) run.background back.0 legal.background back.1).class_most in
         (λ e. omega (arith, low, back.3), λ e. back.2)
     | inr of_stream ↦
-        let waits = subst (λ z. Contains z q) (streams_that_come run net.carried l (length run.tables) some) (contains_filter is_of_stream comes q c of_stream) in
+        let waits = subst (λ z. Contains z q) (streams_that_come run net.carried l (length run.tables) some) (contains_filter is_of_stream comes q c of_stream)
+        in
         let high = queued_high (length run.tables * d.cycle_time) q waits in
         (λ e. absurd (false≢true (ap is_some (sym e) ∙ of_stream)), λ e. absurd (omega (arith, high, e)))
   ])
@@ -92,7 +94,8 @@ module _ (gives : GateGivesClass) (run : Run) (net : Network) (legal : IsLegalRu
       ∙ append-nil (backed_in d run.background l c))
 
   -- by instant they are those of the run on the link
-  pub backs_are : (frames : List Backed) → frames ≡ by_instant run.background (length run.tables * run.domain.cycle_time) → backs_among comes ≡ frames_fed_on l frames
+  pub backs_are : (frames : List Backed) → frames ≡ by_instant run.background (length run.tables * run.domain.cycle_time) → backs_among comes
+      ≡ frames_fed_on l frames
   backs_are frames is =
       ap arrivals_of (backs_by_cycle ∙ stretches (backed_at run.background l) d.cycle_time (length run.tables))
       ∙ map_below (λ (x : QueuedFrame). x.arrival) (backed_at run.background l) end

@@ -21,7 +21,8 @@ pub record StandsBehind (xs : List Transmission) (x d : Transmission) : Type 0 w
   pub same : get_or xs (many_before xs x.1) d ≡ x
 
 -- behind none before a first one none is
-none_before : (y x : Transmission) (xs : List Transmission) → AllPairs (λ (a b : Transmission). a.1 < b.1) (y ∷ xs) → y ≡ x → filter (is_before x.1) (y ∷ xs) ≡ []
+none_before : (y x : Transmission) (xs : List Transmission) → AllPairs (λ (a b : Transmission). a.1 < b.1) (y ∷ xs) → y ≡ x →
+    filter (is_before x.1) (y ∷ xs) ≡ []
 none_before y x xs pairs e = filter_none (is_before x.1) (y ∷ xs) (λ z h. le-ltb z.1 x.1 (later z h))
   where
     -- each start is no earlier than the first

@@ -7,6 +7,5 @@ pub mod Comes
 pub mod Arranged
 pub mod Feeds
 pub mod Tellings
-pub mod Numbering
 pub mod Takings
 pub mod Whole

@@ -88,7 +88,8 @@ module _ (rules : PortRules) (mixed alone : List Arrival) (end : ℕ) (starts : 
 
   -- two starts at one instant are one
   one_start : (a b : Transmission) → Contains starts a → Contains starts b → a.1 ≡ b.1 → a ≡ b
-  one_start a b c e same = one_of_pairs (λ (x y : Transmission). x.1 < y.1) starts a b legal.in_order c e (λ less. omega (arith, less, same)) (λ less. omega (arith, less, same))
+  one_start a b c e same = one_of_pairs (λ (x y : Transmission). x.1 < y.1) starts a b legal.in_order c e (λ less. omega (arith, less, same))
+      (λ less. omega (arith, less, same))
 
   -- places of background frames that are one there are one
   one_back : (p q : ℕ) → p < length mixed → q < length mixed → BackgroundAt mixed p → BackgroundAt mixed q → back_place p ≡ back_place q → p ≡ q
@@ -219,7 +220,8 @@ module _ (rules : PortRules) (mixed alone : List Arrival) (end : ℕ) (starts : 
       subst (λ z. idle_after s z rules.octet_time ≤ t) octets here
 
   -- with the same class and octets what is eligible is so in either list
-  same_eligible : (xs ys : List Arrival) (i j t : ℕ) → class_of xs i ≡ class_of ys j → octets_of xs i ≡ octets_of ys j → IsEligible rules xs i t → IsEligible rules ys j t
+  same_eligible : (xs ys : List Arrival) (i j t : ℕ) → class_of xs i ≡ class_of ys j → octets_of xs i ≡ octets_of ys j → IsEligible rules xs i t
+      → IsEligible rules ys j t
   same_eligible xs ys i j t class octets eligible =
       subst (λ c. IsOpenThrough rules.entries c t (ending_of t (octets_of ys j) rules.octet_time)) class
       (subst (λ o. IsOpenThrough rules.entries (class_of xs i) t (ending_of t o rules.octet_time)) octets eligible)

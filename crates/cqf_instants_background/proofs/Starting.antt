@@ -1,5 +1,6 @@
 -- A port starts the same background frames where the streams' frames come to it when they start.
-use Rattle.std.proofs.Common.{◌≡◌, ℕ, ◌+◌, ◌-◌, ◌/◌, ◌<◌, ◌≤◌, ◌⊎◌, ◌↔◌, ◌++◌, ◌∷◌, [], All, Bool, true, not, cond, List, None, Option, Some, length, get_or, filter}
+use Rattle.std.proofs.Common.{◌≡◌, ℕ, ◌+◌, ◌-◌, ◌/◌, ◌<◌, ◌≤◌, ◌⊎◌, ◌↔◌, ◌++◌, ◌∷◌, [], All, Bool, true, not, cond}
+use Rattle.std.proofs.Common.{List, None, Option, Some, length, get_or, filter}
 use Rattle.std.proofs.Common.{map, nat_lt, is_some, inl, inr, sym, ap, ◌∙◌, subst, arith, refl, AllPairs, Contains, le-leb, leb-true, length-append}
 use Rattle.std.proofs.lemmas.Bool.{cases_lt, cond-false, cond-true, false≢true, le-ltb, lt-leb, lt-ltb}
 use Rattle.std.proofs.lemmas.List.{length-map, get_or-append_right, get_or-map, get_or_append_left}
@@ -61,7 +62,8 @@ told_high a k told = elim (cases_lt a.class 6) [
 ]
 
 -- what a transmission sends of a stream comes when it starts
-one_sent : (d : Domain) (t : ℕ) (a : Arrival) (stream : Option ℕ) → ((stream ≡ None) ↔ (a.class < 6)) → (6 ≤ a.class → a.class ≡ open_class (t / d.cycle_time)) →
+one_sent : (d : Domain) (t : ℕ) (a : Arrival) (stream : Option ℕ) → ((stream ≡ None) ↔ (a.class < 6)) →
+    (6 ≤ a.class → a.class ≡ open_class (t / d.cycle_time)) →
     map (arrival_of_sent d) (sent_by t a stream) ≡ cond (is_streams a) (retimed t a ∷ []) []
 one_sent d t a None told class = sym (cond-false (is_streams a) (retimed t a ∷ []) [] (lt-leb 6 a.class (told.0 refl)))
 one_sent d t a (Some k) told class =
@@ -106,7 +108,8 @@ nothing_starts rules end = record {
 }
 
 module _ (law : PortListSends) (d : Domain) (end l : ℕ) (queued : List QueuedFrame) (sents : List Sent) (backed : List Start)
-    (accepted : IsAccepted d) (is_link : l < length d.links) (told : All IsToldByClass queued) (sends : Sends d (compiled_lists d l) end l queued sents backed) where
+    (accepted : IsAccepted d) (is_link : l < length d.links) (told : All IsToldByClass queued)
+    (sends : Sends d (compiled_lists d l) end l queued sents backed) where
   -- the port's rules
   abbrev rules : PortRules
   rules = record { entries = port_list d.cycle_time d.guard; octet_time = octet_time_of d l }
@@ -145,7 +148,8 @@ module _ (law : PortListSends) (d : Domain) (end l : ℕ) (queued : List QueuedF
 
   -- the frame at a place and its arrival
   arrival_at : (p : ℕ) → p < length mixed → get_or mixed p no_arrival ≡ (get_or queued p no_frame).arrival
-  arrival_at p inside = get_or-map (λ (x : QueuedFrame). x.arrival) queued p no_frame no_arrival (omega (arith, inside, length-map queued (λ (x : QueuedFrame). x.arrival)))
+  arrival_at p inside = get_or-map (λ (x : QueuedFrame). x.arrival) queued p no_frame no_arrival
+      (omega (arith, inside, length-map queued (λ (x : QueuedFrame). x.arrival)))
 
   -- the streams' starts are in order
   own_in_order : AllPairs (λ (a b : Transmission). a.1 < b.1) own
@@ -248,13 +252,15 @@ module _ (law : PortListSends) (d : Domain) (end l : ℕ) (queued : List QueuedF
       -- a background frame is the same there
       same : (x : Transmission) → Contains starts x → class_of mixed x.0 < 6 → there x ≡ get_or mixed x.0 no_arrival
       same x c low =
-          ap (λ k. get_or alone k no_arrival) (cond-false (is_streams (get_or mixed x.0 no_arrival)) (stream_place x.1) (back_place x.0) (lt-leb 6 (class_of mixed x.0) low))
+          ap (λ k. get_or alone k no_arrival) (cond-false (is_streams (get_or mixed x.0 no_arrival)) (stream_place x.1) (back_place x.0)
+          (lt-leb 6 (class_of mixed x.0) low))
           ∙ are_fed.back_is x.0 (sends.legal.first x.0 x.1 c).waits.inside low
 
       -- and a stream's frame has its class
       class_there : (x : Transmission) → Contains starts x → 6 ≤ class_of mixed x.0 → (there x).class ≡ class_of mixed x.0
       class_there x c high =
-          ap (λ k. class_of alone k) (cond-true (is_streams (get_or mixed x.0 no_arrival)) (stream_place x.1) (back_place x.0) (le-leb 6 (class_of mixed x.0) high))
+          ap (λ k. class_of alone k) (cond-true (is_streams (get_or mixed x.0 no_arrival)) (stream_place x.1) (back_place x.0)
+          (le-leb 6 (class_of mixed x.0) high))
           ∙ ap (λ (a : Arrival). a.class) (are_fed.stream_is x.0 x.1 c high)
 
       -- one start is of one background frame, or of none
@@ -270,7 +276,8 @@ module _ (law : PortListSends) (d : Domain) (end l : ℕ) (queued : List QueuedF
   -- the background frames are those of no stream
   backs_are : others ≡ backs_among queued
   backs_are = filter-map (λ (x : QueuedFrame). x.arrival) is_other queued
-      ∙ ap arrivals_of (filter_alike (λ (x : QueuedFrame). is_other x.arrival) is_background queued (λ x c. same_test x (All-contains IsToldByClass queued x told c)))
+      ∙ ap arrivals_of (filter_alike (λ (x : QueuedFrame). is_other x.arrival) is_background queued
+      (λ x c. same_test x (All-contains IsToldByClass queued x told c)))
     where
       -- by its class a frame is of no stream
       by_stream : (stream : Option ℕ) (class : ℕ) → ((stream ≡ None) ↔ (class < 6)) → not (is_some stream) ≡ nat_lt class 6

@@ -1,5 +1,6 @@
 -- What the ports are given may be taken.
-use Rattle.std.proofs.Common.{inl, inr, ◌≡◌, ℕ, ◌*◌, ◌^◌, ◌<◌, ◌≤◌, ◌==◌, ◌++◌, ◌∷◌, [], All, AllPairs, Contains, List, arith, sym, ap, ◌∙◌, subst, length, get_or, map, filter, eqb-true, mul-le-mul_right}
+use Rattle.std.proofs.Common.{inl, inr, ◌≡◌, ℕ, ◌*◌, ◌^◌, ◌<◌, ◌≤◌, ◌==◌, ◌++◌, ◌∷◌, [], All, AllPairs, Contains, List}
+use Rattle.std.proofs.Common.{arith, sym, ap, ◌∙◌, subst, length, get_or, map, filter, eqb-true, mul-le-mul_right}
 use Rattle.std.specs.Prelude.{Bool, true, false, if◌then◌else◌, ◌%◌}
 use Rattle.std.specs.List.{enumerate_from}
 use Rattle.std.proofs.lemmas.List.Elements.{All-contains, Contains-append_cases, Contains-get_or}
@@ -39,7 +40,8 @@ pub record IsGiven (low high : ℕ) (a : Arrival) : Type 0 where
   pub early : a.at.0 < 2 ^ 62
 
 -- arrivals that a port may take
-taken : (xs : List Arrival) → ((a : Arrival) → Contains xs a → IsGiven 0 8 a) → AllPairs (λ (a b : Arrival). a.class ≡ b.class → a.at.0 ≤ b.at.0) xs → AreTaken xs
+taken : (xs : List Arrival) → ((a : Arrival) → Contains xs a → IsGiven 0 8 a) → AllPairs (λ (a b : Arrival). a.class ≡ b.class → a.at.0 ≤ b.at.0) xs
+    → AreTaken xs
 taken xs each pairs = record {
   classes = λ p inside. (each (get_or xs p no_arrival) (Contains-get_or xs p no_arrival inside)).below;
   early = λ p inside. (each (get_or xs p no_arrival) (Contains-get_or xs p no_arrival inside)).early;
@@ -102,9 +104,11 @@ in_order background end =
     when : (t : ℕ) (x : Backed) → Contains (at t) x → x.background.at.0 ≡ t
     when t x c = eqb-true x.background.at.0 t (contains_from_filter (is_at t) (numbered_background background) x c).1
 
-module _ (d : Domain) (cycles : ℕ) (carried : Carried) (starts : List Started) (background : List Background) (frames : List Backed) (lists : List (List Arrival))
+module _ (d : Domain) (cycles : ℕ) (carried : Carried) (starts : List Started) (background : List Background) (frames : List Backed)
+    (lists : List (List Arrival))
     (accepted : IsAccepted d) (few : cycles < 2 ^ 32) (turn : IsInTurn d cycles carried) (are : starts ≡ starts_of d cycles carried)
-    (behind : AreBackground d background) (by : frames ≡ by_instant background (cycles * d.cycle_time)) (given : AreFed frames starts (length d.links) lists) where
+    (behind : AreBackground d background) (by : frames ≡ by_instant background (cycles * d.cycle_time))
+    (given : AreFed frames starts (length d.links) lists) where
   -- each background frame of a link
   frame_given : (l : ℕ) (a : Arrival) → Contains (frames_fed_on l frames) a → IsGiven 0 6 a
   frame_given l a c =
@@ -143,11 +147,13 @@ module _ (d : Domain) (cycles : ℕ) (carried : Carried) (starts : List Started)
   all_taken l inside =
       let is_link : l < length d.links = omega (arith, inside, given.one_each) in
       let some : 0 < d.cycle_time = omega (arith, accepted.cycle_least) in
-      let streams : streams_fed_on l starts ≡ map (arrival_of_sent d) (carried l) = ap (streams_fed_on l) are ∙ streams_are d cycles carried some turn l is_link in
+      let streams : streams_fed_on l starts ≡ map (arrival_of_sent d) (carried l) =
+      ap (streams_fed_on l) are ∙ streams_are d cycles carried some turn l is_link in
       let is : get_or lists l [] ≡ fed (frames_fed_on l frames) (map (arrival_of_sent d) (carried l)) =
       given.each l [] is_link ∙ ap (fed (frames_fed_on l frames)) streams in
       subst AreTaken (sym is)
-      (both_taken (frames_fed_on l frames) (map (arrival_of_sent d) (carried l)) (frame_given l) (stream_given l) (frames_in_order l) (streams_in_order l is_link))
+      (both_taken (frames_fed_on l frames) (map (arrival_of_sent d) (carried l)) (frame_given l) (stream_given l) (frames_in_order l)
+      (streams_in_order l is_link))
 
 -- each background frame is on a link of the domain
 pub frames_on_links : (d : Domain) (background : List Background) (end links : ℕ) (frames : List Backed) → AreBackground d background →

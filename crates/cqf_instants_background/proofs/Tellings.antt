@@ -1,5 +1,7 @@
 -- What ports start of background frames is told, one after the other.
-use Rattle.std.proofs.Common.{◌≡◌, ℕ, suc, ◌+◌, ◌^◌, ◌≤◌, ◌<◌, ◌++◌, All, Bool, true, false, List, [], ◌∷◌, Some, arith, sym, ap, ◌∙◌, subst, length, map, take, get_or, filter, append_assoc, append-nil, inl, inr}
+use Rattle.std.proofs.Common.{◌≡◌, ℕ, suc, ◌+◌, ◌^◌, ◌≤◌, ◌<◌, ◌++◌, All, Bool, true, false, List, [], ◌∷◌, Some, arith}
+use Rattle.std.proofs.Common.{sym, ap, ◌∙◌, subst, length, map, take, get_or, filter, append_assoc, append-nil, inl}
+use Rattle.std.proofs.Common.{inr}
 use Rattle.std.specs.Prelude.{slice_get}
 use Rattle.std.specs.Option.{option_map_or}
 use Rattle.std.specs.Global.{Global}
@@ -20,10 +22,11 @@ use Rattle.cqf_model.specs.Domain.{Domain, octet_time_of}
 use Rattle.cqf_model.specs.GateList.{Entry, port_list}
 use Rattle.cqf_model.specs.Port.{PortRules, Transmission}
 use Rattle.cqf_port.specs.PortState.{Advances, AreOnly, AreTaken, IsPort, PortState, rules_of, start_of}
-use Rattle.cqf_instants_background.specs.Feeding.{lists_of_frames}
+use Rattle.cqf_lists.specs.ByNumber.{lists_of}
 use Rattle.cqf_instants_background.specs.Sending.{Backs, Hands, TellsLink, TellsLinks, is_low, told}
 
-module _ {X Y : Type 0} (f : X → Y) (keep : X → Bool) (xs : List X) (k : ℕ) (x d : X) (inside : k < length xs) (there : x ≡ get_or xs k d) (before list : List Y)
+module _ {X Y : Type 0} (f : X → Y) (keep : X → Bool) (xs : List X) (k : ℕ) (x d : X) (inside : k < length xs) (there : x ≡ get_or xs k d)
+    (before list : List Y)
     (so_far : list ≡ before ++ map f (filter keep (take k xs))) where
   -- what is kept of one more
   kept_more : filter keep (take (k + 1) xs) ≡ filter keep (take k xs) ++ filter keep (x ∷ [])
@@ -61,7 +64,8 @@ fed_port rules arrivals = record { rules = rules; reached = 0; arrivals = arriva
 -- a port that ran up to an end hands out what is legal for what it has taken, and no others are
 module _ (d : Domain) (end l : ℕ) (arrivals : List Arrival) (after : PortState) (made : List Start) where
   -- where it is known what it has become
-  became : (starts : List Transmission) → after ≡ record { rules = rules_on d l; reached = end; arrivals = arrivals; starts = starts } → IsPort after → AreOnly after →
+  became : (starts : List Transmission) → after ≡ record { rules = rules_on d l; reached = end; arrivals = arrivals; starts = starts } →
+      IsPort after → AreOnly after →
       made ≡ map (start_of arrivals) starts → Hands d end l arrivals made
   became starts is facts only handed =
       let f = subst IsPort is facts in
@@ -123,19 +127,19 @@ module _ (front : List (Vec Arrival Global)) (p : Vec Arrival Global) (rest all 
   below_all = omega (arith, ap (λ (ps : List (Vec Arrival Global)). length ps) parts, length-append front (p ∷ rest), at)
 
   -- what stands there
-  pub list_there : get_or (lists_of_frames all) link [] ≡ p.items
+  pub list_there : get_or (lists_of all) link [] ≡ p.items
   list_there =
       get_or-map (λ (v : Vec Arrival Global). v.items) all link p [] below_all
       ∙ ap (λ (n : ℕ). (get_or all n p).items) (sym at) ∙ ap (λ (ps : List (Vec Arrival Global)). (get_or ps (length front) p).items) (sym parts)
       ∙ ap (λ (v : Vec Arrival Global). v.items) (get_or-append_seam front p rest p)
 
   -- it is taken
-  pub taken_there : ((l : ℕ) → l < length all → AreTaken (get_or (lists_of_frames all) l [])) → AreTaken p.items
+  pub taken_there : ((l : ℕ) → l < length all → AreTaken (get_or (lists_of all) l [])) → AreTaken p.items
   taken_there each = subst AreTaken list_there (each link below_all)
 
   -- and told
-  pub link_told : (d : Domain) (end : ℕ) (starts after : List Started) → TellsLinks d end (λ l. get_or (lists_of_frames all) l []) link starts →
-      TellsLink d end link p.items starts after → TellsLinks d end (λ l. get_or (lists_of_frames all) l []) (link + 1) after
+  pub link_told : (d : Domain) (end : ℕ) (starts after : List Started) → TellsLinks d end (λ l. get_or (lists_of all) l []) link starts →
+      TellsLink d end link p.items starts after → TellsLinks d end (λ l. get_or (lists_of all) l []) (link + 1) after
   link_told d end starts after so_far one backed each =
       let next : suc link ≡ link + 1 = omega arith in
       one (backed link) (subst (λ z. Backs d end link z (backed link)) list_there (each link (omega arith)))
@@ -143,8 +147,9 @@ module _ (front : List (Vec Arrival Global)) (p : Vec Arrival Global) (rest all 
       ∙ ap (each_below (λ l. map (told d.cycle_time l) (backed l))) next
 
 -- in the end all are
-pub all_told : (d : Domain) (end : ℕ) (front rest all : List (Vec Arrival Global)) (link : ℕ) (starts : List Started) → front ++ rest ≡ all → length front ≡ link →
-    length rest ≡ 0 → TellsLinks d end (λ l. get_or (lists_of_frames all) l []) link starts → TellsLinks d end (λ l. get_or (lists_of_frames all) l []) (length all) starts
+pub all_told : (d : Domain) (end : ℕ) (front rest all : List (Vec Arrival Global)) (link : ℕ) (starts : List Started) → front ++ rest ≡ all
+    → length front ≡ link →
+    length rest ≡ 0 → TellsLinks d end (λ l. get_or (lists_of all) l []) link starts → TellsLinks d end (λ l. get_or (lists_of all) l []) (length all) starts
 all_told d end front rest all link starts parts at none so_far =
     let same : link ≡ length all = omega (arith, ap (λ (ps : List (Vec Arrival Global)). length ps) parts, length-append front rest, at, none) in
-    subst (λ n. TellsLinks d end (λ l. get_or (lists_of_frames all) l []) n starts) same so_far
+    subst (λ n. TellsLinks d end (λ l. get_or (lists_of all) l []) n starts) same so_far

@@ -1,5 +1,6 @@
 -- What the ports start of background frames is what the legal network of the run does, in the order of a book.
-use Rattle.std.proofs.Common.{◌≡◌, ℕ, ◌*◌, ◌/◌, ◌^◌, ◌<◌, ◌==◌, [], All, Contains, List, arith, sym, ap, ◌∙◌, subst, refl, length, get_or, map, filter, eqb-true}
+use Rattle.std.proofs.Common.{◌≡◌, ℕ, ◌*◌, ◌/◌, ◌^◌, ◌<◌, ◌==◌, [], All, Contains, List, arith, sym, ap, ◌∙◌, subst}
+use Rattle.std.proofs.Common.{refl, length, get_or, map, filter, eqb-true}
 use Rattle.std.specs.List.Sorted.{IsNonDecreasingBy, IsPermutation, IsStableByKey}
 use Rattle.std.specs.Ordering.{nat_cmp}
 use Rattle.cqf_lists.specs.Lists.{each_below}
@@ -54,7 +55,8 @@ pub record SortsByCycle (before after : List Started) : Type 0 where
   pub ascends : IsNonDecreasingBy cycle_in after
   pub stable : IsStableByKey cycle_in nat_cmp before after
 
-module _ (d : Domain) (cycles : ℕ) (backed : ℕ → List Start) (before_end : (l : ℕ) (x : Start) → Contains (backed l) x → x.start.0 < cycles * d.cycle_time) where
+module _ (d : Domain) (cycles : ℕ) (backed : ℕ → List Start) (before_end : (l : ℕ) (x : Start) → Contains (backed l) x →
+    x.start.0 < cycles * d.cycle_time) where
   -- the starts of the links, by link
   abbrev by_link : List Started
   by_link = each_below (λ l. map (told d.cycle_time l) (backed l)) (length d.links)
@@ -111,12 +113,15 @@ module _ (gives : GateGivesClass) (law : PortStartsTheBackground) (run : Run) (n
       (subst (λ z. SortsByCycle z sorted) (tells net.backed each) sorts)
 
 -- so they are the background of each history of which the starts are
-pub background_is : (gives : GateGivesClass) (law : PortStartsTheBackground) (d : Domain) (cycles end links : ℕ) (starts : List Started) (background : List Background)
+pub background_is : (gives : GateGivesClass) (law : PortStartsTheBackground) (d : Domain) (cycles end links : ℕ) (starts : List Started)
+    (background : List Background)
     (frames : List Backed) (lists : List (List Arrival)) (listed sorted : List Started) → end ≡ cycles * d.cycle_time → links ≡ length d.links →
-    frames ≡ by_instant background end → AreFed frames starts links lists → (many : ℕ) → many ≡ length lists → TellsLinks d end (λ l. get_or lists l []) many listed →
+    frames ≡ by_instant background end → AreFed frames starts links lists → (many : ℕ) → many ≡ length lists →
+    TellsLinks d end (λ l. get_or lists l []) many listed →
     SortsByCycle listed sorted → (entries : List Recorded) (offers : List Offer) → AreStartsOfHistory d entries offers background cycles starts →
     AreBackgroundOfHistory d entries offers background cycles sorted
-background_is gives law d cycles end links starts background frames lists listed sorted end_is links_are by given many_lists lists_are tells sorts entries offers are net legal =
+background_is gives law d cycles end links starts background frames lists listed sorted end_is links_are by given many_lists lists_are tells
+    sorts entries offers are net legal =
     let run = run_of_history d entries offers background cycles in
     let many : length run.tables ≡ cycles = length-singles (table_at d entries) cycles in
     let feeds = subst (λ k. AreFed frames starts k lists) links_are given in
@@ -133,7 +138,8 @@ pub record AreOfRun (d : Domain) (cycles : ℕ) (starts : List Started) : Type 0
   pub are : starts ≡ starts_of d cycles carried
 
 -- starts of a history are
-pub some_run : TablesAreOrderly → LegalNetworkExists → (d : Domain) (cycles : ℕ) (starts : List Started) → IsAccepted d → SomeStarts d cycles starts → AreOfRun d cycles starts
+pub some_run : TablesAreOrderly → LegalNetworkExists → (d : Domain) (cycles : ℕ) (starts : List Started) → IsAccepted d →
+    SomeStarts d cycles starts → AreOfRun d cycles starts
 some_run orderly exists d cycles starts accepted s =
     let run = run_of_history d s.entries s.offers s.background cycles in
     let found = exists run (compiled_lists d) (length run.tables) in

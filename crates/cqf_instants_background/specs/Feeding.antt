@@ -1,8 +1,7 @@
 -- What the port of a link is given, so that it starts the link's background frames: these, and the streams' frames of the link,
 -- each from the instant on at which it starts.
 use Rattle.std.specs.Prelude.{ℕ, ◌≡◌, ◌<◌, ◌==◌, ◌++◌, Bool, List, [], ◌∷◌, filter, length, map, not, slice_index_or}
-use Rattle.std.specs.Global.{Global}
-use Rattle.std.specs.declared.vec.Vec.{Vec}
+use Rattle.cqf_lists.specs.ByNumber.{AreListsBy}
 use Rattle.cqf_model.specs.declared.frames.Backed.{Backed}
 use Rattle.cqf_model.specs.declared.frames.Sent.{Sent}
 use Rattle.cqf_model.specs.declared.frames.Started.{Started}
@@ -58,20 +57,9 @@ is_background x = not (is_of_stream x)
 abbrev pub backs_among : List QueuedFrame → List Arrival
 backs_among queued = arrivals_of (filter is_background queued)
 
--- what some lists hold
-abbrev pub lists_of_frames : List (Vec Arrival Global) → List (List Arrival)
-lists_of_frames lists = map (λ (list : Vec Arrival Global). list.items) lists
-
 -- a list for each of so many links from 0 on, with what its port is given of these background frames and starts
-pub record AreFed (frames : List Backed) (starts : List Started) (links : ℕ) (lists : List (List Arrival)) : Type 0 where
-  pub one_each : length lists ≡ links
-  pub each : (link : ℕ) (none : List Arrival) → link < links → slice_index_or lists link none ≡ fed (frames_fed_on link frames) (streams_fed_on link starts)
-
--- the lists with an arrival more behind those of a link
-pub record FeedsArrival (before after : List (List Arrival)) (link : ℕ) (arrival : Arrival) : Type 0 where
-  pub as_many : length after ≡ length before
-  pub own : (none : List Arrival) → slice_index_or after link none ≡ slice_index_or before link none ++ arrival ∷ []
-  pub others : (other : ℕ) (none : List Arrival) → (other ≡ link → ⊥) → slice_index_or after other none ≡ slice_index_or before other none
+abbrev pub AreFed : List Backed → List Started → ℕ → List (List Arrival) → Type 0
+AreFed frames starts links lists = AreListsBy (λ link. fed (frames_fed_on link frames) (streams_fed_on link starts)) links lists
 
 -- the lists with a start more: behind what its link's port is given, where that is anything
 pub record AddsStart (before after : List (List Arrival)) (start : Started) : Type 0 where

@@ -1,6 +1,7 @@
 //! What the ports are given, link by link.
 ghost use Rattle.std.specs.Prelude.{◌≡◌, ◌<◌, [], All, IfOk, OnOk, length};
-ghost use Rattle.cqf_instants_background.specs.Feeding.{FeedsArrival, AddsStart, AreFed, arrival_of_frame, arrival_of_start, lists_of_frames};
+ghost use Rattle.cqf_lists.specs.ByNumber.{AddsTo, lists_of};
+ghost use Rattle.cqf_instants_background.specs.Feeding.{AddsStart, AreFed, arrival_of_frame, arrival_of_start};
 
 use cqf_model::{Arrival, Backed, Started};
 use cqf_units::Memory;
@@ -43,7 +44,7 @@ fn arrival_of_frame(frame: &Backed) -> Arrival
 
 /// An empty list for each of so many links.
 fn no_arrivals(alloc: Global, links: u8) -> Result<Vec<Vec<Arrival>>, Memory>
-    ensures { IfOk result (λ lists. AreFed [] [] links (lists_of_frames lists.items)) }
+    ensures { IfOk result (λ lists. AreFed [] [] links (lists_of lists.items)) }
 {
     let mut lists = Vec::with_capacity(alloc, usize::from(links))?;
     for _link in 0..links {
@@ -55,7 +56,7 @@ fn no_arrivals(alloc: Global, links: u8) -> Result<Vec<Vec<Arrival>>, Memory>
 /// Puts an arrival behind those of a link.
 fn put_arrival(lists: &mut Vec<Vec<Arrival>>, link: u8, arrival: Arrival) -> Result<(), Memory>
     requires { link < length lists.old.items }
-    ensures { OnOk result (FeedsArrival (lists_of_frames lists.old.items) (lists_of_frames lists.new.items) link arrival) }
+    ensures { OnOk result (AddsTo (lists_of lists.old.items) (lists_of lists.new.items) link arrival) }
 {
     lists[usize::from(link)].push(arrival)?;
     Ok(())
@@ -64,7 +65,7 @@ fn put_arrival(lists: &mut Vec<Vec<Arrival>>, link: u8, arrival: Arrival) -> Res
 /// The background frames, link by link.
 fn feed_frames(alloc: Global, links: u8, frames: &[Backed]) -> Result<Vec<Vec<Arrival>>, Memory>
     requires { All (λ x. x.background.link < links) frames.now }
-    ensures { IfOk result (λ lists. AreFed frames.now [] links (lists_of_frames lists.items)) }
+    ensures { IfOk result (λ lists. AreFed frames.now [] links (lists_of lists.items)) }
 {
     let mut lists = no_arrivals(alloc, links)?;
     for frame in frames {
@@ -76,7 +77,7 @@ fn feed_frames(alloc: Global, links: u8, frames: &[Backed]) -> Result<Vec<Vec<Ar
 /// Puts a stream's frame behind what its link's port is given, where that is anything.
 fn put_start(lists: &mut Vec<Vec<Arrival>>, start: &Started) -> Result<(), Memory>
     requires { start.now.link < length lists.old.items }
-    ensures { OnOk result (AddsStart (lists_of_frames lists.old.items) (lists_of_frames lists.new.items) start.now) }
+    ensures { OnOk result (AddsStart (lists_of lists.old.items) (lists_of lists.new.items) start.now) }
 {
     if lists[usize::from(start.link)].as_slice().is_empty() {
         return Ok(());
@@ -95,7 +96,7 @@ pub(crate) fn feed_links(
 ) -> Result<Vec<Vec<Arrival>>, Memory>
     requires frames { All (λ x. x.background.link < links) frames.now }
     requires starts { All (λ s. s.link < links) starts.now }
-    ensures { IfOk result (λ lists. AreFed frames.now starts.now links (lists_of_frames lists.items)) }
+    ensures { IfOk result (λ lists. AreFed frames.now starts.now links (lists_of lists.items)) }
 {
     let mut lists = feed_frames(alloc, links, frames)?;
     for start in starts {

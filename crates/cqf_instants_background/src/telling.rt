@@ -2,7 +2,7 @@
 ghost use Rattle.std.specs.Prelude.{◌≡◌, ◌++◌, ◌^◌, ◌<◌, ◌≤◌, All, IfOk, OnOk, filter, length, map, slice_index_or, ℕ, []};
 ghost use Rattle.cqf_units.specs.Timing.{cycle_at};
 ghost use Rattle.cqf_port.specs.PortState.{AreTaken};
-ghost use Rattle.cqf_instants_background.specs.Feeding.{lists_of_frames};
+ghost use Rattle.cqf_lists.specs.ByNumber.{lists_of};
 ghost use Rattle.cqf_instants_background.specs.Sending.{Backs, Hands, TellsLink, TellsLinks, is_low, told};
 
 use cqf_gates::compiled_list;
@@ -108,9 +108,9 @@ pub(crate) fn tell_links(
     requires few { length lists.items ≤ 64 }
     requires early { end.0 < 2 ^ 62 }
     requires fits { cycle_at domain.now.cycle_time end.0 < 2 ^ 32 }
-    requires taken { (l : ℕ) → l < length lists.items → AreTaken (slice_index_or (lists_of_frames lists.items) l []) }
+    requires taken { (l : ℕ) → l < length lists.items → AreTaken (slice_index_or (lists_of lists.items) l []) }
     ensures { IfOk result (λ starts.
-        TellsLinks domain.now end.0 (λ l. slice_index_or (lists_of_frames lists.items) l []) (length lists.items) starts.items) }
+        TellsLinks domain.now end.0 (λ l. slice_index_or (lists_of lists.items) l []) (length lists.items) starts.items) }
 {
     let mut starts = Vec::new(alloc);
     let mut link = 0;

@@ -1,9 +1,12 @@
 -- Groups of hops, laid and tied.
-use Rattle.std.proofs.Common.{◌≡◌, ◌≢◌, ℕ, suc, zero, ◌+◌, ◌-◌, ◌*◌, ◌<◌, ◌≤◌, ◌∷◌, [], ◌++◌, ◌==◌, List, Bool, true, Option, Some, None, inl, inr, refl, sym, ap, ◌∙◌, subst, arith, length, take, map, filter, All, Contains, get_or, eq-eqb, eqb-true}
+use Rattle.std.proofs.Common.{◌≡◌, ◌≢◌, ℕ, suc, zero, ◌+◌, ◌-◌, ◌*◌, ◌<◌, ◌≤◌, ◌∷◌, [], ◌++◌, ◌==◌, List, Bool, true}
+use Rattle.std.proofs.Common.{Option, Some, None, inl, inr, refl, sym, ap, ◌∙◌, subst, arith, length, take, map, filter}
+use Rattle.std.proofs.Common.{All, Contains, get_or, eq-eqb, eqb-true}
 use Rattle.std.specs.Prelude.{slice_get, slice_index_or, slice_set}
 use Rattle.std.specs.List.{list_any}
 use Rattle.std.proofs.lemmas.Bool.{cases_eq, cases_lt}
-use Rattle.std.proofs.lemmas.List.{get_or-append-add, get_or-map, get_or-set_other, get_or-set_same, get_or-take, get_or_append_left, length-append, length-map, length-set, take-append-le, take_all}
+use Rattle.std.proofs.lemmas.List.{get_or-append-add, get_or-map, get_or-set_other, get_or-set_same, get_or-take}
+use Rattle.std.proofs.lemmas.List.{get_or_append_left, length-append, length-map, length-set, take-append-le, take_all}
 use Rattle.std.proofs.lemmas.List.Elements.{Contains-get_or}
 use Rattle.std.proofs.lemmas.List.Sums.{count_by-le-length, length-filter}
 use Rattle.std.proofs.lemmas.Option.{get_or_from_slice_get, same_Some, slice_get_within}
@@ -211,7 +214,8 @@ module _ (tree : List Hop) (before one two : List Branch) (many : ℕ) (groups :
           front = λ h inside. tied.front h inside ∙ front_two h (omega (arith, inside, g)) ∙ stays tree None before one many lays h inside;
           begins =
               stand_same tree None two three (record { first = length before; many = many }) (omega (arith, tied.count)) (λ h below. tied.links h)
-              (stand_same tree None one two (record { first = length before; many = many }) b.longer (λ h below. ap (λ (x : Branch). x.link) (front_two h below))
+              (stand_same tree None one two (record { first = length before; many = many }) b.longer
+              (λ h below. ap (λ (x : Branch). x.link) (front_two h below))
               (stand_new tree None before one many lays));
           from = omega arith;
           own = own_three;

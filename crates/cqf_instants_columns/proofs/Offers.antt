@@ -1,5 +1,7 @@
 -- The offers so far are counted.
-use Rattle.std.proofs.Common.{◌≡◌, ℕ, ◌+◌, ◌-◌, ◌*◌, ◌^◌, ◌<◌, ◌≤◌, ◌∷◌, [], List, All, Bool, true, false, Some, inl, inr, sym, ap, ◌∙◌, subst, arith, length, min, take, sum_by, get_or, replicate, ◌==◌, ◌&&◌, nat_lt, if◌then◌else◌}
+use Rattle.std.proofs.Common.{◌≡◌, ℕ, ◌+◌, ◌-◌, ◌*◌, ◌^◌, ◌<◌, ◌≤◌, ◌∷◌, [], List, All, Bool, true, false, Some, inl}
+use Rattle.std.proofs.Common.{inr, sym, ap, ◌∙◌, subst, arith, length, min, take, sum_by, get_or, replicate, ◌==◌, ◌&&◌}
+use Rattle.std.proofs.Common.{nat_lt, if◌then◌else◌}
 use Rattle.std.specs.Prelude.{slice_get}
 use Rattle.std.proofs.lemmas.Bool.{cases_lt}
 use Rattle.std.proofs.lemmas.List.{get_or_default, get_or_past, get_or-replicate, length-map, length-replicate, take_all}
@@ -126,7 +128,12 @@ module _ (d : Domain) (cycles : ℕ) (verdict : Offered → Verdict) (offers : L
     for_octets = λ l c inside in_run.
         subst (λ (n : ℕ). get_or (octets_by now l) c 0 + n < 2 ^ 32) (sym (same_octets l c))
         (octets_next cycles before now frames_of octets_of (numbered offers) place x within there counted.adds l c inside in_run
-        (λ m k m_in k_in. omega (arith, empty_cell before (length d.links) width empty m k (omega (arith, m_in, empty.all)), room m k (omega (arith, m_in, empty.all)) k_in)));
+        (λ m k m_in k_in. omega (
+          arith,
+          empty_cell before (length d.links) width empty m k (omega (arith, m_in, empty.all)),
+          room m k
+              (omega (arith, m_in, empty.all)) k_in,
+        )));
   }
 
   -- and it is counted

@@ -22,7 +22,8 @@ verdict_at d rows judgements x = verdict_of rows (offer_cycle d x) (slice_index_
 
 -- what leaves by a link in a cycle has room in a cell
 abbrev pub HaveColumnsRoom : Domain → ℕ → (Offered → Verdict) → List Offered → Type 0
-HaveColumnsRoom d cycles verdict offers = (link cycle : ℕ) → link < length d.links → cycle < cycles → sum_of_hops d verdict (counts_in link cycle) offers < 2 ^ 32
+HaveColumnsRoom d cycles verdict offers = (link cycle : ℕ) → link < length d.links → cycle < cycles →
+    sum_of_hops d verdict (counts_in link cycle) offers < 2 ^ 32
 
 -- there is a column for each link, and they have the sums by link of the offers
 pub record AreSumsBy (d : Domain) (cycles : ℕ) (verdict : Offered → Verdict) (offers : List Offer) (columns : List Column) : Type 0 where

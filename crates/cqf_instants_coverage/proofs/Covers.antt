@@ -1,5 +1,8 @@
 -- The offers judged so far, and one more.
-use Rattle.std.proofs.Common.{◌≡◌, ◌≢◌, ℕ, suc, zero, ◌+◌, ◌-◌, ◌/◌, ◌<◌, ◌≤◌, ◌∷◌, [], ◌++◌, List, Bool, true, false, Option, Some, None, Ok, Err, inl, inr, refl, sym, ap, ◌∙◌, subst, arith, length, take, find, AllPairs, Contains, get_or, nat_le, not, ◌&&◌, ◌==◌, if◌then◌else◌, slice_index_or, eq-eqb, ne_eqb, Result, nat_lt, lt-ltb, ltb-true, replicate}
+use Rattle.std.proofs.Common.{◌≡◌, ◌≢◌, ℕ, suc, zero, ◌+◌, ◌-◌, ◌/◌, ◌<◌, ◌≤◌, ◌∷◌, [], ◌++◌, List, Bool, true, false}
+use Rattle.std.proofs.Common.{Option, Some, None, Ok, Err, inl, inr, refl, sym, ap, ◌∙◌, subst, arith, length, take}
+use Rattle.std.proofs.Common.{find, AllPairs, Contains, get_or, nat_le, not, ◌&&◌, ◌==◌, if◌then◌else◌, slice_index_or}
+use Rattle.std.proofs.Common.{eq-eqb, ne_eqb, Result, nat_lt, lt-ltb, ltb-true, replicate}
 use Rattle.std.specs.Prelude.{slice_get, slice_set}
 use Rattle.std.specs.List.{enumerate_from}
 use Rattle.std.specs.Option.{option_map_or}
@@ -34,7 +37,8 @@ AreUsed d entries rows offers place cycle used = (k : ℕ) (row : Row) → slice
     taken_by d row cycle (take place (numbered offers)) ≡ used_at used cycle k
 
 -- so they are judged, and what they use is counted
-pub record IsFor (d : Domain) (entries : List Recorded) (rows : List Row) (offers : List Offer) (place cycle : ℕ) (used : List Used) (judgements : List Judgement) : Type 0 where
+pub record IsFor (d : Domain) (entries : List Recorded) (rows : List Row) (offers : List Offer) (place cycle : ℕ) (used : List Used)
+    (judgements : List Judgement) : Type 0 where
   pub judged : AreJudged d entries rows offers place judgements
   pub counted : AreUsed d entries rows offers place cycle used
 
@@ -91,7 +95,8 @@ fresh used cycle later k stamps less inside =
 
 -- what a row's judgement does to its own counter, and to another
 pub own_counter : (cycle place : ℕ) (before after : List Used) (j : Judgement) (live begins fits : Bool) (n : ℕ) → live ≡ true → place < length before →
-    JudgedFor cycle place before after j (if not live then Err Withdrawn else (if not begins then Err OtherBridge else (if not fits then Err Octets else Ok n))) →
+    JudgedFor cycle place before after j (if not live then Err Withdrawn
+    else (if not begins then Err OtherBridge else (if not fits then Err Octets else Ok n))) →
     (if begins && fits then n else used_at before cycle place) ≡ used_at after cycle place
 own_counter cycle place before after j false begins fits n live inside by_row = absurd (true≢false (sym live))
 own_counter cycle place before after j true false fits n live inside by_row = ap (λ us. used_at us cycle place) (sym by_row.1)
@@ -114,9 +119,11 @@ other_counter cycle place k before after j (Ok n) other by_row =
 -- and what it says
 pub own_verdict : (rows : List Row) (cycle place : ℕ) (row : Row) (before after : List Used) (j : Judgement) (live begins fits also_fits : Bool) (n : ℕ) →
     slice_get rows place ≡ Some row → (live ≡ true → fits ≡ also_fits) →
-    JudgedFor cycle place before after j (if not live then Err Withdrawn else (if not begins then Err OtherBridge else (if not fits then Err Octets else Ok n))) →
+    JudgedFor cycle place before after j (if not live then Err Withdrawn
+    else (if not begins then Err OtherBridge else (if not fits then Err Octets else Ok n))) →
     verdict_of rows cycle j
-    ≡ (if not live then DroppedFor Withdrawn else (if not begins then DroppedFor OtherBridge else (if not also_fits then DroppedFor Octets else Queued (as_of cycle row))))
+    ≡ (if not live then DroppedFor Withdrawn else (if not begins then DroppedFor OtherBridge
+    else (if not also_fits then DroppedFor Octets else Queued (as_of cycle row))))
 own_verdict rows cycle place row before after j false begins fits also_fits n at same by_row = ap (verdict_of rows cycle) by_row.0
 own_verdict rows cycle place row before after j true false fits also_fits n at same by_row = ap (verdict_of rows cycle) by_row.0
 own_verdict rows cycle place row before after j true true fits also_fits n at same by_row = by fits (same refl) by_row
@@ -149,7 +156,11 @@ covers_none d rows offers place_of used judgements nowhere none none_judged =
       passed = λ y inside. absurd (omega (arith, inside.1));
       ahead = λ offer is. omega arith;
       stamps = λ k u is.
-          omega (arith, ap (λ (z : Used). z.cycle) (sym (get_or_from_slice_get used k u unused is) ∙ ap (λ us. get_or us k unused) none ∙ same_there (length rows) k unused));
+          omega (
+            arith,
+            ap (λ (z : Used). z.cycle) (sym (get_or_from_slice_get used k u unused is) ∙ ap (λ us. get_or us k unused) none
+                ∙ same_there (length rows) k unused),
+          );
       for_each = λ entries legal is. record {
         judged = record { count = ap length none_judged; each = λ place x j below x_is j_is closed. absurd (omega (arith, below)) };
         counted = λ k row is live closed. sym (ap (λ us. used_at us 0 k) none ∙ ap (used_in 0) (same_there (length rows) k unused));

@@ -1,5 +1,7 @@
 -- The row of a name that is in force, among all rows: the last that has begun, where it is held.
-use Rattle.std.proofs.Common.{◌≡◌, ℕ, suc, zero, ◌+◌, ◌<◌, ◌≤◌, ◌∷◌, [], List, Bool, true, false, Option, Some, None, inl, inr, refl, sym, ap, ◌∙◌, subst, arith, length, find, AllPairs, get_or, nat_le, nat_lt, ◌&&◌, if◌then◌else◌, cond}
+use Rattle.std.proofs.Common.{◌≡◌, ℕ, suc, zero, ◌+◌, ◌<◌, ◌≤◌, ◌∷◌, [], List, Bool, true, false, Option, Some, None}
+use Rattle.std.proofs.Common.{inl, inr, refl, sym, ap, ◌∙◌, subst, arith, length, find, AllPairs, get_or, nat_le}
+use Rattle.std.proofs.Common.{nat_lt, ◌&&◌, if◌then◌else◌, cond}
 use Rattle.std.specs.Prelude.{slice_get}
 use Rattle.std.specs.Option.{option_map_or}
 use Rattle.std.proofs.Common.{le-ltb}
@@ -69,7 +71,13 @@ module _ (rows : List Row) (begun cycle : ℕ) (name : List ℕ)
     | inr n ↦ (let inside = slice_get_within rows j y at in
         let first = get_or rows begun y in
         let there : slice_get rows begun ≡ Some first = slice_get-get_or rows begun y (omega (arith, from, inside)) in
-        late y cycle (omega (arith, next first there, rise begun j y (omega (arith, n, from)) inside, ap (λ (r : Row). r.admitted.0) (get_or_from_slice_get rows j y y at))))
+        late y cycle (omega (
+          arith,
+          next first there,
+          rise begun j y (omega (arith, n, from)) inside,
+          ap (λ (r : Row). r.admitted.0)
+              (get_or_from_slice_get rows j y y at),
+        )))
   ]
 
   not_held : (y : Row) → is_held y cycle ≡ false → test y ≡ false

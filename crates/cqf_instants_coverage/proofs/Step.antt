@@ -1,5 +1,7 @@
 -- One offer more is judged.
-use Rattle.std.proofs.Common.{◌≡◌, ◌≢◌, ℕ, ◌+◌, ◌-◌, ◌/◌, ◌<◌, ◌≤◌, ◌∷◌, [], ◌++◌, List, Bool, true, Option, Some, None, inl, inr, Ok, Err, Result, refl, sym, ap, ◌∙◌, subst, arith, length, take, find, AllPairs, Contains, get_or, nat_le, not, ◌&&◌, if◌then◌else◌}
+use Rattle.std.proofs.Common.{◌≡◌, ◌≢◌, ℕ, ◌+◌, ◌-◌, ◌/◌, ◌<◌, ◌≤◌, ◌∷◌, [], ◌++◌, List, Bool, true, Option, Some, None}
+use Rattle.std.proofs.Common.{inl, inr, Ok, Err, Result, refl, sym, ap, ◌∙◌, subst, arith, length, take, find, AllPairs}
+use Rattle.std.proofs.Common.{Contains, get_or, nat_le, not, ◌&&◌, if◌then◌else◌}
 use Rattle.std.specs.Prelude.{slice_get, slice_set}
 use Rattle.std.proofs.lemmas.Bool.{cases_eq, cases_lt}
 use Rattle.std.proofs.lemmas.List.{get_or-set_other, get_or-set_same, length-append, length-set}
@@ -39,7 +41,8 @@ pub record Laws : Type 1 where
 
 module _ (d : Domain) (rows : List Row) (offers : List Offer) (p begun : ℕ) (place_of : List ℕ → Option ℕ) (used : List Used) (judgements : List Judgement)
     (before : CoversTo d rows offers p begun place_of used judgements) (offer : Offer) (at : slice_get offers p ≡ Some offer) (some : 0 < d.cycle_time)
-    (order : StandInOrder offers) (cycle to : ℕ) (is_cycle : cycle ≡ offer.at.0 / d.cycle_time) (after_of : List ℕ → Option ℕ) (has : HasBegun rows begun to cycle after_of)
+    (order : StandInOrder offers) (cycle to : ℕ) (is_cycle : cycle ≡ offer.at.0 / d.cycle_time) (after_of : List ℕ → Option ℕ)
+    (has : HasBegun rows begun to cycle after_of)
     (after : List Used) (judgement : Judgement) (judged : IsJudged d rows to cycle offer used after judgement) (laws : Laws) where
   -- the offer with its number
   abbrev x : Offered
@@ -81,7 +84,13 @@ module _ (d : Domain) (rows : List Row) (offers : List Offer) (p begun : ℕ) (p
       let here = get_or_from_slice_get offers p offer next at in
       let behind = get_or_from_slice_get offers (p + 1) next next is in
       let later : offer.at.0 ≤ next.at.0 =
-      omega (arith, order p (p + 1) next (omega arith) (slice_get_within offers (p + 1) next is), ap (λ (o : Offer). o.at.0) here, ap (λ (o : Offer). o.at.0) behind) in
+      omega (
+        arith,
+        order p (p + 1) next (omega arith) (slice_get_within offers (p + 1) next is),
+        ap (λ (o : Offer). o.at.0) here,
+        ap
+            (λ (o : Offer). o.at.0) behind,
+      ) in
       omega (arith, is_cycle, cycles_ordered d.cycle_time offer.at.0 next.at.0 some later)
 
   module _ (entries : List Recorded) (legal : IsLegalHistory d entries) (is : streams_of d entries ≡ rows) where
@@ -109,7 +118,8 @@ module _ (d : Domain) (rows : List Row) (offers : List Offer) (p begun : ℕ) (p
     apart : (i j : ℕ) (a b : Row) → i < j → slice_get rows i ≡ Some a → slice_get rows j ≡ Some b → is_held a cycle ≡ true → is_held b cycle ≡ true →
         cycle < seals entries → a.name ≢ b.name
     apart i j a b less a_is b_is a_held b_held closed =
-        let pairs = subst (AllPairs (λ (a b : Row). is_held a cycle ≡ true → is_held b cycle ≡ true → a.name ≢ b.name)) is (laws.one d entries cycle legal closed) in
+        let pairs = subst (AllPairs (λ (a b : Row). is_held a cycle ≡ true → is_held b cycle ≡ true → a.name ≢ b.name)) is
+        (laws.one d entries cycle legal closed) in
         let here = get_or_from_slice_get rows i a a a_is in
         let behind = get_or_from_slice_get rows j b a b_is in
         subst (λ (r : Row). is_held a cycle ≡ true → is_held r cycle ≡ true → a.name ≢ r.name) behind
@@ -150,11 +160,13 @@ module _ (d : Domain) (rows : List Row) (offers : List Offer) (p begun : ℕ) (p
           (omega (arith, before.counters, slice_get_within rows place by_row.row by_row.is))
           (subst (λ (r : Row). JudgedFor cycle place used after judgement (used_behind d r cycle (used_at used cycle place) offer)) own by_row.judged)
           ∙ ap (used_at after cycle) (sym e))
-      | inr n ↦ other_row row k row_is live closed (λ e. not_two place k by_row.row row n by_row.is row_is (same_Some by_row.row row (sym by_row.is ∙ sym force ∙ e)) live closed)
+      | inr n ↦ other_row row k row_is live closed (λ e. not_two place k by_row.row row n by_row.is row_is
+          (same_Some by_row.row row (sym by_row.is ∙ sym force ∙ e)) live closed)
           ∙ sym (other_counter cycle place k used after judgement (used_behind d by_row.row cycle (used_at used cycle place) offer) n by_row.judged)
     ]
       where
-        not_two : (i j : ℕ) (a b : Row) → j ≢ i → slice_get rows i ≡ Some a → slice_get rows j ≡ Some b → a ≡ b → is_live b cycle ≡ true → cycle < seals entries → ⊥
+        not_two : (i j : ℕ) (a b : Row) → j ≢ i → slice_get rows i ≡ Some a → slice_get rows j ≡ Some b → a ≡ b → is_live b cycle ≡ true →
+            cycle < seals entries → ⊥
         not_two i j a b n a_is b_is e live closed =
             let b_held = live_held b cycle live in
             let a_held = ap (λ (r : Row). is_held r cycle) e ∙ b_held in
@@ -227,7 +239,11 @@ module _ (d : Domain) (rows : List Row) (offers : List Offer) (p begun : ℕ) (p
                 let in_set : k < length used = omega (arith, inside, ap length j.1, length-set used place new) in
                 let got : get_or (slice_set used place new) k u ≡ u = sym (ap (λ us. get_or us k u) j.1) ∙ get_or_from_slice_get after k u u is in
                 elim (cases_eq k place) [
-                  | inl e ↦ omega (arith, ap (λ (z : Used). z.cycle) (sym (get_or-set_same used place new u (omega (arith, e, in_set))) ∙ ap (λ q. get_or (slice_set used place new) q u) (sym e) ∙ got))
+                  | inl e ↦ omega (
+                    arith,
+                    ap (λ (z : Used). z.cycle) (sym (get_or-set_same used place new u (omega (arith, e, in_set)))
+                        ∙ ap (λ q. get_or (slice_set used place new) q u) (sym e) ∙ got),
+                  )
                   | inr other ↦ omega (
                     arith,
                     on,

@@ -1,5 +1,6 @@
 -- What becomes of each offer, by the rows that were ever granted.
-use Rattle.std.specs.Prelude.{ℕ, ◌≡◌, ◌+◌, ◌<◌, ◌==◌, if◌then◌else◌, not, nat_le, List, Option, Some, None, Result, Ok, Err, length, slice_get, slice_index_or, slice_set}
+use Rattle.std.specs.Prelude.{ℕ, ◌≡◌, ◌+◌, ◌<◌, ◌==◌, if◌then◌else◌, not, nat_le, List, Option, Some, None, Result, Ok}
+use Rattle.std.specs.Prelude.{Err, length, slice_get, slice_index_or, slice_set}
 use Rattle.cqf_model.specs.declared.frames.Offer.{Offer}
 use Rattle.cqf_model.specs.declared.frames.Offered.{Offered}
 use Rattle.cqf_model.specs.declared.frames.Reason.{Reason}

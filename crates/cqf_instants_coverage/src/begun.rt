@@ -8,6 +8,17 @@ use cqf_model::Row;
 use cqf_units::{Cycle, Memory, Name};
 use indexmap::IndexMap;
 
+/// The rows of a run, and which of them have begun.
+#[derive(Clone, Copy)]
+pub(crate) struct RowsBegun<'r> {
+    /// All rows, in order of number.
+    pub(crate) rows: &'r [Row],
+    /// How many have begun: the first ones.
+    pub(crate) count: usize,
+    /// By name, the place of the last one that has begun.
+    pub(crate) last: &'r IndexMap<Name, usize>,
+}
+
 /// Notes each row that has begun by a cycle as the last of its name, from a place on, and gives the place of the first that
 /// hasn't.
 pub(crate) fn begin(
@@ -31,18 +42,13 @@ pub(crate) fn begin(
 }
 
 /// The place of the row of a name that is in force in a cycle, where the last of each name is known of those that have begun.
-pub(crate) fn find_in_force(
-    rows: &[Row],
-    begun: usize,
-    last: &IndexMap<Name, usize>,
-    name: &Name,
-    cycle: Cycle,
-) -> Option<usize>
-    requires within { begun ≤ length rows.now }
-    requires leads { LeadsToLast rows.now begun (λ name. get (pointwise nat_eq) last.now name) }
-    ensures { IsInForce rows.now begun name.now cycle.0 result }
+pub(crate) fn find_in_force(begun: &RowsBegun<'_>, name: &Name, cycle: Cycle) -> Option<usize>
+    requires within { begun.now.count ≤ length begun.now.rows.now }
+    requires leads { LeadsToLast begun.now.rows.now begun.now.count (λ name. get (pointwise nat_eq) begun.now.last.now name) }
+    ensures { IsInForce begun.now.rows.now begun.now.count name.now cycle.0 result }
 {
-    let place = *last.get(name)?;
+    let rows = begun.rows;
+    let place = *begun.last.get(name)?;
     prove!(place < rows.len());
     if rows[place].is_held(cycle) {
         Some(place)

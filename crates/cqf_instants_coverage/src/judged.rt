@@ -11,11 +11,11 @@ ghost use Rattle.cqf_laws_report.specs.Judged.{StandInOrder};
 ghost use Rattle.cqf_instants_coverage.specs.Begun.{LeadsToLast};
 ghost use Rattle.cqf_instants_coverage.specs.Coverage.{AreJudged, IsJudged, used_behind, used_in};
 
-use crate::begun::{begin, find_in_force};
+use crate::begun::{RowsBegun, begin, find_in_force};
 use cqf_laws_report::{counters_step, offers_stand_in_order, rows_follow, rows_say_the_tables};
 use cqf_model::{Hop, Offer, Reason, Row};
 use cqf_topology::Domain;
-use cqf_units::{Cycle, Memory, Name, cycle_of};
+use cqf_units::{Cycle, Memory, cycle_of};
 use indexmap::IndexMap;
 use std::alloc::Global;
 
@@ -107,23 +107,21 @@ fn octets_in(used: &Used, cycle: Cycle) -> u32
 /// Judges an offer of a cycle, and counts what it uses.
 fn judge(
     domain: &Domain,
-    rows: &[Row],
-    begun: usize,
-    last: &IndexMap<Name, usize>,
+    begun: &RowsBegun<'_>,
     used: &mut Vec<Used>,
     cycle: Cycle,
     offer: &Offer,
 ) -> Judgement
-    requires within { begun ≤ length rows.now }
-    requires leads { LeadsToLast rows.now begun (λ name. get (pointwise nat_eq) last.now name) }
-    requires counters { length used.old.items ≡ length rows.now }
-    ensures { IsJudged domain.now rows.now begun cycle.0 offer.now used.old.items used.new.items result }
+    requires within { begun.now.count ≤ length begun.now.rows.now }
+    requires leads { LeadsToLast begun.now.rows.now begun.now.count (λ name. get (pointwise nat_eq) begun.now.last.now name) }
+    requires counters { length used.old.items ≡ length begun.now.rows.now }
+    ensures { IsJudged domain.now begun.now.rows.now begun.now.count cycle.0 offer.now used.old.items used.new.items result }
 {
-    let Some(place) = find_in_force(rows, begun, last, &offer.stream, cycle) else {
+    let Some(place) = find_in_force(begun, &offer.stream, cycle) else {
         return Judgement::Dropped(Reason::Unknown);
     };
     let before = octets_in(&used[place], cycle);
-    match used_behind(domain, &rows[place], cycle, before, offer) {
+    match used_behind(domain, &begun.rows[place], cycle, before, offer) {
         Err(reason) => Judgement::Dropped(reason),
         Ok(octets) => {
             used[place] = Used {
@@ -171,11 +169,16 @@ pub fn cover(
     let mut last = IndexMap::new(alloc);
     let mut used = no_use(alloc, rows.len())?;
     let mut judgements = Vec::with_capacity(alloc, offers.len())?;
-    let mut begun = 0;
+    let mut count = 0;
     for offer in offers {
         let cycle = cycle_of(offer.at, cycle_time);
-        begun = begin(rows, begun, &mut last, cycle)?;
-        judgements.push(judge(domain, rows, begun, &last, &mut used, cycle, offer))?;
+        count = begin(rows, count, &mut last, cycle)?;
+        let begun = RowsBegun {
+            rows,
+            count,
+            last: &last,
+        };
+        judgements.push(judge(domain, &begun, &mut used, cycle, offer))?;
     }
     Ok(judgements)
 }

@@ -1,5 +1,6 @@
 -- The drops by judgements, in order, are those of the book of each history by which the offers are judged so.
-use Rattle.std.proofs.Common.{◌≡◌, ℕ, suc, ◌+◌, ◌*◌, ◌≤◌, ◌<◌, [], ◌∷◌, ◌++◌, ◌==◌, ◌&&◌, List, Bool, true, false, Option, Some, None, sym, ap, ◌∙◌, subst, arith, refl, eq-eqb, eqb-true, ne_eqb}
+use Rattle.std.proofs.Common.{◌≡◌, ℕ, suc, ◌+◌, ◌*◌, ◌≤◌, ◌<◌, [], ◌∷◌, ◌++◌, ◌==◌, ◌&&◌, List, Bool, true, false}
+use Rattle.std.proofs.Common.{Option, Some, None, sym, ap, ◌∙◌, subst, arith, refl, eq-eqb, eqb-true, ne_eqb}
 use Rattle.std.proofs.Common.{AllPairs, Contains, filter, get_or, length}
 use Rattle.std.specs.Prelude.{slice_get}
 use Rattle.std.specs.List.{enumerate_from}
@@ -101,7 +102,8 @@ module _ (decide : OffersAreJudged) (d : Domain) (entries : List Recorded) (offe
       not_covered : (o : Option Row) → IsDecided run x (queued_as cycle o) → ⊥
       not_covered None none = none
       not_covered (Some row) covered =
-          let both : Queued (as_of cycle row) ≡ DroppedFor reason = sym (covered_judged run x (as_of cycle row) covered) ∙ uncovered_judged run x reason uncovered in
+          let both : Queued (as_of cycle row) ≡ DroppedFor reason = sym (covered_judged run x (as_of cycle row) covered)
+          ∙ uncovered_judged run x reason uncovered in
           cc
 
   -- so it has a drop

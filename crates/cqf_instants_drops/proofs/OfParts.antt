@@ -67,7 +67,8 @@ module _ (run : Run) (quiet : run.background ≡ []) (net : Network) (legal : Is
 -- the parts are the book
 pub parts_are_book : TablesAreOrderly → BookOfHistoryIsThere → (starts backed : List Started) (drops : List Dropped) →
     AreBookOfHistory starts backed drops (record { starts = starts; background = backed; drops = drops })
-parts_are_book are_orderly is_there starts backed drops d entries offers background cycles accepted legal offered behind sealed are_starts are_backed are_drops =
+parts_are_book are_orderly is_there starts backed drops d entries offers background cycles accepted legal offered behind sealed are_starts
+    are_backed are_drops =
     let found = is_there d entries offers background cycles accepted legal offered behind sealed in
     let book : Contents = found.0 in
     let there : IsThere d entries offers background cycles book = found.1 in

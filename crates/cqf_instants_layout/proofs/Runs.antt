@@ -1,5 +1,7 @@
 -- The starts of a history's run can be told from its layout.
-use Rattle.std.proofs.Common.{◌≡◌, ℕ, ◌+◌, ◌-◌, ◌*◌, ◌/◌, ◌^◌, ◌<◌, ◌≤◌, [], List, Bool, true, false, Option, Some, None, inl, inr, refl, sym, ap, ◌∙◌, subst, arith, length, Contains, get_or, nat_lt, ◌==◌, if◌then◌else◌, ltb-true, eqb-true}
+use Rattle.std.proofs.Common.{◌≡◌, ℕ, ◌+◌, ◌-◌, ◌*◌, ◌/◌, ◌^◌, ◌<◌, ◌≤◌, [], List, Bool, true, false, Option, Some}
+use Rattle.std.proofs.Common.{None, inl, inr, refl, sym, ap, ◌∙◌, subst, arith, length, Contains, get_or, nat_lt, ◌==◌}
+use Rattle.std.proofs.Common.{if◌then◌else◌, ltb-true, eqb-true}
 use Rattle.std.specs.Prelude.{slice_get}
 use Rattle.std.specs.List.{enumerate_from}
 use Rattle.std.proofs.lemmas.Bool.{cases_Bool, cases_eq, cases_lt}
@@ -162,7 +164,8 @@ module _ (d : Domain) (cycles : ℕ) (rows : List Row) (offers : List Offer) (ju
   }
     where
       -- the offer at a place
-      is_at : (k : ℕ) (x : Offer) → k < length offers → offer_at entering k ≡ entering_by (get_or offers k x) (group_until end groups (get_or offers k x) (get_or judgements k (Dropped Unknown)))
+      is_at : (k : ℕ) (x : Offer) → k < length offers → offer_at entering k
+          ≡ entering_by (get_or offers k x) (group_until end groups (get_or offers k x) (get_or judgements k (Dropped Unknown)))
       is_at k x below =
           entered.each k (get_or offers k x) (get_or judgements k (Dropped Unknown)) below (slice_get-get_or offers k x below)
           (slice_get-get_or judgements k (Dropped Unknown) (omega (arith, below, count)))
@@ -244,7 +247,8 @@ module _ (d : Domain) (cycles : ℕ) (rows : List Row) (offers : List Offer) (ju
         by_row place (Some row) there early is_covered =
             let c = offer_cycle d x in
             let live : is_live row c ≡ true = sym (as_live row c) ∙ is_covered.live in
-            let some : covering run x ≡ Some (while_live row) = (covers run x (as_of c row) inside).1 is_covered ∙ ap (λ (r : Row). Some r) (live_as row c live) in
+            let some : covering run x ≡ Some (while_live row) = (covers run x (as_of c row) inside).1 is_covered
+            ∙ ap (λ (r : Row). Some r) (live_as row c live) in
             let group = group_at groups place in
             subst (GoesByRow given branches group.first group.many) (sym some)
             (are_hops given refl place row None group there
@@ -323,7 +327,8 @@ module _ (d : Domain) (cycles : ℕ) (rows : List Row) (offers : List Offer) (ju
     }
 
 -- links of the rows of a legal history have low numbers
-pub low_links : (d : Domain) (entries : List Recorded) (rows : List Row) → IsAccepted d → IsLegalHistory d entries → streams_of d entries ≡ rows → HaveLowLinks rows
+pub low_links : (d : Domain) (entries : List Recorded) (rows : List Row) → IsAccepted d → IsLegalHistory d entries → streams_of d entries
+    ≡ rows → HaveLowLinks rows
 low_links d entries rows accepted legal streams row inside k none below =
     omega (arith, (tree_now d entries row legal (subst (λ (xs : List Row). Contains xs row) (sym streams) inside)).inside k none below, accepted.few_links)
 
@@ -341,7 +346,8 @@ lays orderly counted say as_live decide covers d cycles rows offers judgements l
       some = some_run d cycles rows offers judgements branches groups entering laid entered orderly counted say as_live decide covers accepted offered
           ordered few some.entries some.is layout.links.items are_links;
       each = λ entries background net is legal. record {
-        given = given_with (run_of_history d entries offers background cycles) (row_at d cycles rows offers judgements branches groups entering laid entered) net;
+        given = given_with (run_of_history d entries offers background cycles) (row_at d cycles rows offers judgements branches groups entering laid entered)
+            net;
         is_run = refl;
         is_net = refl;
         can = can_tell d cycles rows offers judgements branches groups entering laid entered orderly counted say as_live decide covers accepted offered

@@ -1,5 +1,7 @@
 -- The streams of a legal history: they are few, and the tables have them.
-use Rattle.std.proofs.Common.{◌≡◌, ℕ, suc, zero, ◌+◌, ◌<◌, ◌≤◌, [], List, Bool, true, Option, Some, None, refl, sym, ap, ◌∙◌, subst, arith, length, map, Contains, get_or, nat_le, nat_lt, ◌&&◌, cond, if◌then◌else◌}
+use Rattle.std.proofs.Common.{◌≡◌, ℕ, suc, zero, ◌+◌, ◌<◌, ◌≤◌, [], List, Bool, true, Option, Some, None, refl, sym, ap}
+use Rattle.std.proofs.Common.{◌∙◌, subst, arith, length, map, Contains, get_or, nat_le, nat_lt, ◌&&◌, cond}
+use Rattle.std.proofs.Common.{if◌then◌else◌}
 use Rattle.std.specs.Prelude.{slice_get}
 use Rattle.std.specs.Option.{option_map_or}
 use Rattle.std.proofs.lemmas.Bool.{and_from, and_parts, le-leb, leb-true, lt-ltb, ltb-true}
@@ -12,7 +14,8 @@ use Rattle.cqf_model.specs.declared.history.Reply.{Reply}
 use Rattle.cqf_model.specs.declared.history.Reply.TheVariants.{Accepted, Sealed, Refused as RefusedFor}
 use Rattle.cqf_model.specs.declared.topology.Row.{Row}
 use Rattle.cqf_model.specs.Domain.{Domain}
-use Rattle.cqf_model.specs.History.{Act, Admits, IsLegalHistory, Recorded, Seals, Withdraws, held_in, is_seal, seals, stream_by, streams_of, table_at, tables_of}
+use Rattle.cqf_model.specs.History.{Act, Admits, IsLegalHistory, Recorded, Seals, Withdraws, held_in, is_seal, seals}
+use Rattle.cqf_model.specs.History.{stream_by, streams_of, table_at, tables_of}
 use Rattle.cqf_model.specs.Table.{is_held, is_live, table_of}
 use Rattle.cqf_laws_history.proofs.Places.{admitted_at, admitted_before, sealed-suc, sealed_before, withdrawn_before, with_end}
 use Rattle.cqf_laws_report.specs.Rows.{RowsSayTheTables, as_of, end_as_of}

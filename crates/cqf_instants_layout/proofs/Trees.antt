@@ -1,5 +1,6 @@
 -- One stream's tree more is laid.
-use Rattle.std.proofs.Common.{◌≡◌, ℕ, ◌+◌, ◌<◌, ◌≤◌, ◌∷◌, [], ◌++◌, List, Bool, true, false, Option, Some, None, inl, inr, refl, sym, ap, ◌∙◌, subst, arith, length, nat_lt, if◌then◌else◌, lt-ltb, le-ltb}
+use Rattle.std.proofs.Common.{◌≡◌, ℕ, ◌+◌, ◌<◌, ◌≤◌, ◌∷◌, [], ◌++◌, List, Bool, true, false, Option, Some, None, inl}
+use Rattle.std.proofs.Common.{inr, refl, sym, ap, ◌∙◌, subst, arith, length, nat_lt, if◌then◌else◌, lt-ltb, le-ltb}
 use Rattle.std.specs.Prelude.{slice_get}
 use Rattle.std.proofs.lemmas.Bool.{cases_Bool, cases_eq, cases_lt, true≢false}
 use Rattle.std.proofs.lemmas.List.{get_or_append_left, get_or_past, get_or_push, length-append}
@@ -66,7 +67,8 @@ module _ (cycles : ℕ) (rows : List Row) (place : ℕ) (row : Row) (before afte
   counted : length more ≡ place + 1
   counted = length-append groups (group ∷ []) ∙ ap (λ n. n + 1) laid.count
 
-  all_inside : length before ≤ length after → group.first + group.many ≤ length after → (k : ℕ) → (group_at more k).first + (group_at more k).many ≤ length after
+  all_inside : length before ≤ length after → group.first + group.many ≤ length after → (k : ℕ) → (group_at more k).first
+      + (group_at more k).many ≤ length after
   all_inside longer fits k = elim (cases_lt k place) [
     | inl below ↦ subst (λ (g : Group). g.first + g.many ≤ length after) (sym (old_group k below)) (omega (arith, laid.inside k, longer))
     | inr from ↦ elim (cases_eq k place) [
@@ -147,7 +149,8 @@ module _ (cycles : ℕ) (rows : List Row) (place : ℕ) (row : Row) (before afte
             (subst (λ (x : Row). AreHopsOf row_of place x.tree.items None after group) (sym (its_row k r e is)) new_begin))
         | inr n ↦ let early : k < place = omega (arith, below, n) in
             subst (AreHopsOf row_of k r.tree.items None after) (sym (old_group k early))
-            (stay laid.row_of row_of k r.tree.items None before after (group_at groups k) is_laid.longer is_laid.front old_row (laid.begin k r early is is_live))
+            (stay laid.row_of row_of k r.tree.items None before after (group_at groups k) is_laid.longer is_laid.front old_row
+            (laid.begin k r early is is_live))
       ];
       inside = all_inside is_laid.longer is_laid.begins.inside;
     }

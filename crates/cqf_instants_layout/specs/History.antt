@@ -18,7 +18,8 @@ use Rattle.cqf_instants_layout.specs.declared.layout.Layout.{Layout}
 
 -- a legal history of the domain that closes so many cycles, of which the rows are the streams that were ever granted, and in which the
 -- judgements say what becomes of the offers
-pub record IsLaidOutHistoryOf (d : Domain) (cycles : ℕ) (rows : List Row) (offers : List Offer) (judgements : List Judgement) (entries : List Recorded) : Type 0 where
+pub record IsLaidOutHistoryOf (d : Domain) (cycles : ℕ) (rows : List Row) (offers : List Offer) (judgements : List Judgement)
+    (entries : List Recorded) : Type 0 where
   pub legal : IsLegalHistory d entries
   pub sealed : cycles ≤ seals entries
   pub streams : streams_of d entries ≡ rows

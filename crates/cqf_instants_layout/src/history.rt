@@ -13,7 +13,7 @@ ghost use Rattle.cqf_instants_layout.specs.Passes.{IsPassOf};
 ghost use Rattle.cqf_model.specs.Limits.{most_rows};
 
 use crate::layout::lay_run;
-use cqf_instants::{Pass, gather_starts};
+use cqf_instants::{Basis, Pass, gather_starts};
 use cqf_instants_coverage::Judgement;
 use cqf_model::{Offer, Row, Started};
 use cqf_topology::Domain;
@@ -42,15 +42,15 @@ pub fn pass_of_history(
     ensures { IfOk result (IsPassOf domain.now cycles rows.now offers.now judgements.now) }
 {
     let layout = lay_run(alloc, domain, cycles, rows, offers, judgements)?;
-    Pass::new(
-        alloc,
-        layout.links,
-        domain.cycle_time().0 as u32,
-        domain.guard().0 as u32,
+    let basis = Basis {
+        links: layout.links,
+        cycle_time: domain.cycle_time().0 as u32,
+        guard: domain.guard().0 as u32,
         cycles,
-        layout.branches,
-        layout.offers,
-    )
+        branches: layout.branches,
+        offers: layout.offers,
+    };
+    Pass::new(alloc, basis)
 }
 
 /// The starts that such a pass tells, of all cycles, by cycle, then link, then instant (profile). The time grows with the hops of the

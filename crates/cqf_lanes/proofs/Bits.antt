@@ -1,5 +1,7 @@
 -- Bits that are set, and the masks of comparisons.
-use Rattle.std.proofs.Common.{ℕ, ◌≡◌, ◌≢◌, ◌+◌, ◌-◌, ◌*◌, ◌/◌, ◌%◌, ◌^◌, ◌<◌, ◌≤◌, ◌↔◌, ◌⊎◌, suc, List, Bool, true, false, cond, eqb, leb, not, length, get_or, map, bit_and, IsBitSet, w8, w32, sym, ap, ◌∙◌, subst, inl, inr, arith}
+use Rattle.std.proofs.Common.{ℕ, ◌≡◌, ◌≢◌, ◌+◌, ◌-◌, ◌*◌, ◌/◌, ◌%◌, ◌^◌, ◌<◌, ◌≤◌, ◌↔◌, ◌⊎◌, suc, List, Bool, true}
+use Rattle.std.proofs.Common.{false, cond, eqb, leb, not, length, get_or, map, bit_and, IsBitSet, w8, w32, sym, ap, ◌∙◌}
+use Rattle.std.proofs.Common.{subst, inl, inr, arith}
 use Rattle.std.specs.Int.{bit_at, bit_not}
 use lib.Count.{count_leading_zeros}
 use Rattle.std.specs.Simd.Lanes.{zip2, mask_l, top}
@@ -46,19 +48,27 @@ lacks_from_zero mask bit power is none = subst (λ p. not (eqb (bit_and mask p) 
 -- the bit of a test's value is set where the test passes
 pub bit_of_test : (t : Bool) (bit m n : ℕ) → bit ≡ cond t 1 0 → ((t ≡ true) × (m ≤ n)) ⊎ ((t ≡ false) × (n < m)) → (bit ≡ 1) ↔ (m ≤ n)
 bit_of_test t bit m n is (inl passes) = (λ one. passes.1, λ le. is ∙ ap (λ b. cond b 1 0) passes.0)
-bit_of_test t bit m n is (inr fails) = (λ one. absurd (let none : bit ≡ 0 = is ∙ ap (λ b. cond b 1 0) fails.0 in omega arith), λ le. absurd (omega (arith, fails.1)))
+bit_of_test t bit m n is (inr fails) = (
+  λ one. absurd (let none : bit ≡ 0 = is ∙ ap (λ b. cond b 1 0) fails.0 in omega arith),
+  λ le.
+      absurd (omega (arith, fails.1)),
+)
 
 -- bit k of the mask of eight comparisons stands for those in lane k
-pub compared_bit : (need left : List ℕ) (class : ℕ) → length need ≡ 8 → length left ≡ 8 → class < 8 → (bit_at (mask_l (zip2 leb need left)) class ≡ 1) ↔ (get_or need class 0 ≤ get_or left class 0)
+pub compared_bit : (need left : List ℕ) (class : ℕ) → length need ≡ 8 → length left ≡ 8 → class < 8 →
+    (bit_at (mask_l (zip2 leb need left)) class ≡ 1) ↔ (get_or need class 0 ≤ get_or left class 0)
 compared_bit need left class long wide low =
     let lane : bit_at (mask_l (zip2 leb need left)) class ≡ cond (leb (get_or need class 0) (get_or left class 0)) 1 0 =
     bit_mask_l (zip2 leb need left) class ∙ ap (λ b. cond b 1 0) (get_or-zip2 leb need left class 0 0 false (omega arith) (omega arith)) in
-    bit_of_test (leb (get_or need class 0) (get_or left class 0)) _ (get_or need class 0) (get_or left class 0) lane (leb_tells (get_or need class 0) (get_or left class 0))
+    bit_of_test (leb (get_or need class 0) (get_or left class 0)) _ (get_or need class 0) (get_or left class 0) lane
+    (leb_tells (get_or need class 0) (get_or left class 0))
 
 -- the mask of eight comparisons, as a vector gives it
-pub compared_mask : (need left : List ℕ) → length need ≡ 8 → length left ≡ 8 → mask_l (map (top 31) (zip2 (λ a b. cond (leb a b) (2 ^ 32 - 1) 0) need left)) % 2 ^ 64 ≡ mask_l (zip2 leb need left)
+pub compared_mask : (need left : List ℕ) → length need ≡ 8 → length left ≡ 8 →
+    mask_l (map (top 31) (zip2 (λ a b. cond (leb a b) (2 ^ 32 - 1) 0) need left)) % 2 ^ 64 ≡ mask_l (zip2 leb need left)
 compared_mask need left long wide =
-    ap (λ ms. mask_l ms % 2 ^ 64) (tops_compared w32 leb need left) ∙ mask_l-mod (zip2 leb need left) 64 (omega (arith, length-zip2 leb need left (long ∙ sym wide)))
+    ap (λ ms. mask_l ms % 2 ^ 64) (tops_compared w32 leb need left)
+    ∙ mask_l-mod (zip2 leb need left) 64 (omega (arith, length-zip2 leb need left (long ∙ sym wide)))
 
 -- it has eight bits
 pub compared_small : (need left : List ℕ) → length need ≡ 8 → length left ≡ 8 → mask_l (zip2 leb need left) < 256
@@ -67,14 +77,18 @@ compared_small need left long wide =
     subst (λ n. mask_l (zip2 leb need left) < 2 ^ n) eight (mask_l-lt (zip2 leb need left))
 
 -- the eligible classes are the open ones whose comparison holds
-pub eligible_from_mask : (gates mask : ℕ) (need left : List ℕ) → length need ≡ 8 → length left ≡ 8 → mask ≡ mask_l (zip2 leb need left) → AreEligible gates need left (bit_and gates mask)
+pub eligible_from_mask : (gates mask : ℕ) (need left : List ℕ) → length need ≡ 8 → length left ≡ 8 → mask ≡ mask_l (zip2 leb need left) →
+    AreEligible gates need left (bit_and gates mask)
 eligible_from_mask gates mask need left long wide is class low =
     let compared = compared_bit need left class long wide low in
     let same : bit_at mask class ≡ bit_at (mask_l (zip2 leb need left)) class = ap (λ m. bit_at m class) is in
     let both = bit_at_and gates mask class in (
       λ eligible.
-          let one = one_from_set (bit_and gates mask) class eligible in
-          (set_from_one gates class (omega (arith, bit_at-lt gates class, bit_at-lt mask class)), compared.0 (sym same ∙ omega (arith, bit_at-lt gates class, bit_at-lt mask class))),
+          let one = one_from_set (bit_and gates mask) class eligible in (
+            set_from_one gates class (omega (arith, bit_at-lt gates class, bit_at-lt mask class)),
+            compared.0
+                (sym same ∙ omega (arith, bit_at-lt gates class, bit_at-lt mask class)),
+          ),
       λ open_in_time.
           let open_bit = one_from_set gates class open_in_time.0 in
           let in_time : bit_at mask class ≡ 1 = same ∙ compared.1 open_in_time.1 in
@@ -83,14 +97,18 @@ eligible_from_mask gates mask need left long wide is class low =
 
 -- of the gates those classes are left that have been looked at and are in time, or haven't been looked at
 abbrev pub AreLeft : ℕ → List ℕ → List ℕ → ℕ → ℕ → Type 0
-AreLeft gates need left seen classes = (class : ℕ) → class < 8 → IsBitSet classes class ↔ (IsBitSet gates class × (class < seen → get_or need class 0 ≤ get_or left class 0))
+AreLeft gates need left seen classes = (class : ℕ) → class < 8 →
+    IsBitSet classes class ↔ (IsBitSet gates class × (class < seen → get_or need class 0 ≤ get_or left class 0))
 
 -- a class that needs more than is left is cleared
-pub left_cleared : (gates seen classes : ℕ) (need left : List ℕ) → seen < 8 → AreLeft gates need left seen classes → get_or left seen 0 < get_or need seen 0 → AreLeft gates need left (seen + 1) (bit_and classes (bit_not w8 (1 * 2 ^ seen % 256)))
+pub left_cleared : (gates seen classes : ℕ) (need left : List ℕ) → seen < 8 → AreLeft gates need left seen classes →
+    get_or left seen 0 < get_or need seen 0 → AreLeft gates need left (seen + 1) (bit_and classes (bit_not w8 (1 * 2 ^ seen % 256)))
 left_cleared gates seen classes need left low so_far short class in_range = elim (cases_eq class seen) [
   | inl here ↦ (
     λ is_set. absurd (unset_from_zero _ class (ap (bit_at _) here ∙ bit_at_clear_same w8 classes seen low) is_set),
-    λ in_time. absurd (let in_need : get_or need class 0 ≤ get_or left class 0 = in_time.1 (omega arith) in let here_need : get_or need seen 0 ≤ get_or left seen 0 = subst (λ k. get_or need k 0 ≤ get_or left k 0) here in_need in omega arith),
+    λ in_time. absurd (let in_need : get_or need class 0 ≤ get_or left class 0 =
+        in_time.1 (omega arith) in let here_need : get_or need seen 0 ≤ get_or left seen 0 =
+        subst (λ k. get_or need k 0 ≤ get_or left k 0) here in_need in omega arith),
   )
   | inr other ↦
       let same = bit_at_clear_other w8 classes seen low class in_range other in (
@@ -102,11 +120,18 @@ left_cleared gates seen classes need left low so_far short class in_range = elim
 ]
 
 -- a class that is in time stays
-pub left_kept : (gates seen classes : ℕ) (need left : List ℕ) → AreLeft gates need left seen classes → get_or need seen 0 ≤ get_or left seen 0 → AreLeft gates need left (seen + 1) classes
+pub left_kept : (gates seen classes : ℕ) (need left : List ℕ) → AreLeft gates need left seen classes → get_or need seen 0 ≤ get_or left seen 0
+    → AreLeft gates need left (seen + 1) classes
 left_kept gates seen classes need left so_far fits class in_range = (
   λ is_set.
-      let before = (so_far class in_range).0 is_set in
-      (before.0, λ looked. elim (cases_eq class seen) [ inl here ↦ subst (λ k. get_or need k 0 ≤ get_or left k 0) (sym here) fits | inr other ↦ before.1 (omega arith) ]),
+      let before = (so_far class in_range).0 is_set in (
+        before.0,
+        λ looked. elim (cases_eq class seen) [
+          | inl here ↦ subst (λ k. get_or need k 0 ≤ get_or left k 0) (sym here) fits
+          | inr other
+              ↦ before.1 (omega arith)
+        ],
+      ),
   λ in_time. (so_far class in_range).1 (in_time.0, λ looked. in_time.1 (omega arith)),
 )
 
@@ -124,10 +149,12 @@ highest_from_leading mask bit low from below = record {
 pub highest_by_leading : (mask zeros : ℕ) → mask ≢ 0 → mask < 256 → zeros ≡ count_leading_zeros 8 mask → IsHighest mask (7 - zeros)
 highest_by_leading mask zeros some small is =
     let top_bit = leading_top 8 mask (omega arith) small in
-    subst (λ bit. IsHighest mask bit) (let same : top_bit.0 ≡ 7 - zeros = omega (arith, top_bit.1) in same) (highest_from_leading mask top_bit.0 (omega (arith, top_bit.1)) top_bit.2 top_bit.3)
+    subst (λ bit. IsHighest mask bit) (let same : top_bit.0 ≡ 7 - zeros = omega (arith, top_bit.1) in same)
+    (highest_from_leading mask top_bit.0 (omega (arith, top_bit.1)) top_bit.2 top_bit.3)
 
 -- the greatest bit, where those above it were looked at
-pub highest_by_search : (mask seen power : ℕ) → mask < 256 → seen < 8 → ((bit : ℕ) → 8 - seen ≤ bit → bit < 8 → bit_and mask (2 ^ bit) ≡ 0) → power ≡ 2 ^ (7 - seen) → bit_and mask power ≢ 0 → IsHighest mask (7 - seen)
+pub highest_by_search : (mask seen power : ℕ) → mask < 256 → seen < 8 → ((bit : ℕ) → 8 - seen ≤ bit → bit < 8 → bit_and mask (2 ^ bit) ≡ 0)
+    → power ≡ 2 ^ (7 - seen) → bit_and mask power ≢ 0 → IsHighest mask (7 - seen)
 highest_by_search mask seen power small low looked is some = record {
   low = omega arith;
   is_set = subst (λ p. bit_and mask p ≢ 0) is some;
@@ -139,10 +166,12 @@ highest_by_search mask seen power small low looked is some = record {
 
 -- no bit is set
 pub none_by_search : (mask seen : ℕ) → mask < 256 → 8 ≤ seen → ((bit : ℕ) → 8 - seen ≤ bit → bit < 8 → bit_and mask (2 ^ bit) ≡ 0) → mask ≡ 0
-none_by_search mask seen small all looked = same_from_bits_below 8 mask 0 small (omega arith) (λ bit inside. zero_from_unset mask bit (looked bit (omega arith) inside) ∙ sym (bit_at-zero bit))
+none_by_search mask seen small all looked = same_from_bits_below 8 mask 0 small (omega arith)
+    (λ bit inside. zero_from_unset mask bit (looked bit (omega arith) inside) ∙ sym (bit_at-zero bit))
 
 -- one more bit that isn't set
-pub search_goes_on : (mask seen power : ℕ) → seen < 8 → ((bit : ℕ) → 8 - seen ≤ bit → bit < 8 → bit_and mask (2 ^ bit) ≡ 0) → power ≡ 2 ^ (7 - seen) → bit_and mask power ≡ 0 → (bit : ℕ) → 8 - (seen + 1) ≤ bit → bit < 8 → bit_and mask (2 ^ bit) ≡ 0
+pub search_goes_on : (mask seen power : ℕ) → seen < 8 → ((bit : ℕ) → 8 - seen ≤ bit → bit < 8 → bit_and mask (2 ^ bit) ≡ 0) → power
+    ≡ 2 ^ (7 - seen) → bit_and mask power ≡ 0 → (bit : ℕ) → 8 - (seen + 1) ≤ bit → bit < 8 → bit_and mask (2 ^ bit) ≡ 0
 search_goes_on mask seen power low looked is none bit from below = elim (cases_eq bit (7 - seen)) [
   | inl here ↦ ap (λ b. bit_and mask (2 ^ b)) here ∙ ap (bit_and mask) (sym is) ∙ none
   | inr other ↦ looked bit (omega arith) below

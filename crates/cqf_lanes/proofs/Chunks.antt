@@ -1,5 +1,6 @@
 -- Vectors that are loaded from a list, and sums of their lanes.
-use Rattle.std.proofs.Common.{ℕ, ◌≡◌, ◌+◌, ◌-◌, ◌*◌, ◌^◌, ◌<◌, ◌≤◌, List, [], ◌∷◌, length, take, drop, map, get_or, Fits, w32, w64, sum, refl, sym, ap, ap₂, ◌∙◌, arith}
+use Rattle.std.proofs.Common.{ℕ, ◌≡◌, ◌+◌, ◌-◌, ◌*◌, ◌^◌, ◌<◌, ◌≤◌, List, [], ◌∷◌, length, take, drop, map, get_or}
+use Rattle.std.proofs.Common.{Fits, w32, w64, sum, refl, sym, ap, ap₂, ◌∙◌, arith}
 use Rattle.std.specs.List.{sum_by}
 use Rattle.std.specs.Simd.Lanes.{chunk, fold_l, sum_l, zip2}
 use Rattle.std.proofs.lemmas.List.Sums.{sum_by-cons, sum_by-append, sum_by-le, sum_by-take-drop}
@@ -23,14 +24,17 @@ pub sum_by-chunk : {X : Type 0} (f : X → ℕ) (xs : List X) (done n : ℕ) →
 sum_by-chunk f xs done n = ap (sum_by f) (take-add done n xs) ∙ sum_by-append f (take done xs) (chunk done n xs)
 
 -- eight numbers of 32 bits don't sum to much
-pub chunk_small : (values : List ℕ) (place : ℕ) → place + 8 ≤ length values → ((k : ℕ) → Fits w32 (get_or values k 0)) → sum_l (chunk place 8 values) ≤ 8 * (2 ^ 32 - 1)
+pub chunk_small : (values : List ℕ) (place : ℕ) → place + 8 ≤ length values → ((k : ℕ) → Fits w32 (get_or values k 0)) →
+    sum_l (chunk place 8 values) ≤ 8 * (2 ^ 32 - 1)
 chunk_small values place inside fits =
     let lanes = below_from_Fits w32 (chunk place 8 values) (chunk-fits w32 place 8 values fits) in
-    let bound = sum_bound (2 ^ 32 - 1) (chunk place 8 values) (Each1-weaker (λ x. x < 2 ^ 32) (λ x. x ≤ 2 ^ 32 - 1) (λ a small. omega arith) (chunk place 8 values) lanes) in
+    let bound = sum_bound (2 ^ 32 - 1) (chunk place 8 values) (Each1-weaker (λ x. x < 2 ^ 32) (λ x. x ≤ 2 ^ 32 - 1) (λ a small. omega arith)
+    (chunk place 8 values) lanes) in
     omega (arith, bound, length-chunk place 8 values inside)
 
 -- eight more values, summed lane by lane
-pub sum_eight_more : (values lanes more : List ℕ) (done : ℕ) → length lanes ≡ length more → more ≡ chunk done 8 values → sum_l lanes ≡ sum (take done values) → sum_l (zip2 (λ a b. a + b) lanes more) ≡ sum (take (done + 8) values)
+pub sum_eight_more : (values lanes more : List ℕ) (done : ℕ) → length lanes ≡ length more → more ≡ chunk done 8 values → sum_l lanes
+    ≡ sum (take done values) → sum_l (zip2 (λ a b. a + b) lanes more) ≡ sum (take (done + 8) values)
 sum_eight_more values lanes more done long is so_far =
     sum-zip2 lanes more long ∙ ap₂ (λ m n. m + n) so_far (ap sum_l is ∙ sum_of_vector (chunk done 8 values)) ∙ sym (sum_by-chunk (λ x. x) values done 8)
 
@@ -40,14 +44,18 @@ sum_rest values done front rest before behind = ap₂ (λ m n. m + n) before beh
 
 -- numbers of 32 bits sum to less than 2^32 each
 pub sum_short : (values : List ℕ) → ((k : ℕ) → Fits w32 (get_or values k 0)) → sum values ≤ length values * (2 ^ 32 - 1)
-sum_short values fits = sum_by-le (λ x. x) (2 ^ 32 - 1) values (All-from_get_or (λ x. x ≤ 2 ^ 32 - 1) values 0 (λ k inside. let small = (fits k).fits in omega arith))
+sum_short values fits = sum_by-le (λ x. x) (2 ^ 32 - 1) values (All-from_get_or (λ x. x ≤ 2 ^ 32 - 1) values 0 (λ k inside. let small =
+    (fits k).fits in omega arith))
 
 -- the sum of lanes, and of what is left behind the last full vector
-pub sum_of_all : (values lanes : List ℕ) (done rest : ℕ) → sum_l lanes ≡ sum (take done values) → rest ≡ sum (take (length values - done) (drop done values)) → fold_l (λ a b. a + b) 0 lanes + rest ≡ sum values
+pub sum_of_all : (values lanes : List ℕ) (done rest : ℕ) → sum_l lanes ≡ sum (take done values) → rest
+    ≡ sum (take (length values - done) (drop done values)) → fold_l (λ a b. a + b) 0 lanes + rest ≡ sum values
 sum_of_all values lanes done rest before behind =
     let folded : fold_l (λ a b. a + b) 0 lanes ≡ sum (take done values) = fold-sum 0 lanes ∙ omega (arith, before) in
     sum_rest values done _ rest folded (behind ∙ ap sum (take_rest values done))
 
 -- it isn't large
-pub sum_of_all_fits : (values lanes : List ℕ) (done rest : ℕ) → length values < 2 ^ 32 → ((k : ℕ) → Fits w32 (get_or values k 0)) → sum_l lanes ≡ sum (take done values) → rest ≡ sum (take (length values - done) (drop done values)) → Fits w64 (fold_l (λ a b. a + b) 0 lanes + rest)
-sum_of_all_fits values lanes done rest few fits before behind = record { fits = omega (arith, sum_of_all values lanes done rest before behind, sum_short values fits) }
+pub sum_of_all_fits : (values lanes : List ℕ) (done rest : ℕ) → length values < 2 ^ 32 → ((k : ℕ) → Fits w32 (get_or values k 0)) →
+    sum_l lanes ≡ sum (take done values) → rest ≡ sum (take (length values - done) (drop done values)) → Fits w64 (fold_l (λ a b. a + b) 0 lanes + rest)
+sum_of_all_fits values lanes done rest few fits before behind =
+    record { fits = omega (arith, sum_of_all values lanes done rest before behind, sum_short values fits) }

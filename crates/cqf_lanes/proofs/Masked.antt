@@ -1,5 +1,7 @@
 -- Costs that are summed where a mask has a bit.
-use Rattle.std.proofs.Common.{ℕ, ◌≡◌, ◌+◌, ◌-◌, ◌*◌, ◌%◌, ◌^◌, ◌<◌, ◌≤◌, suc, zero, List, [], ◌∷◌, Bool, true, false, not, cond, eqb, length, get_or, take, drop, map, bit_and, replicate, Fits, w32, w64, refl, sym, ap, ap₂, ◌∙◌, subst, arith}
+use Rattle.std.proofs.Common.{ℕ, ◌≡◌, ◌+◌, ◌-◌, ◌*◌, ◌%◌, ◌^◌, ◌<◌, ◌≤◌, suc, zero, List, [], ◌∷◌, Bool, true, false}
+use Rattle.std.proofs.Common.{not, cond, eqb, length, get_or, take, drop, map, bit_and, replicate, Fits, w32, w64, refl}
+use Rattle.std.proofs.Common.{sym, ap, ap₂, ◌∙◌, subst, arith}
 use Rattle.std.specs.List.{zip, sum_by}
 use Rattle.std.specs.Simd.Lanes.{chunk, fold_l, sum_l, sel_l, zip2, top}
 use Rattle.std.proofs.lemmas.List.{take_all, take_rest, length-map}
@@ -19,7 +21,8 @@ turned true cost = refl
 turned false cost = refl
 
 -- the costs where the masks haven't the bit are left out
-selected : (bit n : ℕ) (costs masks : List ℕ) → length costs ≡ n → length masks ≡ n → sel_l (zip2 eqb (zip2 bit_and masks (replicate n (2 ^ bit))) (replicate n 0)) (replicate n 0) costs ≡ map (masked_cost bit) (zip costs masks)
+selected : (bit n : ℕ) (costs masks : List ℕ) → length costs ≡ n → length masks ≡ n →
+    sel_l (zip2 eqb (zip2 bit_and masks (replicate n (2 ^ bit))) (replicate n 0)) (replicate n 0) costs ≡ map (masked_cost bit) (zip costs masks)
 selected bit zero [] [] long wide = refl
 selected bit zero [] (mask ∷ masks) long wide = absurd (omega arith)
 selected bit zero (cost ∷ costs) masks long wide = absurd (omega arith)
@@ -29,7 +32,9 @@ selected bit (suc n) (cost ∷ costs) (mask ∷ masks) long wide =
     ap₂ (λ x xs. x ∷ xs) (turned (eqb (bit_and mask (2 ^ bit)) 0) cost) (selected bit n costs masks (omega arith) (omega arith))
 
 -- the same of eight lanes, as vectors give it
-pub selected_lanes : (bit power : ℕ) (costs masks : List ℕ) → power ≡ 2 ^ bit → length costs ≡ 8 → length masks ≡ 8 → sel_l (map (top 63) (zip2 (λ a b. cond (eqb a b) (2 ^ 64 - 1) 0) (zip2 bit_and masks (replicate 8 power)) (replicate 8 0))) (replicate 8 0) costs ≡ map (masked_cost bit) (zip costs masks)
+pub selected_lanes : (bit power : ℕ) (costs masks : List ℕ) → power ≡ 2 ^ bit → length costs ≡ 8 → length masks ≡ 8 →
+    sel_l (map (top 63) (zip2 (λ a b. cond (eqb a b) (2 ^ 64 - 1) 0) (zip2 bit_and masks (replicate 8 power)) (replicate 8 0))) (replicate 8 0) costs
+    ≡ map (masked_cost bit) (zip costs masks)
 selected_lanes bit power costs masks is long wide =
     ap (λ ms. sel_l ms (replicate 8 0) costs) (tops_compared w64 eqb (zip2 bit_and masks (replicate 8 power)) (replicate 8 0))
     ∙ ap (λ p. sel_l (zip2 eqb (zip2 bit_and masks (replicate 8 p)) (replicate 8 0)) (replicate 8 0) costs) is
@@ -79,7 +84,8 @@ length-zip (cost ∷ costs) [] long = absurd (omega arith)
 length-zip (cost ∷ costs) (mask ∷ masks) long = ap suc (length-zip costs masks (omega arith))
 
 -- what stands at a place of two lists side by side
-get_or-zip : (place : ℕ) (costs masks : List ℕ) → length costs ≡ length masks → get_or (zip costs masks) place (0, 0) ≡ (get_or costs place 0, get_or masks place 0)
+get_or-zip : (place : ℕ) (costs masks : List ℕ) → length costs ≡ length masks → get_or (zip costs masks) place (0, 0)
+    ≡ (get_or costs place 0, get_or masks place 0)
 get_or-zip place [] [] long = refl
 get_or-zip place [] (mask ∷ masks) long = absurd (omega arith)
 get_or-zip place (cost ∷ costs) [] long = absurd (omega arith)
@@ -91,58 +97,77 @@ pub chunk-zip : (n done : ℕ) (costs masks : List ℕ) → zip (chunk done n co
 chunk-zip n done costs masks = take-zip n (drop done costs) (drop done masks) ∙ ap (take n) (drop-zip done costs masks)
 
 -- one more place adds its cost, or nothing
-pub masked_more : (bit : ℕ) (costs masks : List ℕ) (place total after : ℕ) → length costs ≡ length masks → place < length costs → total ≡ sum_by (masked_cost bit) (take place (zip costs masks)) → after ≡ total + cond (has_bit (get_or masks place 0) bit) (get_or costs place 0) 0 → after ≡ sum_by (masked_cost bit) (take (place + 1) (zip costs masks))
+pub masked_more : (bit : ℕ) (costs masks : List ℕ) (place total after : ℕ) → length costs ≡ length masks → place < length costs → total
+    ≡ sum_by (masked_cost bit) (take place (zip costs masks)) → after ≡ total + cond (has_bit (get_or masks place 0) bit) (get_or costs place 0) 0
+    → after ≡ sum_by (masked_cost bit) (take (place + 1) (zip costs masks))
 masked_more bit costs masks place total after long inside so_far more =
     let here : get_or (zip costs masks) place (0, 0) ≡ (get_or costs place 0, get_or masks place 0) = get_or-zip place costs masks long in
     let step = sum_by_more (masked_cost bit) (zip costs masks) place (0, 0) (omega (arith, length-zip costs masks long)) in
-    more ∙ ap (λ n. n + cond (has_bit (get_or masks place 0) bit) (get_or costs place 0) 0) so_far ∙ sym (step ∙ ap (λ x. sum_by (masked_cost bit) (take place (zip costs masks)) + masked_cost bit x) here)
+    more ∙ ap (λ n. n + cond (has_bit (get_or masks place 0) bit) (get_or costs place 0) 0) so_far
+    ∙ sym (step ∙ ap (λ x. sum_by (masked_cost bit) (take place (zip costs masks)) + masked_cost bit x) here)
 
 -- all places
-pub masked_all : (bit : ℕ) (costs masks : List ℕ) (place total : ℕ) → length costs ≡ length masks → length costs ≤ place → total ≡ sum_by (masked_cost bit) (take place (zip costs masks)) → total ≡ masked_total bit costs masks
-masked_all bit costs masks place total long past so_far = so_far ∙ ap (sum_by (masked_cost bit)) (take_all place (zip costs masks) (omega (arith, length-zip costs masks long)))
+pub masked_all : (bit : ℕ) (costs masks : List ℕ) (place total : ℕ) → length costs ≡ length masks → length costs ≤ place → total
+    ≡ sum_by (masked_cost bit) (take place (zip costs masks)) → total ≡ masked_total bit costs masks
+masked_all bit costs masks place total long past so_far =
+    so_far ∙ ap (sum_by (masked_cost bit)) (take_all place (zip costs masks) (omega (arith, length-zip costs masks long)))
 
 -- how many lanes some places fill
-pub length-masked_chunk : (bit n done : ℕ) (costs masks : List ℕ) → length costs ≡ length masks → done + n ≤ length costs → length (map (masked_cost bit) (zip (chunk done n costs) (chunk done n masks))) ≡ n
+pub length-masked_chunk : (bit n done : ℕ) (costs masks : List ℕ) → length costs ≡ length masks → done + n ≤ length costs →
+    length (map (masked_cost bit) (zip (chunk done n costs) (chunk done n masks))) ≡ n
 length-masked_chunk bit n done costs masks long inside =
     length-map (zip (chunk done n costs) (chunk done n masks)) (masked_cost bit)
     ∙ length-zip (chunk done n costs) (chunk done n masks) (length-chunk done n costs inside ∙ sym (length-chunk done n masks (omega arith)))
     ∙ length-chunk done n costs inside
 
 -- eight more places, summed lane by lane
-pub masked_eight_more : (bit : ℕ) (costs masks lanes more : List ℕ) (done : ℕ) → length lanes ≡ length more → more ≡ map (masked_cost bit) (zip (chunk done 8 costs) (chunk done 8 masks)) → sum_l lanes ≡ sum_by (masked_cost bit) (take done (zip costs masks)) → sum_l (zip2 (λ a b. a + b) lanes more) ≡ sum_by (masked_cost bit) (take (done + 8) (zip costs masks))
+pub masked_eight_more : (bit : ℕ) (costs masks lanes more : List ℕ) (done : ℕ) → length lanes ≡ length more → more
+    ≡ map (masked_cost bit) (zip (chunk done 8 costs) (chunk done 8 masks)) → sum_l lanes ≡ sum_by (masked_cost bit) (take done (zip costs masks))
+    → sum_l (zip2 (λ a b. a + b) lanes more) ≡ sum_by (masked_cost bit) (take (done + 8) (zip costs masks))
 masked_eight_more bit costs masks lanes more done long is so_far =
-    let added : sum_l more ≡ sum_by (masked_cost bit) (chunk done 8 (zip costs masks)) = ap sum_l (is ∙ ap (map (masked_cost bit)) (chunk-zip 8 done costs masks)) ∙ sum_of_lanes (masked_cost bit) (chunk done 8 (zip costs masks)) in
+    let added : sum_l more ≡ sum_by (masked_cost bit) (chunk done 8 (zip costs masks)) =
+    ap sum_l (is ∙ ap (map (masked_cost bit)) (chunk-zip 8 done costs masks)) ∙ sum_of_lanes (masked_cost bit) (chunk done 8 (zip costs masks)) in
     sum-zip2 lanes more long ∙ ap₂ (λ m n. m + n) so_far added ∙ sym (sum_by-chunk (masked_cost bit) (zip costs masks) done 8)
 
 -- the sums before and behind a place are the whole sum
-pub masked_rest : (bit : ℕ) (costs masks : List ℕ) (done front rest : ℕ) → front ≡ sum_by (masked_cost bit) (take done (zip costs masks)) → rest ≡ masked_total bit (drop done costs) (drop done masks) → front + rest ≡ masked_total bit costs masks
+pub masked_rest : (bit : ℕ) (costs masks : List ℕ) (done front rest : ℕ) → front ≡ sum_by (masked_cost bit) (take done (zip costs masks)) →
+    rest ≡ masked_total bit (drop done costs) (drop done masks) → front + rest ≡ masked_total bit costs masks
 masked_rest bit costs masks done front rest before behind =
     ap₂ (λ m n. m + n) before (behind ∙ ap (sum_by (masked_cost bit)) (drop-zip done costs masks)) ∙ sum_by-take-drop (masked_cost bit) (zip costs masks) done
 
 -- the sum of lanes, and of what is left behind the last full vector
-pub masked_of_all : (bit : ℕ) (costs masks lanes : List ℕ) (done rest : ℕ) → sum_l lanes ≡ sum_by (masked_cost bit) (take done (zip costs masks)) → rest ≡ masked_total bit (take (length costs - done) (drop done costs)) (take (length masks - done) (drop done masks)) → fold_l (λ a b. a + b) 0 lanes + rest ≡ masked_total bit costs masks
+pub masked_of_all : (bit : ℕ) (costs masks lanes : List ℕ) (done rest : ℕ) → sum_l lanes ≡ sum_by (masked_cost bit) (take done (zip costs masks))
+    → rest ≡ masked_total bit (take (length costs - done) (drop done costs)) (take (length masks - done) (drop done masks)) →
+    fold_l (λ a b. a + b) 0 lanes + rest ≡ masked_total bit costs masks
 masked_of_all bit costs masks lanes done rest before behind =
     let folded : fold_l (λ a b. a + b) 0 lanes ≡ sum_by (masked_cost bit) (take done (zip costs masks)) = fold-sum 0 lanes ∙ omega (arith, before) in
     masked_rest bit costs masks done _ rest folded (behind ∙ ap₂ (masked_total bit) (take_rest costs done) (take_rest masks done))
 
 -- it isn't large
-pub masked_of_all_fits : (bit : ℕ) (costs masks lanes : List ℕ) (done rest : ℕ) → length costs < 2 ^ 32 → ((k : ℕ) → Fits w32 (get_or costs k 0)) → sum_l lanes ≡ sum_by (masked_cost bit) (take done (zip costs masks)) → rest ≡ masked_total bit (take (length costs - done) (drop done costs)) (take (length masks - done) (drop done masks)) → Fits w64 (fold_l (λ a b. a + b) 0 lanes + rest)
+pub masked_of_all_fits : (bit : ℕ) (costs masks lanes : List ℕ) (done rest : ℕ) → length costs < 2 ^ 32 → ((k : ℕ) → Fits w32 (get_or costs k 0))
+    → sum_l lanes ≡ sum_by (masked_cost bit) (take done (zip costs masks)) → rest
+    ≡ masked_total bit (take (length costs - done) (drop done costs)) (take (length masks - done) (drop done masks)) →
+    Fits w64 (fold_l (λ a b. a + b) 0 lanes + rest)
 masked_of_all_fits bit costs masks lanes done rest few fits before behind =
     let whole = masked_of_all bit costs masks lanes done rest before behind in
     let lanes_of_all = sum_of_lanes (masked_cost bit) (zip costs masks) in
     record { fits = omega (arith, whole, lanes_of_all, masked_sum_le bit costs masks, sum_of_vector costs, sum_short costs fits) }
 
-module _ (bit place : ℕ) (costs masks loaded : List ℕ) (low : bit < 64) (inside : place + 8 ≤ length costs) (long : length costs ≡ length masks) (is : loaded ≡ chunk place 8 costs) where
+module _ (bit place : ℕ) (costs masks loaded : List ℕ) (low : bit < 64) (inside : place + 8 ≤ length costs) (long : length costs ≡ length masks)
+    (is : loaded ≡ chunk place 8 costs) where
   -- eight lanes of costs, 0 where the mask hasn't the bit
   abbrev pub selection : List ℕ
-  selection = sel_l (map (top 63) (zip2 (λ a b. cond (eqb a b) (2 ^ 64 - 1) 0) (zip2 bit_and (chunk place 8 masks) (replicate 8 (1 * 2 ^ bit % 2 ^ 64))) (replicate 8 0))) (replicate 8 0) loaded
+  selection = sel_l (map (top 63) (zip2 (λ a b. cond (eqb a b) (2 ^ 64 - 1) 0) (zip2 bit_and (chunk place 8 masks) (replicate 8 (1 * 2 ^ bit % 2 ^ 64)))
+      (replicate 8 0))) (replicate 8 0) loaded
 
   -- are those of the places
   pub selected_in : selection ≡ map (masked_cost bit) (zip (chunk place 8 costs) (chunk place 8 masks))
   selected_in =
-      selected_lanes bit (1 * 2 ^ bit % 2 ^ 64) loaded (chunk place 8 masks) (one_shl bit 64 low) (ap length is ∙ length-chunk place 8 costs inside) (length-chunk place 8 masks (omega arith))
+      selected_lanes bit (1 * 2 ^ bit % 2 ^ 64) loaded (chunk place 8 masks) (one_shl bit 64 low) (ap length is ∙ length-chunk place 8 costs inside)
+      (length-chunk place 8 masks (omega arith))
       ∙ ap (λ xs. map (masked_cost bit) (zip xs (chunk place 8 masks))) is
 
   -- and sum to no more than the costs
   pub selected_small : sum_l loaded ≤ 8 * (2 ^ 32 - 1) → sum_l selection ≤ 8 * (2 ^ 32 - 1)
-  selected_small small = subst (λ xs. sum_l xs ≤ 8 * (2 ^ 32 - 1)) (sym selected_in) (masked_small bit (8 * (2 ^ 32 - 1)) (chunk place 8 costs) (chunk place 8 masks) (subst (λ xs. sum_l xs ≤ 8 * (2 ^ 32 - 1)) is small))
+  selected_small small = subst (λ xs. sum_l xs ≤ 8 * (2 ^ 32 - 1)) (sym selected_in)
+      (masked_small bit (8 * (2 ^ 32 - 1)) (chunk place 8 costs) (chunk place 8 masks) (subst (λ xs. sum_l xs ≤ 8 * (2 ^ 32 - 1)) is small))

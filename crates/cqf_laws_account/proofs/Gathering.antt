@@ -1,5 +1,6 @@
 -- What stands on the pages of bridges, gathered bridge by bridge and cycle by cycle.
-use Rattle.std.proofs.Common.{◌≡◌, ℕ, zero, suc, ◌+◌, ◌<◌, ◌++◌, ◌==◌, [], ◌∷◌, List, Some, length, refl, sym, ap, ◌∙◌, arith, inl, inr, filter, Contains, ne_eqb}
+use Rattle.std.proofs.Common.{◌≡◌, ℕ, zero, suc, ◌+◌, ◌<◌, ◌++◌, ◌==◌, [], ◌∷◌, List, Some, length, refl, sym, ap, ◌∙◌}
+use Rattle.std.proofs.Common.{arith, inl, inr, filter, Contains, ne_eqb}
 use Rattle.std.proofs.Common.{eqb-true}
 use Rattle.std.specs.Prelude.{Option, true, false, ◌&&◌, if◌then◌else◌, slice_get}
 use Rattle.std.specs.List.{flat_map}

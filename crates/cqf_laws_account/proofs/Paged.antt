@@ -14,6 +14,7 @@ use Rattle.cqf_model.specs.Domain.{Domain, IsAccepted, bridge_of, leaves}
 use Rattle.cqf_model.specs.Run.{Run}
 use Rattle.cqf_model.proofs.Links.{bridge_within}
 use Rattle.cqf_laws_cycle.specs.PageLaws.{BookIsItsPages, IsSomeBook, PageSaysTheBackground, PageSaysWhatItsLinksSend, book_of_pages, is_on_link, on_links_of}
+use Rattle.cqf_laws_cycle.proofs.PageParts.{same_pages}
 use Rattle.cqf_laws_account.specs.Gathered.{ArePagesOf}
 use Rattle.cqf_laws_account.specs.Paged.{AreByLink, ArePagesByLink, TellTheBook, contents_on, contents_there}
 use Rattle.cqf_laws_account.proofs.Ordered.{background_by_two, starts_by_two}
@@ -46,28 +47,6 @@ none_by_link d bridge =
       | inl here ↦ cond-true (leaves d link bridge) (filter (is_on_link link) []) [] here
       | inr elsewhere ↦ cond-false (leaves d link bridge) (filter (is_on_link link) []) [] elsewhere
     ]))
-
--- the same pages of all bridges and cycles tell the same book
-same_told : (d : Domain) (cycles : ℕ) (page other : ℕ → ℕ → Contents) → IsAccepted d →
-    ((bridge cycle : ℕ) → bridge < length d.bridges → cycle < cycles → page bridge cycle ≡ other bridge cycle) →
-    book_of_pages d cycles page ≡ book_of_pages d cycles other
-same_told d cycles page other accepted same =
-    let links = length d.links in
-    let on_link = λ (kind : Contents → List Started) (p : ℕ → ℕ → Contents) (cycle link : ℕ). filter (is_on_link link) (kind (p (bridge_of d link) cycle)) in
-    let same_starts = λ (kind : Contents → List Started).
-    same_below (λ cycle. each_below (on_link kind page cycle) links) (λ cycle. each_below (on_link kind other cycle) links) cycles (λ cycle within.
-    same_below (on_link kind page cycle) (on_link kind other cycle) links (λ link inside.
-    ap (λ (p : Contents). filter (is_on_link link) (kind p)) (same (bridge_of d link) cycle (bridge_within d link accepted inside) within))) in
-    let drops = λ (p : ℕ → ℕ → Contents) (cycle bridge : ℕ). (p bridge cycle).drops in
-    let same_drops =
-    same_below (λ cycle. each_below (drops page cycle) (length d.bridges)) (λ cycle. each_below (drops other cycle) (length d.bridges)) cycles
-    (λ cycle within. same_below (drops page cycle) (drops other cycle) (length d.bridges) (λ bridge inside.
-    ap (λ (p : Contents). p.drops) (same bridge cycle inside within))) in
-    λ i. record {
-      starts = same_starts (λ (p : Contents). p.starts) i;
-      background = same_starts (λ (p : Contents). p.background) i;
-      drops = same_drops i;
-    }
 
 module _ (d : Domain) (cycles : ℕ) (pages : ℕ → List Page) (book : Contents) (are : ArePagesOf d cycles pages book) where
   -- what stands on a page is what the book has there
@@ -108,6 +87,6 @@ module _ (d : Domain) (cycles : ℕ) (pages : ℕ → List Page) (book : Content
       } in
       record {
         told = its_pages d cycles book some
-            ∙ sym (same_told d cycles (contents_on pages) (λ bridge cycle. page_of d bridge cycle book) accepted on_page);
+            ∙ sym (same_pages d cycles (contents_on pages) (λ bridge cycle. page_of d bridge cycle book) accepted on_page);
         by_link = by_link;
       }

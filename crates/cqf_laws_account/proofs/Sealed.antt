@@ -1,5 +1,6 @@
 -- The tables that a seat closes which alone seals.
-use Rattle.std.proofs.Common.{◌≡◌, ℕ, zero, suc, ◌+◌, ◌-◌, ◌<◌, ◌≤◌, ◌++◌, [], ◌∷◌, List, Some, length, refl, sym, ap, ◌∙◌, arith, subst, inl, inr, eq-eqb, Contains}
+use Rattle.std.proofs.Common.{◌≡◌, ℕ, zero, suc, ◌+◌, ◌-◌, ◌<◌, ◌≤◌, ◌++◌, [], ◌∷◌, List, Some, length, refl, sym, ap}
+use Rattle.std.proofs.Common.{◌∙◌, arith, subst, inl, inr, eq-eqb, Contains}
 use Rattle.std.proofs.lemmas.List.{append-nil, take_all}
 use Rattle.std.specs.Prelude.{Option, Bool, ◌==◌, ◌&&◌, drop, take, if◌then◌else◌, slice_get}
 use Rattle.std.specs.Option.{option_map_or}

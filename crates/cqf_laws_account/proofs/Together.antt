@@ -161,7 +161,8 @@ module _ (t : Traffic) (entries : List Recorded) (own : ℕ → Course) (apart :
     }
 
     -- so they are gathered to it
-    pub gathered_history : (pages : ℕ → List Page) (gathered : Contents) → HavePosted t cycles own pages → IsBookOfPages pages (length t.domain.bridges) gathered →
+    pub gathered_history : (pages : ℕ → List Page) (gathered : Contents) → HavePosted t cycles own pages →
+        IsBookOfPages pages (length t.domain.bridges) gathered →
         IsBookOfHistory t.domain entries t.offers t.background cycles gathered
     gathered_history pages gathered have is =
         subst (λ (b : Contents). IsBookOfHistory t.domain entries t.offers t.background cycles b)

@@ -1,5 +1,6 @@
 -- A stream's gate counts each cycle anew: what becomes of a cycle's frames doesn't hang on those of other cycles.
-use Rattle.std.proofs.Common.{◌≡◌, ℕ, ◌+◌, ◌*◌, ◌<◌, List, [], ◌∷◌, ◌++◌, ◌==◌, ◌&&◌, if◌then◌else◌, nat_le, sym, ap, refl, ◌∙◌, arith, append_assoc, append-nil, Contains}
+use Rattle.std.proofs.Common.{◌≡◌, ℕ, ◌+◌, ◌*◌, ◌<◌, List, [], ◌∷◌, ◌++◌, ◌==◌, ◌&&◌, if◌then◌else◌, nat_le, sym, ap}
+use Rattle.std.proofs.Common.{refl, ◌∙◌, arith, append_assoc, append-nil, Contains}
 use Rattle.std.proofs.Common.{ne_eqb, zero-add}
 use Rattle.std.proofs.lemmas.Bool.{and_right, cond-false}
 use Rattle.std.proofs.lemmas.List.Sums.{sum_by-append}

@@ -15,13 +15,15 @@ use Rattle.cqf_model.proofs.Links.{bridge_within}
 use Rattle.cqf_laws_cycle.specs.BridgeCycle.{IsCompiledNetwork}
 use Rattle.cqf_laws_cycle.specs.Gathered.{backed_for}
 use Rattle.cqf_laws_cycle.specs.PageLaws.{BookIsItsPages, IsSomeBook, book_of_pages, is_on_link, on_links_of}
+use Rattle.cqf_laws_cycle.proofs.PageParts.{same_pages}
 use Rattle.cqf_bridge.specs.declared.faults.BridgeFault.{BridgeFault}
 use Rattle.cqf_bridge.specs.declared.faults.BridgeFault.TheVariants.{Memory}
 use Rattle.cqf_bridge.specs.Batch.{LinkBatch}
 use Rattle.cqf_bridge.specs.BridgeState.{BridgeState, SendsCycle, links_from}
 use Rattle.cqf_bridge.specs.Receiving.{IsReceiveFault, ReceivesCycle, links_into}
 use Rattle.cqf_bridge.specs.Faults.{IsSendFault}
-use Rattle.cqf_laws_bridge.specs.Cycles.{GivesTheBatches, GivesTheDrops, NewBridgeFollows, PageFollows, ReceivingFollows, SendingFollows, drops_of_cycle, page_given}
+use Rattle.cqf_laws_bridge.specs.Cycles.{GivesTheBatches, GivesTheDrops, NewBridgeFollows, PageFollows}
+use Rattle.cqf_laws_bridge.specs.Cycles.{ReceivingFollows, SendingFollows, drops_of_cycle, page_given}
 use Rattle.cqf_laws_bridge.specs.Driven.{AreDriven, ArePassedOn, DrivenCourse, GoesThrough, SendsInCourse, page_of_course}
 use Rattle.cqf_laws_bridge.specs.Follows.{FollowsTheNetwork, HasSentOfTheNetwork, batch_of, batches_from, batches_into, handed_with}
 use Rattle.cqf_laws_bridge.specs.NoFaults.{ReceivesButForMemory, SendsButForMemory}
@@ -32,7 +34,8 @@ pub record IsBefore (run : Run) (net : Network) (course : DrivenCourse) (bridge 
   pub received : (course.before bridge cycle).received ≡ cycle
   pub number : (course.before bridge cycle).number ≡ bridge
 
-module _ (run : Run) (cycles : ℕ) (net : Network) (course : DrivenCourse) (compiled : IsCompiledNetwork run cycles net) (sending : SendingFollows) (receiving : ReceivingFollows) where
+module _ (run : Run) (cycles : ℕ) (net : Network) (course : DrivenCourse) (compiled : IsCompiledNetwork run cycles net) (sending : SendingFollows)
+    (receiving : ReceivingFollows) where
   -- it gives the network's batches in the cycle
   gives : (bridge cycle : ℕ) → cycle < cycles → IsBefore run net course bridge cycle → SendsInCourse run course bridge cycle →
       GivesTheBatches run cycle net (course.before bridge cycle) (course.halfway bridge cycle) (course.given bridge cycle)
@@ -89,7 +92,8 @@ module _ (run : Run) (cycles : ℕ) (net : Network) (course : DrivenCourse) (com
 
     -- and halfway it has sent as the network does
     halfway_is : (bridge : ℕ) → bridge < length run.domain.bridges →
-        HasSentOfTheNetwork run net (course.halfway bridge cycle) × ((course.halfway bridge cycle).received ≡ cycle) × ((course.halfway bridge cycle).number ≡ bridge)
+        HasSentOfTheNetwork run net (course.halfway bridge cycle) × ((course.halfway bridge cycle).received ≡ cycle)
+        × ((course.halfway bridge cycle).number ≡ bridge)
     halfway_is bridge inside =
         let g = gives bridge cycle within (all bridge inside) (send bridge inside) in
         (g.has_sent, g.cycle_same, g.number ∙ (all bridge inside).number)
@@ -189,27 +193,6 @@ module _ (run : Run) (cycles : ℕ) (net : Network) (course : DrivenCourse) (com
         (fault : BridgeFault) → bridge < length run.domain.bridges → ArePassedOn run.domain course bridge driven →
         IsReceiveFault run (course.halfway bridge driven) after driven (handed_with run driven (course.handed bridge driven)) fault → fault ≡ Memory
     all_receive but_for_memory loses within send = receives_then driven within (all_before driven (omega arith)) send but_for_memory loses
-
--- pages that are the same put together give the same book
-same_pages : (d : Domain) (cycles : ℕ) (page other : ℕ → ℕ → Contents) → IsAccepted d →
-    ((bridge cycle : ℕ) → bridge < length d.bridges → cycle < cycles → page bridge cycle ≡ other bridge cycle) →
-    book_of_pages d cycles page ≡ book_of_pages d cycles other
-same_pages d cycles page other accepted same =
-    let links = length d.links in
-    let starts = λ (p : ℕ → ℕ → Contents) (cycle link : ℕ). filter (is_on_link link) (p (bridge_of d link) cycle).starts in
-    let others = λ (p : ℕ → ℕ → Contents) (cycle link : ℕ). filter (is_on_link link) (p (bridge_of d link) cycle).background in
-    let drops = λ (p : ℕ → ℕ → Contents) (cycle bridge : ℕ). (p bridge cycle).drops in
-    let of_link = λ (cycle link : ℕ) (within : cycle < cycles) (inside : link < links). same (bridge_of d link) cycle (bridge_within d link accepted inside) within in
-    let same_starts = same_below (λ cycle. each_below (starts page cycle) links) (λ cycle. each_below (starts other cycle) links) cycles
-    (λ cycle within. same_below (starts page cycle) (starts other cycle) links (λ link inside.
-    ap (λ (p : Contents). filter (is_on_link link) p.starts) (of_link cycle link within inside))) in
-    let same_others = same_below (λ cycle. each_below (others page cycle) links) (λ cycle. each_below (others other cycle) links) cycles
-    (λ cycle within. same_below (others page cycle) (others other cycle) links (λ link inside.
-    ap (λ (p : Contents). filter (is_on_link link) p.background) (of_link cycle link within inside))) in
-    let same_drops = same_below (λ cycle. each_below (drops page cycle) (length d.bridges)) (λ cycle. each_below (drops other cycle) (length d.bridges)) cycles
-    (λ cycle within. same_below (drops page cycle) (drops other cycle) (length d.bridges) (λ bridge inside.
-    ap (λ (p : Contents). p.drops) (same bridge cycle inside within))) in
-    λ i. record { starts = same_starts i; background = same_others i; drops = same_drops i }
 
 module _ (begins : NewBridgeFollows) (sending : SendingFollows) (receiving : ReceivingFollows) (page_follows : PageFollows)
     (run : Run) (cycles : ℕ) (course : DrivenCourse) (book : Contents) (accepted : IsAccepted run.domain)

@@ -26,7 +26,8 @@ use Rattle.cqf_bridge.specs.Batch.{LinkBatch}
 use Rattle.cqf_bridge.specs.BridgeState.{BridgeState, SendsCycle, links_from}
 use Rattle.cqf_bridge.specs.Faults.{IsSendFault}
 use Rattle.cqf_bridge.specs.Receiving.{Handed, IsReceiveFault, IsRunOfBridge, ReceivesCycle, links_into}
-use Rattle.cqf_laws_bridge.specs.Cycles.{GivesTheBatches, GivesTheDrops, NewBridgeFollows, PageFollows, ReceivingFollows, SendingFollows, drops_of_cycle, page_given}
+use Rattle.cqf_laws_bridge.specs.Cycles.{GivesTheBatches, GivesTheDrops, NewBridgeFollows, PageFollows}
+use Rattle.cqf_laws_bridge.specs.Cycles.{ReceivingFollows, SendingFollows, drops_of_cycle, page_given}
 use Rattle.cqf_laws_bridge.specs.Follows.{FollowsTheNetwork, HasSentOfTheNetwork, batch_of, batches_from, batches_into, handed_in}
 use Rattle.cqf_laws_bridge.specs.NoFaults.{ReceivesButForMemory, RunOfHistoryLosesNothing, SendsButForMemory}
 use Rattle.cqf_laws_network.specs.NetworkLaws.{LegalNetworkExists}
@@ -222,7 +223,8 @@ module _ (t : Traffic) (entries : List Recorded) (course : Course) (given : IsGi
   }
 
   -- a page that was posted is the book's
-  pub page_of_book : NewBridgeFollows → SendingFollows → ReceivingFollows → PageFollows → ThereAreSoManyTables → (cycles bridge cycle : ℕ) (book page : Contents) →
+  pub page_of_book : NewBridgeFollows → SendingFollows → ReceivingFollows → PageFollows → ThereAreSoManyTables →
+      (cycles bridge cycle : ℕ) (book page : Contents) →
       IsBookOfHistory t.domain entries t.offers t.background cycles book → bridge < length t.domain.bridges → cycle < cycles →
       slice_get (course.pages bridge) cycle ≡ Some page → page ≡ page_of t.domain bridge cycle book
   page_of_book begins sending receiving page_follows count cycles bridge cycle book page of_history inside within there =

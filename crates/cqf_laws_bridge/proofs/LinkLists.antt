@@ -49,7 +49,8 @@ brings_its_batch d carried bridge cycle m here =
     let each : ℕ → List Sent = λ l. if enters d l bridge then frames_of l else [] in
     flat_map-map of_link (batch_of d carried cycle) (links_into d bridge)
     ∙ made_of_kept (λ l. enters d l bridge) frames_of (length d.links)
-    ∙ one_below each (length d.links) m (enters_inside d m bridge here) (λ l differ. nothing (enters d l bridge) (l == m) (batch d carried l cycle) (ne_eqb l m differ))
+    ∙ one_below each (length d.links) m (enters_inside d m bridge here)
+    (λ l differ. nothing (enters d l bridge) (l == m) (batch d carried l cycle) (ne_eqb l m differ))
     ∙ cond-true (enters d m bridge) (frames_of m) [] here
     ∙ cond-true (m == m) (batch d carried m cycle) [] (eq-eqb m m refl)
   where

@@ -1,5 +1,7 @@
 -- Where nothing is lost inside, what the links bring in a cycle goes on, and want of memory is the only fault.
-use Rattle.std.proofs.Common.{◌≡◌, ℕ, ◌+◌, ◌-◌, ◌*◌, ◌<◌, ◌≤◌, ◌==◌, Bool, true, false, not, if◌then◌else◌, List, [], ◌∷◌, ◌++◌, length, map, filter, sym, ap, refl, ◌∙◌, arith, inl, inr, subst, Contains, eq-eqb}
+use Rattle.std.proofs.Common.{◌≡◌, ℕ, ◌+◌, ◌-◌, ◌*◌, ◌<◌, ◌≤◌, ◌==◌, Bool, true, false, not, if◌then◌else◌, List, []}
+use Rattle.std.proofs.Common.{◌∷◌, ◌++◌, length, map, filter, sym, ap, refl, ◌∙◌, arith, inl, inr, subst, Contains}
+use Rattle.std.proofs.Common.{eq-eqb}
 use Rattle.std.specs.Prelude.{Option, Some, None}
 use Rattle.std.proofs.lemmas.Bool.{cond-true}
 use Rattle.std.proofs.lemmas.List.Elements.{Contains-append_left}
@@ -7,7 +9,8 @@ use Rattle.std.proofs.lemmas.List.{map-id}
 use Rattle.std.proofs.lemmas.Simd.{map-map}
 use Rattle.cqf_lists.specs.Lists.{each_below}
 use Rattle.cqf_lists.proofs.EachBelow.{contains_below}
-use Rattle.cqf_lists.proofs.Members.{contains_at, contains_cases, contains_filter, contains_from_filter, contains_from_map, contains_here, contains_later, contains_map, contains_none}
+use Rattle.cqf_lists.proofs.Members.{contains_at, contains_cases, contains_filter, contains_from_filter}
+use Rattle.cqf_lists.proofs.Members.{contains_from_map, contains_here, contains_later, contains_map, contains_none}
 use Rattle.cqf_lists.proofs.Numbers.{kept_number}
 use Rattle.cqf_units.proofs.Cycles.{cycle_from, cycle_upto}
 use Rattle.cqf_model.specs.declared.frames.Sent.{Sent}
@@ -74,7 +77,8 @@ comes_in_cycle run carried cycle bridge m sent some here inside in_time =
     let of_instant = λ (s : Sent). whole_at d m s == t in
     let kept = contains_map (sent_received d m) (filter of_instant (carried m)) sent (contains_filter of_instant (carried m) sent inside (eq-eqb t t refl)) in
     let brought : Contains (relayed_at d carried bridge t m) x =
-    subst (λ (xs : List Received). Contains xs x) (sym (cond-true (enters d m bridge) (map (sent_received d m) (filter of_instant (carried m))) [] here)) kept in
+    subst (λ (xs : List Received). Contains xs x) (sym (cond-true (enters d m bridge) (map (sent_received d m) (filter of_instant (carried m))) [] here)) kept
+    in
     let at_instant : Contains (received_at run carried bridge t) x =
     Contains-append_left (each_below (relayed_at d carried bridge t) (length d.links)) (offered_at run.offers bridge t) x
     (contains_below (relayed_at d carried bridge t) (length d.links) m x (enters_inside d m bridge here) brought) in

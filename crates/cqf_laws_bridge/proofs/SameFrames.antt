@@ -24,7 +24,8 @@ module _ (run : Run) (others : List (List Row)) (net more : Network) (b : Bridge
   follows_both f = record {
     of_run = of_other_tables run others b f.of_run;
     turn = f.turn;
-    ports = λ r held. subst (λ (frames : List QueuedFrame). HasTaken run.domain (b.received * run.domain.cycle_time) frames r) (sym (same r.link)) (f.ports r held);
+    ports = λ r held. subst (λ (frames : List QueuedFrame). HasTaken run.domain (b.received * run.domain.cycle_time) frames r)
+        (sym (same r.link)) (f.ports r held);
   }
 
   -- and where the same background frames start in the cycle, it has sent as both do
@@ -35,7 +36,8 @@ module _ (run : Run) (others : List (List Row)) (net more : Network) (b : Bridge
     of_run = of_other_tables run others b f.of_run;
     turn = f.turn;
     ports = λ r held. (let backed = backed_in run.domain run.background r.link b.received in
-        subst (λ (frames : List QueuedFrame). HasTaken run.domain ((b.received + 1) * run.domain.cycle_time) (frames ++ backed) r) (sym (same r.link)) (f.ports r held));
+        subst (λ (frames : List QueuedFrame). HasTaken run.domain ((b.received + 1) * run.domain.cycle_time) (frames ++ backed) r)
+        (sym (same r.link)) (f.ports r held));
     background = f.background ∙ others_same;
   }
 
@@ -48,9 +50,12 @@ same_before_cycle ports run others net cycle tables l =
 
 -- a longer run keeps what its beginning sends of background frames on a bridge's links
 pub same_background : (run : Run) (others : List (List Row)) (cycles cycle bridge : ℕ) (net more : Network) → KeepsItsCycles run others cycles net more →
-    cycle < cycles → on_links_of run.domain bridge (background_in run.domain net.backed cycle) ≡ on_links_of run.domain bridge (background_in run.domain more.backed cycle)
+    cycle < cycles → on_links_of run.domain bridge (background_in run.domain net.backed cycle)
+    ≡ on_links_of run.domain bridge (background_in run.domain more.backed cycle)
 same_background run others cycles cycle bridge net more keeps within =
     let d = run.domain in
-    same_below (λ l. if leaves d l bridge then background_in d net.backed cycle l else []) (λ l. if leaves d l bridge then background_in d more.backed cycle l else [])
+    same_below (λ l. if leaves d l bridge then background_in d net.backed cycle l else [])
+    (λ l. if leaves d l bridge then background_in d more.backed cycle l else [])
     (length d.links)
-    (λ l inside. ap (λ (starts : List Start). if leaves d l bridge then map (started_backed cycle l) starts else []) (sym (keeps.sends_background l cycle within)))
+    (λ l inside. ap (λ (starts : List Start). if leaves d l bridge then map (started_backed cycle l) starts else [])
+    (sym (keeps.sends_background l cycle within)))

@@ -32,7 +32,8 @@ verdicts_are brings reserves run cycles cycle bridge net compiled =
     let d = run.domain in
     let some : 0 < d.cycle_time = omega (arith, compiled.accepted.guard_short) in
     ap (police_all d run.tables bridge [])
-    (brings run cycles cycle bridge net (carried_by (batches_into d net.carried bridge cycle)) compiled (λ m here. brings_its_batch d net.carried bridge cycle m here))
+    (brings run cycles cycle bridge net (carried_by (batches_into d net.carried bridge cycle)) compiled
+    (λ m here. brings_its_batch d net.carried bridge cycle m here))
     ∙ policed_anew run net.carried bridge cycle reserves some
 
 module _ (run : Run) (carried : Carried) (cycle number : ℕ) (goes_on : PortGoesOn) (queued_then : QueuedInItsCycle) (waits : QueuedFramesWait)

@@ -1,20 +1,21 @@
 -- What comes to a bridge is exactly what is to come there.
 use Rattle.std.proofs.Common.{◌≡◌, ℕ, ◌+◌, ◌-◌, ◌<◌, ◌⊎◌, Bool, true, false, cond, List, Option, Some, None, length, sym, refl, ap, ap₂, ◌∙◌, inl}
 use Rattle.std.proofs.Common.{inr, arith, subst}
-use Rattle.std.specs.Prelude.{[], ◌∷◌, ◌++◌, ◌==◌, ◌≢◌, if◌then◌else◌, map, option_map, filter, slice_get, zero, suc, AllPairs, Contains}
+use Rattle.std.specs.Prelude.{[], ◌++◌, ◌==◌, ◌≢◌, if◌then◌else◌, map, option_map, filter, slice_get, AllPairs, Contains}
 use Rattle.std.specs.List.{enumerate_from}
 use Rattle.std.specs.Option.{option_map_or}
 use Rattle.std.proofs.lemmas.Bool.{and_from, and_parts, eq-eqb, eqb-true}
 use Rattle.std.proofs.lemmas.List.{map-append}
+use Rattle.std.proofs.lemmas.List.Kept.{AllPairs-filter}
 use Rattle.std.proofs.lemmas.Simd.{map-map}
 use Rattle.std.proofs.lemmas.Option.{same_Some, slice_get_within}
 use Rattle.cqf_lists.specs.Lists.{each_below}
 use Rattle.cqf_lists.proofs.EachBelow.{contains_below, contains_from_below, map_below, same_below}
-use Rattle.cqf_lists.proofs.Made.{contains_if_there}
-use Rattle.cqf_lists.proofs.Members.{contains_cases, contains_filter, contains_from_filter, contains_from_map, contains_here, contains_later}
-use Rattle.cqf_lists.proofs.Members.{contains_map, contains_none}
-use Rattle.cqf_lists.proofs.Pairs.{pairs_append, pairs_below, pairs_cons, pairs_head, pairs_map, pairs_none, pairs_tail}
-use Rattle.cqf_lists.proofs.Pairs.{pairs_weaker}
+use Rattle.cqf_lists.proofs.Made.{contains_if_there, if_contains, map_if}
+use Rattle.cqf_lists.proofs.Members.{contains_filter, contains_from_filter, contains_from_map}
+use Rattle.cqf_lists.proofs.Members.{contains_map}
+use Rattle.cqf_lists.proofs.Numbered.{StandsAt, enum_at, enum_pairs, enum_there, numbered_at, numbered_pairs, numbered_there, unnumbered}
+use Rattle.cqf_lists.proofs.Pairs.{pairs_append, pairs_below, pairs_if, pairs_map, pairs_weaker}
 use Rattle.std.proofs.lemmas.List.Elements.{Contains-append_cases, Contains-append_left, Contains-append_right}
 use Rattle.cqf_model.specs.declared.frames.Offer.{Offer}
 use Rattle.cqf_model.specs.declared.frames.Offered.{Offered}
@@ -27,71 +28,6 @@ use Rattle.cqf_model.specs.Run.{Run}
 use Rattle.cqf_model.specs.Traffic.{Carried, Received, is_offered_at, numbered, offer_received, received_at, received_before, relayed_at}
 use Rattle.cqf_model.specs.Traffic.{sent_received, whole_at}
 use Rattle.cqf_laws_cycle.specs.ArrivalLaws.{BridgesReceiveWhatComes, Came, CameBefore, Comes, IsSourceBefore, OfLink, OfOffers, Source}
-
--- ---- numbered lists
-
--- what a numbered list has stands at its number's place
-pub enum_at : {X : Type 0} (n : ℕ) (xs : List X) (e : ℕ × X) → Contains (enumerate_from n xs) e → (k : ℕ) × (e.0 ≡ n + k) × (slice_get xs k ≡ Some e.1)
-enum_at n [] e c = absurd (contains_none e c)
-enum_at {X} n (x ∷ xs) e c = elim (contains_cases (n, x) (enumerate_from (n + 1) xs) e c) [
-  | inl same ↦ (0, omega (arith, ap (λ (y : ℕ × X). y.0) same), ap (λ (y : ℕ × X). Some y.1) same)
-  | inr h ↦ let r = enum_at (n + 1) xs e h in (suc r.0, omega (arith, r.1), r.2)
-]
-
--- and what stands at a place is there with its number
-pub enum_there : {X : Type 0} (n k m : ℕ) (xs : List X) (x : X) → m ≡ n + k → slice_get xs k ≡ Some x → Contains (enumerate_from n xs) (m, x)
-enum_there n k m [] x i e = absurd cc
-enum_there {X} n zero m (y ∷ xs) x i e =
-    let same : n ≡ m = omega (arith, i) in
-    let is : y ≡ x = same_Some y x e in
-    subst (λ (z : ℕ × X). Contains ((n, y) ∷ enumerate_from (n + 1) xs) z) (λ j. (same j, is j)) (contains_here (n, y) (enumerate_from (n + 1) xs))
-enum_there n (suc k) m (y ∷ xs) x i e =
-    contains_later (n, y) (enumerate_from (n + 1) xs) (m, x) (enum_there (n + 1) k m xs x (omega (arith, i)) e)
-
--- it is in order of its numbers
-pub enum_pairs : {X : Type 0} (n : ℕ) (xs : List X) → AllPairs (λ (a b : ℕ × X). a.0 < b.0) (enumerate_from n xs)
-enum_pairs {X} n [] = pairs_none (λ (a b : ℕ × X). a.0 < b.0)
-enum_pairs {X} n (x ∷ xs) =
-    pairs_cons (λ (a b : ℕ × X). a.0 < b.0) (n, x) (enumerate_from (n + 1) xs) (λ e c. let r = enum_at (n + 1) xs e c in omega (arith, r.1))
-    (enum_pairs (n + 1) xs)
-
--- a test and a function that pass over the numbers
-unnumbered : {X Y : Type 0} (f : X → Y) (p : X → Bool) (n : ℕ) (xs : List X) →
-    map (λ (e : ℕ × X). f e.1) (filter (λ e. p e.1) (enumerate_from n xs)) ≡ map f (filter p xs)
-unnumbered f p n [] = refl
-unnumbered {X} {Y} f p n (x ∷ xs) = step (p x) (unnumbered f p (n + 1) xs)
-  where
-    -- an element is kept or not
-    step : (b : Bool) → map (λ (e : ℕ × X). f e.1) (filter (λ e. p e.1) (enumerate_from (n + 1) xs)) ≡ map f (filter p xs) →
-        map (λ (e : ℕ × X). f e.1) (cond b ((n, x) ∷ filter (λ e. p e.1) (enumerate_from (n + 1) xs)) (filter (λ e. p e.1) (enumerate_from (n + 1) xs)))
-        ≡ map f (cond b (x ∷ filter p xs) (filter p xs))
-    step true e = ap (λ (ys : List Y). f x ∷ ys) e
-    step false e = e
-
--- a filter keeps an order
-pub pairs_filter : {X : Type 0} (R : X → X → Type 0) (p : X → Bool) (xs : List X) → AllPairs R xs → AllPairs R (filter p xs)
-pairs_filter R p [] all = pairs_none R
-pairs_filter {X} R p (x ∷ xs) all = step (p x) (pairs_filter R p xs (pairs_tail R x xs all))
-  where
-    -- an element is kept or not
-    step : (b : Bool) → AllPairs R (filter p xs) → AllPairs R (cond b (x ∷ filter p xs) (filter p xs))
-    step true rest = pairs_cons R x (filter p xs) (λ y c. pairs_head R x xs y all (contains_from_filter p xs y c).0) rest
-    step false rest = rest
-
--- a list on a condition
-map_if : {X Y : Type 0} (f : X → Y) (b : Bool) (xs : List X) → map f (cond b xs []) ≡ cond b (map f xs) []
-map_if f true xs = refl
-map_if f false xs = refl
-
--- what is there on a condition that holds has its members
-pub if_contains : {X : Type 0} (b : Bool) (xs : List X) (x : X) → b ≡ true → Contains xs x → Contains (cond b xs []) x
-if_contains true xs x e c = c
-if_contains false xs x e c = absurd cc
-
--- and what is there on a condition keeps an order
-pairs_if : {X : Type 0} (R : X → X → Type 0) (b : Bool) (xs : List X) → AllPairs R xs → AllPairs R (cond b xs [])
-pairs_if R true xs all = all
-pairs_if R false xs all = pairs_none R
 
 -- ---- a bridge
 
@@ -130,33 +66,13 @@ ends_in d m bridge e = by_link (slice_get d.links m) refl e
               ∙ eq-eqb bridge bridge refl;
         }
 
--- what an offer's number says of its place
-record IsNumbered (offers : List Offer) (x : Offered) : Type 0 where
-  place : ℕ
-  number : x.frame ≡ place + 1
-  is_there : slice_get offers place ≡ Some x.offer
-
 -- a numbered offer
 abbrev as_offered : ℕ × Offer → Offered
 as_offered e = record { frame = e.0; offer = e.1 }
 
--- a numbered offer stands at its number's place
-numbered_at : (offers : List Offer) (x : Offered) → Contains (numbered offers) x → IsNumbered offers x
-numbered_at offers x c =
-    let w = contains_from_map as_offered (enumerate_from 1 offers) x c in
-    let r = enum_at 1 offers w.0 w.1 in
-    let number : w.0.0 ≡ x.frame = ap (λ (y : Offered). y.frame) w.2 in
-    record { place = r.0; number = omega (arith, number, r.1); is_there = r.2 ∙ ap (λ (y : Offered). Some y.offer) w.2 }
-
--- and an offer is there with its number
-numbered_there : (offers : List Offer) (place : ℕ) (offer : Offer) → slice_get offers place ≡ Some offer →
-    Contains (numbered offers) (record { frame = place + 1; offer = offer })
-numbered_there offers place offer e =
-    contains_map as_offered (enumerate_from 1 offers) (place + 1, offer) (enum_there 1 place (place + 1) offers offer (omega arith) e)
-
--- in order of the numbers
-numbered_pairs : (offers : List Offer) → AllPairs (λ (a b : Offered). a.frame < b.frame) (numbered offers)
-numbered_pairs offers = pairs_map (λ (a b : Offered). a.frame < b.frame) as_offered (enumerate_from 1 offers) (enum_pairs 1 offers)
+-- stands at its number's place
+offer_at : (offers : List Offer) (x : Offered) → Contains (numbered offers) x → StandsAt (λ (y : Offered). y.frame) (λ (y : Offered). y.offer) offers x
+offer_at offers = numbered_at as_offered (λ (y : Offered). y.frame) (λ (y : Offered). y.offer) (λ e. refl) (λ e. refl) offers
 
 -- sources in order
 links_before : (a b : Source) (l m i j : ℕ) → a ≡ OfLink l i → b ≡ OfLink m j → (l < m) ⊎ ((l ≡ m) × (i < j)) → IsSourceBefore a b
@@ -274,8 +190,8 @@ module _ (run : Run) (carried : Carried) (bridge : ℕ) where
       let e = contains_from_map offered_as (filter (is_offered_at bridge t) (numbered run.offers)) c h in
       let f = contains_from_filter (is_offered_at bridge t) (numbered run.offers) e.0 e.1 in
       let g = and_parts (e.0.offer.bridge == bridge) (e.0.offer.at.0 == t) f.1 in
-      let n = numbered_at run.offers e.0 f.0 in
-      let place : e.0.frame - 1 ≡ n.place = omega (arith, n.number) in
+      let n = offer_at run.offers e.0 f.0 in
+      let place : e.0.frame - 1 ≡ n.place = omega (arith, n.numbered) in
       subst (λ (x : Came). IsOfOffers t x) e.2 (record {
         comes_at = record {
           comes = record {
@@ -284,7 +200,7 @@ module _ (run : Run) (carried : Carried) (bridge : ℕ) where
             offered_here = eqb-true e.0.offer.bridge bridge g.0;
             instant = refl;
             octets = refl;
-            frame = omega (arith, n.number);
+            frame = omega (arith, n.numbered);
             way = refl;
           };
           instant = eqb-true e.0.offer.at.0 t g.1;
@@ -327,7 +243,7 @@ module _ (run : Run) (carried : Carried) (bridge : ℕ) where
   to_instant (OfOffers place) x o =
       let links = length run.domain.links in
       let mine = is_offered_at bridge x.at in
-      let there = numbered_there run.offers place o.offer o.is_there in
+      let there = numbered_there as_offered run.offers place o.offer o.is_there in
       let numbered_offer : Offered = record { frame = place + 1; offer = o.offer } in
       let kept = contains_filter mine (numbered run.offers) numbered_offer there
       (and_from (o.offer.bridge == bridge) (o.offer.at.0 == x.at) (eq-eqb o.offer.bridge bridge o.offered_here) (eq-eqb o.offer.at.0 x.at (sym o.instant))) in
@@ -350,12 +266,12 @@ module _ (run : Run) (carried : Carried) (bridge : ℕ) where
       let R : ℕ × Sent → ℕ × Sent → Type 0 = λ a b. a.0 < b.0 in
       let S : ℕ × Sent → ℕ × Sent → Type 0 = λ a b. CameBefore (brought m a) (brought m b) in
       pairs_if CameBefore (enters run.domain m bridge) (map (brought m) (filter (is_whole t m) all))
-      (pairs_map CameBefore (brought m) (filter (is_whole t m) all)
+      (λ there. pairs_map CameBefore (brought m) (filter (is_whole t m) all)
       (pairs_weaker R S (filter (is_whole t m) all) (λ a b ca cb l. inr (
         eqb-true (whole_at run.domain m a.1) t (contains_from_filter (is_whole t m) all a ca).1
             ∙ sym (eqb-true (whole_at run.domain m b.1) t (contains_from_filter (is_whole t m) all b cb).1),
         inr (refl, l),
-      )) (pairs_filter R (is_whole t m) all (enum_pairs 0 (carried m)))))
+      )) (AllPairs-filter R (is_whole t m) all (enum_pairs 0 (carried m)))))
 
   -- the offers at an instant
   offer_pairs : (t : ℕ) → AllPairs CameBefore (offers_at t)
@@ -367,12 +283,13 @@ module _ (run : Run) (carried : Carried) (bridge : ℕ) where
       (pairs_weaker R S (filter mine (numbered run.offers)) (λ a b ca cb l.
       let x = contains_from_filter mine (numbered run.offers) a ca in
       let y = contains_from_filter mine (numbered run.offers) b cb in
-      let n = numbered_at run.offers a x.0 in
+      let n = offer_at run.offers a x.0 in
       inr (
         eqb-true a.offer.at.0 t (and_parts (a.offer.bridge == bridge) (a.offer.at.0 == t) x.1).1
             ∙ sym (eqb-true b.offer.at.0 t (and_parts (b.offer.bridge == bridge) (b.offer.at.0 == t) y.1).1),
-        omega (arith, l, n.number),
-      )) (pairs_filter R mine (numbered run.offers) (numbered_pairs run.offers)))
+        omega (arith, l, n.numbered),
+      )) (AllPairs-filter R mine (numbered run.offers)
+      (numbered_pairs as_offered (λ (y : Offered). y.frame) (λ (y : Offered). y.offer) (λ e. refl) (λ e. refl) run.offers)))
 
   -- all at an instant
   instant_pairs : (t : ℕ) → AllPairs CameBefore (at_instant t)

@@ -6,15 +6,17 @@ use Rattle.std.specs.Prelude.{[], ◌∷◌, ◌++◌, ◌==◌, ◌≢◌, map,
 use Rattle.std.specs.List.{enumerate_from, flat_map, list_any}
 use Rattle.std.proofs.lemmas.Bool.{and_from, and_parts, cases_lt, eq-eqb, eqb-true}
 use Rattle.std.proofs.lemmas.List.{map-append}
+use Rattle.std.proofs.lemmas.List.Kept.{AllPairs-filter}
 use Rattle.std.proofs.lemmas.Simd.{map-map}
 use Rattle.std.proofs.lemmas.Option.{get_or_from_slice_get, same_Some, slice_get_within}
 use Rattle.cqf_lists.specs.Lists.{each_below}
 use Rattle.cqf_lists.proofs.EachBelow.{contains_below, contains_from_below, map_below, same_below}
 use Rattle.cqf_lists.proofs.Filters.{filter-map}
-use Rattle.cqf_lists.proofs.Made.{contains_if_there, pairs_of_flat}
+use Rattle.cqf_lists.proofs.Made.{contains_if_there, if_contains, pairs_of_flat}
 use Rattle.cqf_lists.proofs.Places.{slice_get_front, slice_get_parts}
 use Rattle.cqf_lists.proofs.Members.{any_member, contains_at, contains_flat, contains_from_flat, contains_one, member_any}
 use Rattle.cqf_lists.proofs.Members.{contains_filter, contains_from_filter, contains_from_map, contains_here, contains_map, contains_none}
+use Rattle.cqf_lists.proofs.Numbered.{StandsAt, enum_at, enum_pairs, enum_there, numbered_at, numbered_pairs, numbered_there}
 use Rattle.cqf_lists.proofs.Pairs.{pairs_append, pairs_below, pairs_from_map, pairs_map, pairs_none, pairs_one}
 use Rattle.cqf_lists.proofs.Pairs.{pairs_weaker}
 use Rattle.cqf_units.proofs.Cycles.{cycle_from, cycle_is, cycle_upto}
@@ -37,7 +39,7 @@ use Rattle.cqf_laws_cycle.specs.ArrivalLaws.{Origin, PortsGetWhatComes, StandsBe
 use Rattle.cqf_model.specs.Run.{Run}
 use Rattle.cqf_model.specs.Traffic.{Carried, Received, received_before}
 use Rattle.cqf_laws_cycle.specs.ArrivalLaws.{Came, CameBefore}
-use Rattle.cqf_laws_cycle.proofs.CameToBridge.{enum_at, enum_pairs, enum_there, if_contains, pairs_filter, until, until_is, until_pairs}
+use Rattle.cqf_laws_cycle.proofs.CameToBridge.{until, until_is, until_pairs}
 
 -- there is one verdict on each frame
 one_verdict : (d : Domain) (tables : List (List Row)) (bridge : ℕ) (earlier : List Policed) (xs : List Received) →
@@ -69,33 +71,14 @@ policed_pairs run carried bridge end =
 
 -- ---- a port
 
--- what a background frame's number says of its place
-record IsNumberedBackground (background : List Background) (x : Backed) : Type 0 where
-  place : ℕ
-  number : x.frame ≡ place + 1
-  is_there : slice_get background place ≡ Some x.background
-
 -- a numbered background frame
 abbrev as_backed : ℕ × Background → Backed
 as_backed e = record { frame = e.0; background = e.1 }
 
--- a numbered background frame stands at its number's place
-backed_at_place : (background : List Background) (x : Backed) → Contains (numbered_background background) x → IsNumberedBackground background x
-backed_at_place background x c =
-    let w = contains_from_map as_backed (enumerate_from 1 background) x c in
-    let r = enum_at 1 background w.0 w.1 in
-    let number : w.0.0 ≡ x.frame = ap (λ (y : Backed). y.frame) w.2 in
-    record { place = r.0; number = omega (arith, number, r.1); is_there = r.2 ∙ ap (λ (y : Backed). Some y.background) w.2 }
-
--- and it is there with its number
-backed_there : (background : List Background) (place : ℕ) (frame : Background) → slice_get background place ≡ Some frame →
-    Contains (numbered_background background) (record { frame = place + 1; background = frame })
-backed_there background place frame e =
-    contains_map as_backed (enumerate_from 1 background) (place + 1, frame) (enum_there 1 place (place + 1) background frame (omega arith) e)
-
--- in order of the numbers
-backed_pairs : (background : List Background) → AllPairs (λ (a b : Backed). a.frame < b.frame) (numbered_background background)
-backed_pairs background = pairs_map (λ (a b : Backed). a.frame < b.frame) as_backed (enumerate_from 1 background) (enum_pairs 1 background)
+-- stands at its number's place
+backed_at_place : (background : List Background) (x : Backed) → Contains (numbered_background background) x →
+    StandsAt (λ (y : Backed). y.frame) (λ (y : Backed). y.background) background x
+backed_at_place background = numbered_at as_backed (λ (y : Backed). y.frame) (λ (y : Backed). y.background) (λ e. refl) (λ e. refl) background
 
 -- why a frame is queued to a port
 record IsQueuedFor (d : Domain) (l : ℕ) (x : Received) (verdict : Verdict) (q : QueuedFrame) : Type 0 where
@@ -275,7 +258,7 @@ module _ (run : Run) (carried : Carried) (l : ℕ) where
       let f = contains_from_filter (is_backed_at l t) all e.0 e.1 in
       let g = and_parts (e.0.background.link == l) (e.0.background.at.0 == t) f.1 in
       let n = backed_at_place run.background e.0 f.0 in
-      let place : e.0.frame - 1 ≡ n.place = omega (arith, n.number) in
+      let place : e.0.frame - 1 ≡ n.place = omega (arith, n.numbered) in
       subst (λ (x : CameToPort). IsBackedCame t x) e.2 (record {
         place = e.0.frame - 1;
         is = refl;
@@ -286,7 +269,7 @@ module _ (run : Run) (carried : Carried) (l : ℕ) where
           instant = refl;
           class = refl;
           octets = refl;
-          frame = omega (arith, n.number);
+          frame = omega (arith, n.numbered);
           of_no_stream = refl;
         };
         instant = eqb-true e.0.background.at.0 t g.1;
@@ -416,7 +399,7 @@ module _ (run : Run) (carried : Carried) (l : ℕ) where
         let there_then : first + offset ≡ t = omega (arith, from) in
         let mine = is_backed_at l (first + offset) in
         let all = numbered_background run.background in
-        let there = backed_there run.background place b.background b.is_there in
+        let there = numbered_there as_backed run.background place b.background b.is_there in
         let x : Backed = record { frame = place + 1; background = b.background } in
         let when : b.background.at.0 ≡ first + offset = sym (ap (λ (a : Nanos). a.0) b.instant) ∙ sym there_then in
         let kept = contains_filter mine all x there
@@ -497,8 +480,9 @@ module _ (run : Run) (carried : Carried) (l : ℕ) where
         let n = backed_at_place run.background a x.0 in
         let s = eqb-true a.background.at.0 (first + offset) (and_parts (a.background.link == l) (a.background.at.0 == first + offset) x.1).1 in
         let t = eqb-true b.background.at.0 (first + offset) (and_parts (b.background.link == l) (b.background.at.0 == first + offset) y.1).1 in
-        inr (of_cycle offset a.background.at.0 k s ∙ sym (of_cycle offset b.background.at.0 k t), inr (s ∙ sym t, omega (arith, less, n.number))))
-        (pairs_filter R mine all (backed_pairs run.background))))
+        inr (of_cycle offset a.background.at.0 k s ∙ sym (of_cycle offset b.background.at.0 k t), inr (s ∙ sym t, omega (arith, less, n.numbered))))
+        (AllPairs-filter R mine all
+        (numbered_pairs as_backed (λ (y : Backed). y.frame) (λ (y : Backed). y.background) (λ e. refl) (λ e. refl) run.background))))
         (λ j k x y less inside cx cy.
         let a = from_backed (first + j) x cx in
         let b = from_backed (first + k) y cy in
@@ -517,7 +501,7 @@ module _ (run : Run) (carried : Carried) (l : ℕ) where
         λ e c h. sym (ap (λ (x : CameToPort). x.origin) (contains_from_map (through e.0) (queued_by run.domain l e.1.received e.1.verdict) c h).2) in
         pairs_weaker R (StandsBefore run.domain) (gone_in cycle) (λ a b ca cb r.
         inr ((from_gone cycle a ca).of_cycle ∙ sym (from_gone cycle b cb).of_cycle, r))
-        (pairs_filter R (is_of cycle) (flat_map gone all)
+        (AllPairs-filter R (is_of cycle) (flat_map gone all)
         (pairs_of_flat gone S R all (λ e c. queued_pairs R (through e.0) run.domain l e.1.received e.1.verdict)
         (λ e f u v ce cf less cu cv. bridge_before u.origin v.origin (came_at u) (came_at v) e.0 f.0 (origin e u cu) (origin f v cv) less)
         (enum_pairs 0 (policed_upto cycle))))

@@ -175,7 +175,7 @@ same_page_drops d cycles page other same =
     same_below (λ bridge. page bridge cycle) (λ bridge. other bridge cycle) bridges (λ bridge in_bridges. same bridge cycle in_bridges in_cycles))
 
 -- so the same pages make one book
-same_pages : (d : Domain) (cycles : ℕ) (page other : ℕ → ℕ → Contents) → IsAccepted d →
+pub same_pages : (d : Domain) (cycles : ℕ) (page other : ℕ → ℕ → Contents) → IsAccepted d →
     ((bridge cycle : ℕ) → bridge < length d.bridges → cycle < cycles → page bridge cycle ≡ other bridge cycle) →
     book_of_pages d cycles page ≡ book_of_pages d cycles other
 same_pages d cycles page other accepted same i = record {

@@ -1,5 +1,6 @@
 //! What a port does in one cycle.
-ghost use Rattle.cqf_laws_cycle.specs.PortCycle.{ClosedArrivalsChangeNothing, PortGoesOn, PortStartsTheBatch, QueuedFramesWait, QueuedInItsCycle, SendsWhatCameBefore};
+ghost use Rattle.cqf_laws_cycle.specs.PortCycle.{ClosedArrivalsChangeNothing, PortGoesOn, PortStartsTheBatch};
+ghost use Rattle.cqf_laws_cycle.specs.PortCycle.{QueuedFramesWait, QueuedInItsCycle, SendsWhatCameBefore};
 
 /// Arrivals behind the others change nothing up to an instant, where the gate of each is closed from when it comes up to
 /// that instant (IEEE 802.1Q, 8.6.8.4).

@@ -6,7 +6,8 @@ use Rattle.std.proofs.lemmas.Bool.{eq-eqb, eqb-true}
 use Rattle.cqf_lists.specs.Lists.{each_below}
 use Rattle.cqf_units.specs.declared.timing.Nanos.{Nanos}
 use Rattle.cqf_lists.proofs.EachBelow.{contains_below, contains_from_below}
-use Rattle.cqf_lists.proofs.Members.{contains_filter, contains_flat, contains_from_filter, contains_from_flat, contains_from_map, contains_here, contains_map, contains_none, contains_one}
+use Rattle.cqf_lists.proofs.Members.{contains_filter, contains_flat, contains_from_filter, contains_from_flat}
+use Rattle.cqf_lists.proofs.Members.{contains_from_map, contains_here, contains_map, contains_none, contains_one}
 use Rattle.cqf_model.specs.declared.frames.Backed.{Backed}
 use Rattle.cqf_model.specs.declared.frames.Background.{Background}
 use Rattle.cqf_model.specs.declared.frames.Started.{Started}
@@ -16,7 +17,8 @@ use Rattle.cqf_model.specs.Book.{background_in, background_of, backed_batch, sta
 use Rattle.cqf_model.specs.Domain.{Domain, cycle_of}
 use Rattle.cqf_model.specs.Network.{QueuedFrame, backed_by, backed_of, no_frame}
 use Rattle.cqf_model.specs.Port.{Transmission}
-use Rattle.cqf_laws_history.specs.BackgroundLaws.{BackgroundIsNumberedByPlace, BooksSayTheBackground, IsBackgroundOfRun, IsBackgroundStart, PortsSayTheirBackground, start_of_arrival}
+use Rattle.cqf_laws_history.specs.BackgroundLaws.{BackgroundIsNumberedByPlace, BooksSayTheBackground, IsBackgroundOfRun}
+use Rattle.cqf_laws_history.specs.BackgroundLaws.{IsBackgroundStart, PortsSayTheirBackground, start_of_arrival}
 
 -- a numbered frame
 abbrev as_backed : ℕ × Background → Backed
@@ -38,7 +40,8 @@ numbered_by_place background place frame e =
     numbered_from 1 background place frame e ∙ ap (λ (k : ℕ). Some (as_backed (k, frame))) same
 
 -- a transmission's background start is of a frame of no stream
-backed_from : (t : ℕ) (a : Arrival) (stream : Option ℕ) (start : Start) → Contains (backed_by t a stream) start → (stream ≡ None) × (start ≡ start_of_arrival t a)
+backed_from : (t : ℕ) (a : Arrival) (stream : Option ℕ) (start : Start) → Contains (backed_by t a stream) start → (stream ≡ None)
+    × (start ≡ start_of_arrival t a)
 backed_from t a None start c = (refl, sym (contains_one (start_of_arrival t a) start c))
 backed_from t a (Some number) start c = absurd (contains_none start c)
 
@@ -48,7 +51,8 @@ backed_there t a None e = contains_here (start_of_arrival t a) []
 backed_there t a (Some number) e = absurd cc
 
 -- what a port's transmissions send as background
-started_background : (queued : List QueuedFrame) (starts : List Transmission) (start : Start) → Contains (flat_map (backed_of queued) starts) start → IsBackgroundStart queued starts start
+started_background : (queued : List QueuedFrame) (starts : List Transmission) (start : Start) → Contains (flat_map (backed_of queued) starts) start
+    → IsBackgroundStart queued starts start
 started_background queued starts start c =
     let w = contains_from_flat (backed_of queued) starts start c in
     let q = slice_index_or queued w.0.0 no_frame in
@@ -62,7 +66,8 @@ started_background queued starts start c =
     }
 
 -- and each background start is among what they send
-background_started : (queued : List QueuedFrame) (starts : List Transmission) (start : Start) → IsBackgroundStart queued starts start → Contains (flat_map (backed_of queued) starts) start
+background_started : (queued : List QueuedFrame) (starts : List Transmission) (start : Start) → IsBackgroundStart queued starts start →
+    Contains (flat_map (backed_of queued) starts) start
 background_started queued starts start is =
     let q = slice_index_or queued is.place no_frame in
     let there = contains_flat (backed_of queued) starts (is.place, start.start.0) (start_of_arrival start.start.0 q.arrival) is.is_started
@@ -77,7 +82,8 @@ ports_say d entries end l queued sents backed sends start = (
 )
 
 -- a start in a cycle of the run, on a link, as a book tells it
-told : (d : Domain) (cycles cycle link : ℕ) (backed : ℕ → List Start) (start : Start) (s : Started) → cycle < cycles → link < length d.links → Contains (backed link) start → cycle_of d start.start.0 ≡ cycle → started_backed cycle link start ≡ s → IsBackgroundOfRun d cycles backed s
+told : (d : Domain) (cycles cycle link : ℕ) (backed : ℕ → List Start) (start : Start) (s : Started) → cycle < cycles → link < length d.links
+    → Contains (backed link) start → cycle_of d start.start.0 ≡ cycle → started_backed cycle link start ≡ s → IsBackgroundOfRun d cycles backed s
 told d cycles cycle link backed start s within on there same is = subst (λ (y : Started). IsBackgroundOfRun d cycles backed y) is
     (record { start = start; on_link = on; is_backed = there; cycle = sym same; within_run = within; frame = refl; octets = refl; instant = refl })
 
@@ -85,7 +91,8 @@ told d cycles cycle link backed start s within on there same is = subst (λ (y :
 as_told : (s : Started) (start : Start) → s.frame ≡ start.frame → s.octets ≡ start.octets → s.start ≡ start.start → started_backed s.cycle.0 s.link start ≡ s
 as_told s start frame octets instant =
     let made : ℕ → ℕ → Nanos → Started = λ f o t. record { cycle = s.cycle; link = s.link; frame = f; octets = o; start = t } in
-    ap (λ (f : ℕ). made f start.octets start.start) (sym frame) ∙ ap (λ (o : ℕ). made s.frame o start.start) (sym octets) ∙ ap (λ (t : Nanos). made s.frame s.octets t) (sym instant)
+    ap (λ (f : ℕ). made f start.octets start.start) (sym frame) ∙ ap (λ (o : ℕ). made s.frame o start.start) (sym octets)
+    ∙ ap (λ (t : Nanos). made s.frame s.octets t) (sym instant)
 
 -- what the background list of a run has
 from_run : (d : Domain) (cycles : ℕ) (backed : ℕ → List Start) (s : Started) → Contains (background_of d cycles backed) s → IsBackgroundOfRun d cycles backed s
@@ -99,7 +106,8 @@ from_run d cycles backed s c =
 -- and each background start of the run is in it
 of_run : (d : Domain) (cycles : ℕ) (backed : ℕ → List Start) (s : Started) → IsBackgroundOfRun d cycles backed s → Contains (background_of d cycles backed) s
 of_run d cycles backed s is =
-    let kept = contains_filter (λ (start : Start). cycle_of d start.start.0 == s.cycle.0) (backed s.link) is.start is.is_backed (eq-eqb (cycle_of d is.start.start.0) s.cycle.0 (sym is.cycle)) in
+    let kept = contains_filter (λ (start : Start). cycle_of d start.start.0 == s.cycle.0) (backed s.link) is.start is.is_backed
+    (eq-eqb (cycle_of d is.start.start.0) s.cycle.0 (sym is.cycle)) in
     let made = contains_map (started_backed s.cycle.0 s.link) (backed_batch d backed s.link s.cycle.0) is.start kept in
     let there = subst (λ (y : Started). Contains (background_in d backed s.cycle.0 s.link) y) (as_told s is.start is.frame is.octets is.instant) made in
     contains_below (λ cycle. each_below (background_in d backed cycle) (length d.links)) cycles s.cycle.0 s is.within_run

@@ -89,7 +89,8 @@ granted d rows asked e =
 -- ---- its branches
 
 -- where no place of the branches fails, none of a branch does
-pub first_place_none : (fails : Branch → ℕ → Bool) (paths : List Branch) → first_place fails paths ≡ None → (branch : Branch) → Contains paths branch → (k : ℕ) →
+pub first_place_none : (fails : Branch → ℕ → Bool) (paths : List Branch) → first_place fails paths ≡ None → (branch : Branch) →
+    Contains paths branch → (k : ℕ) →
     k < length branch + 1 → fails branch k ≡ false
 first_place_none fails [] e branch c k h = absurd (contains_none branch c)
 first_place_none fails (x ∷ paths) e branch c k h =
@@ -116,7 +117,7 @@ module _ (d : Domain) (rows : List Row) (asked : Asked) (g : IsGranted d rows as
   none_unknown = sym (position_any (λ name. is_none (node_named d name)) (flat_map (λ branch. branch) asked.paths)) ∙ ap (λ (o : Option ℕ). is_some o) g.known
 
   -- its branches are branches of the domain
-  branches : (branch : Branch) → Contains asked.paths branch → IsBranch d branch
+  pub branches : (branch : Branch) → Contains asked.paths branch → IsBranch d branch
   branches branch c = is_branch d branch
       (λ name k. none_member (λ n. is_none (node_named d n)) (flat_map (λ b. b) asked.paths) name none_unknown
       (contains_flat (λ b. b) asked.paths branch name c k))

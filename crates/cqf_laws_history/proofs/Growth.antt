@@ -24,6 +24,7 @@ use Rattle.cqf_lists.proofs.Filters.{filter_weaker}
 use Rattle.cqf_lists.specs.Lists.{each_below}
 use Rattle.cqf_laws_history.specs.StateLaws.{AreHeld, GrantedIsHeld, HeldAreSound, HistoryGoesOn, IsState, RefusedChangesNothing, SealClosesTable, SealLetsGo}
 use Rattle.cqf_laws_history.specs.StateLaws.{SealsAreCounted, WithdrawnIsHeldOn, ended_row, granted_row, with_entry}
+use Rattle.cqf_laws_history.specs.StreamLaws.{GrantedIsLast, SealChangesNoStream, WithdrawnEnds}
 use Rattle.cqf_lists.proofs.Members.{contains_from_filter, contains_from_map, contains_here, contains_later}
 use Rattle.cqf_lists.proofs.Pairs.{pairs_kept}
 use Rattle.cqf_lists.proofs.Places.{nil_from_none, slice_get_behind, slice_get_front}
@@ -51,7 +52,8 @@ module _ (entries : List Recorded) (e : Recorded) where
   whole_is = take_all (suc (length entries)) (entries ++ e ∷ []) (omega (arith, length-append entries (e ∷ [])))
 
 -- answers that are due, with one more that is
-pub due_more : (d : Domain) (entries : List Recorded) (seat : ℕ) (act : Act) → AreDue d entries → AreDue d (with_entry entries seat act (reply_to d entries act))
+pub due_more : (d : Domain) (entries : List Recorded) (seat : ℕ) (act : Act) → AreDue d entries →
+    AreDue d (with_entry entries seat act (reply_to d entries act))
 due_more d entries seat act due place x at =
     let e : Recorded = record { seat = seat; act = act; reply = reply_to d entries act } in
     elim (cases_lt place (length entries)) [
@@ -153,7 +155,8 @@ no_seal_refused d entries (Withdraws name) refused e = refl
 no_seal_refused d entries Seals refused e = absurd cc
 
 -- no Seal leaves the next cycle as it was
-pub seals_same : (entries : List Recorded) (seat : ℕ) (act : Act) (reply : Reply) → is_seal act ≡ false → seals (with_entry entries seat act reply) ≡ seals entries
+pub seals_same : (entries : List Recorded) (seat : ℕ) (act : Act) (reply : Reply) → is_seal act ≡ false → seals (with_entry entries seat act reply)
+    ≡ seals entries
 seals_same entries seat act reply none =
     let count = seals_are_counted entries seat act reply in
     let no_more : ◌≡◌ {A = ℕ} (if is_seal act then 1 else 0) 0 = ap (λ (b : Bool). cond {A = ℕ} b 1 0) none in
@@ -187,9 +190,14 @@ new_is_held d number effect asked =
     let new = granted_row d number effect asked in
     ap (λ (b : Bool). cond (b && true) (new ∷ []) []) (le-leb effect effect (omega arith))
 
--- a granted stream is held, and takes the next number
-pub granted_is_held : GrantedIsHeld
-granted_is_held d entries rows next seat asked legal state free =
+-- a Seal changes no stream
+pub seal_changes_no_stream : SealChangesNoStream
+seal_changes_no_stream d entries seat = streams_same d entries (record { seat = seat; act = Seals; reply = Sealed }) refl (λ number. refl)
+
+-- a granted stream stands behind the others
+pub granted_is_last : GrantedIsLast
+granted_is_last d entries seat asked legal none =
+    let next = next_number d entries in
     let reply = reply_to d entries (Admits asked) in
     let e : Recorded = record { seat = seat; act = Admits asked; reply = reply } in
     let all = entries ++ e ∷ [] in
@@ -197,27 +205,35 @@ granted_is_held d entries rows next seat asked legal state free =
     let old = admitted_before d all n in
     let w = withdrawn_before all n in
     let before = streams_before d entries e in
-    let none : refusal_of d (held_in d entries (seals entries)) asked ≡ None = ap (λ (xs : List Row). refusal_of d xs asked) state.held ∙ free in
-    let answer : reply ≡ admit_reply next (seals entries) None =
-    ap (λ (r : Option Refused). admit_reply (next_number d entries) (seals entries) r) none ∙ ap (λ (k : ℕ). admit_reply k (seals entries) None) state.number in
+    let answer : reply ≡ admit_reply next (seals entries) None = ap (λ (r : Option Refused). admit_reply next (seals entries) r) none in
     let new = granted_row d next (seals entries) asked in
     let admitted : admitted_at d all n ≡ new ∷ [] = admitted_here d entries e ∙ ap (λ (r : Reply). stream_by d [] (seals entries) (Admits asked) r) answer in
-    let count : length old ≡ next = sym (length-map old (with_end w)) ∙ ap length (sym before) ∙ state.number in
+    let count : length old ≡ next = sym (length-map old (with_end w)) ∙ ap length (sym before) in
     let s = sound d all (due_more d entries seat (Admits asked) legal.replies) n (omega (arith, length-append entries (e ∷ []))) in
     let not_ended : w next ≡ None = none_unless (w next) (λ x f. omega (arith, count, s.ends next x f)) in
-    let streams : streams_of d all ≡ streams_of d entries ++ new ∷ [] =
     streams_behind d entries e
     ∙ ap (λ (v : ℕ → Option Cycle). map (with_end v) (old ++ admitted_at d all n)) (ends_same d entries e (λ number. refl))
     ∙ ap (λ (xs : List Row). map (with_end w) (old ++ xs)) admitted
     ∙ map-append (with_end w) old (new ∷ [])
     ∙ ap (λ (r : Row). map (with_end w) old ++ r ∷ []) (with_no_end w new refl not_ended)
-    ∙ ap (λ (xs : List Row). xs ++ new ∷ []) (sym before) in
+    ∙ ap (λ (xs : List Row). xs ++ new ∷ []) (sym before)
+
+-- it is held, and takes the next number
+pub granted_is_held : GrantedIsHeld
+granted_is_held d entries rows next seat asked legal state free =
+    let all = with_entry entries seat (Admits asked) (reply_to d entries (Admits asked)) in
+    let new = granted_row d next (seals entries) asked in
+    let none : refusal_of d (held_in d entries (seals entries)) asked ≡ None = ap (λ (xs : List Row). refusal_of d xs asked) state.held ∙ free in
+    let streams : streams_of d all ≡ streams_of d entries ++ new ∷ [] =
+    granted_is_last d entries seat asked legal none
+    ∙ ap (λ (k : ℕ). streams_of d entries ++ granted_row d k (seals entries) asked ∷ []) state.number in
     let held : filter (λ (row : Row). is_held row (seals entries)) (streams_of d entries ++ new ∷ []) ≡ rows ++ new ∷ [] =
     filter-append (λ (row : Row). is_held row (seals entries)) (streams_of d entries) (new ∷ [])
     ∙ ap (λ (xs : List Row). xs ++ filter (λ (row : Row). is_held row (seals entries)) (new ∷ [])) state.held
     ∙ ap (λ (xs : List Row). rows ++ xs) (new_is_held d next (seals entries) asked) in
     state_by d all (streams_of d entries ++ new ∷ []) (rows ++ new ∷ []) (seals entries) (next + 1) streams
-    (seals_same entries seat (Admits asked) reply refl) held (length-append (streams_of d entries) (new ∷ []) ∙ ap (λ (k : ℕ). k + 1) state.number)
+    (seals_same entries seat (Admits asked) (reply_to d entries (Admits asked)) refl) held (length-append (streams_of d entries) (new ∷ [])
+    ∙ ap (λ (k : ℕ). k + 1) state.number)
 
 -- what is kept of a mapped list, where the map changes nothing of the test
 pub filter_mapped : (p : Row → Bool) (g : Row → Row) (xs : List Row) → ((x : Row) → Contains xs x → p (g x) ≡ p x) → filter p (map g xs) ≡ map g (filter p xs)
@@ -254,7 +270,8 @@ stream_of d entries row h =
     (subst (λ (xs : List Row). Contains xs row) (ap (streams_of d) (sym (all_is entries)) ∙ streams_front entries (length entries) (omega arith) d) h)
 
 -- each stream has begun by now
-pub begun_now : (d : Domain) (entries : List Recorded) (row : Row) → IsLegalHistory d entries → Contains (streams_of d entries) row → row.admitted.0 ≤ seals entries
+pub begun_now : (d : Domain) (entries : List Recorded) (row : Row) → IsLegalHistory d entries → Contains (streams_of d entries) row →
+    row.admitted.0 ≤ seals entries
 begun_now d entries row legal h =
     let s = stream_of d entries row h in
     omega (arith, (sound_now d entries legal).begun s.0 s.1, ap (λ (r : Row). r.admitted.0) s.2, ap seals (all_is entries))
@@ -350,9 +367,9 @@ ended_by v w number cycle here elsewhere row = by_number (row.no == number) refl
         ap (row_ending row) (elsewhere row.no (ne_eqb number row.no (λ e. eqb-false row.no number t (sym e))))
         ∙ ap (λ (c : Bool). if c then row_ending row (Some (record { 0 = cycle })) else with_end w row) (sym t)
 
--- a stream that is withdrawn is held on
-pub withdrawn_is_held_on : WithdrawnIsHeldOn
-withdrawn_is_held_on d entries rows next seat name row legal state found open_end =
+-- a stream that is withdrawn ends in its place
+pub withdrawn_ends : WithdrawnEnds
+withdrawn_ends d entries seat name row legal found open_end =
     let c = seals entries in
     let reply = reply_to d entries (Withdraws name) in
     let e : Recorded = record { seat = seat; act = Withdraws name; reply = reply } in
@@ -362,9 +379,8 @@ withdrawn_is_held_on d entries rows next seat name row legal state found open_en
     let w = withdrawn_before all n in
     let v = withdrawn_before all (suc n) in
     let before = streams_before d entries e in
-    let answer : reply ≡ withdraw_row c row.no None =
-    ap (λ (xs : List Row). withdraw_reply c (row_named xs name)) state.held ∙ ap (withdraw_reply c) found ∙ ap (withdraw_row c row.no) open_end in
-    let in_held : Contains (held_in d entries c) row = subst (λ (xs : List Row). Contains xs row) (sym state.held) (named_is_held rows name row found) in
+    let answer : reply ≡ withdraw_row c row.no None = ap (withdraw_reply c) found ∙ ap (withdraw_row c row.no) open_end in
+    let in_held : Contains (held_in d entries c) row = named_is_held (held_in d entries c) name row found in
     let in_streams : Contains (streams_of d entries) row = (contains_from_filter (λ (r : Row). is_held r c) (streams_of d entries) row in_held).0 in
     let made = contains_from_map (with_end w) old row (subst (λ (xs : List Row). Contains xs row) before in_streams) in
     let number_of : made.0.no ≡ row.no = ap (λ (r : Row). r.no) made.2 in
@@ -382,17 +398,26 @@ withdrawn_is_held_on d entries rows next seat name row legal state found open_en
     λ other t.
     ap (λ (xs : List Cycle). slice_get (front other ++ xs) 0) (one_more other ∙ ap (λ (b : Bool). if b then record { 0 = c } ∷ [] else []) t)
     ∙ ap (λ (xs : List Cycle). slice_get xs 0) (append-nil (front other)) in
-    let streams : streams_of d all ≡ map (ended_row row.no c) (streams_of d entries) =
     streams_behind d entries e
     ∙ ap (λ (xs : List Row). map (with_end v) (old ++ xs)) (admitted_here d entries e)
     ∙ ap (map (with_end v)) (append-nil old)
     ∙ map_twice (with_end v) (ended_row row.no c) (with_end w) old (λ s k. ended_by v w row.no c here elsewhere s)
-    ∙ ap (map (ended_row row.no c)) (sym before) in
+    ∙ ap (map (ended_row row.no c)) (sym before)
+
+-- it is held on
+pub withdrawn_is_held_on : WithdrawnIsHeldOn
+withdrawn_is_held_on d entries rows next seat name row legal state found open_end =
+    let c = seals entries in
+    let all = with_entry entries seat (Withdraws name) (reply_to d entries (Withdraws name)) in
+    let there : row_named (held_in d entries c) name ≡ Some row = ap (λ (xs : List Row). row_named xs name) state.held ∙ found in
+    let streams = withdrawn_ends d entries seat name row legal there open_end in
+    let in_held : Contains (held_in d entries c) row = named_is_held (held_in d entries c) name row there in
+    let in_streams : Contains (streams_of d entries) row = (contains_from_filter (λ (r : Row). is_held r c) (streams_of d entries) row in_held).0 in
     let kept : (x : Row) → Contains (streams_of d entries) x → is_held (ended_row row.no c x) c ≡ is_held x c =
     λ x h. held_with_end x c row.no (residence_some d x (tree_now d entries x legal h)) (λ same.
-    end_of d entries x h ∙ ap (withdrawn_before entries n) same ∙ sym (end_of d entries row in_streams) ∙ open_end) in
+    end_of d entries x h ∙ ap (withdrawn_before entries (length entries)) same ∙ sym (end_of d entries row in_streams) ∙ open_end) in
     state_by d all (map (ended_row row.no c) (streams_of d entries)) (map (ended_row row.no c) rows) c next streams
-    (seals_same entries seat (Withdraws name) reply refl)
+    (seals_same entries seat (Withdraws name) (reply_to d entries (Withdraws name)) refl)
     (filter_mapped (λ (r : Row). is_held r c) (ended_row row.no c) (streams_of d entries) kept ∙ ap (map (ended_row row.no c)) state.held)
     (length-map (streams_of d entries) (ended_row row.no c) ∙ state.number)
 

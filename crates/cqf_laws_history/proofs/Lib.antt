@@ -6,7 +6,6 @@ pub mod FewLinks
 pub mod Sound
 pub mod Growth
 pub mod Orderly
-pub mod Streams
 pub mod Verdicts
 pub mod Closed
 mod Pairs

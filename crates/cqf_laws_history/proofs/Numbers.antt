@@ -1,8 +1,8 @@
 -- The streams of a history bear the numbers of their places, and what a withdrawal makes of them.
-use Rattle.std.proofs.Common.{◌≡◌, ◌≢◌, ℕ, suc, zero, ◌+◌, ◌<◌, ◌∷◌, [], ◌==◌, List, Option, Some, None, refl, sym, ap, ◌∙◌, arith, length, map, if◌then◌else◌, eq-eqb, ne_eqb, option_map}
+use Rattle.std.proofs.Common.{◌≡◌, ℕ, suc, zero, ◌+◌, ◌<◌, ◌∷◌, [], List, Option, Some, None, refl, sym, ap, ◌∙◌, arith}
+use Rattle.std.proofs.Common.{length, map, if◌then◌else◌, eq-eqb, ne_eqb, option_map}
 use Rattle.std.specs.Prelude.{slice_get, slice_set}
 use Rattle.std.proofs.lemmas.Option.{none-some, same_Some, slice_get-map, slice_get_within}
-use Rattle.cqf_units.specs.declared.reservations.Cycle.{Cycle}
 use Rattle.cqf_model.specs.declared.topology.Row.{Row}
 use Rattle.cqf_model.specs.Domain.{Domain}
 use Rattle.cqf_model.specs.History.{IsLegalHistory, Recorded, streams_of}
@@ -14,7 +14,8 @@ use Rattle.cqf_laws_history.proofs.Places.{admitted_before, streams_front, with_
 pub others_stay : (xs : List Row) (m n c : ℕ) → ((k : ℕ) (row : Row) → slice_get xs k ≡ Some row → row.no ≡ m + k) → n < m → map (ended_row n c) xs ≡ xs
 others_stay [] m n c numbers below = refl
 others_stay (x ∷ xs) m n c numbers below =
-    (λ i. (if ne_eqb x.no n (λ e. omega (arith, e, below, numbers 0 x refl)) i then record x { withdrawn = Some (record { 0 = c }) } else x) ∷ map (ended_row n c) xs)
+    (λ i. (if ne_eqb x.no n (λ e. omega (arith, e, below, numbers 0 x refl)) i then record x { withdrawn = Some (record { 0 = c }) } else x)
+    ∷ map (ended_row n c) xs)
     ∙ ap (λ ys. x ∷ ys) (others_stay xs (m + 1) n c (λ k row is. omega (arith, numbers (suc k) row is)) (omega (arith, below)))
 
 -- and that of the number ends
@@ -27,11 +28,13 @@ one_ends (x ∷ xs) m n c zero row numbers at is =
     (others_stay xs (m + 1) n c (λ k row is. omega (arith, numbers (suc k) row is)) (omega (arith, at)))
     ∙ ap (λ (r : Row). record r { withdrawn = Some (record { 0 = c }) } ∷ xs) (same_Some x row is)
 one_ends (x ∷ xs) m n c (suc k) row numbers at is =
-    (λ i. (if ne_eqb x.no n (λ e. omega (arith, e, at, numbers 0 x refl)) i then record x { withdrawn = Some (record { 0 = c }) } else x) ∷ map (ended_row n c) xs)
+    (λ i. (if ne_eqb x.no n (λ e. omega (arith, e, at, numbers 0 x refl)) i then record x { withdrawn = Some (record { 0 = c }) } else x)
+    ∷ map (ended_row n c) xs)
     ∙ ap (λ ys. x ∷ ys) (one_ends xs (m + 1) n c k row (λ k row is. omega (arith, numbers (suc k) row is)) (omega (arith, at)) is)
 
 -- the streams of a legal history bear the numbers of their places
-pub numbered : (d : Domain) (entries : List Recorded) → IsLegalHistory d entries → (i : ℕ) (row : Row) → slice_get (streams_of d entries) i ≡ Some row → row.no ≡ i
+pub numbered : (d : Domain) (entries : List Recorded) → IsLegalHistory d entries → (i : ℕ) (row : Row) → slice_get (streams_of d entries) i
+    ≡ Some row → row.no ≡ i
 numbered d entries legal i row is =
     let n = length entries in
     let old = admitted_before d entries n in

@@ -5,6 +5,7 @@ use Rattle.cqf_model.specs.declared.history.Refused.TheVariants.{NotATree}
 use Rattle.cqf_model.specs.declared.topology.Row.{Row}
 use Rattle.cqf_model.specs.Domain.{Domain, node_named}
 use Rattle.cqf_model.specs.History.{Asked, Branch, is_broken_at, is_loop_at, make_a_tree, refusal_of}
+use Rattle.cqf_model.specs.Limits.{least_reserved, most_reserved}
 
 -- two branches part at a place: they have the same nodes before it, and there both go on, each to another node
 pub record PartAt (xs ys : Branch) (place : ℕ) : Type 0 where
@@ -35,8 +36,8 @@ PairsAreTested = (xs ys : Branch) → make_a_tree xs ys ≡ true ↔ MakeOneTree
 -- it has a branch, each node is known, and each branch is whole and has no loop
 pub record HasNoEarlierFault (d : Domain) (asked : Asked) : Type 0 where
   pub named : is_name asked.name ≡ true
-  pub least_octets : 64 ≤ asked.octets
-  pub most_octets : asked.octets ≤ 60000
+  pub least_octets : least_reserved ≤ asked.octets
+  pub most_octets : asked.octets ≤ most_reserved
   pub some_branch : 0 < length asked.paths
   pub known : (branch : Branch) (name : List ℕ) → Contains asked.paths branch → Contains branch name → node_named d name ≢ None
   pub whole : (branch : Branch) (place : ℕ) → Contains asked.paths branch → place ≤ length branch → is_broken_at d branch place ≡ false

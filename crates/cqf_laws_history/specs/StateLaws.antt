@@ -11,7 +11,7 @@ use Rattle.cqf_model.specs.Domain.{Domain, budget}
 use Rattle.cqf_model.specs.History.{Act, Admits, Asked, IsLegalHistory, Recorded, Seals, Withdraws, held_in, is_seal, next_number, refusal_of, reply_to, seals}
 use Rattle.cqf_model.specs.History.{table_at, tree_of}
 use Rattle.cqf_model.specs.Table.{IsTree, is_held, link_cost, row_named}
-use Rattle.cqf_model.specs.Limits.{most_calls, most_cycles}
+use Rattle.cqf_model.specs.Limits.{least_reserved, most_calls, most_cycles, most_reserved, most_streams}
 
 -- the entries with one more behind them
 abbrev pub with_entry : List Recorded → ℕ → Act → Reply → List Recorded
@@ -59,7 +59,7 @@ GrantedIsHeld =
 
 -- a request that isn't refused finds room among the held streams
 abbrev pub GrantedFindsRoom : Type 0
-GrantedFindsRoom = (d : Domain) (rows : List Row) (asked : Asked) → refusal_of d rows asked ≡ None → length rows < 1024
+GrantedFindsRoom = (d : Domain) (rows : List Row) (asked : Asked) → refusal_of d rows asked ≡ None → length rows < most_streams
 
 -- a refused call changes nothing
 abbrev pub RefusedChangesNothing : Type 0
@@ -90,8 +90,8 @@ SealClosesTable =
 pub record AreHeld (d : Domain) (rows : List Row) (next effect : ℕ) : Type 0 where
   pub trees : (row : Row) → Contains rows row → IsTree d row.tree.items
   pub named : (row : Row) → Contains rows row → is_name row.name ≡ true
-  pub least_octets : (row : Row) → Contains rows row → 64 ≤ row.octets
-  pub most_octets : (row : Row) → Contains rows row → row.octets ≤ 60000
+  pub least_octets : (row : Row) → Contains rows row → least_reserved ≤ row.octets
+  pub most_octets : (row : Row) → Contains rows row → row.octets ≤ most_reserved
   pub below : (row : Row) → Contains rows row → row.no < next
   pub begun : (row : Row) → Contains rows row → row.admitted.0 ≤ effect
   pub numbers : AllPairs (λ (a b : Row). a.no < b.no) rows

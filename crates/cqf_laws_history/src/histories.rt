@@ -17,7 +17,8 @@
 //! ```
 
 ghost use Rattle.cqf_laws_history.specs.BranchLaws.{PairsAreTested, PairsHaveTheirBeginnings, RefusedAsNoTree, TreesAreMadeOfPairs};
-ghost use Rattle.cqf_laws_history.specs.HistoryLaws.{TablesAreOrderly, TablesAscend, ThereAreSoManyTables, GrantedIsATree, TreeIsItsBranches, TreesHaveFewLinks};
+ghost use Rattle.cqf_laws_history.specs.HistoryLaws.{TablesAreOrderly, TablesAscend, ThereAreSoManyTables};
+ghost use Rattle.cqf_laws_history.specs.HistoryLaws.{GrantedIsATree, TreeIsItsBranches, TreesHaveFewLinks};
 ghost use Rattle.cqf_laws_history.specs.StreamLaws.{GrantedIsLast, SealChangesNoStream, WithdrawnEnds};
 ghost use Rattle.cqf_laws_history.specs.StateLaws.{
   HistoryGoesOn,

@@ -132,7 +132,8 @@ module _ (run : Run) (net : Network) (l : ℕ) (relayed : RelayedFramesAreQueued
       by_way : (way : Way) → p.received.way ≡ way →
           queued_by run.domain l p.received p.verdict ≡ at_port run l p.received (row_with_name run bridge p.received way)
       by_way (Relayed m number) way =
-          let r = relayed run net.carried bridge (end_of_run run) p m number came way (λ lost. means.none_lost bridge p (record { came = came; lost = lost })) in
+          let r = relayed run net.carried bridge (end_of_run run) p m number came way (λ lost. means.none_lost bridge p (record { came = came; lost = lost }))
+          in
           ap (queued_by run.domain l p.received) r.2
           ∙ at_port_some run l p.received r.0 (row_with_name run bridge p.received (Relayed m number)) r.1
       by_way (AtEdge name) way =

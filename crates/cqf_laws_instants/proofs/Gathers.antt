@@ -10,7 +10,7 @@ use Rattle.cqf_lists.specs.Lists.{each_below}
 use Rattle.cqf_lists.proofs.EachBelow.{contains_below, contains_from_below, map_below}
 use Rattle.cqf_lists.proofs.Made.{contains_if, contains_if_there}
 use Rattle.cqf_lists.proofs.Members.{contains_filter, contains_from_filter, contains_from_map, contains_map}
-use Rattle.cqf_lists.proofs.Pairs.{pairs_append, pairs_below, pairs_weaker}
+use Rattle.cqf_lists.proofs.Pairs.{pairs_append, pairs_below, pairs_if, pairs_weaker}
 use Rattle.cqf_units.proofs.Cycles.{cycle_from, cycle_upto}
 use Rattle.cqf_model.specs.declared.frames.Offered.{Offered}
 use Rattle.cqf_model.specs.declared.frames.Sent.{Sent}
@@ -23,7 +23,7 @@ use Rattle.cqf_laws_cycle.specs.BridgeCycle.{BatchIsWholeInItsCycle, CycleBrings
 use Rattle.cqf_laws_cycle.specs.Gathered.{AreWholeIn, gathered_in, offered_for}
 use Rattle.cqf_laws_instants.specs.TakenLaws.{AreItsBatches, IsTakenBefore, StandAsTaken, source_of}
 use Rattle.cqf_laws_instants.proofs.Ordered.{Either, sorted_is_one}
-use Rattle.cqf_laws_instants.proofs.Order.{by_sources, in_one_cycle, link_in_order, link_source, offer_source, offers_at_in_order, one_way, pairs_if}
+use Rattle.cqf_laws_instants.proofs.Order.{by_sources, in_one_cycle, link_in_order, link_source, offer_source, offers_at_in_order, one_way}
 
 -- frames of which each is taken before the later ones don't tie
 pub loose : (xs : List Received) → AllPairs IsTakenBefore xs → AllPairs (Either IsTakenBefore) xs

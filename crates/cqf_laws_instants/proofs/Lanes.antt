@@ -1,5 +1,6 @@
 -- A link's lane, sorted by its keys, is what a cycle queues to the link.
-use Rattle.std.proofs.Common.{◌≡◌, ℕ, ◌+◌, ◌-◌, ◌*◌, ◌/◌, ◌<◌, ◌≤◌, Bool, true, false, cond, List, length, get_or, inl, inr, refl, sym, ap, ap₂, ◌∙◌, arith, subst, AllPairs, Contains}
+use Rattle.std.proofs.Common.{◌≡◌, ℕ, ◌+◌, ◌-◌, ◌*◌, ◌/◌, ◌<◌, ◌≤◌, Bool, true, false, cond, List, length, get_or, inl}
+use Rattle.std.proofs.Common.{inr, refl, sym, ap, ap₂, ◌∙◌, arith, subst, AllPairs, Contains}
 use Rattle.std.proofs.Common.{eq-eqb, eqb-true}
 use Rattle.std.specs.Prelude.{[], ◌++◌, ◌==◌, map, filter}
 use Rattle.std.specs.List.{flat_map}

@@ -1,14 +1,14 @@
 -- What comes to a bridge in a cycle is in order of its frames' keys.
-use Rattle.std.proofs.Common.{◌≡◌, ℕ, ◌+◌, ◌*◌, ◌<◌, ◌≤◌, Bool, true, false, cond, List, length, inl, inr, refl, sym, ap, ◌∙◌, arith, AllPairs, Contains}
+use Rattle.std.proofs.Common.{◌≡◌, ℕ, ◌+◌, ◌*◌, ◌<◌, ◌≤◌, List, length, inl, inr, refl, sym, ap, ◌∙◌, arith, AllPairs, Contains}
 use Rattle.std.proofs.Common.{eqb-true}
-use Rattle.std.specs.Prelude.{[], ◌==◌, map, filter}
+use Rattle.std.specs.Prelude.{◌==◌, map, filter}
 use Rattle.std.proofs.lemmas.Bool.{and_parts, cases_order}
 use Rattle.std.proofs.lemmas.List.Kept.{AllPairs-filter}
 use Rattle.cqf_lists.specs.Lists.{each_below}
 use Rattle.cqf_lists.proofs.EachBelow.{contains_from_below}
 use Rattle.cqf_lists.proofs.Made.{contains_if}
 use Rattle.cqf_lists.proofs.Members.{contains_from_filter, contains_from_map}
-use Rattle.cqf_lists.proofs.Pairs.{pairs_append, pairs_below, pairs_map, pairs_none, pairs_weaker}
+use Rattle.cqf_lists.proofs.Pairs.{pairs_append, pairs_below, pairs_if, pairs_map, pairs_weaker}
 use Rattle.cqf_model.specs.declared.frames.Offer.{Offer}
 use Rattle.cqf_model.specs.declared.frames.Offered.{Offered}
 use Rattle.cqf_model.specs.declared.frames.Sent.{Sent}
@@ -31,11 +31,6 @@ by_sources a b l = elim (cases_order a.at b.at) [
   | inl e ↦ inl (inr (e, inl l))
   | inr o ↦ elim o [ inl sooner ↦ inl (inl sooner) | inr later ↦ inr (inl later) ]
 ]
-
--- the pairs of a list that is there on a condition
-pub pairs_if : {X : Type 0} (R : X → X → Type 0) (b : Bool) (xs : List X) → (b ≡ true → AllPairs R xs) → AllPairs R (cond b xs [])
-pairs_if R true xs all = all refl
-pairs_if R false xs all = pairs_none R
 
 -- what a link sends comes in this order where it is whole in its own
 pub link_in_order : (d : Domain) (m : ℕ) (sents : List Sent) → AllPairs (λ (a b : Sent). whole_at d m a < whole_at d m b) sents →

@@ -1,6 +1,7 @@
 -- The gates mean the shift.
 use Rattle.std.proofs.Common.{◌≡◌, ℕ, zero, suc, ◌+◌, ◌*◌, ◌/◌, ◌<◌, ◌≤◌, ◌⊎◌, ◌∷◌, [], ◌++◌, List, Bool, true, false, Option, Some, None, inl, inr, sym, ap}
-use Rattle.std.proofs.Common.{◌∙◌, subst, arith, refl, All, AllPairs, Contains, sum_by, length, eq-eqb, eqb-true, ◌==◌, ◌&&◌, if◌then◌else◌, le_trans, le_of_eq, ne_eqb}
+use Rattle.std.proofs.Common.{◌∙◌, subst, arith, refl, All, AllPairs, Contains, sum_by, length, eq-eqb, eqb-true, ◌==◌}
+use Rattle.std.proofs.Common.{◌&&◌, if◌then◌else◌, le_trans, le_of_eq, ne_eqb}
 use Rattle.std.proofs.lemmas.Bool.{cases_Bool, cases_lt, cond-true, cond-false, and_from}
 use Rattle.std.proofs.lemmas.List.Elements.{All-contains}
 use Rattle.cqf_units.specs.Timing.{wire_of, cost_of}
@@ -238,7 +239,8 @@ module _ (laws : CycleLaws) (run : Run) (carried : Carried) (alone : IsRunAlone 
   apart : (link : ℕ) → AllPairs (λ (a b : Sent). a.frame ≡ b.frame → ⊥) (carried link)
   apart link = elim (cases_lt link (length d.links)) [
     | inl inside ↦ sents_apart laws run carried alone link inside
-    | inr past ↦ subst (AllPairs (λ (a b : Sent). a.frame ≡ b.frame → ⊥)) (sym (alone.legal.no_others link past)) (pairs_none (λ (a b : Sent). a.frame ≡ b.frame → ⊥))
+    | inr past ↦ subst (AllPairs (λ (a b : Sent). a.frame ≡ b.frame → ⊥)) (sym (alone.legal.no_others link past))
+        (pairs_none (λ (a b : Sent). a.frame ≡ b.frame → ⊥))
   ]
 
   -- the main law for streams' frames alone

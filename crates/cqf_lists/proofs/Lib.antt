@@ -1,4 +1,5 @@
 pub mod Any
+pub mod ByNumber
 pub mod EachBelow
 pub mod EachOnce
 pub mod Filters
@@ -8,6 +9,7 @@ pub mod Keys
 pub mod Least
 pub mod Made
 pub mod Members
+pub mod Numbered
 pub mod Numbers
 pub mod Ones
 pub mod Pairs

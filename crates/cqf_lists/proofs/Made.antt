@@ -15,6 +15,16 @@ contains_if_there false xs x c = absurd (contains_none x c)
 pub contains_if : {X : Type 0} (b : Bool) (xs : List X) (x : X) → Contains (cond b xs []) x → Contains xs x
 contains_if b xs x c = (contains_if_there b xs x c).1
 
+-- what is there on a condition that holds has its members
+pub if_contains : {X : Type 0} (b : Bool) (xs : List X) (x : X) → b ≡ true → Contains xs x → Contains (cond b xs []) x
+if_contains true xs x e c = c
+if_contains false xs x e c = absurd cc
+
+-- what is made of a list that is there on a condition
+pub map_if : {X Y : Type 0} (f : X → Y) (b : Bool) (xs : List X) → map f (cond b xs []) ≡ cond b (map f xs) []
+map_if f true xs = refl
+map_if f false xs = refl
+
 -- two functions that agree on the members make the same list
 pub map_same : {X Y : Type 0} (f g : X → Y) (xs : List X) → ((x : X) → Contains xs x → f x ≡ g x) → map f xs ≡ map g xs
 map_same f g [] same = refl

@@ -200,3 +200,8 @@ same_ordered {X} R one_way (x ∷ xs) (y ∷ ys) a b to from =
     same_ordered R one_way xs ys (pairs_tail R x xs a) (pairs_tail R y ys b) (rest_in R one_way x y xs ys e a to)
     (rest_in R one_way y x ys xs (sym e) b from) in
     ap (λ (z : X). z ∷ xs) e ∙ ap (λ (zs : List X). y ∷ zs) rest
+
+-- the pairs of a list that is there on a condition
+pub pairs_if : {X : Type 0} (R : X → X → Type 0) (b : Bool) (xs : List X) → (b ≡ true → AllPairs R xs) → AllPairs R (cond b xs [])
+pairs_if R true xs all = all refl
+pairs_if R false xs all = pairs_none R

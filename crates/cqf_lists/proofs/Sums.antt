@@ -1,5 +1,5 @@
 -- Sums over lists: members, groups, and matched elements.
-use Rattle.std.proofs.Common.{◌≡◌, ℕ, zero, suc, ◌+◌, ◌<◌, ◌≤◌, ◌⊎◌, length, get_or, take, ◌∷◌, [], List, Bool, true, false, map, filter, flat_map, inl, inr, sym, ap}
+use Rattle.std.proofs.Common.{◌≡◌, ℕ, zero, suc, ◌+◌, ◌<◌, ◌≤◌, ◌⊎◌, length, get_or, take, ◌∷◌, [], List, Bool, true, map, filter, flat_map, inl, inr, sym, ap}
 use Rattle.std.proofs.Common.{ap₂, ◌∙◌, subst, arith, refl, AllPairs, Contains, sum_by, if◌then◌else◌, ◌==◌, nat_lt, le_trans, zero-add, lt-ltb, le-ltb, ne_eqb}
 use Rattle.std.proofs.Common.{eq-eqb}
 use Rattle.std.specs.List.{enumerate_from}

@@ -1,5 +1,6 @@
 -- The stream gate control list of a reservation.
-use Rattle.std.proofs.Common.{◌≡◌, ◌+◌, ◌-◌, ◌%◌, ◌<◌, ◌⊎◌, ◌∙◌, ℕ, Bool, false, suc, inl, inr, ap, arith, mod-lt, nat_lt, lt-ltb, le-ltb, if◌then◌else◌, Option, Some}
+use Rattle.std.proofs.Common.{◌≡◌, ◌+◌, ◌-◌, ◌%◌, ◌<◌, ◌⊎◌, ◌∙◌, ℕ, Bool, false, suc, inl, inr, ap, arith, mod-lt}
+use Rattle.std.proofs.Common.{nat_lt, lt-ltb, le-ltb, if◌then◌else◌, Option, Some}
 use Rattle.std.specs.Prelude.{nat_le, slice_get}
 use Rattle.std.specs.Option.{option_and_then, option_map_or}
 use Rattle.std.proofs.lemmas.Bool.{cases_lt, cond-false, cond-true}
@@ -35,7 +36,8 @@ module _ (n reserved t : ℕ) (some : 0 < n) where
 
   -- what it lets pass is within the reservation
   pub within_reservation : (sum : ℕ) →
-      option_map_or (λ (entry : StreamEntry). within entry.octet_max sum) (slice_get (stream_list n reserved) (place_at (stream_list n reserved) t)) false ≡ nat_le sum reserved
+      option_map_or (λ (entry : StreamEntry). within entry.octet_max sum) (slice_get (stream_list n reserved) (place_at (stream_list n reserved) t)) false
+      ≡ nat_le sum reserved
   within_reservation sum = at_place (place_at (stream_list n reserved) t) place_two
     where
       by_place : ℕ → Bool

@@ -19,7 +19,7 @@ use Rattle.cqf_model.specs.declared.topology.Node.TheVariants.{Bridge, Station}
 use Rattle.cqf_model.specs.declared.topology.Row.{Row}
 use Rattle.cqf_model.specs.Domain.{Domain, budget, is_text, node_named, link_between, same_node}
 use Rattle.cqf_model.specs.Table.{is_held, link_cost, links_in, row_named}
-use Rattle.cqf_model.specs.Limits.{most_calls, most_cycles}
+use Rattle.cqf_model.specs.Limits.{least_reserved, most_calls, most_cycles, most_reserved, most_streams}
 
 -- a branch of a stream's tree, by names: its bridges in order, and then the listener's station
 abbrev pub Branch : Type 0
@@ -220,14 +220,14 @@ refused_at refused (Some place) = Some (refused place)
 abbrev pub refusal_of : Domain → List Row → Asked → Option Refused
 refusal_of d rows asked =
     or_else (refused_if (not (is_name asked.name)) BadName)
-    (or_else (refused_if (not (nat_le 64 asked.octets && nat_le asked.octets 60000)) BadOctets)
+    (or_else (refused_if (not (nat_le least_reserved asked.octets && nat_le asked.octets most_reserved)) BadOctets)
     (or_else (refused_at (λ place. UnknownNode place)
     (position (λ name. is_none (node_named d name)) (flat_map (λ branch. branch) asked.paths)))
     (or_else (refused_at (λ place. BrokenPath place) (broken_place d asked.paths))
     (or_else (refused_at (λ place. LoopingPath place) (first_place (is_loop_at d) asked.paths))
     (or_else (refused_at (λ branch. NotATree branch) (least (is_stray asked.paths) (length asked.paths)))
     (or_else (refused_if (list_any (λ (row : Row). is_text row.name asked.name) rows) NameHeld)
-    (or_else (refused_if (nat_le 1024 (length rows)) TooManyStreams)
+    (or_else (refused_if (nat_le most_streams (length rows)) TooManyStreams)
     (refused_at (λ l. BudgetShort l (left_on d rows l)) (short_link d rows (cost_of asked.octets) (tree_of d asked.paths))))))))))
 
 -- the number of the next stream

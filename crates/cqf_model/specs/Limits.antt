@@ -24,3 +24,18 @@ end_of_offers = 1000000000000
 -- frames start before this instant
 abbrev pub end_of_starts : ℕ
 end_of_starts = 1000001 * 10000000
+
+-- the octets that a stream may reserve in a cycle
+abbrev pub least_reserved : ℕ
+least_reserved = 64
+
+abbrev pub most_reserved : ℕ
+most_reserved = 60000
+
+-- the most streams that are held at once
+abbrev pub most_streams : ℕ
+most_streams = 1024
+
+-- a port runs up to this instant at most, in nanoseconds, and an arrival at one comes by then
+abbrev pub last_until : ℕ
+last_until = 100000000

@@ -1,6 +1,7 @@
 //! What an admission controller answers.
+ghost use Rattle.std.specs.Prelude.{◌≡◌};
 
-use cqf_units::Cycle;
+use cqf_units::{Cycle, Memory};
 use thiserror::Error;
 
 /// An accepted call: the stream's number, from 0 in the order of accepted admissions, and the cycle from which the call
@@ -42,6 +43,16 @@ pub enum Refused {
     HistoryFull,
     /// A growth was refused. The call isn't entered.
     Memory,
+}
+
+impl From<Memory> for Refused {
+    ghost use Rattle.cqf_model.specs.declared.history.Refused.TheVariants as variant;
+
+    ghost from_gives = { λ _ fault. fault ≡ variant.Memory };
+
+    fn from(_refused: Memory) -> Refused {
+        Refused::Memory
+    }
 }
 
 /// The answer to a call in a history.

@@ -13,6 +13,7 @@
 mod frames;
 mod gates;
 mod history;
+mod limits;
 mod ports;
 mod refusals;
 mod rows;
@@ -21,5 +22,9 @@ mod topology;
 pub use frames::{Backed, Background, Book, Dropped, Offer, Offered, Page, Reason, Sent, Started};
 pub use gates::{OpenFor, StreamEntry};
 pub use history::{Receipt, Refused, Reply};
+pub use limits::{
+    LAST_UNTIL, LEAST_OCTETS, LONGEST_CYCLE, MOST_CALLS, MOST_CYCLES, MOST_OCTETS, MOST_ROWS,
+    MOST_SEALS, MOST_STREAMS,
+};
 pub use ports::{Arrival, Start};
 pub use topology::{Hop, Link, Node, Row};

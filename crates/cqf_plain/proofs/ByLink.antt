@@ -1,5 +1,6 @@
 -- What is listed bridge by bridge, and brought into order of link.
-use Rattle.std.proofs.Common.{◌≡◌, ℕ, zero, suc, ◌<◌, ◌==◌, true, false, List, [], ◌++◌, filter, length, sym, ap, refl, ◌∙◌, inl, inr, arith, subst, Contains, eq-eqb, eqb-true, ne_eqb, flat_map}
+use Rattle.std.proofs.Common.{◌≡◌, ℕ, zero, suc, ◌<◌, ◌==◌, true, false, List, [], ◌++◌, filter, length, sym, ap, refl}
+use Rattle.std.proofs.Common.{◌∙◌, inl, inr, arith, subst, Contains, eq-eqb, eqb-true, ne_eqb, flat_map}
 use Rattle.std.specs.Prelude.{Option, Some, if◌then◌else◌, slice_get}
 use Rattle.std.specs.Option.{option_map_or}
 use Rattle.std.proofs.lemmas.Bool.{cond-true}
@@ -81,7 +82,8 @@ module _ {X : Type 0} (key : X → ℕ) (d : Domain) (accepted : IsAccepted d) (
       by_key key (length d.links) sorted order.in_order (λ x h.
       let same = λ (y : X). key y == key x in
       let there : Contains gathered x =
-      (contains_from_filter same gathered x (subst (λ (xs : List X). Contains xs x) (order.stable (key x)) (contains_filter same sorted x h (eq-eqb (key x) (key x) refl)))).0 in
+      (contains_from_filter same gathered x (subst (λ (xs : List X). Contains xs x) (order.stable (key x))
+      (contains_filter same sorted x h (eq-eqb (key x) (key x) refl)))).0 in
       let w = contains_from_below on_bridge (length d.bridges) x (subst (λ (xs : List X). Contains xs x) is there) in
       (of_link w.0 x w.2).0)
       ∙ same_below (λ l. filter (λ x. key x == l) sorted) f (length d.links)

@@ -27,7 +27,7 @@ use Rattle.cqf_laws_bridge.specs.Cycles.{NewBridgeFollows, drops_of_cycle}
 use Rattle.cqf_laws_bridge.specs.Follows.{FollowsTheNetwork}
 use Rattle.cqf_plain.specs.declared.faults.RunFault.{RunFault}
 use Rattle.cqf_plain.specs.declared.faults.RunFault.TheVariants.{WrongTables, Inside, Memory}
-use Rattle.cqf_plain.specs.Course.{CourseState, IsAt, IsNewCourse, IsRunOver, StopsCourse, CourseMayGoOn}
+use Rattle.cqf_plain.specs.SoFar.{SoFarState, IsAt, IsNewRun, IsRunOver, StopsRun, RunMayGoOn}
 use Rattle.cqf_plain.specs.Driven.{drops_of_first}
 use Rattle.cqf_plain.specs.Promise.{AreOfHistory, KeepsItOfHistory, WantsMemoryAlone}
 use Rattle.cqf_plain.specs.Run.{AreTablesNumbered, IsBookOfRun, IsRunFault, run_of}
@@ -37,8 +37,9 @@ abbrev rows_of : CycleTable → List Row
 rows_of table = table.rows
 
 -- a run of which nothing has happened is at its beginning
-pub begins_at : NewBridgeFollows → (d : Domain) (tables : List CycleTable) (offers : List Offer) (background : List Background) (net : Network) (c : CourseState) →
-    IsNewCourse d offers background c → IsAt (run_of d tables offers background) net 0 c
+pub begins_at : NewBridgeFollows → (d : Domain) (tables : List CycleTable) (offers : List Offer) (background : List Background) (net : Network)
+    (c : SoFarState) →
+    IsNewRun d offers background c → IsAt (run_of d tables offers background) net 0 c
 begins_at follows d tables offers background net c new =
     let run = run_of d tables offers background in
     let none : 0 * d.cycle_time ≡ 0 = omega arith in
@@ -56,6 +57,7 @@ begins_at follows d tables offers background net c new =
           none_came = s.none_came;
         });
       };
+      due = new.due;
       starts = ap (λ (b : Contents). b.starts) new.book;
       background = ap (λ (b : Contents). b.background) new.book;
       drops = ap (λ (b : Contents). b.drops) new.book;
@@ -81,8 +83,8 @@ module _ (d : Domain) (tables : List CycleTable) (run : Run) (net : Network) (ov
   as_many = ap (λ (rows : List (List Row)). length rows) over.rows ∙ length-map tables rows_of
 
   -- it may go on by the next table
-  pub may_go_on : AreTablesNumbered (length tables) tables → (place : ℕ) (table : CycleTable) (c : CourseState) → place < length tables →
-      table ≡ get_or tables place table → IsAt run net place c → CourseMayGoOn d table c run net
+  pub may_go_on : AreTablesNumbered (length tables) tables → (place : ℕ) (table : CycleTable) (c : SoFarState) → place < length tables →
+      table ≡ get_or tables place table → IsAt run net place c → RunMayGoOn d table c run net
   may_go_on numbered place table c inside is at =
       let own = numbered_so tables place table numbered inside is in
       record {
@@ -101,13 +103,13 @@ module _ (d : Domain) (tables : List CycleTable) (run : Run) (net : Network) (ov
       }
 
   -- and is then at the one behind it
-  pub at_next : AreTablesNumbered (length tables) tables → (place : ℕ) (table : CycleTable) (c : CourseState) → place < length tables →
+  pub at_next : AreTablesNumbered (length tables) tables → (place : ℕ) (table : CycleTable) (c : SoFarState) → place < length tables →
       table ≡ get_or tables place table → IsAt run net (table.cycle + 1) c → IsAt run net (place + 1) c
   at_next numbered place table c inside is at =
       subst (λ (n : ℕ). IsAt run net (n + 1) c) (numbered_so tables place table numbered inside is) at
 
   -- behind the last the book is the run's
-  pub ends_at : BookIsUnique → LegalNetworkIsUnique → DropsAreOfTheCycle → (c : CourseState) → IsAt run net (length tables) c → IsBookOfRun run c.book
+  pub ends_at : BookIsUnique → LegalNetworkIsUnique → DropsAreOfTheCycle → (c : SoFarState) → IsAt run net (length tables) c → IsBookOfRun run c.book
   ends_at one_book unique among c short =
       let cycles = length run.tables in
       let e = run.domain in
@@ -120,7 +122,8 @@ module _ (d : Domain) (tables : List CycleTable) (run : Run) (net : Network) (ov
         are_background = at.background;
         are_drops = at.drops
             ∙ same_below (λ cycle. drops_of_first run net cycle (length e.bridges))
-            (λ cycle. each_below (drops_in e (length run.offers) (λ bridge. policed_before run net.carried bridge (cycles * e.cycle_time)) cycle) (length e.bridges)) cycles
+            (λ cycle. each_below (drops_in e (length run.offers) (λ bridge. policed_before run net.carried bridge (cycles * e.cycle_time)) cycle)
+            (length e.bridges)) cycles
             (λ cycle inside. same_below (λ bridge. drops_of_cycle run net bridge cycle)
             (drops_in e (length run.offers) (λ bridge. policed_before run net.carried bridge (cycles * e.cycle_time)) cycle) (length e.bridges)
             (λ bridge below. sym (among run net.carried cycles cycle bridge (length run.offers) inside)));
@@ -169,7 +172,7 @@ module _ (d : Domain) (tables : List CycleTable) (offers : List Offer) (backgrou
   memory_alone mean are_orderly cycles Memory lost entries of_history are_numbered = refl
 
 -- why a run by numbered tables doesn't go on is why it gives no book
-pub fault_of_stop : (run : Run) (cycles : ℕ) (tables : List CycleTable) (fault : RunFault) → AreTablesNumbered cycles tables → StopsCourse run fault →
+pub fault_of_stop : (run : Run) (cycles : ℕ) (tables : List CycleTable) (fault : RunFault) → AreTablesNumbered cycles tables → StopsRun run fault →
     IsRunFault run cycles tables fault
 fault_of_stop run cycles tables WrongTables are_numbered stop = absurd stop
 fault_of_stop run cycles tables (Inside frame) are_numbered stop = (are_numbered, stop)

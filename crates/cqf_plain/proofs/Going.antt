@@ -1,5 +1,6 @@
 -- A run goes on by a cycle.
-use Rattle.std.proofs.Common.{◌≡◌, ℕ, ◌+◌, ◌*◌, ◌≤◌, ◌<◌, ◌++◌, Bool, true, false, not, List, Contains, sym, refl, ap, ◌∙◌, inl, inr, arith, subst, length, filter, eqb-true}
+use Rattle.std.proofs.Common.{◌≡◌, ℕ, ◌+◌, ◌*◌, ◌≤◌, ◌<◌, ◌++◌, Bool, true, false, not, List, Contains, sym, refl, ap}
+use Rattle.std.proofs.Common.{◌∙◌, inl, inr, arith, subst, length, filter, eqb-true}
 use Rattle.std.specs.Prelude.{Option, Some, None, if◌then◌else◌, slice_get, suc}
 use Rattle.std.specs.Option.{option_map_or}
 use Rattle.std.proofs.lemmas.Bool.{cases_eq, cases_lt, false≢true}
@@ -15,20 +16,23 @@ use Rattle.cqf_model.specs.declared.topology.Link.{Link}
 use Rattle.cqf_model.specs.declared.topology.Node.{Node}
 use Rattle.cqf_model.specs.declared.topology.Node.TheVariants.{Bridge, Station}
 use Rattle.cqf_model.specs.declared.topology.Row.{Row}
-use Rattle.cqf_model.specs.Book.{background_in, background_of, starts_in, starts_of}
+use Rattle.cqf_model.specs.Book.{Contents, background_in, background_of, starts_in, starts_of}
 use Rattle.cqf_model.specs.Domain.{Domain, IsAccepted, IsNode, cycle_of, enters, node_is}
 use Rattle.cqf_model.specs.Network.{IsLoss, Network}
 use Rattle.cqf_model.specs.Run.{Run}
 use Rattle.cqf_model.specs.Table.{begins_at, is_live, row_named, table_of}
-use Rattle.cqf_model.specs.Traffic.{AtEdge, Carried, DroppedFor, Policed, Queued, Received, edge_verdict, is_offered_at, numbered, offer_received, offered_at, police_all, policed_before, received_at, relayed_at, verdict_by, within_gate}
+use Rattle.cqf_model.specs.Traffic.{AtEdge, Carried, DroppedFor, Policed, Queued, Received, edge_verdict, is_offered_at}
+use Rattle.cqf_model.specs.Traffic.{numbered, offer_received, offered_at, police_all, policed_before, received_at}
+use Rattle.cqf_model.specs.Traffic.{relayed_at, verdict_by, within_gate}
 use Rattle.cqf_model.proofs.Policing.{behind_those_before, police_member}
 use Rattle.cqf_laws_cycle.specs.BridgeCycle.{policed_of, received_in}
 use Rattle.cqf_laws_cycle.specs.RunSteps.{LossesAreOfCycles}
 use Rattle.cqf_plain.specs.declared.faults.RunFault.{RunFault}
 use Rattle.cqf_plain.specs.declared.faults.RunFault.TheVariants.{WrongTables, Inside, Memory}
-use Rattle.cqf_plain.specs.Course.{CourseState, IsAt, IsHalfway, StopsCourse, NoneLostBefore, drops_before}
+use Rattle.cqf_plain.specs.SoFar.{SoFarState, IsAt, ListsCycle, StopsRun, NoneLostBefore, drops_before}
 use Rattle.cqf_plain.specs.Driven.{AllStandBefore, FirstLoseNothing, IsCycleOf, drops_of_first}
-use Rattle.cqf_plain.specs.Losing.{IsStopIn}
+use Rattle.cqf_plain.specs.Due.{AreDue, ports_of}
+use Rattle.cqf_plain.specs.Losing.{IsFaultInCycle}
 
 -- no offer is lost
 edge_not_lost : (d : Domain) (bridge cycle : ℕ) (passes : Row → Bool) (found : Option Row) → ¬ IsLoss (edge_verdict d bridge cycle passes found)
@@ -36,7 +40,8 @@ edge_not_lost d bridge cycle passes None = λ lost. lost
 edge_not_lost d bridge cycle passes (Some row) = reasons (not (is_live row cycle)) (not (begins_at d row bridge)) (not (passes row))
   where
     -- whichever reason fits
-    reasons : (a b c : Bool) → ¬ IsLoss (if a then DroppedFor Withdrawn else (if b then DroppedFor OtherBridge else (if c then DroppedFor Octets else Queued row)))
+    reasons : (a b c : Bool) → ¬ IsLoss (if a then DroppedFor Withdrawn
+        else (if b then DroppedFor OtherBridge else (if c then DroppedFor Octets else Queued row)))
     reasons true b c lost = lost
     reasons false true c lost = lost
     reasons false false true lost = lost
@@ -98,32 +103,39 @@ module _ (run : Run) (net : Network) (cycle : ℕ) (of : IsCycleOf run net cycle
             ]
         | inr differ ↦
             before bridge p
-            ((losses run net.carried cycle bridge p).1 (record { cycle = l.cycle; within_run = omega (arith, l.within_run, differ); came = l.came; lost = l.lost }))
+            ((losses run net.carried cycle bridge p).1 (record {
+              cycle = l.cycle;
+              within_run = omega (arith, l.within_run, differ);
+              came =
+                  l.came;
+              lost = l.lost;
+            }))
       ]
 
   -- the run is at the next cycle
-  pub next_at : (before mid after : CourseState) → IsAt run net cycle before → IsHalfway run net cycle before mid →
-      AllStandBefore run net (cycle + 1) after.bridges → after.book.starts ≡ mid.book.starts → after.book.background ≡ mid.book.background →
-      after.book.drops ≡ mid.book.drops ++ drops_of_first run net cycle (length run.domain.bridges) →
+  pub next_at : (before after : SoFarState) (mid : Contents) → IsAt run net cycle before → ListsCycle run net cycle before.book mid →
+      AllStandBefore run net (cycle + 1) after.bridges → AreDue after.due (ports_of after.bridges) → after.book.starts ≡ mid.starts →
+      after.book.background ≡ mid.background → after.book.drops ≡ mid.drops ++ drops_of_first run net cycle (length run.domain.bridges) →
       FirstLoseNothing run net cycle (length run.domain.bridges) → IsAt run net (cycle + 1) after
-  next_at before mid after at halfway stand starts background drops none =
+  next_at before after mid at lists stand due starts background drops none =
       let d = run.domain in
       let next : suc cycle ≡ cycle + 1 = omega arith in
       record {
         stand = stand;
-        starts = starts ∙ halfway.lists.starts
+        due = due;
+        starts = starts ∙ lists.starts
             ∙ ap (λ (xs : List Started). xs ++ each_below (starts_in d net.carried cycle) (length d.links)) at.starts
             ∙ ap (λ (n : ℕ). starts_of d n net.carried) next;
-        background = background ∙ halfway.lists.background
+        background = background ∙ lists.background
             ∙ ap (λ (xs : List Started). xs ++ each_below (background_in d net.backed cycle) (length d.links)) at.background
             ∙ ap (λ (n : ℕ). background_of d n net.backed) next;
-        drops = drops ∙ ap (λ (xs : List Dropped). xs ++ drops_of_first run net cycle (length d.bridges)) (halfway.lists.drops ∙ at.drops)
+        drops = drops ∙ ap (λ (xs : List Dropped). xs ++ drops_of_first run net cycle (length d.bridges)) (lists.drops ∙ at.drops)
             ∙ ap (drops_before run net) next;
         none_lost = none_lost_on at.none_lost none;
       }
 
   -- or it doesn't go on
-  pub stops_so : (before : CourseState) (f : RunFault) → IsAt run net cycle before → IsStopIn run net cycle f → StopsCourse run f
+  pub stops_so : (before : SoFarState) (f : RunFault) → IsAt run net cycle before → IsFaultInCycle run net cycle f → StopsRun run f
   stops_so before WrongTables at stop = stop
   stops_so before (Inside frame) at stop =
       let l = stop.lost in

@@ -1,5 +1,7 @@
 -- What the bridges have sent goes into the book, and along the links.
-use Rattle.std.proofs.Common.{◌≡◌, ℕ, zero, suc, ◌+◌, ◌<◌, ◌≤◌, ◌++◌, Bool, true, false, List, [], ◌∷◌, filter, get_or, length, map, set, take, sym, ap, refl, ◌∙◌, inl, inr, arith, subst, flat_map, append-nil, append_assoc}
+use Rattle.std.proofs.Common.{◌≡◌, ℕ, zero, suc, ◌+◌, ◌<◌, ◌≤◌, ◌++◌, Bool, true, false, List, [], ◌∷◌, filter, get_or}
+use Rattle.std.proofs.Common.{length, map, set, take, sym, ap, refl, ◌∙◌, inl, inr, arith, subst, flat_map, append-nil}
+use Rattle.std.proofs.Common.{append_assoc}
 use Rattle.std.specs.Prelude.{if◌then◌else◌}
 use Rattle.std.proofs.lemmas.Bool.{cases_Bool, cases_eq, cond-false, cond-true}
 use Rattle.std.proofs.lemmas.List.{get_or-set_other, get_or-set_same, get_or_default, length-set, take_all, take_more}
@@ -22,7 +24,7 @@ use Rattle.cqf_bridge_turn.specs.Agenda.{AgendaOf, IsAgendaOf}
 use Rattle.cqf_laws_bridge.specs.Cycles.{starts_of_batch}
 use Rattle.cqf_laws_bridge.specs.Follows.{HasSentOfTheNetwork, batch_of, batches_from, batches_into}
 use Rattle.cqf_plain.specs.declared.driven.Driven.{Driven}
-use Rattle.cqf_plain.specs.Course.{ListsCycle}
+use Rattle.cqf_plain.specs.SoFar.{ListsCycle}
 use Rattle.cqf_plain.specs.Driven.{AllStandHalfway, AreHandedOut, HaveAllSentCycle, IsCycleOf, ListsBackground, all_of}
 use Rattle.cqf_plain.proofs.ByLink.{flat_below, in_order_by_link}
 
@@ -54,7 +56,8 @@ module _ (d : Domain) (accepted : IsAccepted d) (carried : Carried) (cycle : ℕ
   from_links : (bridge : ℕ) → batches_from d carried bridge cycle ≡ each_below (λ l. if leaves d l bridge then alone l else []) (length d.links)
   from_links bridge =
       map_below (batch_of d carried cycle) (λ l. if leaves d l bridge then l ∷ [] else []) (length d.links)
-      ∙ same_below (λ l. map (batch_of d carried cycle) (if leaves d l bridge then l ∷ [] else [])) (λ l. if leaves d l bridge then alone l else []) (length d.links)
+      ∙ same_below (λ l. map (batch_of d carried cycle) (if leaves d l bridge then l ∷ [] else [])) (λ l. if leaves d l bridge then alone l else [])
+      (length d.links)
       (λ l inside. one (leaves d l bridge) l)
     where
       one : (b : Bool) (l : ℕ) → map (batch_of d carried cycle) (if b then l ∷ [] else []) ≡ (if b then alone l else [])
@@ -65,7 +68,8 @@ module _ (d : Domain) (accepted : IsAccepted d) (carried : Carried) (cycle : ℕ
   pub into_links : (bridge : ℕ) → filter (λ (x : LinkBatch). enters d x.link bridge) (each_below alone (length d.links)) ≡ batches_into d carried bridge cycle
   into_links bridge =
       filter_below (λ (x : LinkBatch). enters d x.link bridge) alone (length d.links)
-      ∙ same_below (λ l. filter (λ (x : LinkBatch). enters d x.link bridge) (alone l)) (λ l. map (batch_of d carried cycle) (if enters d l bridge then l ∷ [] else []))
+      ∙ same_below (λ l. filter (λ (x : LinkBatch). enters d x.link bridge) (alone l))
+      (λ l. map (batch_of d carried cycle) (if enters d l bridge then l ∷ [] else []))
       (length d.links) (λ l inside. one (enters d l bridge) l)
       ∙ sym (map_below (batch_of d carried cycle) (λ l. if enters d l bridge then l ∷ [] else []) (length d.links))
     where
@@ -79,7 +83,8 @@ module _ (d : Domain) (accepted : IsAccepted d) (carried : Carried) (cycle : ℕ
   sorted_batches sent sorted is order =
       in_order_by_link (λ (x : LinkBatch). x.link) d accepted alone
       (λ l x h. sym (ap (λ (y : LinkBatch). y.link) (contains_one (batch_of d carried cycle l) x h))) sent sorted
-      (is ∙ same_below (λ bridge. batches_from d carried bridge cycle) (λ bridge. each_below (λ l. if leaves d l bridge then alone l else []) (length d.links)) (length d.bridges)
+      (is ∙ same_below (λ bridge. batches_from d carried bridge cycle) (λ bridge. each_below (λ l. if leaves d l bridge then alone l else []) (length d.links))
+      (length d.bridges)
       (λ bridge inside. from_links bridge))
       order
 
@@ -107,7 +112,8 @@ module _ (run : Run) (net : Network) (cycle : ℕ) (of : IsCycleOf run net cycle
       (λ l x h. sym (ap (λ (y : Started). y.link) (contains_from_map _ _ x h).2)) (flat_map (λ (s : Driven). s.bridge.background) before) sorted
       (flat_each (λ (s : Driven). s.bridge.background) on before (length d.bridges) all_sent.halfway.one_each
       (λ k e inside. (let st = all_sent.halfway.each k e inside in
-      st.has_sent.background ∙ (λ i. each_below (λ l. if leaves d l (st.own.number i) then background_in d net.backed (st.own.received i) l else []) (length d.links)))))
+      st.has_sent.background ∙ (λ i. each_below (λ l. if leaves d l (st.own.number i) then background_in d net.backed (st.own.received i) l else [])
+      (length d.links)))))
       order
 
   -- so the book says what the network sends in the cycle
@@ -174,7 +180,8 @@ passed_by d batches before after batch none so = record {
   behind = λ k e inside.
       so.behind k e inside
       ∙ ap (λ (ys : List LinkBatch). (get_or before k e).inbox.items ++ ys)
-      (sym (one_filtered (λ (x : LinkBatch). enters d x.link k) batches batch false (none k) ∙ append-nil (filter (λ (x : LinkBatch). enters d x.link k) batches)));
+      (sym (one_filtered (λ (x : LinkBatch). enters d x.link k) batches batch false (none k)
+      ∙ append-nil (filter (λ (x : LinkBatch). enters d x.link k) batches)));
 }
 
 -- one of a link that ends in one

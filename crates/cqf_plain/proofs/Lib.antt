@@ -6,4 +6,7 @@ mod Lost
 mod Policing
 mod Received
 mod Going
+mod Noted
+mod Resting
+mod Passing
 mod Ending

@@ -1,5 +1,6 @@
 -- What came to a bridge in a cycle, brought into order, is what the network brings there.
-use Rattle.std.proofs.Common.{◌≡◌, ℕ, ◌+◌, ◌*◌, ◌≤◌, ◌<◌, ◌++◌, ◌==◌, List, [], sym, refl, ap, ◌∙◌, arith, subst, length, map, Contains, Option, eqb-true, mul-le-mul_right}
+use Rattle.std.proofs.Common.{◌≡◌, ℕ, ◌+◌, ◌*◌, ◌≤◌, ◌<◌, ◌++◌, ◌==◌, List, [], sym, refl, ap, ◌∙◌, arith, subst}
+use Rattle.std.proofs.Common.{length, map, Contains, Option, eqb-true, mul-le-mul_right}
 use Rattle.std.proofs.lemmas.List.Folds.{flat_map-map}
 use Rattle.cqf_lists.proofs.Members.{contains_from_filter, contains_from_map}
 use Rattle.cqf_lists.proofs.Numbers.{kept_number, made_of_kept}
@@ -43,7 +44,8 @@ module _ (run : Run) (net : Network) (cycle bridge : ℕ) (s : Driven) (of : IsC
             eqb-true (cycle_of d sent.start.0) cycle (contains_from_filter (λ (x : Sent). cycle_of d x.start.0 == cycle) (net.carried f.0) sent held).1 in
             let upto = cycle_upto d.cycle_time sent.start.0 (omega (arith, of.compiled.accepted.cycle_least)) in
             let same = ap (λ (c : ℕ). c * d.cycle_time) in_cycle in
-            let most : (cycle + 1) * d.cycle_time ≤ 100000 * 10000000 = product (cycle + 1) d.cycle_time (omega (arith, early)) of.compiled.accepted.cycle_most in
+            let most : (cycle + 1) * d.cycle_time ≤ 100000 * 10000000 =
+            product (cycle + 1) d.cycle_time (omega (arith, early)) of.compiled.accepted.cycle_most in
             omega (arith, upto, same, most);
       })
     where
@@ -54,10 +56,12 @@ module _ (run : Run) (net : Network) (cycle bridge : ℕ) (s : Driven) (of : IsC
   pub may_gather : cycle < 100000 → (d : Domain) (batches : List LinkBatch) → d ≡ s.bridge.domain → batches ≡ s.inbox.items →
       (b : LinkBatch) → Contains batches b → CanGather d b
   may_gather early d batches same are b h =
-      subst (λ (e : Domain). CanGather e b) (sym (same ∙ come.domain)) (gathers early b (subst (λ (bs : List LinkBatch). Contains bs b) (are ∙ come.came_are) h))
+      subst (λ (e : Domain). CanGather e b) (sym (same ∙ come.domain))
+      (gathers early b (subst (λ (bs : List LinkBatch). Contains bs b) (are ∙ come.came_are) h))
 
   module _ (brings : CycleBringsItsBatches) (whole : BatchIsWholeInItsCycle) (in_order : FramesAreTakenInOrder) (d : Domain) (batches : List LinkBatch)
-      (offers : List Offered) (same : d ≡ s.bridge.domain) (are : batches ≡ s.inbox.items) (offered : offers ≡ offers_listed_at s.agenda cycle) (frames : List Received)
+      (offers : List Offered) (same : d ≡ s.bridge.domain) (are : batches ≡ s.inbox.items) (offered : offers ≡ offers_listed_at s.agenda cycle)
+      (frames : List Received)
       (order : IsInOrderOf (λ (x : Received). x.at) (gathered_by d batches offers) frames) where
     abbrev domain_is : d ≡ run.domain
     domain_is = same ∙ come.domain

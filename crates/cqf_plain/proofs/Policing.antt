@@ -1,5 +1,6 @@
 -- The frames of a cycle are policed at a bridge, one after the other, until one is lost.
-use Rattle.std.proofs.Common.{◌≡◌, ℕ, ◌+◌, ◌≤◌, ◌<◌, ◌++◌, Bool, true, false, List, [], ◌∷◌, sym, refl, ap, ◌∙◌, inl, inr, arith, subst, length, get_or, take, drop, Contains}
+use Rattle.std.proofs.Common.{◌≡◌, ℕ, ◌+◌, ◌≤◌, ◌<◌, ◌++◌, Bool, true, false, List, [], ◌∷◌, sym, refl, ap, ◌∙◌, inl}
+use Rattle.std.proofs.Common.{inr, arith, subst, length, get_or, take, drop, Contains}
 use Rattle.std.specs.Prelude.{if◌then◌else◌, slice_get}
 use Rattle.std.specs.List.Sorted.{IsNonDecreasingBy}
 use Rattle.std.proofs.lemmas.List.{drop_more, length-take-le, take-append-drop, take_all, take_more}
@@ -95,12 +96,13 @@ module _ (d : Domain) (bridge cycle : ℕ) (rows : List Row) (frames : List Rece
           counted = λ tables table.
               subst (λ (ps : List Policed). HaveCounted d.cycle_time cycle rows ps gates_after) (sym (done_more tables))
               (counts tables (done tables) table (h.counted tables table));
-          none_lost = λ tables table p held. elim (Contains-append_cases (done tables) (next tables ∷ []) p (subst (λ (ps : List Policed). Contains ps p) (done_more tables) held)) [
-            | inl before ↦ h.none_lost tables table p before
-            | inr last ↦
-                subst (λ (q : Policed). ¬ IsLoss q.verdict) (contains_one (next tables) p last)
-                (not_lost tables (done tables) table (h.counted tables table))
-          ];
+          none_lost = λ tables table p held. elim (Contains-append_cases (done tables) (next tables ∷ []) p
+              (subst (λ (ps : List Policed). Contains ps p) (done_more tables) held)) [
+                | inl before ↦ h.none_lost tables table p before
+                | inr last ↦
+                    subst (λ (q : Policed). ¬ IsLoss q.verdict) (contains_one (next tables) p last)
+                    (not_lost tables (done tables) table (h.counted tables table))
+              ];
         }
 
       -- or it is the first that is lost

@@ -1,5 +1,6 @@
 -- The bridges receive a cycle one after the other.
-use Rattle.std.proofs.Common.{◌≡◌, ℕ, ◌+◌, ◌<◌, ◌++◌, List, [], length, get_or, set, sym, ap, refl, ◌∙◌, inl, inr, arith, subst, append-nil, append_assoc, Contains}
+use Rattle.std.proofs.Common.{◌≡◌, ℕ, ◌+◌, ◌<◌, ◌++◌, List, [], length, get_or, set, sym, ap, refl, ◌∙◌, inl, inr}
+use Rattle.std.proofs.Common.{arith, subst, append-nil, append_assoc, Contains}
 use Rattle.std.specs.Prelude.{suc}
 use Rattle.std.proofs.lemmas.Bool.{cases_eq}
 use Rattle.cqf_lists.proofs.Members.{contains_at}
@@ -25,8 +26,9 @@ use Rattle.cqf_laws_bridge.specs.Verdicts.{LosesNothingIn, UnlostBatchesMayCome,
 use Rattle.cqf_plain.specs.declared.driven.Driven.{Driven}
 use Rattle.cqf_plain.specs.declared.faults.RunFault.{RunFault}
 use Rattle.cqf_plain.specs.declared.faults.RunFault.TheVariants.{WrongTables, Inside, Memory}
-use Rattle.cqf_plain.specs.Driven.{AllStandBefore, AllStandHalfway, FirstLoseNothing, HasCome, IsCycleOf, IsTableOf, ReceivesOne, StandsBeforeCycle, StandsHalfway, all_of, drops_of_first}
-use Rattle.cqf_plain.specs.Losing.{IsStopAt, IsStopIn}
+use Rattle.cqf_plain.specs.Driven.{AllStandBefore, AllStandHalfway, FirstLoseNothing, HasCome, IsCycleOf, IsTableOf}
+use Rattle.cqf_plain.specs.Driven.{ReceivesOne, StandsBeforeCycle, StandsHalfway, all_of, drops_of_first}
+use Rattle.cqf_plain.specs.Losing.{IsFaultAtBridge, IsFaultInCycle}
 use Rattle.cqf_plain.specs.Turns.{AreTurned}
 use Rattle.cqf_plain.proofs.Turning.{all_turned, next_was, none_turned, one_turned}
 
@@ -130,7 +132,8 @@ module _ (run : Run) (net : Network) (table : CycleTable) (of : IsCycleOf run ne
 
   -- the first bridges have received it
   pub record FirstHaveReceived (count : ℕ) (bridges : List Driven) (drops drops_after : List Dropped) : Type 0 where
-    pub turned : AreTurned (StandsHalfway run net cycle (all_of run net cycle)) (StandsBeforeCycle run net (cycle + 1)) (length run.domain.bridges) count bridges
+    pub turned : AreTurned (StandsHalfway run net cycle (all_of run net cycle)) (StandsBeforeCycle run net (cycle + 1))
+        (length run.domain.bridges) count bridges
     pub dropped : drops_after ≡ drops ++ drops_of_first run net cycle count
     pub none_lost : FirstLoseNothing run net cycle count
 
@@ -147,7 +150,8 @@ module _ (run : Run) (net : Network) (table : CycleTable) (of : IsCycleOf run ne
   pub next_receives : (count : ℕ) (bridges : List Driven) (drops now : List Dropped) (x : Driven) → FirstHaveReceived count bridges drops now →
       count < length run.domain.bridges → x ≡ get_or bridges count x → StandsHalfway run net cycle (all_of run net cycle) count x
   next_receives count bridges drops now x so inside is =
-      next_was (StandsHalfway run net cycle (all_of run net cycle)) (StandsBeforeCycle run net (cycle + 1)) (length run.domain.bridges) count bridges x so.turned inside is
+      next_was (StandsHalfway run net cycle (all_of run net cycle)) (StandsBeforeCycle run net (cycle + 1)) (length run.domain.bridges) count
+      bridges x so.turned inside is
 
   -- then one more
   pub one_received : (count place : ℕ) (bridges after : List Driven) (drops now now_after : List Dropped) (dropped : List Dropped) (y : Driven) →
@@ -156,7 +160,8 @@ module _ (run : Run) (net : Network) (table : CycleTable) (of : IsCycleOf run ne
   one_received count place bridges after drops now now_after dropped y so inside at is more listed =
       let next : suc count ≡ count + 1 = omega arith in
       record {
-        turned = one_turned (StandsHalfway run net cycle (all_of run net cycle)) (StandsBeforeCycle run net (cycle + 1)) (length run.domain.bridges) count place bridges after y
+        turned = one_turned (StandsHalfway run net cycle (all_of run net cycle)) (StandsBeforeCycle run net (cycle + 1))
+            (length run.domain.bridges) count place bridges after y
             so.turned inside at more.stands is;
         dropped = listed ∙ (λ i. so.dropped i ++ more.are_drops i)
             ∙ append_assoc drops (drops_of_first run net cycle count) (drops_of_cycle run net count cycle)
@@ -169,7 +174,7 @@ module _ (run : Run) (net : Network) (table : CycleTable) (of : IsCycleOf run ne
 
   -- or one doesn't
   pub one_stops : (count : ℕ) (bridges : List Driven) (drops now : List Dropped) (f : RunFault) → FirstHaveReceived count bridges drops now →
-      count < length run.domain.bridges → IsStopAt run net cycle count f → IsStopIn run net cycle f
+      count < length run.domain.bridges → IsFaultAtBridge run net cycle count f → IsFaultInCycle run net cycle f
   one_stops count bridges drops now WrongTables so inside stop = stop
   one_stops count bridges drops now (Inside frame) so inside stop = record {
     bridge = count;
@@ -183,7 +188,8 @@ module _ (run : Run) (net : Network) (table : CycleTable) (of : IsCycleOf run ne
   pub all_before : (count : ℕ) (bridges : List Driven) (drops now : List Dropped) → FirstHaveReceived count bridges drops now →
       count ≡ length run.domain.bridges → AllStandBefore run net (cycle + 1) bridges
   all_before count bridges drops now so past =
-      all_turned (StandsHalfway run net cycle (all_of run net cycle)) (StandsBeforeCycle run net (cycle + 1)) (length run.domain.bridges) count bridges so.turned (omega (arith, past))
+      all_turned (StandsHalfway run net cycle (all_of run net cycle)) (StandsBeforeCycle run net (cycle + 1)) (length run.domain.bridges)
+      count bridges so.turned (omega (arith, past))
 
   pub all_dropped : (count : ℕ) (bridges : List Driven) (drops now : List Dropped) → FirstHaveReceived count bridges drops now →
       count ≡ length run.domain.bridges → now ≡ drops ++ drops_of_first run net cycle (length run.domain.bridges)

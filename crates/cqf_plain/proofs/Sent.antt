@@ -90,7 +90,8 @@ module _ (run : Run) (net : Network) (cycle : ℕ) (of : IsCycleOf run net cycle
   one_sent count place bridges after batches batches_after y so inside at more is given =
       let next : suc count ≡ count + 1 = omega arith in
       record {
-        turned = one_turned (StandsBeforeCycle run net cycle) (StandsHalfway run net cycle none_yet) (length run.domain.bridges) count place bridges after y so.turned inside at is more;
+        turned = one_turned (StandsBeforeCycle run net cycle) (StandsHalfway run net cycle none_yet) (length run.domain.bridges) count place
+            bridges after y so.turned inside at is more;
         batches_are = given ∙ ap (λ (xs : List LinkBatch). xs ++ batches_from run.domain net.carried count cycle) so.batches_are
             ∙ ap (sent_by_first run net cycle) next;
       }
@@ -99,6 +100,7 @@ module _ (run : Run) (net : Network) (cycle : ℕ) (of : IsCycleOf run net cycle
   pub all_sent : (count : ℕ) (bridges : List Driven) (batches : List LinkBatch) → FirstHaveSent count bridges batches → count ≡ length run.domain.bridges →
       HaveAllSentCycle run net cycle bridges batches
   all_sent count bridges batches so past = record {
-    halfway = all_turned (StandsBeforeCycle run net cycle) (StandsHalfway run net cycle none_yet) (length run.domain.bridges) count bridges so.turned (omega (arith, past));
+    halfway = all_turned (StandsBeforeCycle run net cycle) (StandsHalfway run net cycle none_yet) (length run.domain.bridges) count bridges
+        so.turned (omega (arith, past));
     batches_are = so.batches_are ∙ ap (sent_by_first run net cycle) past;
   }

@@ -39,10 +39,10 @@ abbrev pub IsLostAt : Run → Network → ℕ → ℕ → ℕ → Type 0
 IsLostAt run net cycle bridge frame = IsFirstLost (policed_of run net.carried bridge cycle) frame
 
 -- why a bridge doesn't receive the cycle
-abbrev pub IsStopAt : Run → Network → ℕ → ℕ → RunFault → Type 0
-IsStopAt run net cycle bridge WrongTables = ⊥
-IsStopAt run net cycle bridge (Inside frame) = IsLostAt run net cycle bridge frame
-IsStopAt run net cycle bridge Memory = Unit {0}
+abbrev pub IsFaultAtBridge : Run → Network → ℕ → ℕ → RunFault → Type 0
+IsFaultAtBridge run net cycle bridge WrongTables = ⊥
+IsFaultAtBridge run net cycle bridge (Inside frame) = IsLostAt run net cycle bridge frame
+IsFaultAtBridge run net cycle bridge Memory = Unit {0}
 
 -- the frame is the first that is lost in the cycle
 pub record IsLostAmong (run : Run) (net : Network) (cycle frame : ℕ) : Type 0 where
@@ -52,7 +52,7 @@ pub record IsLostAmong (run : Run) (net : Network) (cycle frame : ℕ) : Type 0 
   pub none_lower : FirstLoseNothing run net cycle bridge
 
 -- why the bridges don't all receive it
-abbrev pub IsStopIn : Run → Network → ℕ → RunFault → Type 0
-IsStopIn run net cycle WrongTables = ⊥
-IsStopIn run net cycle (Inside frame) = IsLostAmong run net cycle frame
-IsStopIn run net cycle Memory = Unit {0}
+abbrev pub IsFaultInCycle : Run → Network → ℕ → RunFault → Type 0
+IsFaultInCycle run net cycle WrongTables = ⊥
+IsFaultInCycle run net cycle (Inside frame) = IsLostAmong run net cycle frame
+IsFaultInCycle run net cycle Memory = Unit {0}

@@ -1,7 +1,8 @@
 //! Why a run gives no book.
-ghost use Rattle.std.specs.Prelude.{Some};
+ghost use Rattle.std.specs.Prelude.{◌≡◌, Some};
 ghost use Rattle.cqf_plain.specs.Faults.{text_of_run_fault};
 
+use cqf_units::Memory;
 use std::fmt;
 use thiserror::Error;
 
@@ -28,5 +29,16 @@ impl fmt::Display for RunFault {
             RunFault::Inside(frame) => write!(f, "Inside {frame}"),
             RunFault::Memory => f.write_str("Memory"),
         }
+    }
+}
+
+/// Want of memory, as a fault.
+impl From<Memory> for RunFault {
+    ghost use Rattle.cqf_plain.specs.declared.faults.RunFault.TheVariants as variant;
+
+    ghost from_gives = { λ _ fault. fault ≡ variant.Memory };
+
+    fn from(_refused: Memory) -> RunFault {
+        RunFault::Memory
     }
 }

@@ -7,7 +7,7 @@ ghost use Rattle.cqf_model.specs.Network.{Network};
 ghost use Rattle.cqf_model.specs.Run.{Run};
 ghost use Rattle.cqf_laws_cycle.specs.Gathered.{IsInOrderOf};
 ghost use Rattle.cqf_bridge.specs.Batch.{LinkBatch};
-ghost use Rattle.cqf_plain.specs.Course.{ListsCycle};
+ghost use Rattle.cqf_plain.specs.SoFar.{ListsCycle};
 ghost use Rattle.cqf_plain.specs.Driven.{AllStandHalfway, AreHandedOut, HaveAllSentCycle, IsCycleOf, ListsBackground, all_of};
 
 use crate::driven::Driven;
@@ -24,6 +24,7 @@ fn bridge_at_end(domain: &Domain, link: u8) -> Option<u8>
     ensures only { IfSome result (λ bridge. (other : ℕ) → enters domain.now link other ≡ true → other ≡ bridge) }
     ensures none { IfNone result ((bridge : ℕ) → enters domain.now link bridge ≡ false) }
 {
+    // the domain is accepted: a fact
     let _accepted = domain.cycle_time();
     if link >= domain.links() {
         return None;

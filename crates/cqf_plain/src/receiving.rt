@@ -3,8 +3,9 @@ ghost use Rattle.std.specs.Prelude.{◌≡◌, ◌+◌, ◌++◌, ◌<◌, ℕ, 
 ghost use Rattle.cqf_model.specs.Network.{Network};
 ghost use Rattle.cqf_model.specs.Run.{Run};
 ghost use Rattle.cqf_laws_bridge.specs.Verdicts.{LosesNothingIn};
-ghost use Rattle.cqf_plain.specs.Driven.{AllStandBefore, AllStandHalfway, FirstLoseNothing, HasCome, IsCycleOf, IsTableOf, ReceivesOne, StandsHalfway, all_of, drops_of_first};
-ghost use Rattle.cqf_plain.specs.Losing.{IsStopAt, IsStopIn};
+ghost use Rattle.cqf_plain.specs.Driven.{AllStandBefore, AllStandHalfway, FirstLoseNothing, HasCome, IsCycleOf};
+ghost use Rattle.cqf_plain.specs.Driven.{IsTableOf, ReceivesOne, StandsHalfway, all_of, drops_of_first};
+ghost use Rattle.cqf_plain.specs.Losing.{IsFaultAtBridge, IsFaultInCycle};
 ghost use Rattle.cqf_model.specs.Limits.{most_cycles};
 
 use crate::RunFault;
@@ -23,7 +24,7 @@ fn why_lost(alloc: Global, driven: &Driven, table: &Table) -> RunFault
     requires part { (run : Run) × (net : Network) × (bridge : ℕ) × IsCycleOf run net table.now.cycle × IsTableOf run table.now
         × HasCome run net table.now.cycle bridge driven.now × (¬ LosesNothingIn run net bridge table.now.cycle) }
     ensures { (run : Run) (net : Network) (bridge : ℕ) → IsCycleOf run net table.now.cycle → IsTableOf run table.now →
-        HasCome run net table.now.cycle bridge driven.now → IsStopAt run net table.now.cycle bridge result }
+        HasCome run net table.now.cycle bridge driven.now → IsFaultAtBridge run net table.now.cycle bridge result }
 {
     match first_lost(alloc, driven, table) {
         Ok(Some(frame)) => RunFault::Inside(frame),
@@ -41,7 +42,7 @@ fn receive_one(alloc: Global, driven: &mut Driven, table: &Table) -> Result<Vec<
         StandsHalfway run net table.now.cycle (all_of run net table.now.cycle) bridge driven.old →
         ReceivesOne run net table.now.cycle bridge driven.new drops.items) }
     ensures stops { IfErr result (λ fault. (run : Run) (net : Network) (bridge : ℕ) → IsCycleOf run net table.now.cycle → IsTableOf run table.now →
-        StandsHalfway run net table.now.cycle (all_of run net table.now.cycle) bridge driven.old → IsStopAt run net table.now.cycle bridge fault) }
+        StandsHalfway run net table.now.cycle (all_of run net table.now.cycle) bridge driven.old → IsFaultAtBridge run net table.now.cycle bridge fault) }
 {
     new_bridge_follows();
     receiving_follows();
@@ -84,17 +85,14 @@ pub(crate) fn receive_all(
         AllStandHalfway run net table.now.cycle (all_of run net table.now.cycle) bridges.old.items →
         FirstLoseNothing run net table.now.cycle (length run.domain.bridges)) }
     ensures stops { IfErr result (λ fault. (run : Run) (net : Network) → IsCycleOf run net table.now.cycle → IsTableOf run table.now →
-        AllStandHalfway run net table.now.cycle (all_of run net table.now.cycle) bridges.old.items → IsStopIn run net table.now.cycle fault) }
+        AllStandHalfway run net table.now.cycle (all_of run net table.now.cycle) bridges.old.items → IsFaultInCycle run net table.now.cycle fault) }
 {
     for place in 0..bridges.len() {
         let dropped = match receive_one(alloc, &mut bridges[place], table) {
             Ok(dropped) => dropped,
             Err(fault) => return Err(fault),
         };
-        match drops.extend_from_slice(dropped.as_slice()) {
-            Ok(()) => {}
-            Err(_) => return Err(RunFault::Memory),
-        }
+        drops.extend_from_slice(dropped.as_slice())?;
     }
     Ok(())
 }

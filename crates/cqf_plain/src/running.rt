@@ -3,13 +3,13 @@ ghost use Rattle.std.specs.Prelude.{◌≤◌, IfErr, IfOk, OnOk, length};
 ghost use Rattle.cqf_model.specs.Book.{contents_of};
 ghost use Rattle.cqf_model.specs.Network.{Network};
 ghost use Rattle.cqf_model.specs.Run.{AreBackground, AreOffers, Run};
-ghost use Rattle.cqf_plain.specs.Course.{IsAt, IsRunOver, StopsCourse};
+ghost use Rattle.cqf_plain.specs.SoFar.{IsAt, IsRunOver, StopsRun};
 ghost use Rattle.cqf_plain.specs.Promise.{KeepsItOfHistory, WantsMemoryAlone};
 ghost use Rattle.cqf_plain.specs.Run.{AreTablesNumbered, IsBookOfRun, IsRunFault, run_of};
 ghost use Rattle.cqf_model.specs.Limits.{most_cycles, most_rows};
 
 use crate::RunFault;
-use crate::course::Course;
+use crate::so_far::RunSoFar;
 use crate::tables::are_numbered;
 use cqf_admission::Table;
 use cqf_compile::Plan;
@@ -27,18 +27,18 @@ fn go_all(
     alloc: Global,
     domain: &Domain,
     tables: &[Table],
-    course: &mut Course,
+    so_far: &mut RunSoFar,
 ) -> Result<(), RunFault>
     requires short { length tables.now ≤ most_cycles }
     requires numbered { AreTablesNumbered (length tables.now) tables.now }
-    requires part { (run : Run) × (net : Network) × IsRunOver domain.now tables.now run net × IsAt run net 0 course.old }
-    ensures goes { OnOk result ((run : Run) (net : Network) → IsRunOver domain.now tables.now run net → IsAt run net 0 course.old →
-        IsAt run net (length tables.now) course.new) }
-    ensures stops { IfErr result (λ fault. (run : Run) (net : Network) → IsRunOver domain.now tables.now run net → IsAt run net 0 course.old →
-        StopsCourse run fault) }
+    requires part { (run : Run) × (net : Network) × IsRunOver domain.now tables.now run net × IsAt run net 0 so_far.old }
+    ensures goes { OnOk result ((run : Run) (net : Network) → IsRunOver domain.now tables.now run net → IsAt run net 0 so_far.old →
+        IsAt run net (length tables.now) so_far.new) }
+    ensures stops { IfErr result (λ fault. (run : Run) (net : Network) → IsRunOver domain.now tables.now run net → IsAt run net 0 so_far.old →
+        StopsRun run fault) }
 {
     for place in 0..tables.len() {
-        match course.go_on(alloc, domain, &tables[place]) {
+        match so_far.go_on(alloc, domain, &tables[place]) {
             Ok(()) => {}
             Err(fault) => return Err(fault),
         }
@@ -61,19 +61,18 @@ fn run_numbered(
     requires background { AreBackground plan.now background.now }
     requires few_background { length background.now ≤ most_rows }
     ensures book { IfOk result (λ book. IsBookOfRun (run_of plan.now tables.now offers.now background.now) (contents_of book)) }
-    ensures stops { IfErr result (StopsCourse (run_of plan.now tables.now offers.now background.now)) }
+    ensures stops { IfErr result (StopsRun (run_of plan.now tables.now offers.now background.now)) }
 {
     new_bridge_follows();
     legal_network_exists();
     legal_network_is_unique();
     book_is_unique();
     drops_are_of_the_cycle();
+    // the domain is accepted: a fact
     let _accepted = plan.domain();
-    let Ok(mut course) = Course::new(alloc, plan, offers, background) else {
-        return Err(RunFault::Memory);
-    };
-    match go_all(alloc, plan.domain(), tables, &mut course) {
-        Ok(()) => Ok(course.into_book()),
+    let mut so_far = RunSoFar::new(alloc, plan, offers, background)?;
+    match go_all(alloc, plan.domain(), tables, &mut so_far) {
+        Ok(()) => Ok(so_far.into_book()),
         Err(fault) => Err(fault),
     }
 }
@@ -112,6 +111,7 @@ pub fn run(
     if !are_numbered(tables, cycles) {
         return Err(RunFault::WrongTables);
     }
+    // the domain is accepted: a fact
     let _accepted = plan.domain();
     match run_numbered(alloc, plan, tables, offers, background) {
         Ok(book) => Ok(book),

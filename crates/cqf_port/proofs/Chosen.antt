@@ -1,5 +1,6 @@
 -- The choice among the heads, from what their classes ask for.
-use Rattle.std.proofs.Common.{ℕ, ◌≡◌, ◌≢◌, ◌+◌, ◌*◌, ◌%◌, ◌^◌, ◌≤◌, ◌<◌, ◌↔◌, List, length, get_or, set, IsBitSet, Option, None, min, bit_or, w8, inl, inr, sym, ap, subst, ◌∙◌, arith}
+use Rattle.std.proofs.Common.{ℕ, ◌≡◌, ◌≢◌, ◌+◌, ◌*◌, ◌%◌, ◌^◌, ◌≤◌, ◌<◌, ◌↔◌, List, length, get_or, set, IsBitSet}
+use Rattle.std.proofs.Common.{Option, None, min, bit_or, w8, inl, inr, sym, ap, subst, ◌∙◌, arith}
 use Rattle.std.specs.Prelude.{MatchOption}
 use Rattle.std.specs.Int.{bit_at}
 use Rattle.std.proofs.lemmas.Bool.{cases_lt}
@@ -15,7 +16,8 @@ use Rattle.cqf_port.specs.Asked.{HeadFits, NoHeadFits, IsShortFrame, AreAsked}
 use Rattle.cqf_port.specs.Spans.{AreSpansAt}
 
 -- no class is asked for at first
-pub none_asked : (octet_time : ℕ) (arrivals : List Arrival) (heads : List (Option ℕ)) (t : ℕ) (spans need left : List ℕ) → length need ≡ 8 → length left ≡ 8 → AreAsked octet_time arrivals heads t spans 0 0 need left
+pub none_asked : (octet_time : ℕ) (arrivals : List Arrival) (heads : List (Option ℕ)) (t : ℕ) (spans need left : List ℕ) → length need ≡ 8 →
+    length left ≡ 8 → AreAsked octet_time arrivals heads t spans 0 0 need left
 none_asked octet_time arrivals heads t spans need left eight also = record {
   eight_need = eight;
   eight_left = also;
@@ -24,7 +26,9 @@ none_asked octet_time arrivals heads t spans need left eight also = record {
   others = λ class low unseen. unset_from_zero 0 class (bit_at-zero class);
 }
 
-module _ (octet_time : ℕ) (arrivals : List Arrival) (heads : List (Option ℕ)) (t : ℕ) (spans : List ℕ) (seen classes : ℕ) (need left : List ℕ) (low_seen : seen < 8) (so_far : AreAsked octet_time arrivals heads t spans seen classes need left) (short : IsShortFrame octet_time arrivals (get_or heads seen None)) where
+module _ (octet_time : ℕ) (arrivals : List Arrival) (heads : List (Option ℕ)) (t : ℕ) (spans : List ℕ) (seen classes : ℕ) (need left : List ℕ)
+    (low_seen : seen < 8) (so_far : AreAsked octet_time arrivals heads t spans seen classes need left)
+    (short : IsShortFrame octet_time arrivals (get_or heads seen None)) where
   -- what is short of the classes so far and of one more
   short_more : (class : ℕ) → class < 8 → class < seen + 1 → IsShortFrame octet_time arrivals (get_or heads class None)
   short_more class low looked = elim (cases_lt class seen) [
@@ -33,7 +37,8 @@ module _ (octet_time : ℕ) (arrivals : List Arrival) (heads : List (Option ℕ)
   ]
 
   -- one more class asks for nothing
-  pub asked_none : NoHeadFits octet_time arrivals (get_or heads seen None) t (get_or spans seen 0) → AreAsked octet_time arrivals heads t spans (seen + 1) classes need left
+  pub asked_none : NoHeadFits octet_time arrivals (get_or heads seen None) t (get_or spans seen 0) →
+      AreAsked octet_time arrivals heads t spans (seen + 1) classes need left
   asked_none none = record {
     eight_need = so_far.eight_need;
     eight_left = so_far.eight_left;
@@ -50,7 +55,9 @@ module _ (octet_time : ℕ) (arrivals : List Arrival) (heads : List (Option ℕ)
   }
 
   -- one more class asks
-  pub asked_some : (asked_need asked_left after : ℕ) → after ≡ bit_or classes (1 * 2 ^ seen % 2 ^ 8) → (asked_need ≤ asked_left) ↔ HeadFits octet_time arrivals (get_or heads seen None) t (get_or spans seen 0) → AreAsked octet_time arrivals heads t spans (seen + 1) after (set need seen asked_need) (set left seen asked_left)
+  pub asked_some : (asked_need asked_left after : ℕ) → after ≡ bit_or classes (1 * 2 ^ seen % 2 ^ 8) →
+      (asked_need ≤ asked_left) ↔ HeadFits octet_time arrivals (get_or heads seen None) t (get_or spans seen 0) →
+      AreAsked octet_time arrivals heads t spans (seen + 1) after (set need seen asked_need) (set left seen asked_left)
   asked_some asked_need asked_left after is asks = record {
     eight_need = length-set need seen asked_need ∙ so_far.eight_need;
     eight_left = length-set left seen asked_left ∙ so_far.eight_left;
@@ -69,7 +76,8 @@ module _ (octet_time : ℕ) (arrivals : List Arrival) (heads : List (Option ℕ)
           let bit : bit_at after seen ≡ 1 = ap (λ m. bit_at m seen) is ∙ bit_at_set_same w8 classes seen low_seen in
           let new_need = get_or-set_same need seen asked_need 0 (omega (arith, so_far.eight_need)) in
           let new_left = get_or-set_same left seen asked_left 0 (omega (arith, so_far.eight_left)) in
-          subst (λ k. (IsBitSet after k × (get_or (set need seen asked_need) k 0 ≤ get_or (set left seen asked_left) k 0)) ↔ HeadFits octet_time arrivals (get_or heads k None) t (get_or spans k 0)) same (
+          subst (λ k. (IsBitSet after k × (get_or (set need seen asked_need) k 0 ≤ get_or (set left seen asked_left) k 0)) ↔ HeadFits
+          octet_time arrivals (get_or heads k None) t (get_or spans k 0)) same (
             λ is_set. asks.0 (omega (arith, new_need, new_left, is_set.1)),
             λ fits. (set_from_one after seen bit, omega (arith, new_need, new_left, asks.1 fits)),
           )
@@ -91,13 +99,16 @@ capped need left most fits = (
   λ le. omega arith,
 )
 
-module _ (rules : PortRules) (arrivals : List Arrival) (heads : List (Option ℕ)) (t : ℕ) (spans : List ℕ) (classes : ℕ) (need left : List ℕ) (some : 0 < rules.octet_time) (inside : AreInside arrivals heads) (open_for : AreSpansAt rules.entries t (2 ^ 62) spans) (asked : AreAsked rules.octet_time arrivals heads t spans 8 classes need left) where
+module _ (rules : PortRules) (arrivals : List Arrival) (heads : List (Option ℕ)) (t : ℕ) (spans : List ℕ) (classes : ℕ) (need left : List ℕ)
+    (some : 0 < rules.octet_time) (inside : AreInside arrivals heads) (open_for : AreSpansAt rules.entries t (2 ^ 62) spans)
+    (asked : AreAsked rules.octet_time arrivals heads t spans 8 classes need left) where
   -- a frame takes some time
   takes_some : (place : ℕ) → 0 < (octets_of arrivals place + 8) * rules.octet_time
   takes_some place = grind arith
 
   -- a head that fits is ready
-  ready_from_fits : (class : ℕ) → class < 8 → (fits : HeadFits rules.octet_time arrivals (get_or heads class None) t (get_or spans class 0)) → IsReady rules arrivals heads t class fits.place
+  ready_from_fits : (class : ℕ) → class < 8 → (fits : HeadFits rules.octet_time arrivals (get_or heads class None) t (get_or spans class 0))
+      → IsReady rules arrivals heads t class fits.place
   ready_from_fits class low fits =
       let takes : ℕ = (octets_of arrivals fits.place + 8) * rules.octet_time in
       let small = asked.short class low low fits.place fits.is_head in
@@ -109,11 +120,13 @@ module _ (rules : PortRules) (arrivals : List Arrival) (heads : List (Option ℕ
       }
 
   -- and the other way round
-  fits_from_ready : (class place : ℕ) → class < 8 → IsReady rules arrivals heads t class place → HeadFits rules.octet_time arrivals (get_or heads class None) t (get_or spans class 0)
+  fits_from_ready : (class place : ℕ) → class < 8 → IsReady rules arrivals heads t class place →
+      HeadFits rules.octet_time arrivals (get_or heads class None) t (get_or spans class 0)
   fits_from_ready class place low ready =
       let takes : ℕ = (octets_of arrivals place + 8) * rules.octet_time in
       let small = asked.short class low low place ready.is_head in
-      let through : IsOpenThrough rules.entries class t (t + takes) = subst (λ k. IsOpenThrough rules.entries k t (t + takes)) (inside.classes class place low ready.is_head) ready.eligible in
+      let through : IsOpenThrough rules.entries class t (t + takes) =
+      subst (λ k. IsOpenThrough rules.entries k t (t + takes)) (inside.classes class place low ready.is_head) ready.eligible in
       record {
         place = place;
         is_head = ready.is_head;
@@ -128,12 +141,14 @@ module _ (rules : PortRules) (arrivals : List Arrival) (heads : List (Option ℕ
       unset_from_zero eligible class (ap (λ m. bit_at m class) none ∙ bit_at-zero class) ((are class low).1 bits)
 
   -- else the head of the highest is chosen
-  pub highest_is_chosen : (eligible class : ℕ) → AreEligible classes need left eligible → IsHighest eligible class → MatchOption (get_or heads class None) (NoneReady rules arrivals heads t 0) (IsChosen rules arrivals heads t)
+  pub highest_is_chosen : (eligible class : ℕ) → AreEligible classes need left eligible → IsHighest eligible class →
+      MatchOption (get_or heads class None) (NoneReady rules arrivals heads t 0) (IsChosen rules arrivals heads t)
   highest_is_chosen eligible class are highest =
       let fits = (asked.each class highest.low highest.low).0 ((are class highest.low).0 highest.is_set) in
       subst (λ head. MatchOption head (NoneReady rules arrivals heads t 0) (IsChosen rules arrivals heads t)) (sym fits.is_head) (record {
         class = class;
         low = highest.low;
         ready = ready_from_fits class highest.low fits;
-        above = λ other place above low ready. highest.none_above other (omega arith) ((are other low).1 ((asked.each other low low).1 (fits_from_ready other place low ready)));
+        above = λ other place above low ready. highest.none_above other (omega arith)
+            ((are other low).1 ((asked.each other low low).1 (fits_from_ready other place low ready)));
       })

@@ -1,5 +1,6 @@
 -- The next start of a port.
-use Rattle.std.proofs.Common.{ℕ, ◌≡◌, ◌+◌, ◌-◌, ◌*◌, ◌/◌, ◌%◌, ◌≤◌, ◌<◌, List, Option, Some, None, get_or, min, max, IsBitSet, inl, inr, sym, ap, subst, ◌∙◌, arith}
+use Rattle.std.proofs.Common.{ℕ, ◌≡◌, ◌+◌, ◌-◌, ◌*◌, ◌/◌, ◌%◌, ◌≤◌, ◌<◌, List, Option, Some, None, get_or, min, max}
+use Rattle.std.proofs.Common.{IsBitSet, inl, inr, sym, ap, subst, ◌∙◌, arith}
 use Rattle.std.specs.Prelude.{MatchOption}
 use Rattle.std.proofs.lemmas.Bool.{cases_lt}
 use Rattle.std.proofs.Math.Nat.{mod-add-div'}
@@ -17,14 +18,16 @@ use Rattle.cqf_port.proofs.Heads.{none_is_due, chosen_is_due}
 use Rattle.cqf_port.proofs.Steps.{abreast_skip}
 
 -- one more head has come by the later of two instants
-pub come_more : (arrivals : List Arrival) (heads : List (Option ℕ)) (seen latest after : ℕ) → HaveCome arrivals heads seen latest → latest ≤ after → ((place : ℕ) → get_or heads seen None ≡ Some place → instant_of arrivals place ≤ after) → HaveCome arrivals heads (seen + 1) after
+pub come_more : (arrivals : List Arrival) (heads : List (Option ℕ)) (seen latest after : ℕ) → HaveCome arrivals heads seen latest →
+    latest ≤ after → ((place : ℕ) → get_or heads seen None ≡ Some place → instant_of arrivals place ≤ after) → HaveCome arrivals heads (seen + 1) after
 come_more arrivals heads seen latest after so_far later here class place below is_head = elim (cases_lt class seen) [
   | inl before ↦ omega (arith, so_far class place before is_head)
   | inr last ↦ (let same : seen ≡ class = omega arith in here place (subst (λ k. get_or heads k None ≡ Some place) (sym same) is_head))
 ]
 
 -- rounds repeat
-pub same_in_round : StatesAreOfTheEntry → SomeEntryIsInForce → (entries : List Entry) → 0 < round_of entries → (t rounds : ℕ) → states_at entries (t + rounds * round_of entries) ≡ states_at entries t
+pub same_in_round : StatesAreOfTheEntry → SomeEntryIsInForce → (entries : List Entry) → 0 < round_of entries → (t rounds : ℕ) →
+    states_at entries (t + rounds * round_of entries) ≡ states_at entries t
 same_in_round states some_entry entries positive t rounds =
     let there = some_entry entries t positive in
     let here : InForce entries (t + rounds * round_of entries) there.0 there.1 = record {
@@ -36,7 +39,9 @@ same_in_round states some_entry entries positive t rounds =
     states entries (t + rounds * round_of entries) there.0 there.1 here ∙ sym (states entries t there.0 there.1 there.2)
 
 -- what isn't ready in a whole round once all heads have come never is
-pub never_ready : StatesAreOfTheEntry → SomeEntryIsInForce → (rules : PortRules) (arrivals : List Arrival) (heads : List (Option ℕ)) (from latest : ℕ) → 0 < round_of rules.entries → from ≤ latest → HaveCome arrivals heads 8 latest → ((s : ℕ) → from ≤ s → s < latest + round_of rules.entries → NoneReady rules arrivals heads s 0) → NeverReady rules arrivals heads from
+pub never_ready : StatesAreOfTheEntry → SomeEntryIsInForce → (rules : PortRules) (arrivals : List Arrival) (heads : List (Option ℕ)) (from latest : ℕ)
+    → 0 < round_of rules.entries → from ≤ latest → HaveCome arrivals heads 8 latest →
+    ((s : ℕ) → from ≤ s → s < latest + round_of rules.entries → NoneReady rules arrivals heads s 0) → NeverReady rules arrivals heads from
 never_ready states some_entry rules arrivals heads from latest positive in_order come none s behind = elim (cases_lt s (latest + round_of rules.entries)) [
   | inl soon ↦ none s behind soon
   | inr late ↦ λ class place lowest low ready.
@@ -54,26 +59,33 @@ never_ready states some_entry rules arrivals heads from latest positive in_order
       })
 ]
 
-module _ (rules : PortRules) (arrivals : List Arrival) (reached from : ℕ) (starts : List Transmission) (progress : Progress) (taken : AreTaken arrivals) (abreast : IsAbreast rules arrivals reached starts progress) (first : from ≡ max reached progress.idle_from.0) where
+module _ (rules : PortRules) (arrivals : List Arrival) (reached from : ℕ) (starts : List Transmission) (progress : Progress)
+    (taken : AreTaken arrivals) (abreast : IsAbreast rules arrivals reached starts progress) (first : from ≡ max reached progress.idle_from.0) where
   -- where no head is ready from an instant on, the port is abreast of a later one
-  abreast_until : (e : ℕ) → reached ≤ e → ((s : ℕ) → from ≤ s → s < e → NoneReady rules arrivals progress.heads s 0) → IsAbreast rules arrivals e starts progress
+  abreast_until : (e : ℕ) → reached ≤ e → ((s : ℕ) → from ≤ s → s < e → NoneReady rules arrivals progress.heads s 0) →
+      IsAbreast rules arrivals e starts progress
   abreast_until e later none = abreast_skip rules arrivals reached e starts progress abreast later (λ s after soon idle.
       let free = abreast.idle s after idle in
       none_is_due rules arrivals reached s starts progress taken abreast after (none s (omega arith) soon))
 
   -- what is ready first starts next
-  pub starts_next : (result : Option Nanos) → MatchOption result (NeverReady rules arrivals progress.heads from) (λ t. IsNextReady rules arrivals progress.heads from t.0) → MatchOption result (StartsNoMore (record { rules = rules; reached = reached; arrivals = arrivals; starts = starts })) (λ t. StartsNext (record { rules = rules; reached = reached; arrivals = arrivals; starts = starts }) t.0)
+  pub starts_next : (result : Option Nanos) → MatchOption result (NeverReady rules arrivals progress.heads from)
+      (λ t. IsNextReady rules arrivals progress.heads from t.0) →
+      MatchOption result (StartsNoMore (record { rules = rules; reached = reached; arrivals = arrivals; starts = starts }))
+      (λ t. StartsNext (record { rules = rules; reached = reached; arrivals = arrivals; starts = starts }) t.0)
   starts_next None never = λ end later. (abreast_until end later (λ s after soon. never s after)).legal
   starts_next (Some t) next =
       let here : IsAbreast rules arrivals t.0 starts progress = abreast_until t.0 (omega (arith, next.later)) next.none_before in
       record {
         from_now = omega (arith, next.later);
         place = next.place;
-        legal = legal_start rules arrivals t.0 starts next.place here.legal (here.idle_again t.0 (omega arith) (omega (arith, next.later))) (chosen_is_due rules arrivals t.0 starts progress next.place taken here next.chosen);
+        legal = legal_start rules arrivals t.0 starts next.place here.legal (here.idle_again t.0 (omega arith) (omega (arith, next.later)))
+            (chosen_is_due rules arrivals t.0 starts progress next.place taken here next.chosen);
       }
 
 -- a class that was closed for a round was closed for longer
-pub closed_for_good : StatesAreOfTheEntry → SomeEntryIsInForce → (entries : List Entry) (class first end last : ℕ) → 0 < round_of entries → end ≡ min last (first + round_of entries) → ((s : ℕ) → first ≤ s → s < end → ¬ IsOpen entries class s) → ¬ WasOpen entries class first last
+pub closed_for_good : StatesAreOfTheEntry → SomeEntryIsInForce → (entries : List Entry) (class first end last : ℕ) → 0 < round_of entries →
+    end ≡ min last (first + round_of entries) → ((s : ℕ) → first ≤ s → s < end → ¬ IsOpen entries class s) → ¬ WasOpen entries class first last
 closed_for_good states some_entry entries class first end last positive is closed was =
     let round : ℕ = round_of entries in
     let rounds : ℕ = (was.instant - first) / round in
@@ -83,5 +95,6 @@ closed_for_good states some_entry entries class first end last positive is close
     let to = was.before_last in
     let short : (was.instant - first) % round < round = omega (arith, positive) in
     let at : within + rounds * round ≡ was.instant = omega (arith, whole, from) in
-    let same : states_at entries was.instant ≡ states_at entries within = ap (states_at entries) (sym at) ∙ same_in_round states some_entry entries positive within rounds in
+    let same : states_at entries was.instant ≡ states_at entries within = ap (states_at entries) (sym at)
+    ∙ same_in_round states some_entry entries positive within rounds in
     closed within (omega arith) (omega arith) (subst (λ x. IsBitSet x class) same was.is_open)

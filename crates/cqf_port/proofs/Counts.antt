@@ -1,5 +1,7 @@
 -- How many frames wait, counted from the head of their class on.
-use Rattle.std.proofs.Common.{ℕ, ◌≡◌, ◌+◌, ◌≤◌, ◌<◌, inl, inr, List, [], ◌∷◌, length, get_or, take, drop, ◌-◌, refl, sym, ap, subst, ◌∙◌, arith, Bool, true, false, cond, ◌&&◌, not, ◌==◌, Option, Some, None, eq-eqb, zero, suc}
+use Rattle.std.proofs.Common.{ℕ, ◌≡◌, ◌+◌, ◌≤◌, ◌<◌, inl, inr, List, [], ◌∷◌, length, get_or, take, drop, ◌-◌, refl}
+use Rattle.std.proofs.Common.{sym, ap, subst, ◌∙◌, arith, Bool, true, false, cond, ◌&&◌, not, ◌==◌, Option, Some, None}
+use Rattle.std.proofs.Common.{eq-eqb, zero, suc}
 use Rattle.std.specs.Prelude.{Contains, count_by}
 use Rattle.std.specs.List.{enumerate_from}
 use Rattle.std.proofs.lemmas.Bool.{ne_eqb}
@@ -18,14 +20,19 @@ use Rattle.cqf_port.proofs.More.{range_to_end}
 
 -- what has a start has started
 pub started_is : (starts : List Transmission) (place : ℕ) → HasStarted starts place → has_started starts place ≡ true
-started_is starts place started = list_any_at (λ (x : Transmission). x.0 == place) starts started.1.0 (place, started.0) started.1.1 (ap (λ (x : Transmission). x.0 == place) started.1.2 ∙ eq-eqb place place refl)
+started_is starts place started = list_any_at (λ (x : Transmission). x.0 == place) starts started.1.0 (place, started.0) started.1.1
+    (ap (λ (x : Transmission). x.0 == place) started.1.2 ∙ eq-eqb place place refl)
 
 -- and what has none hasn't
 pub not_started_is : (starts : List Transmission) (place : ℕ) → ((s : ℕ) → ¬ Contains starts (place, s)) → has_started starts place ≡ false
-not_started_is starts place none = list_any_none (λ (x : Transmission). x.0 == place) starts (λ k d inside. ne_eqb (get_or starts k d).0 place (λ same. none (get_or starts k d).1 (subst (λ (n : ℕ). Contains starts (n, (get_or starts k d).1)) same (Contains-get_or starts k d inside))))
+not_started_is starts place none = list_any_none (λ (x : Transmission). x.0 == place) starts
+    (λ k d inside. ne_eqb (get_or starts k d).0 place (λ same.
+    none (get_or starts k d).1 (subst (λ (n : ℕ). Contains starts (n, (get_or starts k d).1)) same (Contains-get_or starts k d inside))))
 
 -- behind the head of a class none of the class has started
-pub behind_head : (rules : PortRules) (arrivals : List Arrival) (t : ℕ) (starts : List Transmission) (class place other s : ℕ) → AreTaken arrivals → AreLegal rules arrivals t starts → IsHead arrivals starts class place → place ≤ other → class_of arrivals other ≡ class → ¬ Contains starts (other, s)
+pub behind_head : (rules : PortRules) (arrivals : List Arrival) (t : ℕ) (starts : List Transmission) (class place other s : ℕ) →
+    AreTaken arrivals → AreLegal rules arrivals t starts → IsHead arrivals starts class place → place ≤ other → class_of arrivals other
+    ≡ class → ¬ Contains starts (other, s)
 behind_head rules arrivals t starts class place other s taken legal head behind same started = elim (cases_order place other) [
   | inl lower ↦ (let first : IsFirst arrivals starts other s = legal.first other s started in
       let one_class : class_of arrivals place ≡ class_of arrivals other = head.of_class ∙ sym same in
@@ -53,7 +60,8 @@ and_false false = refl
 
 -- one element more is counted
 count_cons : {X : Type 0} (p : X → Bool) (x : X) (xs : List X) (hit : Bool) (n : ℕ) → p x ≡ hit → count_by p xs ≡ n → count_by p (x ∷ xs) ≡ cond hit 1 0 + n
-count_cons p x xs hit n first rest = sum_by-cons (λ y. cond (p y) 1 0) x xs ∙ ap (λ (b : Bool). cond b 1 0 + count_by p xs) first ∙ ap (λ (m : ℕ). cond hit 1 0 + m) rest
+count_cons p x xs hit n first rest = sum_by-cons (λ y. cond (p y) 1 0) x xs ∙ ap (λ (b : Bool). cond b 1 0 + count_by p xs) first
+    ∙ ap (λ (m : ℕ). cond hit 1 0 + m) rest
 
 module _ (starts : List Transmission) (class : ℕ) where
   -- the frame waits
@@ -79,38 +87,55 @@ module _ (starts : List Transmission) (class : ℕ) where
   ]
 
   -- where none of the class has started, all of it wait
-  each_waits : (n : ℕ) (xs : List Arrival) → ((place i : ℕ) → place ≡ n + i → i < length xs → (get_or xs i no_arrival).class ≡ class → has_started starts place ≡ false) → count_by still_waits (enumerate_from n xs) ≡ count_by is_of_class xs
+  each_waits : (n : ℕ) (xs : List Arrival) → ((place i : ℕ) → place ≡ n + i → i < length xs → (get_or xs i no_arrival).class ≡ class →
+      has_started starts place ≡ false) → count_by still_waits (enumerate_from n xs) ≡ count_by is_of_class xs
   each_waits n [] behind = refl
   each_waits n (x ∷ xs) behind =
-      let rest : count_by still_waits (enumerate_from (n + 1) xs) ≡ count_by is_of_class xs = each_waits (n + 1) xs (λ place i is inside same. behind place (suc i) (omega arith) (omega arith) same) in
-      count_cons still_waits (n, x) (enumerate_from (n + 1) xs) (is_of_class x) (count_by is_of_class xs) (fresh n x (λ same. behind n 0 (omega arith) (omega arith) same)) rest
+      let rest : count_by still_waits (enumerate_from (n + 1) xs) ≡ count_by is_of_class xs =
+      each_waits (n + 1) xs (λ place i is inside same. behind place (suc i) (omega arith) (omega arith) same) in
+      count_cons still_waits (n, x) (enumerate_from (n + 1) xs) (is_of_class x) (count_by is_of_class xs)
+      (fresh n x (λ same. behind n 0 (omega arith) (omega arith) same)) rest
       ∙ sym (count_cons is_of_class x xs (is_of_class x) (count_by is_of_class xs) refl refl)
 
   -- the frames that wait are those of the class from its head on
-  pub count_from : (n head : ℕ) (xs : List Arrival) → ((place i : ℕ) → place ≡ n + i → i < length xs → i < head → (get_or xs i no_arrival).class ≡ class → has_started starts place ≡ true) → ((place i : ℕ) → place ≡ n + i → i < length xs → head ≤ i → (get_or xs i no_arrival).class ≡ class → has_started starts place ≡ false) → count_by still_waits (enumerate_from n xs) ≡ count_by is_of_class (drop head xs)
+  pub count_from : (n head : ℕ) (xs : List Arrival) → ((place i : ℕ) → place ≡ n + i → i < length xs → i < head → (get_or xs i no_arrival).class
+      ≡ class → has_started starts place ≡ true) → ((place i : ℕ) → place ≡ n + i → i < length xs → head ≤ i → (get_or xs i no_arrival).class
+      ≡ class → has_started starts place ≡ false) → count_by still_waits (enumerate_from n xs) ≡ count_by is_of_class (drop head xs)
   count_from n zero xs before behind = each_waits n xs (λ place i is inside same. behind place i is inside (omega arith) same)
   count_from n (suc head) [] before behind = refl
   count_from n (suc head) (x ∷ xs) before behind =
-      let rest : count_by still_waits (enumerate_from (n + 1) xs) ≡ count_by is_of_class (drop head xs) = count_from (n + 1) head xs (λ place i is inside lower same. before place (suc i) (omega arith) (omega arith) (omega arith) same) (λ place i is inside upper same. behind place (suc i) (omega arith) (omega arith) (omega arith) same) in
-      count_cons still_waits (n, x) (enumerate_from (n + 1) xs) false (count_by is_of_class (drop head xs)) (gone n x (λ same. before n 0 (omega arith) (omega arith) (omega arith) same)) rest
+      let rest : count_by still_waits (enumerate_from (n + 1) xs) ≡ count_by is_of_class (drop head xs) =
+      count_from (n + 1) head xs (λ place i is inside lower same. before place (suc i) (omega arith) (omega arith) (omega arith) same)
+      (λ place i is inside upper same. behind place (suc i) (omega arith) (omega arith) (omega arith) same) in
+      count_cons still_waits (n, x) (enumerate_from (n + 1) xs) false (count_by is_of_class (drop head xs))
+      (gone n x (λ same. before n 0 (omega arith) (omega arith) (omega arith) same)) rest
       ∙ omega arith
 
 -- from the head of the class on
-pub waiting_from_head : (rules : PortRules) (arrivals : List Arrival) (t : ℕ) (starts : List Transmission) (class head : ℕ) → AreTaken arrivals → AreLegal rules arrivals t starts → IsHead arrivals starts class head → waiting_of arrivals starts class ≡ count_by (λ (x : Arrival). x.class == class) (drop head arrivals)
+pub waiting_from_head : (rules : PortRules) (arrivals : List Arrival) (t : ℕ) (starts : List Transmission) (class head : ℕ) → AreTaken arrivals
+    → AreLegal rules arrivals t starts → IsHead arrivals starts class head → waiting_of arrivals starts class
+    ≡ count_by (λ (x : Arrival). x.class == class) (drop head arrivals)
 waiting_from_head rules arrivals t starts class head taken legal is_head = count_from starts class 0 head arrivals
-    (λ place i is inside lower same. let here : place ≡ i = omega arith in started_is starts place (is_head.started_before place (omega arith) (subst (λ (n : ℕ). class_of arrivals n ≡ class) (sym here) same)))
-    (λ place i is inside upper same. let here : place ≡ i = omega arith in not_started_is starts place (λ s. behind_head rules arrivals t starts class head place s taken legal is_head (omega arith) (subst (λ (n : ℕ). class_of arrivals n ≡ class) (sym here) same)))
+    (λ place i is inside lower same. let here : place ≡ i = omega arith in
+    started_is starts place (is_head.started_before place (omega arith) (subst (λ (n : ℕ). class_of arrivals n ≡ class) (sym here) same)))
+    (λ place i is inside upper same. let here : place ≡ i = omega arith in
+    not_started_is starts place (λ s. behind_head rules arrivals t starts class head place s taken legal is_head (omega arith)
+    (subst (λ (n : ℕ). class_of arrivals n ≡ class) (sym here) same)))
 
 -- none where the class has no head
-pub none_waiting : (arrivals : List Arrival) (starts : List Transmission) (class : ℕ) → IsHeadOf arrivals starts class None → waiting_of arrivals starts class ≡ 0
+pub none_waiting : (arrivals : List Arrival) (starts : List Transmission) (class : ℕ) → IsHeadOf arrivals starts class None →
+    waiting_of arrivals starts class ≡ 0
 none_waiting arrivals starts class all =
     count_from starts class 0 (length arrivals) arrivals
-    (λ place i is inside lower same. let here : place ≡ i = omega arith in started_is starts place (all place (omega arith) (subst (λ (n : ℕ). class_of arrivals n ≡ class) (sym here) same)))
+    (λ place i is inside lower same. let here : place ≡ i = omega arith in
+    started_is starts place (all place (omega arith) (subst (λ (n : ℕ). class_of arrivals n ≡ class) (sym here) same)))
     (λ place i is inside upper same. absurd (omega arith))
     ∙ ap (λ (rest : List Arrival). count_by (λ (x : Arrival). x.class == class) rest) (drop_all (length arrivals) arrivals (omega arith))
 
 -- what a port answers where the class has a head
-pub waiting_as : (rules : PortRules) (arrivals xs : List Arrival) (t : ℕ) (starts : List Transmission) (progress : Progress) (class slot head answer : ℕ) → AreTaken arrivals → IsAbreast rules arrivals t starts progress → class < 8 → slot ≡ class → get_or progress.heads slot None ≡ Some head → xs ≡ arrivals → answer ≡ count_by (λ (x : Arrival). x.class == class) (take (length xs - head) (drop head xs)) → answer ≡ waiting_of arrivals starts class
+pub waiting_as : (rules : PortRules) (arrivals xs : List Arrival) (t : ℕ) (starts : List Transmission) (progress : Progress) (class slot head answer : ℕ)
+    → AreTaken arrivals → IsAbreast rules arrivals t starts progress → class < 8 → slot ≡ class → get_or progress.heads slot None ≡ Some head
+    → xs ≡ arrivals → answer ≡ count_by (λ (x : Arrival). x.class == class) (take (length xs - head) (drop head xs)) → answer ≡ waiting_of arrivals starts class
 waiting_as rules arrivals xs t starts progress class slot head answer taken abreast low same is_head is counted =
     let own : get_or progress.heads class None ≡ Some head = subst (λ (n : ℕ). get_or progress.heads n None ≡ Some head) same is_head in
     let from_head : IsHead arrivals starts class head = head_at arrivals starts class head (get_or progress.heads class None) own (abreast.heads class low) in
@@ -120,7 +145,8 @@ waiting_as rules arrivals xs t starts progress class slot head answer taken abre
     ∙ sym (waiting_from_head rules arrivals t starts class head taken abreast.legal from_head)
 
 -- and where it has none
-pub none_as : (rules : PortRules) (arrivals : List Arrival) (t : ℕ) (starts : List Transmission) (progress : Progress) (class slot : ℕ) → IsAbreast rules arrivals t starts progress → class < 8 → slot ≡ class → get_or progress.heads slot None ≡ None → 0 ≡ waiting_of arrivals starts class
+pub none_as : (rules : PortRules) (arrivals : List Arrival) (t : ℕ) (starts : List Transmission) (progress : Progress) (class slot : ℕ) →
+    IsAbreast rules arrivals t starts progress → class < 8 → slot ≡ class → get_or progress.heads slot None ≡ None → 0 ≡ waiting_of arrivals starts class
 none_as rules arrivals t starts progress class slot abreast low same is_none =
     let own : get_or progress.heads class None ≡ None = subst (λ (n : ℕ). get_or progress.heads n None ≡ None) same is_none in
     sym (none_waiting arrivals starts class (subst (λ (head : Option ℕ). IsHeadOf arrivals starts class head) own (abreast.heads class low)))

@@ -14,7 +14,8 @@ none_more starts lowest = record {
 }
 
 -- more and then more again
-pub more_again : (before between after : List Transmission) (lowest later : ℕ) → AreMore before between lowest → AreMore between after later → lowest ≤ later → AreMore before after lowest
+pub more_again : (before between after : List Transmission) (lowest later : ℕ) → AreMore before between lowest → AreMore between after later
+    → lowest ≤ later → AreMore before after lowest
 more_again before between after lowest later first then in_order = record {
   made = first.made ++ then.made;
   value = then.value ∙ ap (λ (starts : List Transmission). starts ++ then.made) first.value ∙ rw append_assoc refl;

@@ -14,7 +14,8 @@ pub span_always : (entries : List Entry) (class t bound span : ℕ) → bound �
 span_always entries class t bound span large always need some small = (λ through. omega arith, λ fits s from to. always s)
 
 -- a class that closes stays open until then
-pub span_until : (entries : List Entry) (class t bound end : ℕ) → t < end → IsOpenThrough entries class t end → ¬ IsOpen entries class end → IsSpan entries class t bound (end - t)
+pub span_until : (entries : List Entry) (class t bound end : ℕ) → t < end → IsOpenThrough entries class t end → ¬ IsOpen entries class end →
+    IsSpan entries class t bound (end - t)
 span_until entries class t bound end later through closed need some small = (
   λ longer. elim (cases_lt end (t + need)) [
     | inl over ↦ absurd (closed (longer end (omega arith) over))
@@ -23,7 +24,8 @@ span_until entries class t bound end later through closed need some small = (
   λ fits s from to. through s from (omega arith),
 )
 
-module _ (states : StatesAreOfTheEntry) (round_takes : RoundTakesTime) (some_entry : SomeEntryIsInForce) (entries : List Entry) (t place offset : ℕ) (force : InForce entries t place offset) where
+module _ (states : StatesAreOfTheEntry) (round_takes : RoundTakesTime) (some_entry : SomeEntryIsInForce) (entries : List Entry)
+    (t place offset : ℕ) (force : InForce entries t place offset) where
   -- the first instant of the entry in the first round
   abbrev begun : ℕ
   begun = round_of (take place entries)
@@ -51,7 +53,8 @@ module _ (states : StatesAreOfTheEntry) (round_takes : RoundTakesTime) (some_ent
       states entries (begun + x) place x here ∙ sym (states entries t place offset force)
 
   -- what stays open from the beginning of the entry on stays so for less from within it
-  pub span_within : (class span bound shorter : ℕ) → offset + shorter ≤ bound → IsSpan entries class begun bound span → IsSpan entries class t shorter (span - offset)
+  pub span_within : (class span bound shorter : ℕ) → offset + shorter ≤ bound → IsSpan entries class begun bound span →
+      IsSpan entries class t shorter (span - offset)
   span_within class span bound shorter room from_begun need some small =
       let both = from_begun (offset + need) (omega arith) (omega arith) in (
         λ through.
@@ -62,7 +65,8 @@ module _ (states : StatesAreOfTheEntry) (round_takes : RoundTakesTime) (some_ent
                   subst (λ x. IsBitSet x class) (sym same) (through t (omega arith) (omega arith))
               | inr late ↦
                   let at : begun + offset + (s - (begun + offset)) ≡ s = omega arith in
-                  let same : states_at entries s ≡ states_at entries (t + (s - (begun + offset))) = ap (states_at entries) (sym at) ∙ sym (same_later (s - (begun + offset))) in
+                  let same : states_at entries s ≡ states_at entries (t + (s - (begun + offset))) = ap (states_at entries) (sym at)
+                  ∙ sym (same_later (s - (begun + offset))) in
                   subst (λ x. IsBitSet x class) (sym same) (through (t + (s - (begun + offset))) (omega arith) (omega arith))
             ] in
             omega (arith, both.0 longer),
@@ -73,7 +77,8 @@ module _ (states : StatesAreOfTheEntry) (round_takes : RoundTakesTime) (some_ent
       )
 
   -- the same of eight classes
-  pub spans_within : (spans : List (List ℕ)) (left : List ℕ) → AreSpans entries spans → offset < 2 ^ 32 → AreLess (get_or spans place []) offset left → AreSpansAt entries t (2 ^ 62) left
+  pub spans_within : (spans : List (List ℕ)) (left : List ℕ) → AreSpans entries spans → offset < 2 ^ 32 → AreLess (get_or spans place []) offset left
+      → AreSpansAt entries t (2 ^ 62) left
   spans_within spans left known short less = record {
     eight = less.eight;
     each = λ class low. subst (λ span. IsSpan entries class t (2 ^ 62) span) (sym (less.each class low))

@@ -1,5 +1,6 @@
 -- What a port knows stays right as instants pass, frames start and frames arrive.
-use Rattle.std.proofs.Common.{ℕ, ◌≡◌, ◌≢◌, ◌+◌, ◌≤◌, ◌<◌, ◌⊎◌, inl, inr, List, [], ◌∷◌, ◌++◌, length, get_or, ap, sym, subst, ◌∙◌, arith, refl, Option, Some, None}
+use Rattle.std.proofs.Common.{ℕ, ◌≡◌, ◌≢◌, ◌+◌, ◌≤◌, ◌<◌, ◌⊎◌, inl, inr, List, [], ◌∷◌, ◌++◌, length, get_or, ap, sym}
+use Rattle.std.proofs.Common.{subst, ◌∙◌, arith, refl, Option, Some, None}
 use Rattle.std.specs.Prelude.{Contains}
 use Rattle.std.proofs.lemmas.Bool.{cases_lt}
 use Rattle.std.proofs.lemmas.List.Elements.{Contains-append_left, Contains-push}
@@ -16,7 +17,9 @@ use Rattle.cqf_port.proofs.Longer.{same_arrival, last_arrival, arrival_after, ar
 use Rattle.cqf_port.proofs.Heads.{cases_order, none_is_due, chosen_is_due, head_at}
 
 -- instants pass at which nothing starts
-pub abreast_skip : (rules : PortRules) (arrivals : List Arrival) (t e : ℕ) (starts : List Transmission) (progress : Progress) → IsAbreast rules arrivals t starts progress → t ≤ e → ((s : ℕ) → t ≤ s → s < e → IsIdle rules arrivals starts s → (other : ℕ) → IsFirst arrivals starts other s → ¬ IsEligible rules arrivals other s) → IsAbreast rules arrivals e starts progress
+pub abreast_skip : (rules : PortRules) (arrivals : List Arrival) (t e : ℕ) (starts : List Transmission) (progress : Progress) →
+    IsAbreast rules arrivals t starts progress → t ≤ e → ((s : ℕ) → t ≤ s → s < e → IsIdle rules arrivals starts s → (other : ℕ) →
+    IsFirst arrivals starts other s → ¬ IsEligible rules arrivals other s) → IsAbreast rules arrivals e starts progress
 abreast_skip rules arrivals t e starts progress abreast later nothing = record {
   legal = legal_skip rules arrivals t e starts abreast.legal later (λ s other from_there soon idle first. nothing s from_there soon idle other first);
   idle = λ s after. abreast.idle s (omega arith);
@@ -27,12 +30,18 @@ abreast_skip rules arrivals t e starts progress abreast later nothing = record {
 }
 
 -- the port isn't idle yet
-pub abreast_busy : (rules : PortRules) (arrivals : List Arrival) (t e : ℕ) (starts : List Transmission) (progress : Progress) → IsAbreast rules arrivals t starts progress → t ≤ e → e ≤ progress.idle_from.0 → IsAbreast rules arrivals e starts progress
-abreast_busy rules arrivals t e starts progress abreast later busy = abreast_skip rules arrivals t e starts progress abreast later (λ s from_there soon idle other first. absurd (omega (arith, abreast.idle s from_there idle)))
+pub abreast_busy : (rules : PortRules) (arrivals : List Arrival) (t e : ℕ) (starts : List Transmission) (progress : Progress) →
+    IsAbreast rules arrivals t starts progress → t ≤ e → e ≤ progress.idle_from.0 → IsAbreast rules arrivals e starts progress
+abreast_busy rules arrivals t e starts progress abreast later busy =
+    abreast_skip rules arrivals t e starts progress abreast later (λ s from_there soon idle other first. absurd (omega (arith, abreast.idle s from_there idle)))
 
 -- no head is ready
-pub abreast_none : (rules : PortRules) (arrivals : List Arrival) (t e : ℕ) (starts : List Transmission) (progress : Progress) → AreTaken arrivals → IsAbreast rules arrivals t starts progress → t ≤ e → ((s : ℕ) → t ≤ s → s < e → NoneReady rules arrivals progress.heads s 0) → IsAbreast rules arrivals e starts progress
-abreast_none rules arrivals t e starts progress taken abreast later none_ready = abreast_skip rules arrivals t e starts progress abreast later (λ s from_there soon idle. none_is_due rules arrivals t s starts progress taken abreast from_there (none_ready s from_there soon))
+pub abreast_none : (rules : PortRules) (arrivals : List Arrival) (t e : ℕ) (starts : List Transmission) (progress : Progress) →
+    AreTaken arrivals → IsAbreast rules arrivals t starts progress → t ≤ e → ((s : ℕ) → t ≤ s → s < e → NoneReady rules arrivals progress.heads s 0)
+    → IsAbreast rules arrivals e starts progress
+abreast_none rules arrivals t e starts progress taken abreast later none_ready =
+    abreast_skip rules arrivals t e starts progress abreast later (λ s from_there soon idle. none_is_due rules arrivals t s starts progress
+    taken abreast from_there (none_ready s from_there soon))
 
 -- what had started still has
 started_still : (starts : List Transmission) (place t other : ℕ) → HasStarted starts other → HasStarted (starts ++ (place, t) ∷ []) other
@@ -42,7 +51,8 @@ started_still starts place t other started = (started.0, Contains-append_left st
 started_now : (starts : List Transmission) (place t other : ℕ) → place ≡ other → HasStarted (starts ++ (place, t) ∷ []) other
 started_now starts place t other same = (t, subst (λ (n : ℕ). Contains (starts ++ (place, t) ∷ []) (n, t)) same (Contains-push starts (place, t)))
 
-module _ (rules : PortRules) (arrivals : List Arrival) (t : ℕ) (starts : List Transmission) (place : ℕ) (taken : AreTaken arrivals) (legal : AreLegal rules arrivals t starts) (due : IsDue rules arrivals starts place t) where
+module _ (rules : PortRules) (arrivals : List Arrival) (t : ℕ) (starts : List Transmission) (place : ℕ) (taken : AreTaken arrivals)
+    (legal : AreLegal rules arrivals t starts) (due : IsDue rules arrivals starts place t) where
   -- what stands behind the frame that starts hasn't started if it is of the same class
   behind_not_started : (other s : ℕ) → place < other → class_of arrivals place ≡ class_of arrivals other → ¬ Contains starts (other, s)
   behind_not_started other s higher same started =
@@ -55,7 +65,8 @@ module _ (rules : PortRules) (arrivals : List Arrival) (t : ℕ) (starts : List 
       })
 
   -- the head of the class behind a start
-  next_head : (head : Option ℕ) → IsHead arrivals starts (class_of arrivals place) place → IsNextOf arrivals (place + 1) (class_of arrivals place) head → IsHeadOf arrivals (starts ++ (place, t) ∷ []) (class_of arrivals place) head
+  next_head : (head : Option ℕ) → IsHead arrivals starts (class_of arrivals place) place → IsNextOf arrivals (place + 1) (class_of arrivals place) head
+      → IsHeadOf arrivals (starts ++ (place, t) ∷ []) (class_of arrivals place) head
   next_head None head none_behind = λ other inside same. elim (cases_order other place) [
     | inl lower ↦ started_still starts place t other (head.started_before other lower same)
     | inr rest ↦ elim rest [
@@ -80,7 +91,8 @@ module _ (rules : PortRules) (arrivals : List Arrival) (t : ℕ) (starts : List 
   }
 
   -- the head of another class behind a start
-  other_head : (class : ℕ) (head : Option ℕ) → class ≢ class_of arrivals place → IsHeadOf arrivals starts class head → IsHeadOf arrivals (starts ++ (place, t) ∷ []) class head
+  other_head : (class : ℕ) (head : Option ℕ) → class ≢ class_of arrivals place → IsHeadOf arrivals starts class head →
+      IsHeadOf arrivals (starts ++ (place, t) ∷ []) class head
   other_head class None differs all = λ other inside same. started_still starts place t other (all other inside same)
   other_head class (Some first) differs head = record {
     inside = head.inside;
@@ -100,23 +112,30 @@ cases_same m n = elim (cases_order m n) [
 ]
 
 -- the chosen frame starts
-pub abreast_start : (rules : PortRules) (arrivals : List Arrival) (t : ℕ) (starts : List Transmission) (place : ℕ) (before after : Progress) → AreTaken arrivals → IsAbreast rules arrivals t starts before → before.idle_from.0 ≤ t → IsChosen rules arrivals before.heads t place → IsAfterStart rules.octet_time arrivals place t before after → IsAbreast rules arrivals (t + 1) (starts ++ (place, t) ∷ []) after
+pub abreast_start : (rules : PortRules) (arrivals : List Arrival) (t : ℕ) (starts : List Transmission) (place : ℕ) (before after : Progress)
+    → AreTaken arrivals → IsAbreast rules arrivals t starts before → before.idle_from.0 ≤ t → IsChosen rules arrivals before.heads t place →
+    IsAfterStart rules.octet_time arrivals place t before after → IsAbreast rules arrivals (t + 1) (starts ++ (place, t) ∷ []) after
 abreast_start rules arrivals t starts place before after taken abreast free chosen step =
     let due : IsDue rules arrivals starts place t = chosen_is_due rules arrivals t starts before place taken abreast chosen in
-    let old_head : IsHead arrivals starts chosen.class place = head_at arrivals starts chosen.class place (get_or before.heads chosen.class None) chosen.ready.is_head (abreast.heads chosen.class chosen.low) in
-    let head : IsHead arrivals starts (class_of arrivals place) place = subst (λ (class : ℕ). IsHead arrivals starts class place) (sym old_head.of_class) old_head in
+    let old_head : IsHead arrivals starts chosen.class place =
+    head_at arrivals starts chosen.class place (get_or before.heads chosen.class None) chosen.ready.is_head (abreast.heads chosen.class chosen.low) in
+    let head : IsHead arrivals starts (class_of arrivals place) place =
+    subst (λ (class : ℕ). IsHead arrivals starts class place) (sym old_head.of_class) old_head in
     record {
       legal = legal_start rules arrivals t starts place abreast.legal (abreast.idle_again t (omega arith) free) due;
       idle = λ s later idle. omega (arith, step.idle_from, idle place t (Contains-push starts (place, t)) (omega arith));
       idle_again = λ s later free_again other u started earlier. elim (start_cases starts place t other u started) [
         | inl old ↦ abreast.idle_again s (omega arith) (omega arith) other u old earlier
-        | inr same ↦ subst (λ (n : ℕ). free_from rules arrivals n u ≤ s) same.0 (subst (λ (n : ℕ). free_from rules arrivals place n ≤ s) same.1 (omega (arith, step.idle_from)))
+        | inr same ↦ subst (λ (n : ℕ). free_from rules arrivals n u ≤ s) same.0
+            (subst (λ (n : ℕ). free_from rules arrivals place n ≤ s) same.1 (omega (arith, step.idle_from)))
       ];
       soon = step.soon;
       eight = step.eight ∙ abreast.eight;
       heads = λ class low. elim (cases_same class (class_of arrivals place)) [
-        | inl same ↦ subst (λ (c : ℕ). IsHeadOf arrivals (starts ++ (place, t) ∷ []) c (get_or after.heads c None)) (sym same) (next_head rules arrivals t starts place taken abreast.legal due (get_or after.heads (class_of arrivals place) None) head step.next)
-        | inr differs ↦ subst (λ (o : Option ℕ). IsHeadOf arrivals (starts ++ (place, t) ∷ []) class o) (sym (step.others class differs)) (other_head rules arrivals t starts place taken abreast.legal due class (get_or before.heads class None) differs (abreast.heads class low))
+        | inl same ↦ subst (λ (c : ℕ). IsHeadOf arrivals (starts ++ (place, t) ∷ []) c (get_or after.heads c None)) (sym same)
+            (next_head rules arrivals t starts place taken abreast.legal due (get_or after.heads (class_of arrivals place) None) head step.next)
+        | inr differs ↦ subst (λ (o : Option ℕ). IsHeadOf arrivals (starts ++ (place, t) ∷ []) class o) (sym (step.others class differs))
+            (other_head rules arrivals t starts place taken abreast.legal due class (get_or before.heads class None) differs (abreast.heads class low))
       ];
     }
 
@@ -127,11 +146,14 @@ module _ (arrivals : List Arrival) (arrival : Arrival) (starts : List Transmissi
     inside = omega (arith, head.inside, longer arrivals arrival);
     of_class = ap (λ (x : Arrival). x.class) (same_arrival arrivals arrival place head.inside) ∙ head.of_class;
     not_started = head.not_started;
-    started_before = λ other lower same. head.started_before other lower (sym (ap (λ (x : Arrival). x.class) (same_arrival arrivals arrival other (omega (arith, head.inside)))) ∙ same);
+    started_before = λ other lower same. head.started_before other lower
+        (sym (ap (λ (x : Arrival). x.class) (same_arrival arrivals arrival other (omega (arith, head.inside)))) ∙ same);
   }
 
   -- a frame that arrives in a class with no head is its head
-  new_head : (rules : PortRules) (t : ℕ) → AreLegal rules arrivals t starts → ((place : ℕ) → place < length arrivals → class_of arrivals place ≡ arrival.class → HasStarted starts place) → IsHead (arrivals ++ arrival ∷ []) starts arrival.class (length arrivals)
+  new_head : (rules : PortRules) (t : ℕ) → AreLegal rules arrivals t starts →
+      ((place : ℕ) → place < length arrivals → class_of arrivals place ≡ arrival.class → HasStarted starts place) →
+      IsHead (arrivals ++ arrival ∷ []) starts arrival.class (length arrivals)
   new_head rules t legal all = record {
     inside = omega (arith, longer arrivals arrival);
     of_class = ap (λ (x : Arrival). x.class) (last_arrival arrivals arrival);
@@ -144,37 +166,58 @@ module _ (arrivals : List Arrival) (arrival : Arrival) (starts : List Transmissi
   none_still class differs all place inside same = elim (cases_lt place (length arrivals)) [
     | inl in_list ↦ all place in_list (sym (ap (λ (x : Arrival). x.class) (same_arrival arrivals arrival place in_list)) ∙ same)
     | inr past ↦ (let here : length arrivals ≡ place = omega (arith, longer arrivals arrival) in
-        absurd (differs (sym same ∙ (let is_new : get_or (arrivals ++ arrival ∷ []) place no_arrival ≡ arrival = subst (λ (n : ℕ). get_or (arrivals ++ arrival ∷ []) n no_arrival ≡ arrival) here (last_arrival arrivals arrival) in ap (λ (x : Arrival). x.class) is_new))))
+        absurd (differs (sym same ∙ (let is_new : get_or (arrivals ++ arrival ∷ []) place no_arrival ≡ arrival =
+        subst (λ (n : ℕ). get_or (arrivals ++ arrival ∷ []) n no_arrival ≡ arrival) here (last_arrival arrivals arrival) in
+        ap (λ (x : Arrival). x.class) is_new))))
   ]
 
   -- the head of another class
-  other_head_still : (class : ℕ) (head : Option ℕ) → class ≢ arrival.class → IsHeadOf arrivals starts class head → IsHeadOf (arrivals ++ arrival ∷ []) starts class head
+  other_head_still : (class : ℕ) (head : Option ℕ) → class ≢ arrival.class → IsHeadOf arrivals starts class head →
+      IsHeadOf (arrivals ++ arrival ∷ []) starts class head
   other_head_still class None differs all = none_still class differs all
   other_head_still class (Some place) differs head = head_still class place head
 
   -- the head of the class of the frame that arrives
-  own_head : (rules : PortRules) (t : ℕ) (before after : Progress) → AreLegal rules arrivals t starts → IsAfterArrival (length arrivals) arrival.class before after → (head : Option ℕ) → get_or before.heads arrival.class None ≡ head → IsHeadOf arrivals starts arrival.class head → IsHeadOf (arrivals ++ arrival ∷ []) starts arrival.class (get_or after.heads arrival.class None)
-  own_head rules t before after legal step None was all = subst (λ (o : Option ℕ). IsHeadOf (arrivals ++ arrival ∷ []) starts arrival.class o) (sym (step.head was)) (new_head rules t legal all)
-  own_head rules t before after legal step (Some place) was head = subst (λ (o : Option ℕ). IsHeadOf (arrivals ++ arrival ∷ []) starts arrival.class o) (sym (step.head_still place was)) (head_still arrival.class place head)
+  own_head : (rules : PortRules) (t : ℕ) (before after : Progress) → AreLegal rules arrivals t starts →
+      IsAfterArrival (length arrivals) arrival.class before after → (head : Option ℕ) → get_or before.heads arrival.class None ≡ head →
+      IsHeadOf arrivals starts arrival.class head → IsHeadOf (arrivals ++ arrival ∷ []) starts arrival.class (get_or after.heads arrival.class None)
+  own_head rules t before after legal step None was all = subst (λ (o : Option ℕ). IsHeadOf (arrivals ++ arrival ∷ []) starts arrival.class o)
+      (sym (step.head was)) (new_head rules t legal all)
+  own_head rules t before after legal step (Some place) was head =
+      subst (λ (o : Option ℕ). IsHeadOf (arrivals ++ arrival ∷ []) starts arrival.class o) (sym (step.head_still place was))
+      (head_still arrival.class place head)
 
 -- a frame arrives that could not have started yet
-pub abreast_arrival : (rules : PortRules) (arrivals : List Arrival) (t : ℕ) (starts : List Transmission) (arrival : Arrival) (before after : Progress) → 0 < rules.octet_time → IsAbreast rules arrivals t starts before → ((s : ℕ) → arrival.at.0 ≤ s → s < t → ¬ IsOpen rules.entries arrival.class s) → IsAfterArrival (length arrivals) arrival.class before after → arrival.class < 8 → IsAbreast rules (arrivals ++ arrival ∷ []) t starts after
+pub abreast_arrival : (rules : PortRules) (arrivals : List Arrival) (t : ℕ) (starts : List Transmission) (arrival : Arrival) (before after : Progress)
+    → 0 < rules.octet_time → IsAbreast rules arrivals t starts before → ((s : ℕ) → arrival.at.0 ≤ s → s < t → ¬ IsOpen rules.entries arrival.class s)
+    → IsAfterArrival (length arrivals) arrival.class before after → arrival.class < 8 → IsAbreast rules (arrivals ++ arrival ∷ []) t starts after
 abreast_arrival rules arrivals t starts arrival before after some abreast closed step low_class =
     let inside : (place s : ℕ) → Contains starts (place, s) → place < length arrivals = λ place s started. (abreast.legal.first place s started).waits.inside in
     record {
       legal = one_more_legal rules arrivals arrival t starts some closed abreast.legal;
-      idle = λ s later idle. omega (arith, step.idle_from, abreast.idle s later (λ place u started earlier. arrival_before arrivals arrival (λ x. idle_after u x.octets rules.octet_time ≤ s) place (inside place u started) (idle place u started earlier)));
-      idle_again = λ s later free place u started earlier. arrival_after arrivals arrival (λ x. idle_after u x.octets rules.octet_time ≤ s) place (inside place u started) (abreast.idle_again s later (omega (arith, step.idle_from)) place u started earlier);
+      idle = λ s later idle. omega (
+        arith,
+        step.idle_from,
+        abreast.idle s later
+            (λ place u started earlier. arrival_before arrivals arrival (λ x. idle_after u x.octets rules.octet_time ≤ s) place
+            (inside place u started) (idle place u started earlier)),
+      );
+      idle_again = λ s later free place u started earlier. arrival_after arrivals arrival (λ x. idle_after u x.octets rules.octet_time ≤ s)
+          place (inside place u started) (abreast.idle_again s later (omega (arith, step.idle_from)) place u started earlier);
       soon = omega (arith, step.idle_from, abreast.soon);
       eight = step.eight ∙ abreast.eight;
       heads = λ class low. elim (cases_same class arrival.class) [
-        | inl same ↦ subst (λ (c : ℕ). IsHeadOf (arrivals ++ arrival ∷ []) starts c (get_or after.heads c None)) (sym same) (own_head arrivals arrival starts rules t before after abreast.legal step (get_or before.heads arrival.class None) refl (abreast.heads arrival.class low_class))
-        | inr differs ↦ subst (λ (o : Option ℕ). IsHeadOf (arrivals ++ arrival ∷ []) starts class o) (sym (step.others class differs)) (other_head_still arrivals arrival starts class (get_or before.heads class None) differs (abreast.heads class low))
+        | inl same ↦ subst (λ (c : ℕ). IsHeadOf (arrivals ++ arrival ∷ []) starts c (get_or after.heads c None)) (sym same)
+            (own_head arrivals arrival starts rules t before after abreast.legal step (get_or before.heads arrival.class None) refl
+            (abreast.heads arrival.class low_class))
+        | inr differs ↦ subst (λ (o : Option ℕ). IsHeadOf (arrivals ++ arrival ∷ []) starts class o) (sym (step.others class differs))
+            (other_head_still arrivals arrival starts class (get_or before.heads class None) differs (abreast.heads class low))
       ];
     }
 
 -- each head is within the arrivals
-pub heads_inside : (rules : PortRules) (arrivals : List Arrival) (t : ℕ) (starts : List Transmission) (progress : Progress) → IsAbreast rules arrivals t starts progress → AreInside arrivals progress.heads
+pub heads_inside : (rules : PortRules) (arrivals : List Arrival) (t : ℕ) (starts : List Transmission) (progress : Progress) →
+    IsAbreast rules arrivals t starts progress → AreInside arrivals progress.heads
 heads_inside rules arrivals t starts progress abreast = record {
   places = λ class place low is_head. (head_at arrivals starts class place (get_or progress.heads class None) is_head (abreast.heads class low)).inside;
   classes = λ class place low is_head. (head_at arrivals starts class place (get_or progress.heads class None) is_head (abreast.heads class low)).of_class;

@@ -5,7 +5,7 @@ ghost use Rattle.cqf_port.specs.PortState.{AreTaken, rules_of};
 ghost use Rattle.cqf_port.specs.Progress.{AreInside, NoneReady, IsChosen};
 ghost use Rattle.cqf_port.specs.Asked.{AreAsked, HeadFits, IsShortFrame, NoHeadFits};
 
-use crate::spans::Schedule;
+use crate::egress::Egress;
 use cqf_lanes::{eligible, highest};
 use cqf_model::Arrival;
 use cqf_units::{Nanos, Rate, octet_time};
@@ -82,19 +82,14 @@ fn ask(
 }
 
 /// The head that starts at the instant: that of the highest class that has an eligible one (strict priority).
-pub(crate) fn choose(
-    schedule: &Schedule,
-    rate: Rate,
-    arrivals: &[Arrival],
-    heads: &[Option<usize>; 8],
-    t: Nanos,
-) -> Option<usize>
-    requires taken { AreTaken arrivals.now }
-    requires inside { AreInside arrivals.now heads.now }
-    ensures { let rules = rules_of schedule.now rate in
-        MatchOption result (NoneReady rules arrivals.now heads.now t.0 0) (IsChosen rules arrivals.now heads.now t.0) }
+pub(crate) fn choose(egress: &Egress<'_>, heads: &[Option<usize>; 8], t: Nanos) -> Option<usize>
+    requires taken { AreTaken egress.now.arrivals.now }
+    requires inside { AreInside egress.now.arrivals.now heads.now }
+    ensures { let rules = rules_of egress.now.schedule.now egress.now.rate in
+        MatchOption result (NoneReady rules egress.now.arrivals.now heads.now t.0 0) (IsChosen rules egress.now.arrivals.now heads.now t.0) }
 {
-    let asked = ask(arrivals, rate, heads, t, &schedule.left_at(t));
+    let left = egress.schedule.left_at(t);
+    let asked = ask(egress.arrivals, egress.rate, heads, t, &left);
     match highest(eligible(asked.classes, &asked.need, &asked.left)) {
         Some(class) => heads[usize::from(class)],
         None => None,

@@ -18,6 +18,7 @@
 #![tactic(auto)]
 
 mod choice;
+mod egress;
 mod late;
 mod next;
 mod port;

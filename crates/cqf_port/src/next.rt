@@ -5,11 +5,11 @@ ghost use Rattle.cqf_port.specs.Progress.{AreInside};
 ghost use Rattle.cqf_port.specs.NextStart.{HaveCome, IsNextReady, NeverReady};
 
 use crate::choice::choose;
+use crate::egress::Egress;
 use crate::quiet::idle_until;
-use crate::spans::Schedule;
 use cqf_laws_network::mask_is_in_force;
 use cqf_model::Arrival;
-use cqf_units::{Nanos, Rate};
+use cqf_units::Nanos;
 
 /// The instant by which each head has come, not before a first one.
 fn all_come(arrivals: &[Arrival], heads: &[Option<usize>; 8], from: Nanos) -> Nanos
@@ -32,27 +32,23 @@ fn all_come(arrivals: &[Arrival], heads: &[Option<usize>; 8], from: Nanos) -> Na
 /// The first instant from one on at which a head is ready, if no frame starts before. It looks no further than a round of
 /// the list behind the instant by which all heads have come: from there on the same happens in each round.
 pub(crate) fn next_ready(
-    schedule: &Schedule,
-    rate: Rate,
-    arrivals: &[Arrival],
+    egress: &Egress<'_>,
     heads: &[Option<usize>; 8],
     from: Nanos,
 ) -> Option<Nanos>
     requires early { from.0 < 2 ^ 63 }
-    requires taken { AreTaken arrivals.now }
-    requires inside { AreInside arrivals.now heads.now }
-    ensures { let rules = rules_of schedule.now rate in
-        MatchOption result (NeverReady rules arrivals.now heads.now from.0) (λ t. IsNextReady rules arrivals.now heads.now from.0 t.0) }
+    requires taken { AreTaken egress.now.arrivals.now }
+    requires inside { AreInside egress.now.arrivals.now heads.now }
+    ensures { let rules = rules_of egress.now.schedule.now egress.now.rate in
+        MatchOption result (NeverReady rules egress.now.arrivals.now heads.now from.0) (λ t. IsNextReady rules egress.now.arrivals.now heads.now from.0 t.0) }
 {
     mask_is_in_force();
-    let horizon = all_come(arrivals, heads, from).0 + schedule.round().0;
+    let horizon = all_come(egress.arrivals, heads, from).0 + egress.schedule.round().0;
     let mut t = from.0;
     'events: while t < horizon {
-        match choose(schedule, rate, arrivals, heads, Nanos(t)) {
+        match choose(egress, heads, Nanos(t)) {
             Some(_) => return Some(Nanos(t)),
-            None => t = idle_until(schedule, rate, arrivals, heads, Nanos(t))
-                .0
-                .min(horizon),
+            None => t = idle_until(egress, heads, Nanos(t)).0.min(horizon),
         }
     }
     None

@@ -5,6 +5,7 @@ ghost use Rattle.cqf_port.specs.NextStart.{StartsNext, StartsNoMore};
 ghost use Rattle.cqf_port.specs.Progress.{IsKeptByAll};
 ghost use Rattle.cqf_port.specs.PortState.{Advances, AreOnly, AreTaken, IsLate, IsOutOfOrder, IsPort, RunsUpTo, rules_of, waiting_of};
 
+use crate::egress::Egress;
 use crate::late::was_open;
 use crate::next::next_ready;
 use crate::progress::{Progress, after_arrival};
@@ -29,6 +30,17 @@ pub enum PortFault {
     /// A growth was refused.
     #[error("out of memory")]
     Memory,
+}
+
+/// Want of memory, as a port's fault.
+impl From<Memory> for PortFault {
+    ghost use Rattle.cqf_port.specs.declared.port.PortFault.TheVariants as variant;
+
+    ghost from_gives = { λ _ fault. fault ≡ variant.Memory };
+
+    fn from(_refused: Memory) -> PortFault {
+        PortFault::Memory
+    }
 }
 
 /// What a port at instant 0 knows that has taken these arrivals: where it stands, and by class the instant of the last one.
@@ -129,13 +141,12 @@ impl Port {
         ensures { MatchOption result (StartsNoMore self.now) (λ t. StartsNext self.now t.0) }
     {
         let from = Nanos(self.reached.0.max(self.progress.idle_from.0));
-        next_ready(
-            &self.schedule,
-            self.rate,
-            self.arrivals.as_slice(),
-            &self.progress.heads,
-            from,
-        )
+        let egress = Egress {
+            schedule: &self.schedule,
+            rate: self.rate,
+            arrivals: self.arrivals.as_slice(),
+        };
+        next_ready(&egress, &self.progress.heads, from)
     }
 
     /// What has been started, in order: of each start the place of its arrival among those taken, from 0, and its instant
@@ -182,10 +193,8 @@ impl Port {
         if arrival.at < self.newest[usize::from(arrival.class)] {
             return Err(PortFault::OutOfOrder);
         }
-        match self.take(arrival) {
-            Ok(()) => Ok(()),
-            Err(_) => Err(PortFault::Memory),
-        }
+        self.take(arrival)?;
+        Ok(())
     }
 
     /// Takes an arrival of a class from 0 to 7 of which it is known that [`Port::offer`] finds it neither late nor out of
@@ -223,10 +232,13 @@ impl Port {
         if until <= self.reached {
             return Ok(());
         }
+        let egress = Egress {
+            schedule: &self.schedule,
+            rate: self.rate,
+            arrivals: self.arrivals.as_slice(),
+        };
         let progress = run_or_stay(
-            &self.schedule,
-            self.rate,
-            self.arrivals.as_slice(),
+            &egress,
             self.reached,
             until,
             self.progress,
@@ -253,10 +265,13 @@ impl Port {
             return Ok(());
         }
         let kept = self.starts.len();
+        let egress = Egress {
+            schedule: &self.schedule,
+            rate: self.rate,
+            arrivals: self.arrivals.as_slice(),
+        };
         let progress = run_or_stay(
-            &self.schedule,
-            self.rate,
-            self.arrivals.as_slice(),
+            &egress,
             self.reached,
             until,
             self.progress,

@@ -7,16 +7,14 @@ ghost use Rattle.cqf_port.specs.Quiet.{IsIdleOf, IsIdleUntil, OneTurns, Turns};
 ghost use Rattle.cqf_port.specs.Spans.{IsAhead};
 
 use crate::choice::need_of;
-use crate::spans::{Ahead, Schedule};
-use cqf_model::Arrival;
-use cqf_units::{Nanos, Rate};
+use crate::egress::Egress;
+use crate::spans::Ahead;
+use cqf_units::Nanos;
 
 /// The first instant behind one at which the head of the class can start: it comes, or it has come and an entry begins
 /// from whose beginning its gate stays open long enough. It looks for no entry behind the last instant.
 fn idle_of(
-    schedule: &Schedule,
-    rate: Rate,
-    arrivals: &[Arrival],
+    egress: &Egress<'_>,
     head: Option<usize>,
     class: u8,
     t: Nanos,
@@ -25,46 +23,42 @@ fn idle_of(
 ) -> Nanos
     requires gate { class < 8 }
     requires early { t.0 < 2 ^ 63 + 2 ^ 62 }
-    requires ahead { IsAhead schedule.now t.0 ahead.place ahead.begins ahead.again }
-    requires inside { (place : ℕ) → head ≡ Some place → place < length arrivals.now }
-    requires of_class { (place : ℕ) → head ≡ Some place → class_of arrivals.now place ≡ class }
-    requires waits { (place : ℕ) → head ≡ Some place → instant_of arrivals.now place ≤ t.0 → ¬ IsEligible (rules_of schedule.now rate) arrivals.now place t.0 }
+    requires ahead { IsAhead egress.now.schedule.now t.0 ahead.place ahead.begins ahead.again }
+    requires inside { (place : ℕ) → head ≡ Some place → place < length egress.now.arrivals.now }
+    requires of_class { (place : ℕ) → head ≡ Some place → class_of egress.now.arrivals.now place ≡ class }
+    requires waits { (place : ℕ) → head ≡ Some place → instant_of egress.now.arrivals.now place ≤ t.0 →
+        ¬ IsEligible (rules_of egress.now.schedule.now egress.now.rate) egress.now.arrivals.now place t.0 }
     ensures later { t.0 < result.0 }
-    ensures idle { IsIdleOf (rules_of schedule.now rate) arrivals.now head t.0 result.0 }
-    ensures turns { result.0 < last → Turns (rules_of schedule.now rate) arrivals.now head result.0 }
+    ensures idle { IsIdleOf (rules_of egress.now.schedule.now egress.now.rate) egress.now.arrivals.now head t.0 result.0 }
+    ensures turns { result.0 < last → Turns (rules_of egress.now.schedule.now egress.now.rate) egress.now.arrivals.now head result.0 }
 {
     match head {
         None => Nanos(u64::MAX),
         Some(place) => {
-            let arrival = arrivals[place];
+            let arrival = egress.arrivals[place];
             if t < arrival.at {
                 return arrival.at;
             }
-            schedule.next_fit(t, class, need_of(arrival.octets, rate), ahead, last)
+            let need = need_of(arrival.octets, egress.rate);
+            egress.schedule.next_fit(t, class, need, ahead, last)
         }
     }
 }
 
 /// The first instant behind one at which no head is ready at which one can be: a head comes, or one that has come fits.
-pub(crate) fn idle_until(
-    schedule: &Schedule,
-    rate: Rate,
-    arrivals: &[Arrival],
-    heads: &[Option<usize>; 8],
-    t: Nanos,
-) -> Nanos
+pub(crate) fn idle_until(egress: &Egress<'_>, heads: &[Option<usize>; 8], t: Nanos) -> Nanos
     requires early { t.0 < 2 ^ 63 + 2 ^ 62 }
-    requires inside { AreInside arrivals.now heads.now }
-    requires none { NoneReady (rules_of schedule.now rate) arrivals.now heads.now t.0 0 }
+    requires inside { AreInside egress.now.arrivals.now heads.now }
+    requires none { NoneReady (rules_of egress.now.schedule.now egress.now.rate) egress.now.arrivals.now heads.now t.0 0 }
     ensures later { t.0 < result.0 }
-    ensures idle { IsIdleUntil (rules_of schedule.now rate) arrivals.now heads.now t.0 result.0 }
-    ensures turns { result.0 < 2 ^ 64 - 1 → OneTurns (rules_of schedule.now rate) arrivals.now heads.now result.0 }
+    ensures idle { IsIdleUntil (rules_of egress.now.schedule.now egress.now.rate) egress.now.arrivals.now heads.now t.0 result.0 }
+    ensures turns { result.0 < 2 ^ 64 - 1 → OneTurns (rules_of egress.now.schedule.now egress.now.rate) egress.now.arrivals.now heads.now result.0 }
 {
-    let ahead = schedule.ahead(t);
+    let ahead = egress.schedule.ahead(t);
     let mut until = u64::MAX;
     for class in 0..8u8 {
         let head = heads[usize::from(class)];
-        until = until.min(idle_of(schedule, rate, arrivals, head, class, t, ahead, until).0);
+        until = until.min(idle_of(egress, head, class, t, ahead, until).0);
     }
     Nanos(until)
 }

@@ -4,51 +4,45 @@ ghost use Rattle.cqf_port.specs.PortState.{AreTaken, rules_of, start_of};
 ghost use Rattle.cqf_port.specs.Progress.{AreMore, IsAbreast, StepsTo};
 
 use crate::choice::choose;
+use crate::egress::Egress;
 use crate::progress::{Progress, after_start};
 use crate::quiet::idle_until;
-use crate::spans::Schedule;
 use cqf_model::{Arrival, Start};
-use cqf_units::{Memory, Nanos, Rate};
+use cqf_units::{Memory, Nanos};
 use std::alloc::AllocError;
 
 /// What happens at one instant: the frame that is due starts. It answers what the port remembers then, and the next
 /// instant at which anything can happen.
 fn step(
-    schedule: &Schedule,
-    rate: Rate,
-    arrivals: &[Arrival],
+    egress: &Egress<'_>,
     t: Nanos,
     before: Progress,
     starts: &mut Vec<(usize, u64)>,
 ) -> Result<(Progress, Nanos), Memory>
     requires early { t.0 < 2 ^ 62 }
-    requires taken { AreTaken arrivals.now }
-    requires abreast { IsAbreast (rules_of schedule.now rate) arrivals.now t.0 starts.old.items before }
+    requires taken { AreTaken egress.now.arrivals.now }
+    requires abreast { IsAbreast (rules_of egress.now.schedule.now egress.now.rate) egress.now.arrivals.now t.0 starts.old.items before }
     ensures more { AreMore starts.old.items starts.new.items t.0 }
-    ensures ok { IfOk result (λ stepped. StepsTo (rules_of schedule.now rate) arrivals.now t.0 starts.new.items stepped.0 stepped.1.0) }
+    ensures ok { IfOk result (λ stepped. StepsTo (rules_of egress.now.schedule.now egress.now.rate) egress.now.arrivals.now t.0
+        starts.new.items stepped.0 stepped.1.0) }
 {
     if t < before.idle_from {
         return Ok((before, before.idle_from));
     }
-    match choose(schedule, rate, arrivals, &before.heads, t) {
+    match choose(egress, &before.heads, t) {
         Some(place) => {
             starts.push((place, t.0))?;
-            let after = after_start(arrivals, rate, place, t, before);
+            let after = after_start(egress.arrivals, egress.rate, place, t, before);
             Ok((after, after.idle_from))
         }
-        None => Ok((
-            before,
-            idle_until(schedule, rate, arrivals, &before.heads, t),
-        )),
+        None => Ok((before, idle_until(egress, &before.heads, t))),
     }
 }
 
 /// What happens from an instant up to and without another. It answers what the port remembers then. Where a growth
 /// is refused, some starts may have been added.
 fn run(
-    schedule: &Schedule,
-    rate: Rate,
-    arrivals: &[Arrival],
+    egress: &Egress<'_>,
     reached: Nanos,
     until: Nanos,
     before: Progress,
@@ -56,15 +50,15 @@ fn run(
 ) -> Result<Progress, Memory>
     requires in_order { reached.0 ≤ until.0 }
     requires early { until.0 < 2 ^ 62 }
-    requires taken { AreTaken arrivals.now }
-    requires abreast { IsAbreast (rules_of schedule.now rate) arrivals.now reached.0 starts.old.items before }
+    requires taken { AreTaken egress.now.arrivals.now }
+    requires abreast { IsAbreast (rules_of egress.now.schedule.now egress.now.rate) egress.now.arrivals.now reached.0 starts.old.items before }
     ensures more { AreMore starts.old.items starts.new.items reached.0 }
-    ensures ok { IfOk result (IsAbreast (rules_of schedule.now rate) arrivals.now until.0 starts.new.items) }
+    ensures ok { IfOk result (IsAbreast (rules_of egress.now.schedule.now egress.now.rate) egress.now.arrivals.now until.0 starts.new.items) }
 {
     let mut progress = before;
     let mut t = reached.0;
     'instants: while t < until.0 {
-        let (after, next) = step(schedule, rate, arrivals, Nanos(t), progress, starts)?;
+        let (after, next) = step(egress, Nanos(t), progress, starts)?;
         progress = after;
         t = next.0.min(until.0);
     }
@@ -74,9 +68,7 @@ fn run(
 /// What happens from an instant up to and without another. It answers what the port remembers then. Where a growth is
 /// refused, no start was added.
 pub(crate) fn run_or_stay(
-    schedule: &Schedule,
-    rate: Rate,
-    arrivals: &[Arrival],
+    egress: &Egress<'_>,
     reached: Nanos,
     until: Nanos,
     before: Progress,
@@ -84,14 +76,14 @@ pub(crate) fn run_or_stay(
 ) -> Result<Progress, Memory>
     requires in_order { reached.0 ≤ until.0 }
     requires early { until.0 < 2 ^ 62 }
-    requires taken { AreTaken arrivals.now }
-    requires abreast { IsAbreast (rules_of schedule.now rate) arrivals.now reached.0 starts.old.items before }
+    requires taken { AreTaken egress.now.arrivals.now }
+    requires abreast { IsAbreast (rules_of egress.now.schedule.now egress.now.rate) egress.now.arrivals.now reached.0 starts.old.items before }
     ensures more { OnOk result (AreMore starts.old.items starts.new.items reached.0) }
-    ensures ok { IfOk result (IsAbreast (rules_of schedule.now rate) arrivals.now until.0 starts.new.items) }
+    ensures ok { IfOk result (IsAbreast (rules_of egress.now.schedule.now egress.now.rate) egress.now.arrivals.now until.0 starts.new.items) }
     ensures err { OnErr result (starts.new.items ≡ starts.old.items) }
 {
     let kept = starts.len();
-    match run(schedule, rate, arrivals, reached, until, before, starts) {
+    match run(egress, reached, until, before, starts) {
         Ok(progress) => Ok(progress),
         Err(refused) => {
             starts.truncate(kept);

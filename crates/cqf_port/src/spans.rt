@@ -125,14 +125,13 @@ fn entry_behind(list: &TxList, t: u64, place: usize, offset: u32) -> (usize, u64
     (after, t + widened(entries[place].1 - offset))
 }
 
-/// The first beginning of an entry, from one on, from which the class stays open for so long, or one not before an end.
+/// The first beginning of an entry, from one ahead on, from which the class stays open for so long, or one not before an end.
 fn fit_from(
     list: &TxList,
     spans: &[[u64; 8]; 16],
     class: u8,
     need: u64,
-    first: usize,
-    begins: u64,
+    ahead: Ahead,
     end: u64,
 ) -> u64
     requires gate { class < 8 }
@@ -140,14 +139,14 @@ fn fit_from(
     requires short { need < 2 ^ 62 }
     requires early { end < 2 ^ 63 + 2 ^ 62 + 2 ^ 38 }
     requires spans { AreSpans list.now spans.now }
-    requires force { InForce list.now begins first 0 }
-    ensures later { begins ≤ result }
-    ensures nowhere { FitsNowhere list.now class need begins result }
+    requires force { InForce list.now ahead.begins ahead.place 0 }
+    ensures later { ahead.begins ≤ result }
+    ensures nowhere { FitsNowhere list.now class need ahead.begins result }
     ensures fits { result < end → IsOpenThrough list.now class result (result + need) }
 {
     mask_is_in_force();
-    let mut place = first;
-    let mut t = begins;
+    let mut place = ahead.place;
+    let mut t = ahead.begins;
     while t < end {
         if spans[place][usize::from(class)] >= need {
             return t;
@@ -232,15 +231,7 @@ impl Schedule {
     {
         mask_is_in_force();
         let end = ahead.again.min(last);
-        let fit = fit_from(
-            &self.list,
-            &self.spans,
-            class,
-            need,
-            ahead.place,
-            ahead.begins,
-            end,
-        );
+        let fit = fit_from(&self.list, &self.spans, class, need, ahead, end);
         if fit < ahead.again {
             Nanos(fit)
         } else {

@@ -1,5 +1,6 @@
 -- From what each step of a run says to what the run comes to.
-use Rattle.std.proofs.Common.{◌≡◌, ◌≢◌, ◌⊎◌, ◌≤◌, ◌∙◌, ℕ, zero, suc, List, [], ◌∷◌, Bool, true, false, Option, Some, None, length, arith, codes, inl, inr, sym, subst, refl}
+use Rattle.std.proofs.Common.{◌≡◌, ◌≢◌, ◌⊎◌, ◌≤◌, ◌∙◌, ℕ, zero, suc, List, [], ◌∷◌, Bool, true, false, Option, Some}
+use Rattle.std.proofs.Common.{None, length, arith, codes, inl, inr, sym, subst, refl}
 use Rattle.std.specs.Str.{IsUtf8}
 use Rattle.std.specs.Io.KnownBytes.{IsAtEnd, Keeps}
 use Rattle.cqf_program_stop.specs.Stops.{EndsWith, line_of}
@@ -7,7 +8,11 @@ use Rattle.clap.specs.Words.{Row, Text, first_of, subcommand_of}
 use Rattle.cqf_program_words.specs.Words.{EndsWords, IsJob, IsJobOf, IsNumberIn, Mean, cqf_app}
 use Rattle.cqf_program_engine.specs.Edge.{IsHeard, Marks, Reading}
 use Rattle.cqf_program_press.specs.Edge.{HasTold, Writing}
-use Rattle.cqf_program_engine.specs.Run.{first_line, input_of, version_line, words_of, AskForVersion, Ends, EndsByStatus, EndsFaulty, EndsInput, EndsRead, HandsOver, HasCause, HasFault, HasRun, IsBehindWords, IsEnd, IsFailure, IsInputFault, IsOutput, IsOutputFault, IsRefusal, EndsByRunFault, IsStopped, IsToldOutput, IsTooLongInput, IsWithin, TellsStop, TellsFaultAlone}
+use Rattle.cqf_program_engine.specs.Run.{first_line, input_of, version_line, words_of, AskForVersion, Ends}
+use Rattle.cqf_program_engine.specs.Run.{EndsByStatus, EndsFaulty, EndsInput, EndsRead, HandsOver, HasCause, HasFault}
+use Rattle.cqf_program_engine.specs.Run.{HasRun, IsBehindWords, IsEnd, IsFailure, IsInputFault, IsOutput, IsOutputFault}
+use Rattle.cqf_program_engine.specs.Run.{IsRefusal, EndsByRunFault, IsStopped, IsToldOutput, IsTooLongInput, IsWithin}
+use Rattle.cqf_program_engine.specs.Run.{TellsStop, TellsFaultAlone}
 use Rattle.cqf_program_threads.specs.ThreadsOutput.{EndsThreads, IsThreadsOutput}
 use Rattle.cqf_program_press.proofs.EdgeLemmas.{Appends-whole}
 use Rattle.cqf_program_stop.specs.declared.stops.Stop.{Stop}
@@ -22,7 +27,12 @@ HasCause-given [] bytes stop some e = absurd (some refl)
 HasCause-given (word ∷ words) bytes stop some e = record {
   answered = λ zero_is. inl (e.help zero_is);
   refused = λ one. absurd (elim e.statuses [ inl zero_is ↦ omega arith | inr other ↦ elim other [ inl two ↦ omega arith | inr three ↦ omega arith ] ]);
-  misused = λ two. record { status = two; short = λ none. absurd (some none); cause = inr ((λ none. absurd (some none)), e.mistake two, e.no_job (λ three. omega arith)) };
+  misused = λ two. record {
+    status = two;
+    short = λ none. absurd (some none);
+    cause =
+        inr ((λ none. absurd (some none)), e.mistake two, e.no_job (λ three. omega arith));
+  };
   memory = e.memory;
   failed = λ four. absurd (elim e.statuses [ inl zero_is ↦ omega arith | inr other ↦ elim other [ inl two ↦ omega arith | inr three ↦ omega arith ] ]);
 }
@@ -63,7 +73,11 @@ IsStopped-by_version words input stop some sound asks e = record {
 pub EndsWords-told : (words : List Text) (stop told : Stop) → EndsWords words stop → (told.status ≡ stop.status) ⊎ (told.status ≡ 3)
     → (told.status ≡ 3 → told.text.items ≡ []) → EndsWords words told
 EndsWords-told words stop told e (inl same) memory = record {
-  statuses = elim e.statuses [ inl zero_is ↦ inl (same ∙ zero_is) | inr other ↦ inr (elim other [ inl two ↦ inl (same ∙ two) | inr three ↦ inr (same ∙ three) ]) ];
+  statuses = elim e.statuses [
+    | inl zero_is ↦ inl (same ∙ zero_is)
+    | inr other ↦
+        inr (elim other [ inl two ↦ inl (same ∙ two) | inr three ↦ inr (same ∙ three) ])
+  ];
   no_job = λ known. e.no_job (λ three. known (same ∙ three));
   help = λ zero_is. e.help (sym same ∙ zero_is);
   mistake = λ two. e.mistake (sym same ∙ two);
@@ -109,7 +123,8 @@ EndsInput-broken input before Fault stop marks ended = elim ended.statuses [
 ]
 
 -- more bytes than the program reads end it
-pub EndsInput-long : (input : Reading) (stop : Stop) → IsTooLongInput input.bytes → input.failed ≡ false → EndsWith 1 (line_of (codes "cqf: input too long")) stop
+pub EndsInput-long : (input : Reading) (stop : Stop) → IsTooLongInput input.bytes → input.failed ≡ false →
+    EndsWith 1 (line_of (codes "cqf: input too long")) stop
     → EndsInput input stop
 EndsInput-long input stop long sound ended = elim ended.statuses [
   | inl one ↦ inl (one, record { long = long; sound = sound; line = ended.line_is one })
@@ -229,7 +244,8 @@ IsEnd-threads cycles job input stop same e =
     subst (λ (j : Job). IsEnd j input stop) (sym same) of_run
 
 -- its output is that of its job
-pub IsOutput-threads : (cycles : ℕ) (job : Job) (input output : List ℕ) → job ≡ Run cycles true → IsThreadsOutput cycles input output → IsOutput job input output
+pub IsOutput-threads : (cycles : ℕ) (job : Job) (input output : List ℕ) → job ≡ Run cycles true → IsThreadsOutput cycles input output →
+    IsOutput job input output
 IsOutput-threads cycles job input output same h = subst (λ (j : Job). IsOutput j input output) (sym same) h
 
 -- its number of cycles is within its limit

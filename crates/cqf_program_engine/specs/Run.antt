@@ -28,11 +28,11 @@ use Rattle.cqf_program_engine.specs.declared.runs.TheConstants.{VERSION}
 use Rattle.cqf_program_words.specs.declared.words.Format.TheVariants as form
 use Rattle.cqf_program_words.specs.declared.words.Job.{Job}
 use Rattle.cqf_program_words.specs.declared.words.Job.TheVariants.{Check, Compile, Deliveries, Latency, Line, Load, Port, Report, Run}
-use Rattle.cqf_model.specs.Limits.{most_cycles}
+use Rattle.cqf_model.specs.Limits.{last_until, most_cycles}
 
 -- the job's numbers aren't above their limits
 abbrev pub IsWithin : Job → Type 0
-IsWithin (Port until rate) = until ≤ 100000000
+IsWithin (Port until rate) = until ≤ last_until
 IsWithin (Line cycles) = cycles ≤ most_cycles
 IsWithin (Compile format) = ⊤
 IsWithin Load = ⊤

@@ -9,8 +9,8 @@
 //! - [`Prepared`] is what an output is told from. All memory is had before its first byte is told.
 //!
 //! `specs/Edge.antt` says what a reader gave (`Reading`), and that of `cqf_program_press` what became of a writer (`Writing`, `HasTold`).
-//! `specs/Prepared.antt` says which text an output tells (`IsTextOf`). `specs/Run.antt` says what a run comes to (`IsDone`, `IsRefusedRun`, `IsMisuse`, `IsFailedRun`), and what the engine leaves, by its status
-//! (`Ends`).
+//! `specs/Prepared.antt` says which text an output tells (`IsTextOf`). `specs/Run.antt` says what a run comes to (`IsDone`,
+//! `IsRefusedRun`, `IsMisuse`, `IsFailedRun`), and what the engine leaves, by its status (`Ends`).
 //!
 //! ```text
 //! let mut input = Heard::new(alloc, b"links = []\n".as_slice());

@@ -7,7 +7,10 @@ ghost use Rattle.cqf_program_press.specs.Edge.{writing};
 ghost use Rattle.cqf_program_threads.specs.ThreadsOutput.{EndsThreads, IsThreadsOutput};
 ghost use Rattle.cqf_program_words.specs.Words.{EndsWords, Mean};
 ghost use Rattle.cqf_program_stop.specs.Stops.{EndsWith};
-ghost use Rattle.cqf_program_engine.specs.Run.{version_line, IsAsking, IsVersionWord, IsWithin, IsOutput, IsEnd, IsRefusal, IsBehindWords, Ends, EndsTold, HandsOver, HasCause, HasRun, IsDone, IsStopped, TellsStop, is_space, is_threaded, first_line, behind_first_line};
+ghost use Rattle.cqf_program_engine.specs.Run.{version_line, IsAsking, IsVersionWord, IsWithin, IsOutput, IsEnd};
+ghost use Rattle.cqf_program_engine.specs.Run.{IsRefusal, IsBehindWords, Ends, EndsTold, HandsOver, HasCause, HasRun};
+ghost use Rattle.cqf_program_engine.specs.Run.{IsDone, IsStopped, TellsStop, is_space, is_threaded, first_line};
+ghost use Rattle.cqf_program_engine.specs.Run.{behind_first_line};
 ghost use Rattle.cqf_model.specs.Limits.{most_cycles};
 
 use crate::heard::Heard;

@@ -144,7 +144,8 @@ never_full old new asked all answers = omega (arith, answers.full.0 refl, all.fe
 
 -- a refused stream ends the run with its line, or for want of memory
 pub refused_so : (d : Domain) (entries : List Recorded) (asked : Asked) (refused : Refused) (place : ℕ) (stop : Stop) (more : List Asked) →
-    (refused ≢ Memory → refusal_of d (held_in d entries (seals entries)) asked ≡ Some refused) → (refused ≢ Memory → EndsWith 1 (stream_line place refused) stop) →
+    (refused ≢ Memory → refusal_of d (held_in d entries (seals entries)) asked ≡ Some refused) →
+    (refused ≢ Memory → EndsWith 1 (stream_line place refused) stop) →
     (refused ≡ Memory → EndsWith 3 [] stop) → IsRefused (admitted_from d entries place (asked ∷ more)) stop
 refused_so d entries asked refused place stop more due line memory =
     let found = admitted_from d entries place (asked ∷ more) in
@@ -163,7 +164,8 @@ refused-ends old new asked refused place stop more all answers line memory =
     let full : refused ≢ HistoryFull = λ is. never_full old new asked all (subst (λ r. Answers old new 0 (Admits asked) (Err r)) is answers) in
     let refusal : Option Refused = refusal_of old.domain (held_in old.domain old.entries (seals old.entries)) asked in
     refused_so old.domain old.entries asked refused place stop more
-    (λ there. refused_for (next_number old.domain old.entries) (seals old.entries) refused refusal (answers.due (entered_unless refused full there))) line memory
+    (λ there. refused_for (next_number old.domain old.entries) (seals old.entries) refused refusal (answers.due (entered_unless refused full there)))
+    line memory
 
 -- the domain and the streams that are read are the input's
 pub compile_input-is : (input domain_text streams_text : List ℕ) (domain : Domain) (requests : List Request) →

@@ -1,5 +1,6 @@
 -- The pieces of a configuration's lines, as they are put.
-use Rattle.std.proofs.Common.{◌≡◌, ◌∙◌, ◌<◌, ◌++◌, ℕ, List, [], ◌∷◌, Option, Some, append_assoc, ap, codes, decimal, inl, inr, length, option_map, refl, slice_get, sym, arith}
+use Rattle.std.proofs.Common.{◌≡◌, ◌∙◌, ◌<◌, ◌++◌, ℕ, List, [], ◌∷◌, Option, Some, append_assoc, ap, codes, decimal}
+use Rattle.std.proofs.Common.{inl, inr, length, option_map, refl, slice_get, sym, arith}
 use Rattle.std.specs.Option.{option_map_or}
 use Rattle.std.proofs.lemmas.Fmt.{decimal_digit}
 use Rattle.std.proofs.lemmas.Option.{slice_get_cases}
@@ -44,7 +45,8 @@ row_pieces d row bridge = append_assoc (row_front row) (name_of_bridge d bridge)
 
 -- a gate, as its two lines are put
 pub gate_pieces : (cycle_time reserved : ℕ) →
-    (gate_entry_text (codes "\nopen 6 ") cycle_time reserved ++ gate_entry_text (codes "\nopen 7 ") cycle_time reserved) ++ codes "\n" ≡ gate_text cycle_time reserved
+    (gate_entry_text (codes "\nopen 6 ") cycle_time reserved ++ gate_entry_text (codes "\nopen 7 ") cycle_time reserved) ++ codes "\n"
+    ≡ gate_text cycle_time reserved
 gate_pieces cycle_time reserved =
     let numbers : List ℕ → List ℕ = λ class. codes "open " ++ class ++ codes " " ++ decimal cycle_time ++ codes " " ++ decimal reserved in
     append_assoc (gate_entry_text (codes "\nopen 6 ") cycle_time reserved) (gate_entry_text (codes "\nopen 7 ") cycle_time reserved) (codes "\n")

@@ -1,5 +1,6 @@
 -- What fits is what is accepted.
-use Rattle.std.proofs.Common.{ℕ, ◌≡◌, ◌≤◌, ◌<◌, ◌+◌, ◌==◌, ◌/◌, ◌∙◌, Bool, true, false, not, ◌&&◌, cond, nat_lt, Option, Some, None, List, [], ◌∷◌, length, get_or, ap, arith, sym, refl, inl, inr}
+use Rattle.std.proofs.Common.{ℕ, ◌≡◌, ◌≤◌, ◌<◌, ◌+◌, ◌==◌, ◌/◌, ◌∙◌, Bool, true, false, not, ◌&&◌, cond, nat_lt, Option}
+use Rattle.std.proofs.Common.{Some, None, List, [], ◌∷◌, length, get_or, ap, arith, sym, refl, inl, inr}
 use Rattle.std.specs.Prelude.{All, find, if◌then◌else◌, nat_le, suc, zero}
 use Rattle.std.specs.List.{list_any}
 use Rattle.std.proofs.lemmas.Bool.{cases_Bool, leb-true, leb-false, ltb-false, le-ltb, eq-eqb}

@@ -12,7 +12,8 @@ all_granted : (d : Domain) (entries all : List Recorded) (place : ℕ) (streams 
     AreGranted d entries streams × (all ≡ with_all d entries streams)
 all_granted d entries all place [] h = (tt, sym (same_ok entries all h))
 all_granted d entries all place (asked ∷ more) h =
-    let parts = refuse_ok (refusal_of d (held_in d entries (seals entries)) asked) (stream_line place) (admitted_from d (with_asked d entries asked) (place + 1) more) all h in
+    let parts = refuse_ok (refusal_of d (held_in d entries (seals entries)) asked) (stream_line place)
+    (admitted_from d (with_asked d entries asked) (place + 1) more) all h in
     let rest = all_granted d (with_asked d entries asked) all (place + 1) more parts.1 in
     ((parts.0, rest.0), rest.1)
 

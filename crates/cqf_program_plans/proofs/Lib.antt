@@ -9,5 +9,5 @@ mod Fits
 mod PlanFits
 mod Loading
 mod GrantedPlans
-mod LatencyLists
+pub mod Found
 mod LatencyLines

@@ -1,5 +1,6 @@
 -- A plan whose streams are all listed is admitted where it fits.
-use Rattle.std.proofs.Common.{ℕ, ◌≡◌, ◌≤◌, ◌<◌, ◌+◌, ◌++◌, ◌∙◌, Bool, true, false, cond, nat_lt, Option, Some, None, Result, Ok, Err, List, [], ◌∷◌, length, get_or, ap, arith, refl, subst, sym}
+use Rattle.std.proofs.Common.{ℕ, ◌≡◌, ◌≤◌, ◌<◌, ◌+◌, ◌++◌, ◌∙◌, Bool, true, false, cond, nat_lt, Option, Some, None}
+use Rattle.std.proofs.Common.{Result, Ok, Err, List, [], ◌∷◌, length, get_or, ap, arith, refl, subst, sym}
 use Rattle.std.specs.Prelude.{All, Contains, find, if◌then◌else◌}
 use Rattle.std.proofs.lemmas.Bool.{le-ltb}
 use Rattle.std.proofs.lemmas.List.{length_push}
@@ -47,10 +48,16 @@ module _ (goes_on : HistoryGoesOn) (counted : SealsAreCounted) (grants : Granted
       admitted_from d entries place streams ≡ Ok all → (end : List Row) × (listed_from d rows streams ≡ Ok end) × HaveRows d all end
   listed [] entries all rows place now h = (rows, refl, subst (λ es. HaveRows d es rows) (same_ok entries all h) now)
   listed (asked ∷ more) entries all rows place now h =
-      let parts = refuse_ok (refusal_of d (held_in d entries (seals entries)) asked) (stream_line place) (admitted_from d (with_asked d entries asked) (place + 1) more) all h in
+      let parts = refuse_ok (refusal_of d (held_in d entries (seals entries)) asked) (stream_line place)
+      (admitted_from d (with_asked d entries asked) (place + 1) more) all h in
       let none : refusal_of d rows asked ≡ None = ap (λ rs. refusal_of d rs asked) (sym now.held) ∙ parts.0 in
-      let rest = listed more (with_asked d entries asked) all (rows ++ listed_row d rows asked ∷ []) (place + 1) (more_rows entries rows asked now none) parts.1 in
-      (rest.0, ap (λ r. refuse r (stream_line (length rows + 1)) (listed_from d (rows ++ listed_row d rows asked ∷ []) more)) (accepted_listed d rows asked none) ∙ rest.1, rest.2)
+      let rest = listed more (with_asked d entries asked) all (rows ++ listed_row d rows asked ∷ []) (place + 1)
+      (more_rows entries rows asked now none) parts.1 in (
+        rest.0,
+        ap (λ r. refuse r (stream_line (length rows + 1)) (listed_from d (rows ++ listed_row d rows asked ∷ []) more))
+            (accepted_listed d rows asked none) ∙ rest.1,
+        rest.2,
+      )
 
   -- rows behind others cost no less
   grows : (streams : List Asked) (rows end : List Row) (l : ℕ) → listed_from d rows streams ≡ Ok end → link_cost rows l ≤ link_cost end l
@@ -74,7 +81,8 @@ module _ (goes_on : HistoryGoesOn) (counted : SealsAreCounted) (grants : Granted
         sum_by_push (λ (r : Row). cost_on r l) rows (listed_row d rows asked),
       )) in
       let due : refusal_of d (held_in d entries (seals entries)) asked ≡ None = ap (λ rs. refusal_of d rs asked) now.held ∙ none in
-      let rest = admitted more (with_asked d entries asked) (rows ++ listed_row d rows asked ∷ []) end (place + 1) (more_rows entries rows asked now none) parts.1 fits in
+      let rest = admitted more (with_asked d entries asked) (rows ++ listed_row d rows asked ∷ []) end (place + 1)
+      (more_rows entries rows asked now none) parts.1 fits in
       (rest.0, ap (λ r. refuse r (stream_line place) (admitted_from d (with_asked d entries asked) (place + 1) more)) due ∙ rest.1, rest.2)
 
   -- no streams

@@ -23,7 +23,8 @@ asked_at requests place request low is =
 -- one stream more is planned
 planned_step : (d : Domain) (requests : List Asked) (old new : Kept) (rows after : List Row) (row : Row) (receipt : Receipt) (k : ℕ) → old.requests ≡ requests →
     ArePlanned d old.administration rows → new.administration.domain ≡ old.administration.domain →
-    AreAllHeld new.administration.domain new.administration.entries → HoldsOneMore old.administration new.administration (request_at old.requests k) (Ok receipt) →
+    AreAllHeld new.administration.domain new.administration.entries → HoldsOneMore old.administration new.administration
+    (request_at old.requests k) (Ok receipt) →
     IsRowOfGoodForm d (request_at requests k) row → after ≡ rows ++ record row { no = receipt.no; admitted = receipt.effect } ∷ [] →
     ArePlanned d new.administration after
 planned_step d requests old new rows after row receipt k same planned domain held one good is =

@@ -1,5 +1,7 @@
 -- The streams of a bridge, one more with each step, and what is noted of the ways by which they come.
-use Rattle.std.proofs.Common.{ℕ, ◌≡◌, ◌<◌, ◌+◌, ◌++◌, ◌==◌, ◌∙◌, ◌||◌, Bool, true, false, not, List, [], ◌∷◌, Option, Some, None, add-one, ap, arith, cond, eq-eqb, get_or, inl, inr, length, refl, set, subst, sym, take}
+use Rattle.std.proofs.Common.{ℕ, ◌≡◌, ◌<◌, ◌+◌, ◌++◌, ◌==◌, ◌∙◌, ◌||◌, Bool, true, false, not, List, [], ◌∷◌, Option}
+use Rattle.std.proofs.Common.{Some, None, add-one, ap, arith, cond, eq-eqb, get_or, inl, inr, length, refl, set, subst}
+use Rattle.std.proofs.Common.{sym, take}
 use Rattle.std.specs.Prelude.{replicate, slice_get}
 use Rattle.std.specs.List.{list_any}
 use Rattle.std.specs.Option.{option_map_or}
@@ -68,12 +70,14 @@ left_out false = refl
 
 module _ (d : Domain) (bridge : ℕ) (before : List Row) (row : Row) (seen : List Bool) (now : IsSeenWay d bridge before seen) where
   -- a stream that leaves the bridge is noted
-  pub seen_more : (hop : Hop) (after : List Bool) → first_hop d bridge row ≡ Some hop → NotesWay seen hop.from after → IsSeenWay d bridge (before ++ row ∷ []) after
+  pub seen_more : (hop : Hop) (after : List Bool) → first_hop d bridge row ≡ Some hop → NotesWay seen hop.from after →
+      IsSeenWay d bridge (before ++ row ∷ []) after
   seen_more hop after there notes = record {
     size = notes.size ∙ now.size;
     each = λ link low.
         let p = comes_by d bridge link in
-        let comes : p row ≡ same_way hop.from (Some link) = ap (λ (found : Option Hop). option_map_or (λ (h : Hop). same_way h.from (Some link)) found false) there in
+        let comes : p row ≡ same_way hop.from (Some link) =
+        ap (λ (found : Option Hop). option_map_or (λ (h : Hop). same_way h.from (Some link)) found false) there in
         notes.each link (omega (arith, low, now.size))
         ∙ ap (λ (x : Bool). cond (same_way hop.from (Some link)) true x) (now.each link low)
         ∙ joined (same_way hop.from (Some link)) (list_any p before)

@@ -1,5 +1,7 @@
 -- The words of lists are read as the lists.
-use Rattle.std.proofs.Common.{ℕ, ◌≡◌, ◌<◌, ◌+◌, ◌-◌, ◌^◌, ◌++◌, ◌==◌, ◌∙◌, ◌/◌, ◌%◌, ◌&&◌, Bool, true, false, not, cond, suc, List, [], ◌∷◌, Some, Ok, All, ap, append_assoc, arith, codes, decimal, get_or, leb, length, refl, sym, take}
+use Rattle.std.proofs.Common.{ℕ, ◌≡◌, ◌<◌, ◌+◌, ◌-◌, ◌^◌, ◌++◌, ◌==◌, ◌∙◌, ◌/◌, ◌%◌, ◌&&◌, Bool, true, false, not, cond}
+use Rattle.std.proofs.Common.{suc, List, [], ◌∷◌, Some, Ok, All, ap, append_assoc, arith, codes, decimal, get_or, leb}
+use Rattle.std.proofs.Common.{length, refl, sym, take}
 use Rattle.std.specs.Prelude.{drop, option_map}
 use Rattle.std.specs.Char.{is_ascii_digit}
 use Rattle.std.specs.List.{list_all}
@@ -99,7 +101,8 @@ tx_parted (entry ∷ entries) ranges =
     let rest : List ℕ = tx_words entries in
     let last = parted_behind number rest (entry_parts entries) (decimal_in_word entry.1 (omega (arith, range.1)))
     (tx_parted entries (λ k d inside. ranges (suc k) d (omega (arith, inside)))) in
-    let mask = parted_behind states (32 ∷ (number ++ rest)) (number ∷ entry_parts entries) (states_in_word entry.0 range.0) (ap (λ (words : List (List ℕ)). [] ∷ words) last) in
+    let mask = parted_behind states (32 ∷ (number ++ rest)) (number ∷ entry_parts entries) (states_in_word entry.0 range.0)
+    (ap (λ (words : List (List ℕ)). [] ∷ words) last) in
     ap (λ (words : List (List ℕ)). [] ∷ codes "sched-entry" ∷ codes "S" ∷ words) mask
 
 tx_lines : (entries : List Entry) → lines_of_words (entry_parts entries) ≡ Some (text_of_entries entries)

@@ -17,6 +17,7 @@ use Rattle.cqf_program_scenario.specs.Parts.{two_parts}
 use Rattle.cqf_model.specs.Refusals.{text_of_refusal}
 use Rattle.cqf_model.specs.declared.history.Refused.{Refused}
 use Rattle.cqf_program_stop.specs.Stops.{line_of, or_line}
+use Rattle.cqf_model.specs.Limits.{most_streams}
 
 -- why a stream isn't admitted, by its place among the streams, from 1
 abbrev pub stream_line : ℕ → Refused → List ℕ
@@ -52,7 +53,7 @@ pub record AreAllHeld (d : Domain) (entries : List Recorded) : Type 0 where
   pub legal : IsLegalHistory d entries
   pub no_seal : seals entries ≡ 0
   pub one_each : length (held_in d entries 0) ≡ length entries
-  pub few : length entries ≤ 1024
+  pub few : length entries ≤ most_streams
 
 -- an administration of a domain with all of its streams held from cycle 0 on, and their rows
 pub record ArePlanned (d : Domain) (administration : Administration) (rows : List Row) : Type 0 where

@@ -9,10 +9,11 @@ use Rattle.cqf_program_plans.specs.CompileOutput.{admitted_from}
 use Rattle.cqf_program_plans.specs.Fitting.{fits_in, fits_on}
 use Rattle.cqf_program_plans.specs.Listing.{listing_refusal}
 use Rattle.cqf_program_plans.specs.LoadOutput.{listed_from}
+use Rattle.cqf_model.specs.Limits.{least_reserved, most_reserved}
 
 -- a reservation costs no more than what is left just where it is no greater than what fits
 abbrev pub FitsIsGreatest : Type 0
-FitsIsGreatest = (left reserved : ℕ) → 64 ≤ reserved → reserved ≤ 60000 → cost_of reserved ≤ left ↔ reserved ≤ fits_in left
+FitsIsGreatest = (left reserved : ℕ) → least_reserved ≤ reserved → reserved ≤ most_reserved → cost_of reserved ≤ left ↔ reserved ≤ fits_in left
 
 -- a stream more, that nothing but a budget speaks against, is accepted just where it is no greater than what fits each of its links
 abbrev pub OneMoreFits : Type 0

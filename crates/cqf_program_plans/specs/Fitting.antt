@@ -7,6 +7,7 @@ use Rattle.cqf_model.specs.declared.topology.Link.{Link}
 use Rattle.cqf_model.specs.declared.topology.Row.{Row}
 use Rattle.cqf_model.specs.Domain.{Domain, budget}
 use Rattle.cqf_model.specs.Table.{crosses, link_cost}
+use Rattle.cqf_model.specs.Limits.{most_reserved}
 
 -- a rate in Mb/s
 abbrev pub megabits_of : Rate → ℕ
@@ -25,7 +26,7 @@ streams_on rows l = count_by (λ (row : Row). crosses row l) rows
 -- the greatest reservation that costs no more than what is left, 0 where there is none: by the frames of 64 octets that this holds
 abbrev pub fits_by : ℕ → ℕ → ℕ
 fits_by zero left = 0
-fits_by (suc frames) left = min (min (left - 20 * suc frames) (64 * suc frames + 63)) 60000
+fits_by (suc frames) left = min (min (left - 20 * suc frames) (64 * suc frames + 63)) most_reserved
 
 abbrev pub fits_in : ℕ → ℕ
 fits_in left = fits_by (left / 84) left

@@ -1,6 +1,7 @@
 -- What a bridge does in the script, line by line (profile). Links and streams go by their numbers in variables, since a name may
 -- hold `-`.
-use Rattle.std.specs.Prelude.{ℕ, ◌+◌, ◌++◌, ◌==◌, List, [], Bool, true, false, Option, Some, None, codes, decimal, find, if◌then◌else◌, length, not, option_map, slice_get, take}
+use Rattle.std.specs.Prelude.{ℕ, ◌+◌, ◌++◌, ◌==◌, List, [], Bool, true, false, Option, Some, None, codes, decimal, find}
+use Rattle.std.specs.Prelude.{if◌then◌else◌, length, not, option_map, slice_get, take}
 use Rattle.std.specs.Option.{option_map_or}
 use Rattle.std.specs.List.{flat_map, list_any}
 use Rattle.cqf_lists.specs.Lists.{each_below}
@@ -38,7 +39,8 @@ way_at d bridge before row = option_map (λ (hop : Hop). (hop.from, is_new d bri
 -- the lines that end the script where a variable isn't set
 abbrev pub out_need : Domain → ℕ → ℕ → List ℕ
 out_need d bridge link =
-    codes "    : \"${OUT_" ++ (decimal link ++ (codes ":?interface of " ++ (name_of_bridge d bridge ++ (codes " to " ++ (name_of_end d link ++ codes "}\"\n")))))
+    codes "    : \"${OUT_" ++ (decimal link ++ (codes ":?interface of "
+    ++ (name_of_bridge d bridge ++ (codes " to " ++ (name_of_end d link ++ codes "}\"\n")))))
 
 abbrev pub link_need : Domain → ℕ → ℕ → List ℕ
 link_need d bridge link =

@@ -5,6 +5,7 @@ ghost use Rattle.cqf_laws_history.specs.StateLaws.{AreHeld};
 ghost use Rattle.cqf_lists.specs.Lists.{each_below};
 ghost use Rattle.cqf_model.specs.declared.topology.Row.{Row as ARow};
 ghost use Rattle.cqf_model.specs.Table.{cost_on, link_cost};
+ghost use Rattle.cqf_model.specs.Limits.{most_reserved};
 
 use cqf_model::Row;
 use cqf_topology::Domain;
@@ -33,7 +34,7 @@ impl Model for Costs {
 
 /// What a row's stream costs of a link.
 fn cost_on(row: &Row, link: u8) -> u32
-    requires { row.now.octets ≤ 60000 }
+    requires { row.now.octets ≤ most_reserved }
     ensures { result ≡ cost_on row.now link }
 {
     if row.crosses(link) {
@@ -45,7 +46,7 @@ fn cost_on(row: &Row, link: u8) -> u32
 
 /// What the rows' streams cost of a link.
 fn link_cost(rows: &[Row], link: u8) -> u32
-    requires octets { All (λ (row : ARow). row.octets ≤ 60000) rows.now }
+    requires octets { All (λ (row : ARow). row.octets ≤ most_reserved) rows.now }
     requires fits { link_cost rows.now link < 2 ^ 32 }
     ensures { result ≡ link_cost rows.now link }
 {

@@ -1,11 +1,25 @@
-//! The commands over a plan: `port`, `compile`, `load` and `latency`.
+//! The commands over a plan: `port`, `compile`, `compile --format tc`, `load` and `latency`.
 //!
-//! The command `port`: the starts of one output port before an instant.
+//! Each has a function that gives its output for its input, or the end of the run with the line of the input's first fault. An
+//! output's `tell` tells it, and asks for no memory.
 //!
-//! - [`port_output`] is the command's output for its input, a gate list and the arrivals, or the end of the run with the
-//!   line of the input's first fault. [`PortOutput::tell`] tells it, and asks for no memory.
+//! - [`port_output`]: the starts of one output port before an instant, by a gate list and the arrivals ([`PortOutput`]).
+//! - [`compile_output`]: the gate lists and stream gates of a domain and its streams ([`ConfigOutput`]). [`read_plan`] has the
+//!   domain and the streams of an input, [`rows_of_cycle_0`] the rows of streams that are all admitted before cycle 0, and
+//!   [`stream_stop`] the end where one isn't.
+//! - [`tc_output`]: a POSIX shell script that sets these gates on each bridge by `tc` ([`TcOutput`]). [`write_tx_words`] and
+//!   [`write_gate_words`] have gate lists as words of `tc`, and [`scripts_hold_the_lists`] says that the words of each script
+//!   are read as the lists that are compiled.
+//! - [`load_output`]: what links hold of the streams, and what they have left, where streams are too many for a link as well
+//!   ([`LoadOutput`]). [`greatest_fits`] says of the column `fits` that it is the greatest reservation that would be accepted,
+//!   and [`plan_fits`] of `left` that it is nowhere below 0 just where all streams are admitted.
+//! - [`latency_output`]: how long the frames of each stream take to each of its listeners, at least and at most, and whether
+//!   they keep their deadline for sure ([`LatencyOutput`], with a [`Latency`] a row, and its [`Verdict`]). [`parted`] parts
+//!   streams from their deadlines. [`told_latencies_hold`] says that frames take no less and no more in any run over the plan,
+//!   and that the verdicts are true.
 //!
-//! `specs/PortOutput.antt` has the value of an input (`port_input`), and what it is that a text `IsPortOutput`.
+//! `specs/` has the value of an input (`PortOutput`, `CompileOutput`, `TcOutput`, `LoadOutput`, `LatencyInput`), and what an
+//! output tells (`PortOutput`, `ConfigTold`, `TcText` with `TcBridge` and `TcWords`, `LoadText`, `LatencyText`).
 //!
 //! ```text
 //! port_output(alloc, 1_000_000, Rate::Mb1000,
@@ -13,37 +27,13 @@
 //!     is Ok of an output that tells "class,frame,start,end\n6,1,125000,125576\n"
 //! ```
 //!
-//! The command `compile`: the gate lists and stream gates of a domain and its streams.
-//!
-//! - [`compile_output`] is the command's output for its input, a domain and its streams, or the end of the run with the
-//!   line of the input's first fault. [`ConfigOutput::tell`] tells it, and asks for no memory.
-//! - [`read_plan`] has the domain and the streams of an input, and [`stream_stop`] the end where a stream isn't admitted.
-//! - [`rows_of_cycle_0`] has the rows of a domain's streams, all admitted before cycle 0, or the end of the run with the line of
-//!   the first that isn't.
-//!
-//! `specs/CompileOutput.antt` has the value of an input (`compile_input`), and the output for it (`compiled_input`);
-//! `specs/ConfigTold.antt` what an output tells (`text_of_config`).
+//! Of `b"..\nlinks = [{ from = \"a\", to = \"s\", rate = 1000, delay = 500 }]\n%%\nstreams = []\n"`, where a cycle is 125,000 ns
+//! and the guard 5,000:
 //!
 //! ```text
-//! compile_output(alloc, b"..\nlinks = [{ from = \"a\", to = \"s\", rate = 1000, delay = 500 }]\n%%\nstreams = []\n")
-//!     is Ok of an output that tells "link a>s\nBF 120000\n00 5000\n7F 120000\n00 5000\n", where a cycle is 125,000 ns and
-//!     the guard 5,000
-//! ```
-//!
-//! The command `compile --format tc`: a POSIX shell script that sets the gates of each bridge of a domain by `tc`.
-//!
-//! - [`tc_output`] is the command's output for its input, a domain and its streams, or the end of the run with the line of the
-//!   input's first fault, as `cqf_program_plans::compile_output` has it. [`TcOutput::tell`] tells it, and asks for no memory.
-//! - [`write_tx_words`] and [`write_gate_words`] have gate lists as words of `tc`, and say what these are read as.
-//! - [`scripts_hold_the_lists`] says that the words of each script are read as the lists that are compiled.
-//!
-//! `specs/TcText.antt` has the script (`tc_text`), `specs/TcBridge.antt` what a bridge does in it (`bridge_text`),
-//! `specs/TcWords.antt` the words of lists and what they are read as (`tx_of_words`, `gate_of_words`), and
-//! `specs/TcOutput.antt` the output for an input (`tc_of_input`).
-//!
-//! ```text
-//! tc_output(alloc, b"..\nlinks = [{ from = \"a\", to = \"s\", rate = 1000, delay = 500 }]\n%%\nstreams = []\n")
-//!     is Ok of an output that tells a script with the lines
+//! compile_output tells "link a>s\nBF 120000\n00 5000\n7F 120000\n00 5000\n"
+//! load_output tells "link,rate,budget,held,left,fits,streams,used\na>s,1000,15000,0,15000,11440,0,0.0\n"
+//! tc_output tells a script with the lines
 //!     bridge_0() {
 //!         # a
 //!         : "${OUT_0:?interface of a to s}"
@@ -52,39 +42,11 @@
 //!     }
 //! ```
 //!
-//! The command `load`: what the links of a domain hold of its streams, and what they have left.
-//!
-//! - [`load_output`] is the command's output for its input, a domain and its streams, or the end of the run with the line of
-//!   the input's first fault. [`LoadOutput::tell`] tells it, and asks for no memory. Streams that are too many for a link are
-//!   told as well.
-//! - [`greatest_fits`] says of the column `fits` that it is the greatest reservation that would be accepted, and [`plan_fits`] of
-//!   `left` that it is nowhere below 0 just where all streams are admitted.
-//!
-//! `specs/LoadText.antt` has the text (`load_text`), and `specs/LoadOutput.antt` the output for an input (`loaded_input`).
+//! And with `streams = [{ name = "x", octets = 64, path = ["a", "s"], deadline = 250000 }]`:
 //!
 //! ```text
-//! load_output(alloc, b"..\nlinks = [{ from = \"a\", to = \"s\", rate = 1000, delay = 500 }]\n%%\nstreams = []\n")
-//!     is Ok of an output that tells "link,rate,budget,held,left,fits,streams,used\na>s,1000,15000,0,15000,11440,0,0.0\n",
-//!     where a cycle is 125,000 ns and the guard 5,000
-//! ```
-//!
-//! The command `latency`: how long the frames of each stream take to each of its listeners, at least and at most, and
-//! whether they keep their deadline for sure.
-//!
-//! - [`latency_output`] is the command's output for its input, a domain and its streams with their deadlines, or the end of the
-//!   run with the line of the input's first fault. [`LatencyOutput::tell`] tells it, and asks for no memory.
-//! - A [`Latency`] is a row of the output, and a [`Verdict`] says whether its frames keep their deadline.
-//! - [`parted`] parts streams from their deadlines.
-//!
-//! `specs/LatencyText.antt` has the rows of a table (`latencies_of`) and their text (`text_of_latency`), and
-//! `specs/LatencyInput.antt` the output for an input (`latency_of_input`). That frames take no less and no more
-//! in any run over the plan, and that the verdicts are true, is a law, [`told_latencies_hold`].
-//!
-//! ```text
-//! latency_output(alloc, false, b"..\nlinks = [{ from = \"a\", to = \"s\", rate = 1000, delay = 500 }]\n%%\n\
-//!     streams = [{ name = \"x\", octets = 64, path = [\"a\", \"s\"], deadline = 250000 }]\n")
-//!     is Ok of an output that tells "stream,listener,bridges,least,most,window,deadline,verdict\n\
-//!     x,s,1,1077,126076,0,250000,in-time\n", where a cycle is 125,000 ns
+//! latency_output tells "stream,listener,bridges,least,most,window,deadline,verdict\n\
+//!     x,s,1,1077,126076,0,250000,in-time\n"
 //! ```
 #![tactic(auto)]
 

@@ -8,6 +8,7 @@ ghost use Rattle.cqf_admission.specs.Asking.{asked_of};
 ghost use Rattle.cqf_program_plans.specs.Listing.{Lists};
 ghost use Rattle.cqf_program_plans.specs.Fitting.{streams_on};
 ghost use Rattle.cqf_program_plans.specs.Adding.{AddsWhere};
+ghost use Rattle.cqf_model.specs.Limits.{most_reserved, most_streams};
 
 use cqf_admission::{Judged, MOST_STREAMS, judge};
 use cqf_model::{Refused, Row};
@@ -127,8 +128,8 @@ impl Listing {
 
     /// The listing with a row more behind the others, of a name that isn't listed, unless memory runs out.
     pub(crate) fn with(self, row: Row) -> Result<Listing, Memory>
-        requires few { length self < 1024 }
-        requires octets { row.octets ≤ 60000 }
+        requires few { length self < most_streams }
+        requires octets { row.octets ≤ most_reserved }
         requires free { list_any (λ other. is_text other.name row.name) self ≡ false }
         ensures { IfOk result (λ listing. listing ≡ self ++ row ∷ []) }
     {

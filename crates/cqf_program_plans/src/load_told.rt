@@ -9,6 +9,7 @@ ghost use Rattle.cqf_report.specs.Written.{line_of_fields};
 
 use crate::load_listing::Listing;
 use crate::load_outputs::LoadOutput;
+use cqf_model::MOST_OCTETS;
 use cqf_program_press::{Press, Told};
 use cqf_program_telling::put_link;
 use cqf_topology::Domain;
@@ -55,7 +56,7 @@ fn fits_in(left: u64) -> u64
         return 0;
     }
     let (by_octets, by_frames) = (left - 20 * frames, 64 * frames + 63);
-    by_octets.min(by_frames).min(60_000)
+    by_octets.min(by_frames).min(MOST_OCTETS as u64)
 }
 
 /// Puts what is left of a budget.

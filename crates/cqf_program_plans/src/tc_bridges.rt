@@ -5,30 +5,18 @@ ghost use Rattle.std.specs.Option.{option_map_or};
 ghost use Rattle.cqf_model.specs.declared.topology.Link.{Link as ALink};
 ghost use Rattle.cqf_model.specs.Domain.{bridge_of};
 ghost use Rattle.cqf_program_press.specs.Press.{Puts};
-ghost use Rattle.cqf_report.specs.Books.{name_of_node};
 ghost use Rattle.cqf_program_plans.specs.EndNames.{name_of_end};
-ghost use Rattle.cqf_program_plans.specs.TcBridge.{bridge_text, clearing_by, each_link, each_stream, frame_needs, gate_line, if_left, link_lines, link_need, needs_by, nothing_line, out_need, stream_clearing, stream_gates, stream_lines, stream_needs, way_clearing, way_in, way_need, way_out, ways_out};
+ghost use Rattle.cqf_program_plans.specs.TcBridge.{bridge_text, clearing_by, each_link, each_stream, frame_needs};
+ghost use Rattle.cqf_program_plans.specs.TcBridge.{gate_line, if_left, link_lines, link_need, needs_by, nothing_line};
+ghost use Rattle.cqf_program_plans.specs.TcBridge.{out_need, stream_clearing, stream_gates, stream_lines, stream_needs};
+ghost use Rattle.cqf_program_plans.specs.TcBridge.{way_clearing, way_in, way_need, way_out, ways_out};
 
 use crate::tc_ways::{first_hop, leaves, way_of};
-use cqf_model::{Hop, Node, Row};
+use cqf_model::{Hop, Row};
 use cqf_program_press::Press;
-use cqf_program_telling::{put_bridge, put_link};
+use cqf_program_telling::{put_bridge, put_link, put_node};
 use cqf_topology::Domain;
 use std::io::Write;
-
-/// Puts the name of a node. One that the domain lacks has none.
-fn put_node<W: Write>(press: &mut Press<'_, W>, domain: &Domain, node: Node)
-    ensures { Puts W.contents press.old press.new (name_of_node domain.now node) }
-{
-    match node {
-        Node::Bridge(bridge) => put_bridge(press, domain, bridge),
-        Node::Station(station) => {
-            if station < domain.stations() {
-                press.put(domain.station_name(station).as_bytes());
-            }
-        }
-    }
-}
 
 /// Puts the name of the node that a link ends in. A link that the domain lacks ends in none.
 fn put_end<W: Write>(press: &mut Press<'_, W>, domain: &Domain, link: u8)

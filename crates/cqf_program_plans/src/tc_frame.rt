@@ -3,7 +3,8 @@ ghost use Rattle.std.specs.Prelude.{◌≡◌, length};
 ghost use Rattle.cqf_lists.specs.Lists.{each_below};
 ghost use Rattle.cqf_model.specs.GateList.{port_list};
 ghost use Rattle.cqf_program_press.specs.Press.{Puts};
-ghost use Rattle.cqf_program_plans.specs.TcText.{choice_line, choice_text, tc_gate_text, given_text, link_text, multiple, name_text, names_text, no_gates_text, usage_text};
+ghost use Rattle.cqf_program_plans.specs.TcText.{choice_line, choice_text, tc_gate_text, given_text, link_text};
+ghost use Rattle.cqf_program_plans.specs.TcText.{multiple, name_text, names_text, no_gates_text, usage_text};
 ghost use Rattle.cqf_program_plans.specs.TcWords.{gate_words, tx_words};
 
 use cqf_program_press::Press;

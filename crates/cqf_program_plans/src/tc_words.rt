@@ -1,24 +1,12 @@
 //! Gate lists as words of `tc`.
 ghost use Rattle.std.specs.Prelude.{ℕ, ◌≡◌, ◌<◌, ◌^◌, ◌++◌, IfOk, OnOk, Ok, Some, codes, string_bytes};
-ghost use Rattle.cqf_gates.specs.GateListText.{hex_digit, line_of_gates};
+ghost use Rattle.cqf_gates.specs.GateListText.{line_of_gates};
 ghost use Rattle.cqf_model.specs.StreamGate.{stream_list};
 ghost use Rattle.cqf_program_plans.specs.TcWords.{gate_of_words, gate_words, tx_of_words, tx_words};
 
-use cqf_gates::TxList;
+use cqf_gates::{TxList, hex_digit_of};
 use cqf_units::Memory;
 use std::alloc::{AllocError, Global};
-
-/// The upper case hexadecimal digit of a number below 16.
-fn hex_digit_of(number: u8) -> u8
-    requires { number < 16 }
-    ensures { result ≡ hex_digit number }
-{
-    if number < 10 {
-        b'0' + number
-    } else {
-        b'A' + (number - 10)
-    }
-}
 
 /// Puts the states and the interval of an entry behind the words before them.
 fn push_numbers(alloc: Global, words: &mut Vec<u8>, states: u8, interval: u32) -> Result<(), Memory>

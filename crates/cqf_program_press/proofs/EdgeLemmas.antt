@@ -1,5 +1,6 @@
 -- What was written so far.
-use Rattle.std.proofs.Common.{◌≡◌, ◌++◌, ◌∙◌, ◌-◌, ℕ, List, [], Bool, false, Option, length, arith, refl, sym, ap, take, drop, take-append-drop, append_assoc, subst}
+use Rattle.std.proofs.Common.{◌≡◌, ◌++◌, ◌∙◌, ◌-◌, ℕ, List, [], Bool, false, Option, length, arith, refl, sym, ap, take}
+use Rattle.std.proofs.Common.{drop, take-append-drop, append_assoc, subst}
 use Rattle.std.specs.Io.KnownBytes.{Appends, Keeps}
 use Rattle.std.proofs.KnownBytes.{Appends-kept, Appends-nil, Appends-trans}
 use Rattle.std.proofs.lemmas.Grind.{common_steps}

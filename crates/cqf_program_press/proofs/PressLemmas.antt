@@ -74,7 +74,8 @@ module _ {W : Type 0} (contents : W → Option (List ℕ)) where
     behind = λ before given has. record {
       part = has.part ++ sheet;
       has_told = on before has.part has.has_told;
-      cut = append-nil given ∙ has.cut ∙ ap (λ x. has.part ++ x) (sym is) ∙ sym (append-nil (has.part ++ sheet)) ∙ ap (λ x. (has.part ++ sheet) ++ x) (sym empty);
+      cut = append-nil given ∙ has.cut ∙ ap (λ x. has.part ++ x) (sym is) ∙ sym (append-nil (has.part ++ sheet))
+          ∙ ap (λ x. (has.part ++ sheet) ++ x) (sym empty);
     };
   }
 

@@ -1,8 +1,10 @@
 -- The deliveries that have come are the shift's frames on links to stations.
-use Rattle.std.proofs.Common.{◌≡◌, ◌∙◌, ◌<◌, ◌-◌, ◌==◌, ◌&&◌, [], ℕ, Bool, true, false, List, Option, Some, None, Contains, ap, arith, if◌then◌else◌, length, nat_lt, option_map, refl, subst, subst₂, sym}
+use Rattle.std.proofs.Common.{◌≡◌, ◌∙◌, ◌<◌, ◌-◌, ◌==◌, ◌&&◌, [], ℕ, Bool, true, false, List, Option, Some, None}
+use Rattle.std.proofs.Common.{Contains, ap, arith, if◌then◌else◌, length, nat_lt, option_map, refl, subst, subst₂, sym}
 use Rattle.std.proofs.lemmas.Bool.{false≢true}
 use Rattle.std.proofs.lemmas.Bool.Decides.{nat_tests}
-use Rattle.cqf_lists.proofs.Members.{contains_filter, contains_flat, contains_from_flat, contains_from_map, contains_map, contains_none, contains_one, find_member, find_some}
+use Rattle.cqf_lists.proofs.Members.{contains_filter, contains_flat, contains_from_flat, contains_from_map}
+use Rattle.cqf_lists.proofs.Members.{contains_map, contains_none, contains_one, find_member, find_some}
 use Rattle.cqf_units.specs.declared.timing.Nanos.{Nanos}
 use Rattle.cqf_model.specs.declared.frames.Offered.{Offered}
 use Rattle.cqf_model.specs.declared.frames.Started.{Started}
@@ -18,11 +20,13 @@ use Rattle.cqf_topology.specs.PlannedText.{PlannedText}
 use Rattle.cqf_laws_shift.proofs.Decided.{is_decided, judged}
 use Rattle.cqf_program_plans.specs.EndNames.{name_of_end}
 use Rattle.cqf_program_plans.specs.LatencyText.{is_station, listeners_of}
-use Rattle.cqf_program_runs.specs.declared.delivery.Course.TheVariants as course
+use Rattle.cqf_program_runs.specs.declared.delivery.Passage.TheVariants as passage
 use Rattle.cqf_program_runs.specs.declared.delivery.Delivery.{Delivery}
 use Rattle.cqf_program_runs.specs.declared.delivery.Fate.TheVariants as fate
 use Rattle.cqf_program_runs.specs.ArrivalLaws.{AreTheShift, HasArrived, IsArrivalOfOffer, has_come}
-use Rattle.cqf_program_runs.specs.Deliveries.{arrival_at_listener, deadline_named, deliveries_of_offer, deliveries_to, deliveries_unless, delivery_of, delivery_to, drop_of, fate_of, start_on, whole_instant, whole_on}
+use Rattle.cqf_program_runs.specs.Deliveries.{arrival_at_listener, deadline_named, deliveries_of_offer, deliveries_to}
+use Rattle.cqf_program_runs.specs.Deliveries.{deliveries_unless, delivery_of, delivery_to, drop_of, fate_of, start_on}
+use Rattle.cqf_program_runs.specs.Deliveries.{whole_instant, whole_on}
 use Rattle.cqf_program_runs.proofs.Fates.{first_passes, second_passes}
 use Rattle.cqf_program_runs.proofs.Well.{of_covered, of_uncovered}
 
@@ -50,7 +54,7 @@ at_start starts frame link start is =
 module _ (run : Run) (streams : List PlannedText) (book : Contents) (says : SaysTheShift run book) where
   -- what is known of a frame's way
   abbrev way : Offered → Hop → Option Started → Delivery
-  way x hop start = delivery_of run.domain x (course.Goes (record {
+  way x hop start = delivery_of run.domain x (passage.Goes (record {
     listener = name_of_end run.domain hop.link;
     whole = option_map (whole_instant run.domain) start;
     deadline = deadline_named streams x.offer.stream;
@@ -98,7 +102,7 @@ module _ (run : Run) (streams : List PlannedText) (book : Contents) (says : Says
       to_listener x row hop.0 delivery covered hop.1 hop.2 come (start_on book.starts x.frame hop.0.link) refl
   of_verdict x delivery inside within own come (DroppedFor reason) uncovered = absurd (
       let drop = of_uncovered run streams book says x inside within reason uncovered in
-      let dropped = delivery_of run.domain x (course.Dropped drop.0.reason) in
+      let dropped = delivery_of run.domain x (passage.Dropped drop.0.reason) in
       let is : dropped ≡ delivery =
       contains_one dropped delivery (subst (λ (ds : List Delivery). Contains ds delivery) drop.1 own) in
       false≢true (ap (λ (z : Delivery). has_come (fate_of z)) is ∙ come))

@@ -1,5 +1,6 @@
 -- The deliveries by the verdicts on the offers are those by the book.
-use Rattle.std.proofs.Common.{◌≡◌, ◌∙◌, ◌∷◌, ◌<◌, [], ℕ, Bool, true, false, List, Option, Some, None, Contains, length, ap, sym, subst, refl, arith, if◌then◌else◌, nat_lt}
+use Rattle.std.proofs.Common.{◌≡◌, ◌∙◌, ◌∷◌, ◌<◌, [], ℕ, Bool, true, false, List, Option, Some, None, Contains, length}
+use Rattle.std.proofs.Common.{ap, sym, subst, refl, arith, if◌then◌else◌, nat_lt}
 use Rattle.std.specs.Prelude.{◌==◌}
 use Rattle.std.proofs.lemmas.Bool.Decides.{nat_tests}
 use Rattle.cqf_lists.proofs.Made.{flat_map_same}
@@ -17,10 +18,11 @@ use Rattle.cqf_topology.specs.PlannedText.{PlannedText}
 use Rattle.cqf_laws_shift.proofs.Came.{one_number}
 use Rattle.cqf_laws_shift.proofs.Decided.{covered_judged, uncovered_judged}
 use Rattle.cqf_laws_report.specs.Counted.{AreDecided}
-use Rattle.cqf_program_runs.specs.declared.delivery.Course.TheVariants as course
+use Rattle.cqf_program_runs.specs.declared.delivery.Passage.TheVariants as passage
 use Rattle.cqf_program_runs.specs.declared.delivery.Delivery.{Delivery}
 use Rattle.cqf_program_runs.specs.ByVerdict.{deliveries_for, deliveries_of_all, deliveries_within}
-use Rattle.cqf_program_runs.specs.Deliveries.{deadline_named, deliveries_by, deliveries_of, deliveries_of_offer, deliveries_to, deliveries_unless, delivery_of, drop_of, whole_on}
+use Rattle.cqf_program_runs.specs.Deliveries.{deadline_named, deliveries_by, deliveries_of, deliveries_of_offer}
+use Rattle.cqf_program_runs.specs.Deliveries.{deliveries_to, deliveries_unless, delivery_of, drop_of, whole_on}
 
 -- an offer isn't both covered and dropped, and has one reason
 pub not_both : (run : Run) (x : Offered) (row : Row) (reason : Reason) → IsCovered run x row → IsUncovered run x reason → ⊥
@@ -56,7 +58,14 @@ module _ (run : Run) (book : Contents) (says : SaysTheShift run book) (x : Offer
   pub uncovered_drop : (reason : Reason) → offer_cycle run.domain x < length run.tables → IsUncovered run x reason →
       (dropped : Dropped) × (drop_of book.drops x.frame ≡ Some dropped) × (dropped.reason ≡ reason)
   uncovered_drop reason within uncovered =
-      let own : Dropped = record { cycle = record { 0 = offer_cycle run.domain x }; bridge = x.offer.bridge; frame = x.frame; octets = x.offer.octets; reason = reason } in
+      let own : Dropped = record {
+        cycle = record { 0 = offer_cycle run.domain x };
+        bridge = x.offer.bridge;
+        frame = x.frame;
+        octets =
+            x.offer.octets;
+        reason = reason;
+      } in
       let listed = says.each_drop own (record {
         x = x;
         uncovered = uncovered;
@@ -75,14 +84,15 @@ module _ (run : Run) (streams : List PlannedText) (book : Contents) (says : Says
     (same_due : (name : List ℕ) → due name ≡ deadline_named streams name) where
   -- with its verdict
   unless_same : (x : Offered) → Contains (numbered run.offers) x → offer_cycle run.domain x < length run.tables → (v : Verdict) → IsDecided run x v →
-      deliveries_for run.domain (record { due = due; whole = whole_on run.domain book.starts }) x v ≡ deliveries_unless run streams book x (drop_of book.drops x.frame)
+      deliveries_for run.domain (record { due = due; whole = whole_on run.domain book.starts }) x v
+      ≡ deliveries_unless run streams book x (drop_of book.drops x.frame)
   unless_same x inside within (Queued row) covered =
       ap (λ (deadline : Option ℕ). deliveries_to run.domain (whole_on run.domain book.starts x.frame) deadline x row) (same_due x.offer.stream)
       ∙ ap (deliveries_by run.domain (whole_on run.domain book.starts x.frame) (deadline_named streams x.offer.stream) x) (sym covered.named)
       ∙ ap (deliveries_unless run streams book x) (sym (covered_no_drop run book says x inside row covered))
   unless_same x inside within (DroppedFor reason) uncovered =
       let drop = uncovered_drop run book says x inside reason within uncovered in
-      ap (λ (r : Reason). delivery_of run.domain x (course.Dropped r) ∷ []) (sym drop.2)
+      ap (λ (r : Reason). delivery_of run.domain x (passage.Dropped r) ∷ []) (sym drop.2)
       ∙ ap (deliveries_unless run streams book x) (sym drop.1)
   unless_same x inside within LacksRow never = absurd never
   unless_same x inside within ExceedsGate never = absurd never

@@ -1,5 +1,6 @@
 -- The deliveries that were made are those in the book of the scenario.
-use Rattle.std.proofs.Common.{◌≡◌, ◌∙◌, ◌⊎◌, ℕ, ◌≤◌, ◌<◌, Bool, List, inl, inr, Option, Some, None, ap, arith, get_or, length, map, refl, subst, sym, position, find}
+use Rattle.std.proofs.Common.{◌≡◌, ◌∙◌, ◌⊎◌, ℕ, ◌≤◌, ◌<◌, Bool, List, inl, inr, Option, Some, None, ap, arith, get_or}
+use Rattle.std.proofs.Common.{length, map, refl, subst, sym, position, find}
 use Rattle.std.specs.Prelude.{slice_get}
 use Rattle.std.specs.Option.{option_and_then}
 use Rattle.std.proofs.lemmas.List.{get_or-map, get_or_past, length-map}
@@ -46,17 +47,20 @@ due_at streams k (Some planned) at =
     ∙ ap (λ (p : PlannedText). p.1) (get_or_from_slice_get streams k planned planned at)
 due_at streams k None at = none (slice_get_cases streams k).1
   where
-    none : ((x : PlannedText) × (k < length streams) × (slice_get streams k ≡ Some x) × (get_or streams k x ≡ x)) ⊎ ((length streams ≤ k) × (slice_get streams k ≡ None)) →
+    none : ((x : PlannedText) × (k < length streams) × (slice_get streams k ≡ Some x) × (get_or streams k x ≡ x))
+        ⊎ ((length streams ≤ k) × (slice_get streams k ≡ None)) →
         get_or (map (λ (planned : PlannedText). planned.1) streams) k None ≡ None
     none (inl here) = absurd (let both : Some here.0 ≡ None = sym here.2 ∙ at in cc)
-    none (inr past) = get_or_past (map (λ (planned : PlannedText). planned.1) streams) k None (omega (arith, past.0, length-map streams (λ (planned : PlannedText). planned.1)))
+    none (inr past) = get_or_past (map (λ (planned : PlannedText). planned.1) streams) k None
+        (omega (arith, past.0, length-map streams (λ (planned : PlannedText). planned.1)))
 
 -- whether a stream has a name
 abbrev named : List ℕ → PlannedText → Bool
 named name planned = is_text planned.0.name name
 
 -- so the deadline of a name is that of the first stream of it
-pub due_is : (streams : List PlannedText) (requests : List Request) (deadlines : List (Option ℕ)) → ArePlannedBeside streams requests deadlines → (name : List ℕ) →
+pub due_is : (streams : List PlannedText) (requests : List Request) (deadlines : List (Option ℕ)) → ArePlannedBeside streams requests deadlines
+    → (name : List ℕ) →
     deadline_in (record { requests = requests; deadlines = deadlines }) name ≡ deadline_named streams name
 due_is streams requests deadlines planned name =
     ap (option_and_then (λ (k : ℕ). get_or deadlines k None)) places
@@ -87,7 +91,8 @@ AreDeliveries-made law cycles s streams book rows judgements due deliveries is_b
   book = book;
   is_book = is_book;
   are = are
-      ∙ ap (λ (n : ℕ). deliveries_of_all s.domain n (known_by due (whole_on s.domain book.starts)) (verdict_at s.domain rows judgements) (numbered s.offers)) (sym many)
+      ∙ ap (λ (n : ℕ). deliveries_of_all s.domain n (known_by due (whole_on s.domain book.starts)) (verdict_at s.domain rows judgements) (numbered s.offers))
+      (sym many)
       ∙ deliveries_judged (run_of_scenario cycles s) streams book is_book.promise.says due same_due (verdict_at s.domain rows judgements) decided;
 }
   where
@@ -100,7 +105,8 @@ AreDeliveries-made law cycles s streams book rows judgements due deliveries is_b
     decided x inside within =
         let early : offer_cycle s.domain x < cycles = omega (arith, within, many) in
         let sealed : cycles ≤ seals (history_of cycles s) = is_book.is_book.sealed in
-        subst (IsDecided (run_of_scenario cycles s) x) (sym (at_place s.domain (history_of cycles s) rows s.offers judgements judged cycles sealed x inside early))
+        subst (IsDecided (run_of_scenario cycles s) x)
+        (sym (at_place s.domain (history_of cycles s) rows s.offers judgements judged cycles sealed x inside early))
         (law s.domain (history_of cycles s) s.offers s.background cycles x sealed ordered inside early)
 
 -- and so where they were made of the same things otherwise named
@@ -110,7 +116,8 @@ pub AreDeliveries-run : OffersAreJudged → (cycles : ℕ) (s : Scenario) (strea
     AreJudged d entries rows offers (length offers) judgements → StandInOrder s.offers → ((name : List ℕ) → due name ≡ deadline_named streams name) →
     deliveries ≡ deliveries_of_all d cycles (known_by due (whole_on d starts)) (verdict_at d rows judgements) (numbered offers) →
     AreDeliveries cycles s streams deliveries
-AreDeliveries-run law cycles s streams book d entries offers starts rows judgements due deliveries is_book domain history same started judged ordered same_due are =
+AreDeliveries-run law cycles s streams book d entries offers starts rows judgements due deliveries is_book domain history same started judged
+    ordered same_due are =
     AreDeliveries-made law cycles s streams book rows judgements due deliveries is_book
     (subst (λ (os : List Offer). AreJudged s.domain (history_of cycles s) rows os (length os) judgements) same
     (subst (λ (es : List Recorded). AreJudged s.domain es rows offers (length offers) judgements) history
@@ -118,5 +125,7 @@ AreDeliveries-run law cycles s streams book d entries offers starts rows judgeme
     ordered same_due
     (are
     ∙ ap (λ (x : Domain). deliveries_of_all x cycles (known_by due (whole_on x starts)) (verdict_at x rows judgements) (numbered offers)) domain
-    ∙ ap (λ (os : List Offer). deliveries_of_all s.domain cycles (known_by due (whole_on s.domain starts)) (verdict_at s.domain rows judgements) (numbered os)) same
-    ∙ ap (λ (ss : List Started). deliveries_of_all s.domain cycles (known_by due (whole_on s.domain ss)) (verdict_at s.domain rows judgements) (numbered s.offers)) started)
+    ∙ ap (λ (os : List Offer). deliveries_of_all s.domain cycles (known_by due (whole_on s.domain starts)) (verdict_at s.domain rows judgements) (numbered os))
+    same
+    ∙ ap (λ (ss : List Started). deliveries_of_all s.domain cycles (known_by due (whole_on s.domain ss)) (verdict_at s.domain rows judgements)
+    (numbered s.offers)) started)

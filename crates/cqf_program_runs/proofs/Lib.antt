@@ -6,8 +6,7 @@ mod ReportOutputs
 pub mod Noted
 pub mod Passed
 pub mod ByBook
-mod CourseLines
-mod Listed
+mod PassageLines
 mod Lines
 mod Fates
 mod Well

@@ -1,11 +1,14 @@
 -- What is noted of frames, start by start.
-use Rattle.std.proofs.Common.{◌≡◌, ◌≢◌, ◌∙◌, ◌++◌, ◌∷◌, [], ◌<◌, ◌+◌, ◌-◌, ◌≤◌, ◌⊎◌, ℕ, Bool, true, false, List, Option, Some, filter, find, map, ap, sym, length, refl, arith, get_or, inl, inr, set, option_map, cond}
+use Rattle.std.proofs.Common.{◌≡◌, ◌≢◌, ◌∙◌, ◌++◌, ◌∷◌, [], ◌<◌, ◌+◌, ◌-◌, ◌≤◌, ◌⊎◌, ℕ, Bool, true, false, List, Option}
+use Rattle.std.proofs.Common.{Some, filter, find, map, ap, sym, length, refl, arith, get_or, inl, inr, set, option_map}
+use Rattle.std.proofs.Common.{cond}
 use Rattle.std.specs.Prelude.{◌==◌, ◌&&◌}
 use Rattle.std.specs.Global.{Global}
 use Rattle.std.specs.declared.vec.Vec.{Vec}
 use Rattle.std.proofs.lemmas.Bool.{cases_Bool, cases_lt, true≢false}
 use Rattle.std.proofs.lemmas.Bool.Decides.{nat_tests}
-use Rattle.std.proofs.lemmas.List.{map-append, append-nil, length-append, length-map, get_or-map, get_or-set_same, get_or-set_other, get_or-append_right, get_or_append_left, length-set, map-set}
+use Rattle.std.proofs.lemmas.List.{map-append, append-nil, length-append, length-map, get_or-map, get_or-set_same}
+use Rattle.std.proofs.lemmas.List.{get_or-set_other, get_or-append_right, get_or_append_left, length-set, map-set}
 use Rattle.std.proofs.lemmas.List.Elements.{filter-append}
 use Rattle.cqf_units.specs.declared.timing.Nanos.{Nanos}
 use Rattle.cqf_model.specs.declared.frames.Started.{Started}
@@ -13,7 +16,8 @@ use Rattle.cqf_model.specs.Domain.{Domain, end_of}
 use Rattle.cqf_program_plans.specs.LatencyText.{is_station}
 use Rattle.cqf_program_runs.specs.declared.arrivals.Arrival.{Arrival}
 use Rattle.cqf_program_runs.specs.Deliveries.{start_on, whole_instant, whole_on}
-use Rattle.cqf_program_runs.specs.Arrivals.{AddsArrival, AreNoted, HaveNoArrivals, NotesArrival, arrival_by, arrivals_noted, comes_to_listener, lists_of_arrivals, whole_in}
+use Rattle.cqf_program_runs.specs.Arrivals.{AddsArrival, AreNoted, HaveNoArrivals, NotesArrival, arrival_by}
+use Rattle.cqf_program_runs.specs.Arrivals.{arrivals_noted, comes_to_listener, lists_of_arrivals, whole_in}
 
 -- no lists at all
 pub AreEmpty-none : (lists : List (Vec Arrival Global)) → lists ≡ [] → HaveNoArrivals 0 (lists_of_arrivals lists)
@@ -23,7 +27,8 @@ AreEmpty-none lists none = record {
 }
 
 -- one empty list more
-pub AreEmpty-next : (n : ℕ) (lists after : List (Vec Arrival Global)) (last : Vec Arrival Global) → HaveNoArrivals n (lists_of_arrivals lists) → last.items ≡ [] →
+pub AreEmpty-next : (n : ℕ) (lists after : List (Vec Arrival Global)) (last : Vec Arrival Global) → HaveNoArrivals n (lists_of_arrivals lists)
+    → last.items ≡ [] →
     after ≡ lists ++ last ∷ [] → HaveNoArrivals (n + 1) (lists_of_arrivals after)
 AreEmpty-next n lists after last h empty is = record {
   count = ap length same ∙ length-append (lists_of_arrivals lists) ([] ∷ []) ∙ ap (λ k. k + 1) h.count;
@@ -40,7 +45,8 @@ AreEmpty-next n lists after last h empty is = record {
     by frame below (inl l) = get_or_append_left (lists_of_arrivals lists) ([] ∷ []) [] frame (omega (arith, l, h.count)) ∙ h.each frame l
     by frame below (inr g) =
         let here : frame ≡ n + 0 = omega (arith, below, g) in
-        ap (λ (k : ℕ). get_or (lists_of_arrivals lists ++ [] ∷ []) k []) here ∙ get_or-append_right (lists_of_arrivals lists) ([] ∷ []) n (n + 0) [] h.count (omega arith)
+        ap (λ (k : ℕ). get_or (lists_of_arrivals lists ++ [] ∷ []) k []) here ∙ get_or-append_right (lists_of_arrivals lists) ([] ∷ []) n
+        (n + 0) [] h.count (omega arith)
         ∙ ap (λ (k : ℕ). get_or ([] ∷ []) k []) (nothing n)
       where
         -- nothing more is nothing
@@ -141,14 +147,17 @@ whole_of_list link list = option_map (λ (arrival : Arrival). arrival.whole) (fi
 
 -- on a link to a station, the first that is noted is the first that starts
 found : (d : Domain) (frame link : ℕ) → is_station (end_of d link) ≡ true → (starts : List Started) →
-    option_map (λ (arrival : Arrival). arrival.whole) (find (λ (arrival : Arrival). arrival.link == link) (arrivals_noted d starts frame)) ≡ whole_on d starts frame link
+    option_map (λ (arrival : Arrival). arrival.whole) (find (λ (arrival : Arrival). arrival.link == link) (arrivals_noted d starts frame))
+    ≡ whole_on d starts frame link
 found d frame link comes [] = refl
 found d frame link comes (s ∷ starts) = by (found d frame link comes starts) (s.frame == frame) (s.link == link) refl refl
   where
     -- what is noted of all
     all_by : (b : Bool) → comes_to_listener d frame s ≡ b →
-        whole_of_list link (arrivals_noted d (s ∷ starts) frame) ≡ whole_of_list link (map (arrival_by d) (cond b (s ∷ filter (comes_to_listener d frame) starts) (filter (comes_to_listener d frame) starts)))
-    all_by b e = ap (λ (c : Bool). whole_of_list link (map (arrival_by d) (cond c (s ∷ filter (comes_to_listener d frame) starts) (filter (comes_to_listener d frame) starts)))) e
+        whole_of_list link (arrivals_noted d (s ∷ starts) frame)
+        ≡ whole_of_list link (map (arrival_by d) (cond b (s ∷ filter (comes_to_listener d frame) starts) (filter (comes_to_listener d frame) starts)))
+    all_by b e = ap (λ (c : Bool). whole_of_list link
+        (map (arrival_by d) (cond c (s ∷ filter (comes_to_listener d frame) starts) (filter (comes_to_listener d frame) starts)))) e
 
     -- what starts, by whether the first is the one
     first_by : (b : Bool) → ((s.frame == frame) && (s.link == link)) ≡ b →
@@ -156,7 +165,8 @@ found d frame link comes (s ∷ starts) = by (found d frame link comes starts) (
     first_by b e = ap (λ (c : Bool). option_map (whole_instant d) (cond c (Some s) (start_on starts frame link))) (sym e)
 
     -- by whether it is of the frame, and on the link
-    by : whole_of_list link (arrivals_noted d starts frame) ≡ whole_on d starts frame link → (f l : Bool) → (s.frame == frame) ≡ f → (s.link == link) ≡ l → whole_of_list link (arrivals_noted d (s ∷ starts) frame) ≡ whole_on d (s ∷ starts) frame link
+    by : whole_of_list link (arrivals_noted d starts frame) ≡ whole_on d starts frame link → (f l : Bool) → (s.frame == frame) ≡ f →
+        (s.link == link) ≡ l → whole_of_list link (arrivals_noted d (s ∷ starts) frame) ≡ whole_on d (s ∷ starts) frame link
     by rest false l ef el =
         all_by false (ap (λ (b : Bool). b && is_station (end_of d s.link)) ef) ∙ rest
         ∙ first_by false (ap (λ (b : Bool). b && (s.link == link)) ef)
@@ -164,12 +174,14 @@ found d frame link comes (s ∷ starts) = by (found d frame link comes starts) (
         let same : s.link ≡ link = grind (arith, nat_tests) in
         let here : comes_to_listener d frame s ≡ true = λ i. ef i && (ap (λ k. is_station (end_of d k)) same ∙ comes) i in
         all_by true here
-        ∙ ap (λ (b : Bool). option_map (λ (arrival : Arrival). arrival.whole) (cond b (Some (arrival_by d s)) (find (λ (arrival : Arrival). arrival.link == link) (arrivals_noted d starts frame)))) el
+        ∙ ap (λ (b : Bool). option_map (λ (arrival : Arrival). arrival.whole)
+        (cond b (Some (arrival_by d s)) (find (λ (arrival : Arrival). arrival.link == link) (arrivals_noted d starts frame)))) el
         ∙ first_by true (λ i. ef i && el i)
     by rest true false ef el = elim (cases_Bool (is_station (end_of d s.link))) [
       | inl comes_too ↦
           all_by true (λ i. ef i && comes_too i)
-          ∙ ap (λ (b : Bool). option_map (λ (arrival : Arrival). arrival.whole) (cond b (Some (arrival_by d s)) (find (λ (arrival : Arrival). arrival.link == link) (arrivals_noted d starts frame)))) el
+          ∙ ap (λ (b : Bool). option_map (λ (arrival : Arrival). arrival.whole)
+          (cond b (Some (arrival_by d s)) (find (λ (arrival : Arrival). arrival.link == link) (arrivals_noted d starts frame)))) el
           ∙ rest ∙ first_by false (λ i. ef i && el i)
       | inr not_there ↦
           all_by false (λ i. ef i && not_there i) ∙ rest ∙ first_by false (λ i. ef i && el i)
@@ -179,5 +191,6 @@ found d frame link comes (s ∷ starts) = by (found d frame link comes starts) (
 pub whole_in-on : (d : Domain) (starts : List Started) (frames : ℕ) (lists : List (List Arrival)) (frame link : ℕ) → AreNoted d starts frames lists →
     frame ≤ frames → is_station (end_of d link) ≡ true → whole_in lists frame link ≡ whole_on d starts frame link
 whole_in-on d starts frames lists frame link h below comes =
-    ap (λ (list : List Arrival). option_map (λ (arrival : Arrival). arrival.whole) (find (λ (arrival : Arrival). arrival.link == link) list)) (h.each frame below)
+    ap (λ (list : List Arrival). option_map (λ (arrival : Arrival). arrival.whole) (find (λ (arrival : Arrival). arrival.link == link) list))
+    (h.each frame below)
     ∙ found d frame link comes starts

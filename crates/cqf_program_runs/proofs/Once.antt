@@ -1,5 +1,7 @@
 -- Each offer is told of once for each of its listeners.
-use Rattle.std.proofs.Common.{◌≡◌, ◌∙◌, ◌∷◌, ◌<◌, ◌≤◌, ◌==◌, [], ℕ, AllPairs, Bool, true, false, cond, List, Option, Some, None, Contains, ap, arith, count_by, get_or, if◌then◌else◌, length, nat_lt, refl, sum_by, sym}
+use Rattle.std.proofs.Common.{◌≡◌, ◌∙◌, ◌∷◌, ◌<◌, ◌≤◌, ◌==◌, [], ℕ, AllPairs, Bool, true, false, cond, List, Option}
+use Rattle.std.proofs.Common.{Some, None, Contains, ap, arith, count_by, get_or, if◌then◌else◌, length, nat_lt, refl}
+use Rattle.std.proofs.Common.{sum_by, sym}
 use Rattle.std.proofs.lemmas.Bool.Decides.{nat_tests}
 use Rattle.std.proofs.lemmas.List.{length-map}
 use Rattle.std.proofs.lemmas.List.Sums.{sum_by-cons}
@@ -17,10 +19,11 @@ use Rattle.cqf_topology.specs.PlannedText.{PlannedText}
 use Rattle.cqf_laws_shift.proofs.Came.{numbers_ascend, one_number}
 use Rattle.cqf_laws_report.proofs.Matched.{sum_same}
 use Rattle.cqf_program_plans.specs.LatencyText.{listeners_of}
-use Rattle.cqf_program_runs.specs.declared.delivery.Course.TheVariants as course
+use Rattle.cqf_program_runs.specs.declared.delivery.Passage.TheVariants as passage
 use Rattle.cqf_program_runs.specs.declared.delivery.Delivery.{Delivery}
 use Rattle.cqf_program_runs.specs.ArrivalLaws.{IsToldOnce, told_of_offer}
-use Rattle.cqf_program_runs.specs.Deliveries.{deadline_named, deliveries_by, deliveries_of_offer, deliveries_unless, delivery_of, delivery_to, drop_of, whole_on}
+use Rattle.cqf_program_runs.specs.Deliveries.{deadline_named, deliveries_by, deliveries_of_offer, deliveries_unless}
+use Rattle.cqf_program_runs.specs.Deliveries.{delivery_of, delivery_to, drop_of, whole_on}
 use Rattle.cqf_program_runs.proofs.Fates.{count_none}
 use Rattle.cqf_program_runs.proofs.Well.{of_covered, of_uncovered}
 
@@ -50,7 +53,7 @@ module _ (run : Run) (streams : List PlannedText) (book : Contents) where
       delivery.frame ≡ y.frame
   frame_unless y delivery None c = frame_by y delivery (row_for run.domain run.tables y) c
   frame_unless y delivery (Some dropped) c =
-      ap (λ (z : Delivery). z.frame) (sym (contains_one (delivery_of run.domain y (course.Dropped dropped.reason)) delivery c))
+      ap (λ (z : Delivery). z.frame) (sym (contains_one (delivery_of run.domain y (passage.Dropped dropped.reason)) delivery c))
 
   frame_within : (y : Offered) (delivery : Delivery) (b : Bool) →
       Contains (if b then deliveries_unless run streams book y (drop_of book.drops y.frame) else []) delivery → delivery.frame ≡ y.frame

@@ -1,5 +1,6 @@
 -- The deliveries of the offers so far, and of one more.
-use Rattle.std.proofs.Common.{◌≡◌, ◌∙◌, ◌++◌, ◌<◌, ◌≤◌, ◌+◌, ◌-◌, ℕ, List, [], Option, Some, length, take, get_or, ap, sym, refl, arith, option_map, if◌then◌else◌, nat_lt}
+use Rattle.std.proofs.Common.{◌≡◌, ◌∙◌, ◌++◌, ◌<◌, ◌≤◌, ◌+◌, ◌-◌, ℕ, List, [], Option, Some, length, take, get_or, ap}
+use Rattle.std.proofs.Common.{sym, refl, arith, option_map, if◌then◌else◌, nat_lt}
 use Rattle.std.specs.Prelude.{slice_get}
 use Rattle.std.proofs.lemmas.List.{get_or_default}
 use Rattle.cqf_units.specs.Timing.{cycle_at}
@@ -47,7 +48,8 @@ module _ (d : Domain) (cycles : ℕ) (known : Known) (verdict : Offered → Verd
 -- the verdict on it is that of the judgement at its place
 pub verdict_here : (d : Domain) (rows : List Row) (judgements : List Judgement) (place : ℕ) (offer : Offer) (other : Judgement) →
     place < length judgements →
-    verdict_of rows (cycle_at d.cycle_time offer.at.0) (get_or judgements place other) ≡ verdict_at d rows judgements (record { frame = place + 1; offer = offer })
+    verdict_of rows (cycle_at d.cycle_time offer.at.0) (get_or judgements place other)
+    ≡ verdict_at d rows judgements (record { frame = place + 1; offer = offer })
 verdict_here d rows judgements place offer other inside =
     let back : place ≡ place + 1 - 1 = omega arith in
     ap (λ (j : Judgement). verdict_of rows (cycle_at d.cycle_time offer.at.0) j)
@@ -60,10 +62,12 @@ module _ (d : Domain) (starts : List Started) (offers : List Offer) (lists : Lis
   for_same : (x : Offered) → x.frame ≤ length offers → (v : Verdict) →
       deliveries_for d (record { due = due; whole = whole_in lists }) x v ≡ deliveries_for d (record { due = due; whole = whole_on d starts }) x v
   for_same x below (Queued row) =
-      map_same (delivery_to d (whole_in lists x.frame) (due x.offer.stream) x) (delivery_to d (whole_on d starts x.frame) (due x.offer.stream) x) (listeners_of d row)
+      map_same (delivery_to d (whole_in lists x.frame) (due x.offer.stream) x) (delivery_to d (whole_on d starts x.frame) (due x.offer.stream) x)
+      (listeners_of d row)
       (λ hop among.
       let comes = (contains_from_filter (λ (h : Hop). is_station (end_of d h.link)) row.tree.items hop among).1 in
-      ap (λ (whole : Option Nanos). delivery_to d (λ _. whole) (due x.offer.stream) x hop) (whole_in-on d starts (length offers) lists x.frame hop.link noted below comes))
+      ap (λ (whole : Option Nanos). delivery_to d (λ _. whole) (due x.offer.stream) x hop)
+      (whole_in-on d starts (length offers) lists x.frame hop.link noted below comes))
   for_same x below (DroppedFor reason) = refl
   for_same x below LacksRow = refl
   for_same x below ExceedsGate = refl

@@ -42,6 +42,7 @@ module _ (cycles : ℕ) (texts : RunTexts) (d : Domain) (streams : List PlannedT
   planned-refused requests stop asked refused = record {
     statuses = refused.statuses;
     line = λ one. planned_is
-        ∙ ap (λ found. and_then found (with_scenario streams)) (ap (λ (found : List Asked). scenario_behind cycles d found texts) (sym asked) ∙ refused.line one);
+        ∙ ap (λ found. and_then found (with_scenario streams)) (ap (λ (found : List Asked). scenario_behind cycles d found texts) (sym asked)
+        ∙ refused.line one);
     memory = refused.memory;
   }

@@ -44,5 +44,6 @@ TellsTheBook-columns told is_there d entries offers background cycles columns te
       book = there.0;
       there = there.1;
       written = written
-          ∙ sym (told d entries offers background cycles there.0 (frames_by columns) (octets_by columns) accepted legal offered behind ordered there.1.is_book by.sums);
+          ∙ sym (told d entries offers background cycles there.0 (frames_by columns) (octets_by columns) accepted legal offered behind
+          ordered there.1.is_book by.sums);
     }

@@ -1,5 +1,7 @@
 -- A check tells that all is well exactly where all goes well.
-use Rattle.std.proofs.Common.{◌≡◌, ◌∙◌, ◌∷◌, ◌<◌, ◌==◌, ◌&&◌, [], ℕ, Bool, true, false, List, Option, Some, None, Result, Ok, Err, Contains, ap, arith, find, if◌then◌else◌, length, lt-ltb, nat_le, option_map, refl, subst, sym}
+use Rattle.std.proofs.Common.{◌≡◌, ◌∙◌, ◌∷◌, ◌<◌, ◌==◌, ◌&&◌, [], ℕ, Bool, true, false, List, Option, Some, None}
+use Rattle.std.proofs.Common.{Result, Ok, Err, Contains, ap, arith, find, if◌then◌else◌, length, lt-ltb, nat_le}
+use Rattle.std.proofs.Common.{option_map, refl, subst, sym}
 use Rattle.std.proofs.lemmas.Bool.{leb-false, lt-leb}
 use Rattle.std.proofs.lemmas.Bool.Decides.{nat_tests}
 use Rattle.cqf_lists.specs.Results.{refuse}
@@ -19,12 +21,15 @@ use Rattle.cqf_topology.specs.PlannedText.{PlannedText}
 use Rattle.cqf_laws_shift.proofs.Decided.{is_decided, judged}
 use Rattle.cqf_program_plans.specs.LatencyText.{listeners_of}
 use Rattle.cqf_program_runs.specs.declared.checked.Counts.{Counts}
-use Rattle.cqf_program_runs.specs.declared.delivery.Course.TheVariants as course
+use Rattle.cqf_program_runs.specs.declared.delivery.Passage.TheVariants as passage
 use Rattle.cqf_program_runs.specs.declared.delivery.Delivery.{Delivery}
 use Rattle.cqf_program_runs.specs.declared.delivery.Fate.TheVariants as fate
-use Rattle.cqf_program_runs.specs.Checked.{checked_deliveries, checked_by, complaint_line, counts_of, finished, is_bad, is_finished, is_under_way, later_offers, unfinished_line, well_line}
+use Rattle.cqf_program_runs.specs.Checked.{checked_deliveries, checked_by, complaint_line, counts_of, finished, is_bad}
+use Rattle.cqf_program_runs.specs.Checked.{is_finished, is_under_way, later_offers, unfinished_line, well_line}
 use Rattle.cqf_program_runs.specs.CheckLaws.{AllGoWell, ComesInTime, GoesWell, IsWellExactly, line_of_well}
-use Rattle.cqf_program_runs.specs.Deliveries.{deadline_named, deliveries_by, deliveries_of, deliveries_of_offer, deliveries_to, deliveries_unless, delivery_of, delivery_to, drop_of, end_of_journey, fate_of, start_on, whole_instant, whole_on}
+use Rattle.cqf_program_runs.specs.Deliveries.{deadline_named, deliveries_by, deliveries_of, deliveries_of_offer}
+use Rattle.cqf_program_runs.specs.Deliveries.{deliveries_to, deliveries_unless, delivery_of, delivery_to, drop_of}
+use Rattle.cqf_program_runs.specs.Deliveries.{end_of_journey, fate_of, start_on, whole_instant, whole_on}
 use Rattle.cqf_program_runs.proofs.ByBook.{covered_no_drop, uncovered_drop}
 use Rattle.cqf_program_runs.proofs.Fates.{count_none, first_passes, is_there, none_counted, none_found, none_passes, second_passes}
 
@@ -63,7 +68,7 @@ module _ (run : Run) (streams : List PlannedText) (book : Contents) (says : Says
 
   -- and of one that isn't there is its drop
   pub of_uncovered : (x : Offered) → Contains (numbered run.offers) x → offer_cycle run.domain x < length run.tables → (reason : Reason) →
-      IsUncovered run x reason → (dropped : Dropped) × (deliveries_of_offer run streams book x ≡ delivery_of run.domain x (course.Dropped dropped.reason) ∷ [])
+      IsUncovered run x reason → (dropped : Dropped) × (deliveries_of_offer run streams book x ≡ delivery_of run.domain x (passage.Dropped dropped.reason) ∷ [])
   of_uncovered x inside within reason uncovered =
       let drop = uncovered_drop run book says x inside reason within uncovered in
       (drop.0, of_run x within ∙ ap (deliveries_unless run streams book x) drop.1)
@@ -80,12 +85,14 @@ module _ (run : Run) (streams : List PlannedText) (book : Contents) (says : Says
         (found : Option Started) → start_on book.starts x.frame hop.link ≡ found → ComesInTime run streams book x hop
     comes x hop is None e = absurd (
         let both : fate.UnderWay ≡ fate.Delivered =
-        sym (ap (λ (o : Option Started). end_of_journey x.offer.at.0 (option_map (whole_instant run.domain) o) (deadline_named streams x.offer.stream)) e) ∙ is in cc)
+        sym (ap (λ (o : Option Started). end_of_journey x.offer.at.0 (option_map (whole_instant run.domain) o) (deadline_named streams x.offer.stream)) e)
+        ∙ is in cc)
     comes x hop is (Some start) e = record {
       start = start;
       starts = e;
       in_time =
-          sym (ap (λ (o : Option Started). end_of_journey x.offer.at.0 (option_map (whole_instant run.domain) o) (deadline_named streams x.offer.stream)) e) ∙ is;
+          sym (ap (λ (o : Option Started). end_of_journey x.offer.at.0 (option_map (whole_instant run.domain) o) (deadline_named streams x.offer.stream)) e)
+          ∙ is;
     }
 
     by_verdict : (x : Offered) → Contains (numbered run.offers) x → (v : Verdict) → IsDecided run x v → GoesWell run streams book x
@@ -105,7 +112,7 @@ module _ (run : Run) (streams : List PlannedText) (book : Contents) (says : Says
     }
     by_verdict x inside (DroppedFor reason) uncovered = absurd (
         let drop = of_uncovered x inside (within x inside) reason uncovered in
-        let delivery = delivery_of run.domain x (course.Dropped drop.0.reason) in
+        let delivery = delivery_of run.domain x (passage.Dropped drop.0.reason) in
         let own : Contains (deliveries_of_offer run streams book x) delivery =
         subst (λ (ds : List Delivery). Contains ds delivery) (sym drop.1) (contains_here delivery []) in
         let is : fate.Dropped drop.0.reason ≡ fate.Delivered =

@@ -14,7 +14,7 @@ use Rattle.cqf_model.specs.Promise.{SaysTheShift}
 use Rattle.cqf_topology.specs.PlannedText.{PlannedText}
 use Rattle.cqf_program_plans.specs.EndNames.{name_of_end}
 use Rattle.cqf_program_plans.specs.LatencyText.{is_station, listeners_of}
-use Rattle.cqf_program_runs.specs.declared.delivery.Course.TheVariants as course
+use Rattle.cqf_program_runs.specs.declared.delivery.Passage.TheVariants as passage
 use Rattle.cqf_program_runs.specs.declared.delivery.Delivery.{Delivery}
 use Rattle.cqf_program_runs.specs.declared.delivery.Fate.{Fate}
 use Rattle.cqf_program_runs.specs.declared.delivery.Fate.TheVariants as fate
@@ -38,7 +38,7 @@ pub record IsArrivalOfOffer (run : Run) (streams : List PlannedText) (book : Con
   pub among : Contains (listeners_of run.domain row) hop
   pub starts : start_on book.starts x.frame hop.link ≡ Some start
   pub in_shift : InShift run (length run.tables) x.frame hop.link start.cycle.0
-  pub is : delivery ≡ delivery_of run.domain x (course.Goes (record {
+  pub is : delivery ≡ delivery_of run.domain x (passage.Goes (record {
     listener = name_of_end run.domain hop.link;
     whole = Some (whole_instant run.domain start);
     deadline = deadline_named streams x.offer.stream;
@@ -55,7 +55,8 @@ pub record HasArrived (run : Run) (streams : List PlannedText) (book : Contents)
 
 -- the deliveries that have come are exactly the shift's frames on links to stations
 pub record AreTheShift (run : Run) (streams : List PlannedText) (book : Contents) : Type 0 where
-  pub only : (delivery : Delivery) → Contains (deliveries_of run streams book) delivery → has_come (fate_of delivery) ≡ true → IsArrivalOfOffer run streams book delivery
+  pub only : (delivery : Delivery) → Contains (deliveries_of run streams book) delivery → has_come (fate_of delivery) ≡ true →
+      IsArrivalOfOffer run streams book delivery
   pub each : (frame link cycle : ℕ) → InShift run (length run.tables) frame link cycle → is_station (end_of run.domain link) ≡ true →
       HasArrived run streams book frame link
 

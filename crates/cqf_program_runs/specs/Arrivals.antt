@@ -1,5 +1,6 @@
 -- When frames are whole at listeners, by frame number.
-use Rattle.std.specs.Prelude.{ℕ, ◌≡◌, ◌≢◌, ◌+◌, ◌^◌, ◌≤◌, ◌<◌, ◌++◌, ◌==◌, ◌&&◌, Bool, List, [], ◌∷◌, Option, filter, find, length, map, option_map, slice_index_or}
+use Rattle.std.specs.Prelude.{ℕ, ◌≡◌, ◌≢◌, ◌+◌, ◌^◌, ◌≤◌, ◌<◌, ◌++◌, ◌==◌, ◌&&◌, Bool, List, [], ◌∷◌, Option, filter}
+use Rattle.std.specs.Prelude.{find, length, map, option_map, slice_index_or}
 use Rattle.std.specs.Global.{Global}
 use Rattle.std.specs.declared.vec.Vec.{Vec}
 use Rattle.cqf_units.specs.declared.timing.Nanos.{Nanos}

@@ -6,7 +6,7 @@ use Rattle.cqf_model.specs.declared.frames.Offered.{Offered}
 use Rattle.cqf_model.specs.Domain.{Domain}
 use Rattle.cqf_model.specs.Shift.{offer_cycle}
 use Rattle.cqf_model.specs.Traffic.{DroppedFor, ExceedsGate, LacksRow, Queued, Verdict}
-use Rattle.cqf_program_runs.specs.declared.delivery.Course.TheVariants as course
+use Rattle.cqf_program_runs.specs.declared.delivery.Passage.TheVariants as passage
 use Rattle.cqf_program_runs.specs.declared.delivery.Delivery.{Delivery}
 use Rattle.cqf_program_runs.specs.Deliveries.{deliveries_to, delivery_of}
 
@@ -22,7 +22,7 @@ known_by due whole = record { due = due; whole = whole }
 -- those of an offer: each one to a listener of the row by which it goes on, or its drop
 abbrev pub deliveries_for : Domain → Known → Offered → Verdict → List Delivery
 deliveries_for d known x (Queued row) = deliveries_to d (known.whole x.frame) (known.due x.offer.stream) x row
-deliveries_for d known x (DroppedFor reason) = delivery_of d x (course.Dropped reason) ∷ []
+deliveries_for d known x (DroppedFor reason) = delivery_of d x (passage.Dropped reason) ∷ []
 deliveries_for d known x LacksRow = []
 deliveries_for d known x ExceedsGate = []
 

@@ -1,5 +1,6 @@
 -- Whether all goes well in a run, by its deliveries (profile).
-use Rattle.std.specs.Prelude.{ℕ, ◌++◌, ◌==◌, ◌&&◌, Bool, true, false, List, Result, Ok, Err, codes, count_by, decimal, find, if◌then◌else◌, is_some, length, nat_le}
+use Rattle.std.specs.Prelude.{ℕ, ◌++◌, ◌==◌, ◌&&◌, Bool, true, false, List, Result, Ok, Err, codes, count_by, decimal}
+use Rattle.std.specs.Prelude.{find, if◌then◌else◌, is_some, length, nat_le}
 use Rattle.cqf_lists.specs.Results.{refuse}
 use Rattle.cqf_model.specs.declared.frames.Offered.{Offered}
 use Rattle.cqf_model.specs.Book.{Contents}
@@ -11,8 +12,8 @@ use Rattle.cqf_report.specs.Books.{name_of_reason}
 use Rattle.cqf_program_plans.specs.LatencyText.{text_of_deadline}
 use Rattle.cqf_program_stop.specs.Stops.{fault_line, line_of}
 use Rattle.cqf_program_runs.specs.declared.checked.Counts.{Counts}
-use Rattle.cqf_program_runs.specs.declared.delivery.Course.{Course}
-use Rattle.cqf_program_runs.specs.declared.delivery.Course.TheVariants as course
+use Rattle.cqf_program_runs.specs.declared.delivery.Passage.{Passage}
+use Rattle.cqf_program_runs.specs.declared.delivery.Passage.TheVariants as passage
 use Rattle.cqf_program_runs.specs.declared.delivery.Delivery.{Delivery}
 use Rattle.cqf_program_runs.specs.declared.delivery.Fate.{Fate}
 use Rattle.cqf_program_runs.specs.declared.delivery.Fate.TheVariants as fate
@@ -39,14 +40,14 @@ is_delivered fate.UnderWay = false
 is_delivered (fate.Dropped reason) = false
 
 -- whether there is a deadline
-abbrev pub is_timed : Course → Bool
-is_timed (course.Dropped reason) = false
-is_timed (course.Goes journey) = is_some journey.deadline
+abbrev pub is_timed : Passage → Bool
+is_timed (passage.Dropped reason) = false
+is_timed (passage.Goes journey) = is_some journey.deadline
 
 -- what a check says of a delivery that ends it: why it was dropped, or that it was late
-abbrev pub complaint_of : ℕ → Course → List ℕ
-complaint_of at (course.Dropped reason) = codes "dropped, " ++ name_of_reason reason
-complaint_of at (course.Goes journey) =
+abbrev pub complaint_of : ℕ → Passage → List ℕ
+complaint_of at (passage.Dropped reason) = codes "dropped, " ++ name_of_reason reason
+complaint_of at (passage.Goes journey) =
     codes "late at "
     ++ (journey.listener
     ++ (codes ", " ++ (text_of_listeners_latency at journey.whole ++ (codes " after its offer, deadline " ++ text_of_deadline journey.deadline))))
@@ -59,7 +60,7 @@ complaint_line delivery = fault_line (codes "check")
     ++ (codes " of "
     ++ (delivery.stream
     ++ (codes ", offered to "
-    ++ (delivery.bridge ++ (codes " at " ++ (decimal delivery.at.0 ++ (codes ": " ++ complaint_of delivery.at.0 delivery.course)))))))))
+    ++ (delivery.bridge ++ (codes " at " ++ (decimal delivery.at.0 ++ (codes ": " ++ complaint_of delivery.at.0 delivery.passage)))))))))
 
 -- the counts of some deliveries beside those of the offers
 abbrev pub counts_of : ℕ → ℕ → List Delivery → Counts
@@ -68,7 +69,7 @@ counts_of frames later deliveries = record {
   later = later;
   under_way = count_by (λ (delivery : Delivery). is_under_way (fate_of delivery)) deliveries;
   delivered = count_by (λ (delivery : Delivery). is_delivered (fate_of delivery)) deliveries;
-  timed = count_by (λ (delivery : Delivery). is_delivered (fate_of delivery) && is_timed delivery.course) deliveries;
+  timed = count_by (λ (delivery : Delivery). is_delivered (fate_of delivery) && is_timed delivery.passage) deliveries;
 }
 
 -- the line where not all has come

@@ -19,8 +19,8 @@ use Rattle.cqf_report.specs.Books.{name_of_bridge}
 use Rattle.cqf_laws_latency.specs.Latency.{whole_of}
 use Rattle.cqf_program_plans.specs.EndNames.{name_of_end}
 use Rattle.cqf_program_plans.specs.LatencyText.{listeners_of}
-use Rattle.cqf_program_runs.specs.declared.delivery.Course.{Course}
-use Rattle.cqf_program_runs.specs.declared.delivery.Course.TheVariants as course
+use Rattle.cqf_program_runs.specs.declared.delivery.Passage.{Passage}
+use Rattle.cqf_program_runs.specs.declared.delivery.Passage.TheVariants as passage
 use Rattle.cqf_program_runs.specs.declared.delivery.Delivery.{Delivery}
 use Rattle.cqf_program_runs.specs.declared.delivery.Fate.{Fate}
 use Rattle.cqf_program_runs.specs.declared.delivery.Fate.TheVariants as fate
@@ -42,14 +42,14 @@ abbrev pub whole_instant : Domain → Started → Nanos
 whole_instant d s = record { 0 = whole_of d s }
 
 -- an offer with what becomes of it
-abbrev pub delivery_of : Domain → Offered → Course → Delivery
+abbrev pub delivery_of : Domain → Offered → Passage → Delivery
 delivery_of d x what = record {
   frame = x.frame;
   stream = x.offer.stream;
   octets = x.offer.octets;
   at = x.offer.at;
   bridge = name_of_bridge d x.offer.bridge;
-  course = what;
+  passage = what;
 }
 
 -- when a frame is whole at the end of a link, where it starts there
@@ -59,7 +59,7 @@ whole_on d starts frame link = option_map (whole_instant d) (start_on starts fra
 -- on its way to the listener at the end of a hop of its stream: when it is whole there, and its deadline
 abbrev pub delivery_to : Domain → (ℕ → Option Nanos) → Option ℕ → Offered → Hop → Delivery
 delivery_to d whole deadline x hop =
-    delivery_of d x (course.Goes (record { listener = name_of_end d hop.link; whole = whole hop.link; deadline = deadline }))
+    delivery_of d x (passage.Goes (record { listener = name_of_end d hop.link; whole = whole hop.link; deadline = deadline }))
 
 -- to each listener of a row, in the order of its branches
 abbrev pub deliveries_to : Domain → (ℕ → Option Nanos) → Option ℕ → Offered → Row → List Delivery
@@ -72,7 +72,7 @@ deliveries_by d whole deadline x (Some row) = deliveries_to d whole deadline x r
 
 -- where an offer is dropped, that; else each delivery
 abbrev pub deliveries_unless : Run → List PlannedText → Contents → Offered → Option Dropped → List Delivery
-deliveries_unless run streams book x (Some dropped) = delivery_of run.domain x (course.Dropped dropped.reason) ∷ []
+deliveries_unless run streams book x (Some dropped) = delivery_of run.domain x (passage.Dropped dropped.reason) ∷ []
 deliveries_unless run streams book x None =
     deliveries_by run.domain (whole_on run.domain book.starts x.frame) (deadline_named streams x.offer.stream) x (row_for run.domain run.tables x)
 
@@ -99,10 +99,10 @@ abbrev pub end_of_journey : ℕ → Option Nanos → Option ℕ → Fate
 end_of_journey at None deadline = fate.UnderWay
 end_of_journey at (Some whole) deadline = arrival_at_listener at whole deadline
 
-abbrev pub end_of_course : ℕ → Course → Fate
-end_of_course at (course.Dropped reason) = fate.Dropped reason
-end_of_course at (course.Goes journey) = end_of_journey at journey.whole journey.deadline
+abbrev pub end_of_passage : ℕ → Passage → Fate
+end_of_passage at (passage.Dropped reason) = fate.Dropped reason
+end_of_passage at (passage.Goes journey) = end_of_journey at journey.whole journey.deadline
 
 -- what becomes of it
 abbrev pub fate_of : Delivery → Fate
-fate_of delivery = end_of_course delivery.at.0 delivery.course
+fate_of delivery = end_of_passage delivery.at.0 delivery.passage

@@ -7,8 +7,8 @@ use Rattle.cqf_report.specs.Books.{name_of_reason}
 use Rattle.cqf_report.specs.Records.{Fields}
 use Rattle.cqf_report.specs.Written.{line_of_fields}
 use Rattle.cqf_program_plans.specs.LatencyText.{text_of_deadline}
-use Rattle.cqf_program_runs.specs.declared.delivery.Course.{Course}
-use Rattle.cqf_program_runs.specs.declared.delivery.Course.TheVariants as course
+use Rattle.cqf_program_runs.specs.declared.delivery.Passage.{Passage}
+use Rattle.cqf_program_runs.specs.declared.delivery.Passage.TheVariants as passage
 use Rattle.cqf_program_runs.specs.declared.delivery.Delivery.{Delivery}
 use Rattle.cqf_program_runs.specs.declared.delivery.Fate.{Fate}
 use Rattle.cqf_program_runs.specs.declared.delivery.Fate.TheVariants as fate
@@ -33,16 +33,16 @@ text_of_instant whole = option_map_or (λ (t : Nanos). decimal t.0) whole []
 abbrev pub text_of_listeners_latency : ℕ → Option Nanos → List ℕ
 text_of_listeners_latency at whole = option_map_or (λ (t : Nanos). decimal (latency_of at t)) whole []
 
-abbrev pub course_fields : ℕ → Course → Fields → Fields
-course_fields at (course.Dropped reason) fields = [] ∷ [] ∷ [] ∷ [] ∷ fields
-course_fields at (course.Goes journey) fields =
+abbrev pub passage_fields : ℕ → Passage → Fields → Fields
+passage_fields at (passage.Dropped reason) fields = [] ∷ [] ∷ [] ∷ [] ∷ fields
+passage_fields at (passage.Goes journey) fields =
     journey.listener ∷ text_of_instant journey.whole ∷ text_of_listeners_latency at journey.whole ∷ text_of_deadline journey.deadline ∷ fields
 
 -- the fields of a delivery
 abbrev pub delivery_fields : Delivery → Fields
 delivery_fields delivery =
     decimal delivery.frame ∷ delivery.stream ∷ decimal delivery.octets ∷ decimal delivery.at.0
-    ∷ course_fields delivery.at.0 delivery.course (name_of_fate (fate_of delivery) ∷ [])
+    ∷ passage_fields delivery.at.0 delivery.passage (name_of_fate (fate_of delivery) ∷ [])
 
 -- one line a delivery, in their order
 abbrev pub lines_of_deliveries : List Delivery → List ℕ

@@ -1,10 +1,11 @@
 //! Whether all goes well in a run, by its deliveries.
 ghost use Rattle.std.specs.Prelude.{◌≡◌, ◌&&◌, true, IfOk, count_by, find, option_copied, string_bytes};
-ghost use Rattle.cqf_program_runs.specs.Checked.{complaint_line, complaint_of, counts_of, is_bad, is_delivered, is_finished, is_timed, is_under_way, unfinished_line, well_line};
+ghost use Rattle.cqf_program_runs.specs.Checked.{complaint_line, complaint_of, counts_of, is_bad, is_delivered};
+ghost use Rattle.cqf_program_runs.specs.Checked.{is_finished, is_timed, is_under_way, unfinished_line, well_line};
 ghost use Rattle.cqf_program_runs.specs.Deliveries.{fate_of};
 
-use crate::delivery::{Course, Delivery, Fate, latency};
-use crate::reasons::reason_name;
+use crate::delivery::{Delivery, Fate, Passage, latency};
+use cqf_report::reason_name;
 use std::alloc::{AllocError, Global};
 
 /// What a check counts.
@@ -34,14 +35,14 @@ impl Fate {
     }
 }
 
-impl Course {
+impl Passage {
     /// Whether the frame has a deadline.
     fn is_timed(&self) -> bool
         ensures { result ≡ is_timed self.now }
     {
         match self {
-            Course::Dropped(_) => false,
-            Course::Goes(journey) => journey.deadline.is_some(),
+            Passage::Dropped(_) => false,
+            Passage::Goes(journey) => journey.deadline.is_some(),
         }
     }
 }
@@ -88,11 +89,11 @@ fn count_delivered(deliveries: &[Delivery]) -> usize
 
 /// How many of those have a deadline.
 fn count_timed(deliveries: &[Delivery]) -> usize
-    ensures { result ≡ count_by (λ delivery. is_delivered (fate_of delivery) && is_timed delivery.course) deliveries.now }
+    ensures { result ≡ count_by (λ delivery. is_delivered (fate_of delivery) && is_timed delivery.passage) deliveries.now }
 {
     deliveries
         .iter()
-        .filter(|delivery| is_delivered(delivery) && delivery.course.is_timed())
+        .filter(|delivery| is_delivered(delivery) && delivery.passage.is_timed())
         .count()
 }
 
@@ -128,15 +129,15 @@ pub fn first_bad(deliveries: &[Delivery]) -> Option<&Delivery>
 /// What a check says of a delivery that is dropped or late.
 fn complaint_of(alloc: Global, delivery: &Delivery) -> Result<String, AllocError>
     requires { is_bad (fate_of delivery.now) ≡ true }
-    ensures { IfOk result (λ text. string_bytes text ≡ complaint_of delivery.now.at.0 delivery.now.course) }
+    ensures { IfOk result (λ text. string_bytes text ≡ complaint_of delivery.now.at.0 delivery.now.passage) }
 {
-    match &delivery.course {
-        Course::Dropped(reason) => {
+    match &delivery.passage {
+        Passage::Dropped(reason) => {
             let reason = reason_name(*reason);
             let text = format!(in alloc; "dropped, {reason}")?;
             Ok(text)
         }
-        Course::Goes(journey) => {
+        Passage::Goes(journey) => {
             let (Some(whole), Some(deadline)) = (journey.whole, journey.deadline) else {
                 unreachable!();
             };

@@ -31,7 +31,7 @@ pub struct Journey {
 
 /// What an offered frame does.
 #[derive(Debug, Drop)]
-pub enum Course {
+pub enum Passage {
     /// It is dropped at its edge.
     Dropped(Reason),
     /// It goes to a listener.
@@ -51,7 +51,7 @@ pub struct Delivery {
     pub at: Nanos,
     /// The name of the bridge at which it is offered.
     pub bridge: Name,
-    pub course: Course,
+    pub passage: Passage,
 }
 
 /// How long a frame takes from its offer to its being whole.
@@ -92,9 +92,9 @@ impl Delivery {
     pub fn fate(&self) -> Fate
         ensures { result ≡ fate_of self.now }
     {
-        match &self.course {
-            Course::Dropped(reason) => Fate::Dropped(*reason),
-            Course::Goes(journey) => end_of_journey(self.at, journey),
+        match &self.passage {
+            Passage::Dropped(reason) => Fate::Dropped(*reason),
+            Passage::Goes(journey) => end_of_journey(self.at, journey),
         }
     }
 }

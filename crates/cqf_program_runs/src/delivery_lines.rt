@@ -4,11 +4,13 @@ ghost use Rattle.std.specs.List.{join_with_byte};
 ghost use Rattle.cqf_program_press.specs.Press.{Puts};
 ghost use Rattle.cqf_report.specs.Written.{line_of_fields};
 ghost use Rattle.cqf_program_plans.specs.LatencyText.{text_of_deadline};
-ghost use Rattle.cqf_program_runs.specs.DeliveriesText.{course_fields, deliveries_header, delivery_fields, lines_of_deliveries, name_of_fate, text_of_deliveries, text_of_instant, text_of_listeners_latency};
+ghost use Rattle.cqf_program_runs.specs.DeliveriesText.{passage_fields, deliveries_header, delivery_fields};
+ghost use Rattle.cqf_program_runs.specs.DeliveriesText.{lines_of_deliveries, name_of_fate, text_of_deliveries};
+ghost use Rattle.cqf_program_runs.specs.DeliveriesText.{text_of_instant, text_of_listeners_latency};
 
-use crate::delivery::{Course, Delivery, Fate, Journey, latency};
-use crate::reasons::reason_name;
+use crate::delivery::{Delivery, Fate, Journey, Passage, latency};
 use cqf_program_press::Press;
+use cqf_report::reason_name;
 use cqf_units::Nanos;
 use std::io::Write;
 
@@ -62,7 +64,7 @@ fn put_deadline<W: Write>(press: &mut Press<'_, W>, deadline: Option<u32>)
 
 /// Puts the fields of a frame's way to a listener, and the last field.
 fn put_journey<W: Write>(press: &mut Press<'_, W>, at: Nanos, journey: &Journey, last: &[u8])
-    ensures { Puts W.contents press.old press.new (line_of_fields (course_fields at.0 (Course.Goes journey.now) (last.now ∷ []))) }
+    ensures { Puts W.contents press.old press.new (line_of_fields (passage_fields at.0 (Passage.Goes journey.now) (last.now ∷ []))) }
 {
     press.put(journey.listener.as_bytes());
     press.put_byte(b',');
@@ -85,13 +87,13 @@ fn put_drop<W: Write>(press: &mut Press<'_, W>, last: &[u8])
     press.put_byte(b'\n');
 }
 
-/// Puts the fields of a frame's course, and the last field.
-fn put_course<W: Write>(press: &mut Press<'_, W>, at: Nanos, course: &Course, last: &[u8])
-    ensures { Puts W.contents press.old press.new (line_of_fields (course_fields at.0 course.now (last.now ∷ []))) }
+/// Puts the fields of a frame's passage, and the last field.
+fn put_passage<W: Write>(press: &mut Press<'_, W>, at: Nanos, passage: &Passage, last: &[u8])
+    ensures { Puts W.contents press.old press.new (line_of_fields (passage_fields at.0 passage.now (last.now ∷ []))) }
 {
-    match course {
-        Course::Dropped(_) => put_drop(press, last),
-        Course::Goes(journey) => put_journey(press, at, journey, last),
+    match passage {
+        Passage::Dropped(_) => put_drop(press, last),
+        Passage::Goes(journey) => put_journey(press, at, journey, last),
     }
 }
 
@@ -108,7 +110,7 @@ fn put_delivery<W: Write>(press: &mut Press<'_, W>, delivery: &Delivery)
     press.put_number(delivery.at.0);
     press.put_byte(b',');
     let last = delivery.fate().name();
-    put_course(press, delivery.at, &delivery.course, last.as_bytes());
+    put_passage(press, delivery.at, &delivery.passage, last.as_bytes());
 }
 
 /// Puts a line for each delivery.

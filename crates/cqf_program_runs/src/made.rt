@@ -15,7 +15,7 @@ ghost use Rattle.cqf_model.specs.Limits.{end_of_offers, most_rows};
 
 use crate::arrivals::Arrivals;
 use crate::deadlines::Deadlines;
-use crate::delivery::{Course, Delivery, Journey};
+use crate::delivery::{Delivery, Journey, Passage};
 use cqf_instants_coverage::Judgement;
 use cqf_model::{Hop, Offer, Offered, Row, Started};
 use cqf_program_plans::listener_at;
@@ -56,9 +56,9 @@ fn offered(place: usize, offer: &Offer) -> Offered
 }
 
 /// An offer with what becomes of it.
-fn delivery_of(domain: &Domain, x: &Offered, course: Course) -> Delivery
+fn delivery_of(domain: &Domain, x: &Offered, passage: Passage) -> Delivery
     requires { x.now.offer.bridge < length domain.now.bridges }
-    ensures { result ≡ delivery_of domain.now x.now course }
+    ensures { result ≡ delivery_of domain.now x.now passage }
 {
     Delivery {
         frame: x.frame,
@@ -66,7 +66,7 @@ fn delivery_of(domain: &Domain, x: &Offered, course: Course) -> Delivery
         octets: x.offer.octets,
         at: x.offer.at,
         bridge: domain.bridge_name(x.offer.bridge).copied(),
-        course,
+        passage,
     }
 }
 
@@ -91,7 +91,7 @@ fn delivery_to(
         whole: arrivals.whole_at(x.frame, hop.link),
         deadline,
     };
-    Some(delivery_of(domain, x, Course::Goes(journey)))
+    Some(delivery_of(domain, x, Passage::Goes(journey)))
 }
 
 /// Puts the deliveries of a frame to the listeners of a row behind those before it.
@@ -132,7 +132,7 @@ fn push_judged(
     let domain = ended.domain;
     match judgement {
         Judgement::Dropped(reason) => {
-            deliveries.push(delivery_of(domain, x, Course::Dropped(reason)))?;
+            deliveries.push(delivery_of(domain, x, Passage::Dropped(reason)))?;
             Ok(())
         }
         Judgement::Covered(place) => match ended.rows.get(place) {

@@ -27,7 +27,8 @@ pub(crate) fn carried_columns(
     requires order { StandInOrder offers.now }
     requires few { length offers.now ≤ most_rows }
     requires closed { seals log.now.administration.entries ≡ cycles }
-    ensures { IfOk result (λ columns. AreSumsBy log.now.administration.domain cycles (judged_of log.now.administration.domain log.now.administration.entries offers.now) offers.now columns.items) }
+    ensures { IfOk result (λ columns. AreSumsBy log.now.administration.domain cycles
+        (judged_of log.now.administration.domain log.now.administration.entries offers.now) offers.now columns.items) }
 {
     report_is_told();
     let domain = log.domain();

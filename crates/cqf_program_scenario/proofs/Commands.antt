@@ -1,5 +1,7 @@
 -- What administrators call for, call by call.
-use Rattle.std.proofs.Common.{◌≡◌, ◌≢◌, ◌∙◌, ◌++◌, ◌∷◌, [], ◌<◌, ◌+◌, ◌⊎◌, ℕ, Bool, true, false, List, filter, map, ap, sym, length, refl, arith, get_or, inl, inr, set, drop, take, position, Some, None, nat_lt, cond, ◌-◌, ◌≤◌, suc, zero}
+use Rattle.std.proofs.Common.{◌≡◌, ◌≢◌, ◌∙◌, ◌++◌, ◌∷◌, [], ◌<◌, ◌+◌, ◌⊎◌, ℕ, Bool, true, false, List, filter, map, ap}
+use Rattle.std.proofs.Common.{sym, length, refl, arith, get_or, inl, inr, set, drop, take, position, Some, None, nat_lt}
+use Rattle.std.proofs.Common.{cond, ◌-◌, ◌≤◌, suc, zero}
 use Rattle.std.specs.Prelude.{◌==◌, ◌&&◌, not, if◌then◌else◌}
 use Rattle.std.proofs.lemmas.Bool.{cases_lt, true≢false}
 use Rattle.std.proofs.lemmas.Bool.Decides.{nat_tests}
@@ -8,7 +10,9 @@ use Rattle.std.specs.declared.vec.Vec.{Vec}
 use Rattle.std.specs.List.{position_or_len}
 use Rattle.cqf_admission.specs.declared.entries.Call.{Call}
 use Rattle.cqf_admission.specs.declared.entries.Command.{Command}
-use Rattle.std.proofs.lemmas.List.{map-append, append-nil, length-append, length-map, length-set, get_or-map, get_or-set_same, get_or-set_other, get_or-append_right, get_or_append_left, map-set, drop-map, take-map, take_all, drop_all}
+use Rattle.std.proofs.lemmas.List.{map-append, append-nil, length-append, length-map, length-set, get_or-map}
+use Rattle.std.proofs.lemmas.List.{get_or-set_same, get_or-set_other, get_or-append_right, get_or_append_left, map-set}
+use Rattle.std.proofs.lemmas.List.{drop-map, take-map, take_all, drop_all}
 use Rattle.std.proofs.lemmas.List.Elements.{filter-append}
 use Rattle.cqf_model.specs.History.{Act}
 use Rattle.cqf_admission_script.specs.Script.{Called, called_of, others_among, seals_among}
@@ -59,7 +63,8 @@ AreCommandsBy-none lists none = record {
 }
 
 -- one list of no commands more
-pub AreCommandsBy-next : (n : ℕ) (lists after : List (Vec Command Global)) (last : Vec Command Global) → AreCommandsBy [] n (acts_of_each lists) → last.items ≡ [] →
+pub AreCommandsBy-next : (n : ℕ) (lists after : List (Vec Command Global)) (last : Vec Command Global) → AreCommandsBy [] n (acts_of_each lists)
+    → last.items ≡ [] →
     after ≡ lists ++ last ∷ [] → AreCommandsBy [] (n + 1) (acts_of_each after)
 AreCommandsBy-next n lists after last h empty is = record {
   one_each = ap length same ∙ length-append (acts_of_each lists) ([] ∷ []) ∙ ap (λ k. k + 1) h.one_each;
@@ -68,7 +73,8 @@ AreCommandsBy-next n lists after last h empty is = record {
   where
     -- what is called for in the lists
     same : acts_of_each after ≡ acts_of_each lists ++ [] ∷ []
-    same = ap acts_of_each is ∙ map-append acts_parted lists (last ∷ []) ∙ ap (λ (acts : List Act). acts_of_each lists ++ acts ∷ []) (ap (map act_of_command) empty)
+    same = ap acts_of_each is ∙ map-append acts_parted lists (last ∷ []) ∙ ap (λ (acts : List Act). acts_of_each lists ++ acts ∷ [])
+        (ap (map act_of_command) empty)
 
     -- the lists of before, and the new one
     by : (admin : ℕ) (none : List Act) → admin < n + 1 → (admin < n) ⊎ (n ≤ admin) → get_or (acts_of_each lists ++ [] ∷ []) admin none ≡ []
@@ -107,7 +113,8 @@ AreCommandsBy-call found call n before after other adds h = record {
         adds.others admin none apart ∙ h.each admin none below ∙ sym (commands-same found call admin is)
 
 -- a command is added to the list at its administrator's place
-pub AddsCommand-set : (lists : List (Vec Command Global)) (place admin : ℕ) (own : Vec Command Global) (old : Vec Command Global) (d : Vec Command Global) (command : Command) →
+pub AddsCommand-set : (lists : List (Vec Command Global)) (place admin : ℕ) (own : Vec Command Global) (old : Vec Command Global)
+    (d : Vec Command Global) (command : Command) →
     place ≡ admin → place < length lists → old ≡ get_or lists place d → own.items ≡ old.items ++ command ∷ [] →
     AddsCommand (acts_of_each lists) (acts_of_each (set lists place own)) admin (act_of_command command)
 AddsCommand-set lists place admin own old d command is below at more = record {
@@ -204,7 +211,8 @@ seals-opening (call ∷ calls) = by (seals-opening calls) (closes call) refl
     by rest true e = ap (λ (b : Bool). seals_among (take (cond (not b) (1 + position_or_len closes calls) 0) (call ∷ calls))) e
     by rest false e =
         ap (λ (b : Bool). seals_among (take (cond (not b) (1 + position_or_len closes calls) 0) (call ∷ calls))) e
-        ∙ ap (λ (n : ℕ). seals_among (take n (call ∷ calls))) (next (position_or_len closes calls)) ∙ seals-cons call (opening_calls calls) ∙ ap (λ (b : Bool). (if b then 1 else 0) + seals_among (opening_calls calls)) e
+        ∙ ap (λ (n : ℕ). seals_among (take n (call ∷ calls))) (next (position_or_len closes calls)) ∙ seals-cons call (opening_calls calls)
+        ∙ ap (λ (b : Bool). (if b then 1 else 0) + seals_among (opening_calls calls)) e
         ∙ none_more (seals_among (opening_calls calls)) rest
 
 -- the first calls have no more others than all

@@ -40,7 +40,8 @@ fn judged_by(
     requires order { StandInOrder given.now.offers.items }
     requires legal { IsLegalHistory given.now.domain (entries_in given.now entries.now) }
     requires closed { seals (entries_in given.now entries.now) ≡ cycles }
-    ensures { IfOk result (λ judged. IsLaidOutHistoryOf given.now.domain cycles judged.rows.items given.now.offers.items judged.judgements.items (entries_in given.now entries.now)) }
+    ensures { IfOk result (λ judged. IsLaidOutHistoryOf given.now.domain cycles judged.rows.items given.now.offers.items judged.judgements.items
+        (entries_in given.now entries.now)) }
 {
     let domain = &given.domain;
     let requests = given.requests.as_slice();
@@ -70,7 +71,8 @@ fn backed_of(
     requires background { AreBackground given.now.domain given.now.background.items }
     requires few_background { length given.now.background.items ≤ most_rows }
     requires history { SomeHistory given.now.domain cycles rows.now given.now.offers.items judgements.now }
-    ensures { IfOk result (λ backed. (entries : List Recorded) → IsLaidOutHistoryOf given.now.domain cycles rows.now given.now.offers.items judgements.now entries →
+    ensures { IfOk result (λ backed. (entries : List Recorded) → IsLaidOutHistoryOf given.now.domain cycles rows.now given.now.offers.items
+        judgements.now entries →
         AreBackgroundOfHistory given.now.domain entries given.now.offers.items given.now.background.items cycles backed.items) }
 {
     let background = given.background.as_slice();
@@ -98,7 +100,8 @@ pub(crate) fn exact_book(
     requires few_background { length given.now.background.items ≤ most_rows }
     requires legal { IsLegalHistory given.now.domain (entries_in given.now entries.now) }
     requires closed { seals (entries_in given.now entries.now) ≡ cycles }
-    ensures { IfOk result (λ parts. TellsBook parts (IsThere given.now.domain (entries_in given.now entries.now) given.now.offers.items given.now.background.items cycles)) }
+    ensures { IfOk result (λ parts. TellsBook parts (IsThere given.now.domain (entries_in given.now entries.now) given.now.offers.items
+        given.now.background.items cycles)) }
 {
     cqf_laws_history::tables_are_orderly();
     cqf_laws_report::book_of_history_is_there();

@@ -110,7 +110,8 @@ pub fn script_part(
     cycles: u32,
     text: &[u8],
 ) -> Result<Vec<Ordered>, Stop>
-    ensures ok { IfOk result (λ orders. script_of (map asked_of names.now) cycles text.now ≡ Ok (map (ordered_in (map asked_of names.now) text.now) orders.items)) }
+    ensures ok { IfOk result (λ orders. script_of (map asked_of names.now) cycles text.now
+        ≡ Ok (map (ordered_in (map asked_of names.now) text.now) orders.items)) }
     ensures stand { IfOk result (λ orders. All (λ (ordered : AnOrdered). StandsIn (map asked_of names.now) text.now ordered.what) orders.items) }
     ensures few { IfOk result (λ orders. AreFew cycles (map (ordered_in (map asked_of names.now) text.now) orders.items)) }
     ensures err { IfErr result (IsRefused (or_line script_line (script_of (map asked_of names.now) cycles text.now))) }

@@ -3,7 +3,8 @@
 //! - [`put_book`] puts the text of a book, [`put_history`] that of a history, [`put_log`] that of the history that a ledger's log
 //!   stands for, and [`put_starts_of_port`] that of a port's starts.
 //! - [`put_book_header`], [`put_starts`] and [`put_drops`] put the parts of a book's text, where the book isn't at hand as a whole.
-//! - [`put_link`] puts a link by the names of its ends, and [`put_bridge`] the name of a bridge.
+//! - [`put_link`] puts a link by the names of its ends, and [`put_bridge`] and [`put_node`] the
+//!   names of a bridge and of any node.
 //!
 //! The texts are those of `cqf_report`, which makes each as one list of bytes: `Books`, `HistoryText` and `Starts` of its `specs/`. A field of
 //! theirs needs no quotes, so that a line is its fields with commas between them.
@@ -38,5 +39,5 @@ pub use books::{put_book, put_book_header, put_drops, put_starts};
 pub use exact_books::ExactBook;
 pub use history::put_history;
 pub use logs::put_log;
-pub use names::{put_bridge, put_link};
+pub use names::{put_bridge, put_link, put_node};
 pub use ports::put_starts_of_port;

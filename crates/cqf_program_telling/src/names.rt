@@ -26,8 +26,8 @@ fn put_station<W: Write>(press: &mut Press<'_, W>, domain: &Domain, station: u8)
     }
 }
 
-/// Puts the name of a node.
-fn put_node<W: Write>(press: &mut Press<'_, W>, domain: &Domain, node: Node)
+/// Puts the name of a node. One that the domain lacks has none.
+pub fn put_node<W: Write>(press: &mut Press<'_, W>, domain: &Domain, node: Node)
     ensures { Puts W.contents press.old press.new (name_of_node domain.now node) }
 {
     match node {

@@ -52,7 +52,8 @@ IsAccountOfInput-opened cycles input made account offers frames opened same_offe
       domain = o.domain;
       commands = admins;
       asked = subst (λ (lists : List (List Act)). AreCommandsBehind s.calls s.sealer lists) (asked_of made.commands.items) o.commands;
-      is_account = subst₂ (λ (offers : List Offer) (frames : List Background). IsPagedAccount made.domain (opening_history s) offers frames cycles admins account)
+      is_account = subst₂ (λ (offers : List Offer) (frames : List Background). IsPagedAccount made.domain (opening_history s) offers frames
+          cycles admins account)
           (same_offers ∙ o.offers) (same_frames ∙ o.background) of_opening;
     }
 
@@ -74,7 +75,8 @@ module _ (cycles : ℕ) (input : List ℕ) (d : Domain) (account : PagedAccount)
       let entries = entries_of account.history in
       let book = of.is_account.book in
       let same : IsAccountOf s.domain (opening_history s) s.offers s.background cycles (all_asked of.commands) entries book =
-      subst (λ (e : Domain). IsAccountOf e (opening_history s) s.offers s.background cycles (all_asked of.commands) entries book) of.domain of.is_account.is in
+      subst (λ (e : Domain). IsAccountOf e (opening_history s) s.offers s.background cycles (all_asked of.commands) entries book) of.domain
+      of.is_account.run.is in
       record {
         scenario = s;
         holds = of.holds;

@@ -1,5 +1,6 @@
 -- On each bridge's page, a place behind the starts on the links so far.
-use Rattle.std.proofs.Common.{◌≡◌, ◌≢◌, ℕ, suc, ◌<◌, ◌++◌, List, [], length, get_or, replicate, set, filter, sym, ap, ◌∙◌, ◌-◌, ◌≤◌, arith, inl, inr, append-nil, drop, subst, take}
+use Rattle.std.proofs.Common.{◌≡◌, ◌≢◌, ℕ, suc, ◌<◌, ◌++◌, List, [], length, get_or, replicate, set, filter, sym, ap}
+use Rattle.std.proofs.Common.{◌∙◌, ◌-◌, ◌≤◌, arith, inl, inr, append-nil, drop, subst, take}
 use Rattle.std.specs.Prelude.{Option, Some, true, slice_get}
 use Rattle.std.specs.Option.{option_map_or}
 use Rattle.std.proofs.lemmas.Bool.{cases_Bool, cases_eq, cond-false}

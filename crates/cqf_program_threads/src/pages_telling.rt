@@ -54,6 +54,7 @@ fn put_starts_of_cycle<W: Write>(
         (lines_of_starts what.now book.now.domain (starts_on_links book.now kind cycle (length book.now.domain.links))) }
 {
     let domain = book.domain();
+    // the domain is accepted: a fact
     let _accepted = domain.cycle_time();
     let mut places = [0; 32];
     for link in 0..domain.links() {

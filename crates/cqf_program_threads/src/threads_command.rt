@@ -115,10 +115,10 @@ impl ThreadsOutput {
     }
 }
 
-/// The output of `run --threads` over so many cycles, 0 to 100,000, ready to be told. Each bridge of the domain and each administrator of the script runs on a thread of
-/// its own, and the calling thread closes the cycles. The calls of the script before its first Seal are made before; the later
-/// ones are made while the bridges run, each administrator's in order, and later Seals are passed over. It waits until all
-/// threads have ended.
+/// The output of `run --threads` over so many cycles, 0 to 100,000, ready to be told. Each bridge of the domain and each
+/// administrator of the script runs on a thread of its own, and the calling thread closes the cycles. The calls of the script
+/// before its first Seal are made before; the later ones are made while the bridges run, each administrator's in order, and
+/// later Seals are passed over. It waits until all threads have ended.
 ///
 /// # Errors
 /// With status 1 and the line of the first fault of the input: of its parts, of the domain, the streams, the script, the
@@ -143,6 +143,7 @@ pub fn threads_output(
         Ok(ran) => ran,
         Err(fault) => return Err(fault_stop(alloc, fault)),
     };
+    // the domain is accepted: a fact
     let _accepted = domain.cycle_time();
     let PagedAccount { history, pages } = account;
     let book = PagedBook::new(domain, cycles, pages);

@@ -58,7 +58,8 @@ no_port-rate rows text same none (Deliveries cycles) job = omega (arith, marked 
 no_port-rate rows text same none (Check cycles) job = omega (arith, marked (codes "port") (codes "check") job.0)
 
 -- with no format there is no job of `compile`
-pub no_compile-format : (rows : List Row) (text : Option Text) → text ≡ first_of (codes "format") rows → ((format : Format) → ¬ (text ≡ Some (format_text format))) →
+pub no_compile-format : (rows : List Row) (text : Option Text) → text ≡ first_of (codes "format") rows →
+    ((format : Format) → ¬ (text ≡ Some (format_text format))) →
     (job : Job) → ¬ IsJobOf job (codes "compile") rows
 no_compile-format rows text same none (Port until rate) job = omega (arith, marked (codes "compile") (codes "port") job.0)
 no_compile-format rows text same none (Line cycles) job = omega (arith, marked (codes "compile") (codes "line") job.0)

@@ -14,7 +14,7 @@ use Rattle.cqf_program_words.specs.declared.words.Format.TheVariants as form
 use Rattle.cqf_program_words.specs.declared.words.Job.{Job}
 use Rattle.cqf_program_words.specs.declared.words.Job.TheVariants.{Check, Compile, Deliveries, Latency, Line, Load, Port, Report, Run}
 use Rattle.cqf_program_stop.specs.declared.stops.Stop.{Stop}
-use Rattle.cqf_model.specs.Limits.{most_cycles}
+use Rattle.cqf_model.specs.Limits.{last_until, most_cycles}
 
 -- an option `--NAME N` that has to be given
 abbrev pub wanted_rule : Text → Rule
@@ -42,7 +42,7 @@ flag_rule name = record (new_rule name) { long = Some name; action = Some SetTru
 
 -- `port --until N [--rate RATE]`
 abbrev pub port_app : App
-port_app = with_rule (with_rule (new_app (codes "port")) (number_rule (codes "until") 1 100000000)) rate_rule
+port_app = with_rule (with_rule (new_app (codes "port")) (number_rule (codes "until") 1 last_until)) rate_rule
 
 -- `line --cycles N`
 abbrev pub line_app : App

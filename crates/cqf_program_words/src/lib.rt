@@ -30,5 +30,5 @@ mod operands;
 mod words;
 
 pub use composing::composed;
-pub use operands::{Operands, split_operands};
+pub use operands::{Operands, operands_of, split_operands};
 pub use words::{Format, Job, read_words};

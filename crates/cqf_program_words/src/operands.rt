@@ -1,6 +1,7 @@
 //! The files that the words of a command line name (profile).
-ghost use Rattle.std.specs.Prelude.{◌≡◌, IfOk, OnOk, map};
-ghost use Rattle.cqf_program_words.specs.Operands.{behind_word, ends_options, is_command, is_option, names_file, no_words, split_of, split_so_far, wants_value, with_word};
+ghost use Rattle.std.specs.Prelude.{◌≡◌, IfOk, OnOk, map, string_bytes};
+ghost use Rattle.cqf_program_words.specs.Operands.{behind_word, ends_options, is_command, is_option, names_file};
+ghost use Rattle.cqf_program_words.specs.Operands.{no_words, split_of, split_so_far, wants_value, with_word};
 
 use std::alloc::{AllocError, Global};
 
@@ -137,4 +138,15 @@ pub fn split_operands<'a>(alloc: Global, words: &[&'a str]) -> Result<Operands<'
         operands.put(word)?;
     }
     Ok(operands)
+}
+
+/// The words that a process was started with, told apart as [`split_operands`] does. The error is want of memory.
+pub fn operands_of(alloc: Global, words: &[String]) -> Result<Operands<'_>, AllocError>
+    ensures { IfOk result (λ operands. split_so_far operands ≡ split_of (map string_bytes words.now)) }
+{
+    let mut texts = Vec::with_capacity(alloc, words.len())?;
+    for word in words {
+        texts.push(word.as_str())?;
+    }
+    split_operands(alloc, texts.as_slice())
 }

@@ -6,11 +6,17 @@ ghost use Rattle.clap.specs.declared.builder.command.Command.TheViews.{out-Comma
 ghost use Rattle.clap.specs.Words.{app_of, first_of, found_of, kind_of, rows_of, rule_of, subcommand_rows_of};
 ghost use Rattle.cqf_program_words.specs.declared.words.Format.{Format};
 ghost use Rattle.cqf_program_words.specs.declared.words.Job.{Job};
-ghost use Rattle.cqf_program_words.specs.Words.{app_without_deliveries, app_without_domain, check_app, cqf_app, compile_app, deliveries_app, first_app, latency_app, line_app, load_app, named_app, port_app, report_app, run_app, default_rule, flag_rule, format_rule, format_text, number_rule, rate_rule, rate_text, wanted_rule, IsFlagGiven, IsJob, IsJobOf, IsNumberIn, Mean, EndsBy, EndsWords, takes_domain};
-ghost use Rattle.cqf_model.specs.Limits.{most_cycles};
+ghost use Rattle.cqf_program_words.specs.Words.{app_without_deliveries, app_without_domain, check_app, cqf_app};
+ghost use Rattle.cqf_program_words.specs.Words.{compile_app, deliveries_app, first_app, latency_app, line_app, load_app};
+ghost use Rattle.cqf_program_words.specs.Words.{named_app, port_app, report_app, run_app, default_rule, flag_rule};
+ghost use Rattle.cqf_program_words.specs.Words.{format_rule, format_text, number_rule, rate_rule, rate_text};
+ghost use Rattle.cqf_program_words.specs.Words.{wanted_rule, IsFlagGiven, IsJob, IsJobOf, IsNumberIn, Mean, EndsBy};
+ghost use Rattle.cqf_program_words.specs.Words.{EndsWords, takes_domain};
+ghost use Rattle.cqf_model.specs.Limits.{last_until, most_cycles};
 
 use clap::error::ErrorKind;
 use clap::{Arg, ArgAction, ArgMatches, Command, value_parser};
+use cqf_model::{LAST_UNTIL, MOST_CYCLES};
 use cqf_program_stop::{DONE, Stop, USAGE};
 use cqf_units::Rate;
 use std::alloc::{AllocError, Global};
@@ -241,7 +247,7 @@ fn wanted_option<'a>(alloc: Global, name: &'static str, help: &'static str) -> A
 
 /// The option `--until N`.
 fn until_option<'a>(alloc: Global) -> Arg<'a>
-    ensures rule { rule_of result ≡ number_rule (codes "until") 1 100000000 }
+    ensures rule { rule_of result ≡ number_rule (codes "until") 1 last_until }
     ensures own { result.global ≡ false }
 {
     let help = "starts before this instant, in nanoseconds, 1 to 100000000";
@@ -538,7 +544,7 @@ fn port_job(values: &ArgMatches<'_>) -> Option<Job>
     ensures { MatchOption result ((job : Job) → ¬ IsJobOf job (codes "port") (rows_of (found_of values.now)))
         (λ job. IsJobOf job (codes "port") (rows_of (found_of values.now))) }
 {
-    let Some(until) = number_in(text_of(values, "until"), 1, 100_000_000) else {
+    let Some(until) = number_in(text_of(values, "until"), 1, LAST_UNTIL) else {
         return None;
     };
     let Some(rate) = rate_of(text_of(values, "rate")) else {
@@ -563,7 +569,7 @@ fn cycles_of(values: &ArgMatches<'_>) -> Option<u32>
     ensures { MatchOption result ((cycles : ℕ) → ¬ IsNumberIn 1 most_cycles cycles (first_of (codes "cycles") (rows_of (found_of values.now))))
         (λ cycles. IsNumberIn 1 most_cycles cycles (first_of (codes "cycles") (rows_of (found_of values.now)))) }
 {
-    match number_in(text_of(values, "cycles"), 1, 100_000) {
+    match number_in(text_of(values, "cycles"), 1, MOST_CYCLES) {
         Some(cycles) => Some(cycles as u32),
         None => None,
     }

@@ -6,7 +6,8 @@ use Rattle.cqf_model.specs.Domain.{Domain}
 use Rattle.cqf_model.specs.Run.{AreBackground, IsBackground}
 use Rattle.cqf_report.specs.Records.{Fields, records_of}
 use Rattle.cqf_report.specs.Table.{in_five}
-use Rattle.cqf_report.specs.BackgroundFrames.{background_header, background_instant, background_of_table, background_with, background_frames_of, link_named, node_in}
+use Rattle.cqf_report.specs.BackgroundFrames.{background_header, background_instant, background_of_table}
+use Rattle.cqf_report.specs.BackgroundFrames.{background_with, background_frames_of, link_named, node_in}
 use Rattle.cqf_report.proofs.ReadTables.{decimal_in-range, rows_under-few, table-each}
 use Rattle.cqf_text.specs.Decimal.{decimal_in}
 
@@ -30,7 +31,8 @@ frame-with d (Some at) (Some link) (Some class) (Some octets) frame early inside
     })
 
 -- and so may one that is read of texts
-frame-five : (d : Domain) (at from to class octets : List ℕ) (frame : Background) → background_of_table d at from to class octets ≡ Some frame → IsBackground d frame
+frame-five : (d : Domain) (at from to class octets : List ℕ) (frame : Background) → background_of_table d at from to class octets ≡ Some frame
+    → IsBackground d frame
 frame-five d at from to class octets frame e =
     frame-with d (decimal_in 0 999999999999 at) (link_named d from to) (decimal_in 0 5 class) (decimal_in 64 1522 octets) frame
     (λ n is. (decimal_in-range 0 999999999999 at n is).1) (λ n is. link_inside d (node_in d from) (node_in d to) n is)

@@ -29,4 +29,5 @@ pub one_line_more : (header : List ℕ) (d : Domain) (starts : List Started) (li
     ≡ header ++ each_below (λ l. line_of_fields (link_fields d starts l)) (link + 1)
 one_line_more header d starts link ends frames octets most is_ends is_frames is_octets is_most =
     line_behind header (λ l. line_of_fields (link_fields d starts l)) link (line_of_fields (sums_fields ends frames octets most))
-    (same_sums ends (name_of_link d link) frames (frames_on link starts) octets (octets_on link starts) most (most_on link starts) is_ends is_frames is_octets is_most)
+    (same_sums ends (name_of_link d link) frames (frames_on link starts) octets (octets_on link starts) most (most_on link starts) is_ends
+    is_frames is_octets is_most)

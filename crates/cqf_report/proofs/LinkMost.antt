@@ -121,7 +121,8 @@ module _ (link cycle : ℕ) (batch later : List Started)
   octets_here = omega (arith, octets_in-append link cycle batch later, octets_in-all link cycle batch same, octets_in-none link cycle later apart)
 
   -- and adds nothing elsewhere
-  octets_elsewhere : (other in_cycle : ℕ) → (other ≡ link → in_cycle ≡ cycle → ⊥) → octets_summed other in_cycle (batch ++ later) ≡ octets_summed other in_cycle later
+  octets_elsewhere : (other in_cycle : ℕ) → (other ≡ link → in_cycle ≡ cycle → ⊥) → octets_summed other in_cycle (batch ++ later)
+      ≡ octets_summed other in_cycle later
   octets_elsewhere other in_cycle elsewhere =
       let none : octets_summed other in_cycle batch ≡ 0 = octets_in-none other in_cycle batch (λ start among on_other in_other.
       let place = same start among in elsewhere (sym on_other ∙ place.0) (sym in_other ∙ place.1)) in
@@ -135,7 +136,8 @@ module _ (link cycle : ℕ) (batch later : List Started)
       record {
         no_more = λ c. elim (cases_eq c cycle) [
           | inl e ↦
-              let here : octets_summed link c (batch ++ later) ≡ octets = subst (λ (n : ℕ). octets_summed link n (batch ++ later) ≡ octets) (sym e) octets_here in
+              let here : octets_summed link c (batch ++ later) ≡ octets = subst (λ (n : ℕ). octets_summed link n (batch ++ later) ≡ octets)
+              (sym e) octets_here in
               omega (arith, here)
           | inr differ ↦ omega (arith, octets_elsewhere link c (λ on in_cycle. differ in_cycle), behind.no_more c)
         ];
@@ -145,7 +147,8 @@ module _ (link cycle : ℕ) (batch later : List Started)
             | inl none ↦ absurd (omega (arith, none, less))
             | inr found ↦ elim (cases_eq found.0 cycle) [
               | inl e ↦
-                  let none : octets_summed link found.0 later ≡ 0 = subst (λ (n : ℕ). octets_summed link n later ≡ 0) (sym e) (octets_in-none link cycle later apart) in
+                  let none : octets_summed link found.0 later ≡ 0 = subst (λ (n : ℕ). octets_summed link n later ≡ 0) (sym e)
+                  (octets_in-none link cycle later apart) in
                   absurd (omega (arith, none, found.1, less))
               | inr differ ↦ inr (found.0, omega (arith, octets_elsewhere link found.0 (λ on in_cycle. differ in_cycle), found.1, less))
             ]
@@ -197,7 +200,8 @@ module _ (rest batch later : List Started) (d : Started) (parts : rest ≡ batch
       let one_more : k + 1 ≡ suc k = omega arith in
       let next : get_or rest (k + 1) d ≡ get_or batch (suc k) d = ap (λ (n : ℕ). get_or rest n d) one_more ∙ at_batch (suc k) inside in
       let joined : are_of_one_batch (get_or batch k d) (get_or batch (suc k) d) ≡ true = rw (here, next) at adjacent in
-      let both = and_parts ((get_or batch k d).link == (get_or batch (suc k) d).link) ((get_or batch k d).cycle.0 == (get_or batch (suc k) d).cycle.0) joined in (
+      let both = and_parts ((get_or batch k d).link == (get_or batch (suc k) d).link) ((get_or batch k d).cycle.0 == (get_or batch (suc k) d).cycle.0) joined
+      in (
         sym (eqb-true (get_or batch k d).link (get_or batch (suc k) d).link both.0) ∙ before.0,
         sym (eqb-true (get_or batch k d).cycle.0 (get_or batch (suc k) d).cycle.0 both.1) ∙ before.1,
       )

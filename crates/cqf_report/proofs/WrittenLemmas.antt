@@ -58,7 +58,8 @@ writes-line contents old new fields text some plain so_far writes between clean 
     let unquoted : (writer_setup old).style ≢ style.NonNumeric = rw so_far.plain (λ e. cc) in
     let appended : Appends (text_written contents old) (text_written contents new) (row_text (writer_setup old) fields) =
     writes so_far.between so_far.clean unquoted in
-    let row : row_text (writer_setup old) fields ≡ line_of_fields fields = ap (λ (c : WriterBuilder). row_text c fields) so_far.plain ∙ row-plain fields some plain in
+    let row : row_text (writer_setup old) fields ≡ line_of_fields fields = ap (λ (c : WriterBuilder). row_text c fields) so_far.plain
+    ∙ row-plain fields some plain in
     record {
       plain = setup ∙ so_far.plain;
       between = between;

@@ -5,6 +5,7 @@ use Rattle.cqf_text.specs.Decimal.{decimal_in}
 use Rattle.cqf_report.specs.Records.{Fields}
 use Rattle.cqf_report.specs.Table.{in_four, table_read}
 use Rattle.cqf_report.specs.declared.tables.TableFault.{TableFault}
+use Rattle.cqf_model.specs.Limits.{last_until}
 
 -- the header of a table of arrivals
 abbrev pub arrival_header : Fields
@@ -21,7 +22,7 @@ arrival_with (Some at) (Some class) (Some octets) (Some frame) = Some (record { 
 -- the arrival that a row writes: four numbers, each in its range
 abbrev pub arrival_of : List ℕ → List ℕ → List ℕ → List ℕ → Option Arrival
 arrival_of at class octets frame =
-    arrival_with (decimal_in 0 100000000 at) (decimal_in 0 7 class) (decimal_in 64 1522 octets) (decimal_in 0 (2 ^ 32 - 1) frame)
+    arrival_with (decimal_in 0 last_until at) (decimal_in 0 7 class) (decimal_in 64 1522 octets) (decimal_in 0 (2 ^ 32 - 1) frame)
 
 -- the instant of an arrival
 abbrev pub arrival_instant : Arrival → ℕ
@@ -34,7 +35,7 @@ arrivals_of_table text = table_read arrival_header (in_four arrival_of) arrival_
 -- what an arrival that is read is like, and all of them: no one is before one that stands before it
 pub record IsArrival (arrival : Arrival) : Type 0 where
   pub class : arrival.class ≤ 7
-  pub early : arrival.at.0 ≤ 100000000
+  pub early : arrival.at.0 ≤ last_until
   pub least : 64 ≤ arrival.octets
   pub most : arrival.octets ≤ 1522
 

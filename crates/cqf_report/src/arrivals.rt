@@ -8,7 +8,7 @@ ghost use Rattle.cqf_model.specs.Limits.{most_rows};
 
 use crate::rows::{RowFormat, read_table};
 use crate::tables::{TableFault, four_fields, is_header_of, read_number};
-use cqf_model::Arrival;
+use cqf_model::{Arrival, LAST_UNTIL};
 use cqf_text::read_decimal;
 use cqf_units::Nanos;
 use csv::ByteRecord;
@@ -18,7 +18,7 @@ use std::alloc::Global;
 fn read_arrival(at: &[u8], class: &[u8], octets: &[u8], frame: &[u8]) -> Option<Arrival>
     ensures { result ≡ arrival_of at.now class.now octets.now frame.now }
 {
-    let Some(at) = read_decimal(at, 0, 100_000_000) else {
+    let Some(at) = read_decimal(at, 0, LAST_UNTIL) else {
         return None;
     };
     let Some(class) = read_number(class, 0, 7) else {
@@ -52,18 +52,18 @@ impl RowFormat for ArrivalRows {
 
     ghost no_row_of_others = { λ _. in_four-other arrival_of };
 
-    fn names_columns(record: &ByteRecord) -> bool {
+    fn names_columns(fields: &ByteRecord) -> bool {
         let names = (
             b"at".as_slice(),
             b"class".as_slice(),
             b"octets".as_slice(),
             b"frame".as_slice(),
         );
-        is_header_of(record, names)
+        is_header_of(fields, names)
     }
 
-    fn read_row(&self, record: &ByteRecord) -> Option<Arrival> {
-        let Some((at, class, octets, frame)) = four_fields(record) else {
+    fn read_row(&self, fields: &ByteRecord) -> Option<Arrival> {
+        let Some((at, class, octets, frame)) = four_fields(fields) else {
             return None;
         };
         read_arrival(at, class, octets, frame)

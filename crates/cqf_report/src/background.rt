@@ -91,8 +91,8 @@ impl RowFormat for BackgroundRows<'_> {
 
     ghost no_row_of_others = { λ rows. in_five-other (background_of_table rows.domain.now) };
 
-    fn names_columns(record: &ByteRecord) -> bool
-        ensures { result ≡ is_header background_header (fields_of record.now) }
+    fn names_columns(fields: &ByteRecord) -> bool
+        ensures { result ≡ is_header background_header (fields_of fields.now) }
     {
         let names = (
             b"at".as_slice(),
@@ -101,11 +101,11 @@ impl RowFormat for BackgroundRows<'_> {
             b"class".as_slice(),
             b"octets".as_slice(),
         );
-        is_header_of_five(record, names)
+        is_header_of_five(fields, names)
     }
 
-    fn read_row(&self, record: &ByteRecord) -> Option<Background> {
-        let Some((at, from, to, class, octets)) = five_fields(record) else {
+    fn read_row(&self, fields: &ByteRecord) -> Option<Background> {
+        let Some((at, from, to, class, octets)) = five_fields(fields) else {
             return None;
         };
         read_frame(self.domain, at, from, to, class, octets)

@@ -15,8 +15,8 @@ use itoa::Buffer;
 use std::alloc::Global;
 use std::io::Write;
 
-/// The word for a reason.
-fn reason_name(reason: Reason) -> &'static str
+/// The word for a reason (profile).
+pub fn reason_name(reason: Reason) -> &'static str
     ensures name { result.now ≡ name_of_reason reason }
     ensures plain { IsPlain result.now }
 {
@@ -28,21 +28,36 @@ fn reason_name(reason: Reason) -> &'static str
     }
 }
 
-/// Writes the line of one event.
-fn write_event<'f, W: Write + Drop>(
-    writer: &mut Writer<W>,
+/// The fields of an event's line.
+#[derive(Clone, Copy)]
+struct EventLine<'f> {
     what: &'f [u8],
     cycle: &'f [u8],
+    /// The link or the bridge.
     place: &'f [u8],
     frame: &'f [u8],
     octets: &'f [u8],
+    /// The instant, or the reason.
     detail: &'f [u8],
-) -> Result<(), Memory>
-    requires { ArePlain (what.now ∷ cycle.now ∷ place.now ∷ frame.now ∷ octets.now ∷ detail.now ∷ []) }
+}
+
+/// Writes the line of one event.
+fn write_event<W: Write + Drop>(writer: &mut Writer<W>, event: &EventLine<'_>) -> Result<(), Memory>
+    requires { ArePlain (event.now.what.now ∷ event.now.cycle.now ∷ event.now.place.now ∷ event.now.frame.now ∷ event.now.octets.now
+        ∷ event.now.detail.now ∷ []) }
     ensures { IfOk result (λ _. (text : List ℕ) → HasWritten W.contents writer.old text
-        → HasWritten W.contents writer.new (text ++ line_of_fields (what.now ∷ cycle.now ∷ place.now ∷ frame.now ∷ octets.now ∷ detail.now ∷ []))) }
+        → HasWritten W.contents writer.new (text ++ line_of_fields (event.now.what.now ∷ event.now.cycle.now ∷ event.now.place.now
+        ∷ event.now.frame.now ∷ event.now.octets.now ∷ event.now.detail.now ∷ []))) }
 {
-    write_line(writer, &[what, cycle, place, frame, octets, detail])
+    let fields = [
+        event.what,
+        event.cycle,
+        event.place,
+        event.frame,
+        event.octets,
+        event.detail,
+    ];
+    write_line(writer, &fields)
 }
 
 /// Writes a transmission's line, which begins with the word for what it is.
@@ -61,15 +76,15 @@ fn write_started<W: Write + Drop>(
     let mut frame = Buffer::new();
     let mut octets = Buffer::new();
     let mut first = Buffer::new();
-    write_event(
-        writer,
+    let event = EventLine {
         what,
-        cycle.format(started.cycle.0).as_bytes(),
-        link.as_bytes(),
-        frame.format(started.frame).as_bytes(),
-        octets.format(started.octets).as_bytes(),
-        first.format(started.start.0).as_bytes(),
-    )
+        cycle: cycle.format(started.cycle.0).as_bytes(),
+        place: link.as_bytes(),
+        frame: frame.format(started.frame).as_bytes(),
+        octets: octets.format(started.octets).as_bytes(),
+        detail: first.format(started.start.0).as_bytes(),
+    };
+    write_event(writer, &event)
 }
 
 /// Writes a line for each transmission.
@@ -101,15 +116,15 @@ fn write_dropped<W: Write + Drop>(
     let mut cycle = Buffer::new();
     let mut frame = Buffer::new();
     let mut octets = Buffer::new();
-    write_event(
-        writer,
-        b"drop".as_slice(),
-        cycle.format(dropped.cycle.0).as_bytes(),
-        bridge_name(domain, dropped.bridge).as_bytes(),
-        frame.format(dropped.frame).as_bytes(),
-        octets.format(dropped.octets).as_bytes(),
-        reason_name(dropped.reason).as_bytes(),
-    )
+    let event = EventLine {
+        what: b"drop".as_slice(),
+        cycle: cycle.format(dropped.cycle.0).as_bytes(),
+        place: bridge_name(domain, dropped.bridge).as_bytes(),
+        frame: frame.format(dropped.frame).as_bytes(),
+        octets: octets.format(dropped.octets).as_bytes(),
+        detail: reason_name(dropped.reason).as_bytes(),
+    };
+    write_event(writer, &event)
 }
 
 /// Writes a line for each drop.
@@ -129,7 +144,8 @@ fn write_drops<W: Write + Drop>(
 
 /// Writes the header of a book.
 fn write_header<W: Write + Drop>(writer: &mut Writer<W>) -> Result<(), Memory>
-    ensures { IfOk result (λ _. (text : List ℕ) → HasWritten W.contents writer.old text → HasWritten W.contents writer.new (text ++ line_of_fields book_header)) }
+    ensures { IfOk result (λ _. (text : List ℕ) → HasWritten W.contents writer.old text →
+        HasWritten W.contents writer.new (text ++ line_of_fields book_header)) }
 {
     let names = [
         b"what".as_slice(),

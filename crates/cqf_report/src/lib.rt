@@ -4,8 +4,8 @@
 //! - [`read_offers`] reads the offers of a run, [`read_background`] its background frames, and [`read_arrivals`] the
 //!   arrivals of a port.
 //! - [`TableFault`] says why a table is refused, and at which row.
-//! - [`write_book`] writes the book of a run, [`append_book`] puts it behind a text, [`write_links`] its sums by link, [`write_history`] its history, and
-//!   [`write_starts`] the starts of a port.
+//! - [`write_book`] writes the book of a run, [`append_book`] puts it behind a text, with a drop's reason as [`reason_name`]
+//!   has it; [`write_links`] writes its sums by link, [`write_history`] its history, and [`write_starts`] the starts of a port.
 //!
 //! `specs/` says what a text holds (`Records`, by what `csv` reads), what its rows mean (`Table`, `Offers`,
 //! `BackgroundFrames`, `Arrivals`), how a fault prints (`Faults`), and which text is written (`Written`, `Starts`, `Books`,
@@ -36,7 +36,7 @@ mod tables;
 
 pub use arrivals::read_arrivals;
 pub use background::read_background;
-pub use books::{append_book, write_book};
+pub use books::{append_book, reason_name, write_book};
 pub use columns::{Column, write_columns};
 pub use history::write_history;
 pub use laws::{books_are_in_order, first_fault_is_told, most_is_the_greatest};

@@ -1,11 +1,12 @@
 //! The sums of streams' frames by link, written as a text.
 
 ghost use Rattle.std.specs.Prelude.{ℕ, ◌≡◌, ◌≤◌, ◌<◌, ◌^◌, ◌++◌, [], List, IfOk, OnOk, Some, length, map, max, sum, sum_by, slice_index, slice_set};
+ghost use Rattle.cqf_lists.specs.ByNumber.{AddsTo, lists_of};
 ghost use Rattle.cqf_model.specs.Book.{contents_of};
 ghost use Rattle.cqf_model.specs.declared.frames.Started.{Started as AStarted};
 ghost use Rattle.cqf_model.specs.OnLinks.{frames_on, octets_on};
 ghost use Rattle.cqf_report.specs.Written.{HasWritten, IsPlain, line_of_fields};
-ghost use Rattle.cqf_report.specs.ByLink.{AddsOctets, AreListsByLink, lists_by_link};
+ghost use Rattle.cqf_report.specs.ByLink.{AreListsByLink};
 ghost use Rattle.cqf_report.specs.LinkSums.{AreSumsInOrder, are_of_one_batch, link_header, links_text, most_on, sums_fields};
 
 use crate::lines::{open_writer, write_line, written_text};
@@ -36,7 +37,7 @@ pub(crate) struct Sums {
 
 /// An empty list of octets for each of the links 0 to 255.
 fn no_octets(alloc: Global) -> Result<Vec<Vec<u32>>, Memory>
-    ensures { IfOk result (λ by_link. AreListsByLink [] 256 (lists_by_link by_link.items)) }
+    ensures { IfOk result (λ by_link. AreListsByLink [] 256 (lists_of by_link.items)) }
 {
     let mut by_link = Vec::with_capacity(alloc, LINKS)?;
     for _link in 0..LINKS {
@@ -48,7 +49,7 @@ fn no_octets(alloc: Global) -> Result<Vec<Vec<u32>>, Memory>
 /// Puts octets behind those of a link.
 fn list_octets(by_link: &mut Vec<Vec<u32>>, link: u8, octets: u32) -> Result<(), Memory>
     requires { length by_link.old.items ≡ 256 }
-    ensures { OnOk result (AddsOctets (lists_by_link by_link.old.items) (lists_by_link by_link.new.items) link octets) }
+    ensures { OnOk result (AddsTo (lists_of by_link.old.items) (lists_of by_link.new.items) link octets) }
 {
     by_link[usize::from(link)].push(octets)?;
     Ok(())
@@ -56,7 +57,7 @@ fn list_octets(by_link: &mut Vec<Vec<u32>>, link: u8, octets: u32) -> Result<(),
 
 /// The octets of the starts on each of the links 0 to 255, in their order: one look at each start.
 fn octets_by_link(alloc: Global, starts: &[Started]) -> Result<Vec<Vec<u32>>, Memory>
-    ensures { IfOk result (λ by_link. AreListsByLink starts.now 256 (lists_by_link by_link.items)) }
+    ensures { IfOk result (λ by_link. AreListsByLink starts.now 256 (lists_of by_link.items)) }
 {
     let mut by_link = no_octets(alloc)?;
     for start in starts {
@@ -95,8 +96,8 @@ pub(crate) fn sum_of(rt: &(impl Threads + Sync), listed: &[u32]) -> u128
 /// The sums of a link's starts, by the octets that are listed for each link.
 fn sums_of_link(rt: &(impl Threads + Sync), by_link: &[Vec<u32>], link: u8) -> Sums
     requires { length by_link.now ≡ 256 }
-    ensures frames { (starts : List AStarted) → AreListsByLink starts 256 (lists_by_link by_link.now) → result.frames ≡ frames_on link starts }
-    ensures octets { (starts : List AStarted) → AreListsByLink starts 256 (lists_by_link by_link.now) → result.octets ≡ octets_on link starts }
+    ensures frames { (starts : List AStarted) → AreListsByLink starts 256 (lists_of by_link.now) → result.frames ≡ frames_on link starts }
+    ensures octets { (starts : List AStarted) → AreListsByLink starts 256 (lists_of by_link.now) → result.octets ≡ octets_on link starts }
 {
     let listed = by_link[usize::from(link)].as_slice();
     Sums {
@@ -182,7 +183,8 @@ pub(crate) fn write_sums<W: Write + Drop>(
 
 /// Writes the header.
 pub(crate) fn write_header<W: Write + Drop>(writer: &mut Writer<W>) -> Result<(), Memory>
-    ensures { IfOk result (λ _. (text : List ℕ) → HasWritten W.contents writer.old text → HasWritten W.contents writer.new (text ++ line_of_fields link_header)) }
+    ensures { IfOk result (λ _. (text : List ℕ) → HasWritten W.contents writer.old text →
+        HasWritten W.contents writer.new (text ++ line_of_fields link_header)) }
 {
     let names = [
         b"link".as_slice(),

@@ -83,8 +83,8 @@ impl RowFormat for OfferRows<'_> {
 
     ghost no_row_of_others = { λ rows. in_four-other (offer_of rows.domain.now) };
 
-    fn names_columns(record: &ByteRecord) -> bool
-        ensures { result ≡ is_header offer_header (fields_of record.now) }
+    fn names_columns(fields: &ByteRecord) -> bool
+        ensures { result ≡ is_header offer_header (fields_of fields.now) }
     {
         let names = (
             b"at".as_slice(),
@@ -92,11 +92,11 @@ impl RowFormat for OfferRows<'_> {
             b"stream".as_slice(),
             b"octets".as_slice(),
         );
-        is_header_of(record, names)
+        is_header_of(fields, names)
     }
 
-    fn read_row(&self, record: &ByteRecord) -> Option<Offer> {
-        let Some((at, bridge, stream, octets)) = four_fields(record) else {
+    fn read_row(&self, fields: &ByteRecord) -> Option<Offer> {
+        let Some((at, bridge, stream, octets)) = four_fields(fields) else {
             return None;
         };
         read_offer(self.domain, at, bridge, stream, octets)

@@ -9,7 +9,8 @@ ghost use Rattle.cqf_report.specs.declared.tables.TableFault.TheVariants as faul
 ghost use Rattle.cqf_model.specs.Limits.{most_rows};
 
 use crate::records::{Taken, take_record};
-use crate::tables::{MOST_ROWS, TableFault, open_table};
+use crate::tables::{TableFault, open_table};
+use cqf_model::MOST_ROWS;
 use cqf_units::Nanos;
 use csv::{ByteRecord, Reader};
 use std::alloc::Global;
@@ -27,12 +28,12 @@ pub(crate) trait RowFormat {
     ghost instant_of: { Self.Row → ℕ };
 
     /// Whether the record is the header.
-    fn names_columns(record: &ByteRecord) -> bool
-        ensures { result ≡ is_header header (fields_of record.now) };
+    fn names_columns(fields: &ByteRecord) -> bool
+        ensures { result ≡ is_header header (fields_of fields.now) };
 
     /// What the record writes, if it has the form of a row.
-    fn read_row(&self, record: &ByteRecord) -> Option<Self::Row>
-        ensures { result ≡ row_of self.now (fields_of record.now) };
+    fn read_row(&self, fields: &ByteRecord) -> Option<Self::Row>
+        ensures { result ≡ row_of self.now (fields_of fields.now) };
 
     /// The row's instant, by which rows are in order.
     fn instant(row: &Self::Row) -> Nanos
@@ -45,7 +46,7 @@ pub(crate) trait RowFormat {
 fn take_header<F: RowFormat, R: Read>(
     _format: &F,
     reader: &mut Reader<R>,
-    record: &mut ByteRecord,
+    fields: &mut ByteRecord,
 ) -> Result<(), TableFault>
     requires { Ready reader.old }
     ensures ready { OnOk result (Ready reader.new) }
@@ -53,17 +54,16 @@ fn take_header<F: RowFormat, R: Read>(
     ensures err { IfErr result (λ fault. (rows : List Fields) → StillGives R.remaining None reader.old rows → fault ≢ fault_kind.Memory
         → (fault ≡ fault_kind.BadHeader) × (has_header F.header rows ≡ false)) }
 {
-    match take_record(reader, record) {
-        Ok(Taken::Row) => {
-            if F::names_columns(record) {
+    match take_record(reader, fields)? {
+        Taken::Row => {
+            if F::names_columns(fields) {
                 Ok(())
             } else {
                 Err(TableFault::BadHeader)
             }
         }
-        Ok(Taken::End) => Err(TableFault::BadHeader),
-        Ok(Taken::Refused) => Err(TableFault::BadHeader),
-        Err(_) => Err(TableFault::Memory),
+        Taken::End => Err(TableFault::BadHeader),
+        Taken::Refused => Err(TableFault::BadHeader),
     }
 }
 
@@ -71,7 +71,7 @@ fn take_header<F: RowFormat, R: Read>(
 fn next_row<F: RowFormat, R: Read>(
     format: &F,
     reader: &mut Reader<R>,
-    record: &mut ByteRecord,
+    fields: &mut ByteRecord,
     number: u32,
     before: Nanos,
 ) -> Result<Option<F::Row>, TableFault>
@@ -81,11 +81,11 @@ fn next_row<F: RowFormat, R: Read>(
     ensures taken { (rows : List Fields) → StillGives R.remaining (Some (length F.header)) reader.old rows
         → TakesNext (length F.header) (F.row_of format.now) F.instant_of R.remaining number before.0 rows reader.new result }
 {
-    match take_record(reader, record) {
-        Ok(Taken::End) => Ok(None),
-        Ok(Taken::Refused) => Err(TableFault::BadRow(number)),
-        Ok(Taken::Row) => {
-            let Some(row) = format.read_row(record) else {
+    match take_record(reader, fields)? {
+        Taken::End => Ok(None),
+        Taken::Refused => Err(TableFault::BadRow(number)),
+        Taken::Row => {
+            let Some(row) = format.read_row(fields) else {
                 return Err(TableFault::BadRow(number));
             };
             if F::instant(&row) < before {
@@ -93,7 +93,6 @@ fn next_row<F: RowFormat, R: Read>(
             }
             Ok(Some(row))
         }
-        Err(_) => Err(TableFault::Memory),
     }
 }
 
@@ -102,7 +101,7 @@ fn read_rows<F: RowFormat, R: Read>(
     alloc: Global,
     format: &F,
     reader: &mut Reader<R>,
-    record: &mut ByteRecord,
+    fields: &mut ByteRecord,
 ) -> Result<Vec<F::Row>, TableFault>
     requires { Ready reader.old }
     ensures ok { IfOk result (λ taken. (rows : List Fields) → StillGives R.remaining (Some (length F.header)) reader.old rows
@@ -113,7 +112,7 @@ fn read_rows<F: RowFormat, R: Read>(
     let mut rows = Vec::new(alloc);
     let mut before = Nanos(0);
     for number in 1..=MOST_ROWS {
-        let Some(row) = next_row(format, reader, record, number, before)? else {
+        let Some(row) = next_row(format, reader, fields, number, before)? else {
             return Ok(rows);
         };
         before = F::instant(&row);
@@ -121,11 +120,10 @@ fn read_rows<F: RowFormat, R: Read>(
             return Err(TableFault::Memory);
         }
     }
-    match take_record(reader, record) {
-        Ok(Taken::End) => Ok(rows),
-        Ok(Taken::Row) => Err(TableFault::TooMany),
-        Ok(Taken::Refused) => Err(TableFault::TooMany),
-        Err(_) => Err(TableFault::Memory),
+    match take_record(reader, fields)? {
+        Taken::End => Ok(rows),
+        Taken::Row => Err(TableFault::TooMany),
+        Taken::Refused => Err(TableFault::TooMany),
     }
 }
 
@@ -139,7 +137,7 @@ pub(crate) fn read_table<F: RowFormat>(
     ensures err { IfErr result (λ fault. IsFaultOf (table_read F.header (F.row_of format.now) F.instant_of text.now) fault) }
 {
     let mut reader = open_table(alloc, text);
-    let mut record = ByteRecord::new(alloc);
-    take_header(format, &mut reader, &mut record)?;
-    read_rows(alloc, format, &mut reader, &mut record)
+    let mut fields = ByteRecord::new(alloc);
+    take_header(format, &mut reader, &mut fields)?;
+    read_rows(alloc, format, &mut reader, &mut fields)
 }

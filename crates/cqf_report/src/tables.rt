@@ -9,6 +9,7 @@ ghost use Rattle.cqf_report.specs.Table.{five_of, four_of, is_header};
 ghost use Rattle.cqf_report.specs.Faults.{table_fault_text};
 
 use cqf_text::read_decimal;
+use cqf_units::Memory;
 use csv::{ByteRecord, Reader, ReaderBuilder};
 use std::alloc::Global;
 use std::fmt;
@@ -31,6 +32,17 @@ pub enum TableFault {
     Memory,
 }
 
+/// Want of memory, as a table's fault.
+impl From<Memory> for TableFault {
+    ghost use Rattle.cqf_report.specs.declared.tables.TableFault.TheVariants as variant;
+
+    ghost from_gives = { λ _ fault. fault ≡ variant.Memory };
+
+    fn from(_refused: Memory) -> TableFault {
+        TableFault::Memory
+    }
+}
+
 impl fmt::Display for TableFault {
     ghost output = { λ fault. Some (table_fault_text fault) };
 
@@ -47,9 +59,6 @@ impl fmt::Display for TableFault {
 
 /// Why a table of offers is refused.
 pub type OfferFault = TableFault;
-
-/// The most rows that a table may have.
-pub(crate) const MOST_ROWS: u32 = 1_000_000;
 
 /// A record's four fields, where it has exactly four.
 pub(crate) fn four_fields(row: &ByteRecord) -> Option<(&[u8], &[u8], &[u8], &[u8])>

@@ -1,6 +1,6 @@
 //! A thousand cycles of the line's bridges, in each of which a frame is offered that its stream covers: it goes one link on in each
 //! further cycle, and nothing is dropped.
-use crate::runs::{Run, Start, Written, bridges_of, go_through};
+use crate::runs::{Start, Traffic, Written, bridges_of, go_through};
 use crate::tables::{ONE_BRANCH, admit, plan_of};
 use cqf_admission::{Admission, Table};
 use cqf_bridge::Bridge;
@@ -8,13 +8,6 @@ use cqf_compile::Plan;
 use cqf_test_fixtures::{line, offers_of};
 use cqf_units::Memory;
 use std::alloc::Global;
-
-/// No background frame comes.
-const QUIET: Run = Run {
-    calls: &[],
-    offers: &[],
-    background: None,
-};
 
 /// What the links start in a cycle: each the frame that was offered as many cycles before as it has come by links, the only one of its
 /// list.
@@ -37,13 +30,16 @@ fn go_on(alloc: Global, bridges: &mut Vec<Bridge>, table: &Table) -> bool {
     let Ok(offers) = offers_of(alloc, &[(u64::from(cycle) * 125_000, 0, "x", 64)]) else {
         return false;
     };
+    let traffic = Traffic {
+        offers: offers.as_slice(),
+        background: None,
+    };
     let mut written = Written::new(alloc);
     go_through(
         alloc,
         bridges,
         table,
-        &QUIET,
-        offers.as_slice(),
+        &traffic,
         told.as_slice(),
         &mut written,
     ) && written.starts.as_slice() == told.as_slice()

@@ -18,9 +18,16 @@ pub(crate) type Start = (u32, u8, u32, u32, u64);
 pub(crate) type Drop = (u32, u8, u32, u32, Reason);
 
 /// What is asked for and offered in a run, with at most one background frame.
-pub(crate) struct Run {
-    pub(crate) calls: &'static [Call],
-    pub(crate) offers: &'static [Offering],
+struct Run {
+    calls: &'static [Call],
+    offers: &'static [Offering],
+    background: Option<Background>,
+}
+
+/// The traffic of a run: what is offered, and at most one background frame.
+#[derive(Clone, Copy)]
+pub(crate) struct Traffic<'a> {
+    pub(crate) offers: &'a [Offer],
     pub(crate) background: Option<Background>,
 }
 
@@ -174,8 +181,7 @@ pub(crate) fn go_through(
     alloc: Global,
     bridges: &mut Vec<Bridge>,
     table: &Table,
-    run: &Run,
-    offers: &[Offer],
+    traffic: &Traffic<'_>,
     told: &[Start],
     written: &mut Written,
 ) -> bool {
@@ -188,7 +194,7 @@ pub(crate) fn go_through(
         alloc,
         bridges,
         cycle,
-        run.background,
+        traffic.background,
         &mut batches,
         &mut written.others,
     ) && write_batches(batches.as_slice(), told, &mut written.starts)
@@ -197,7 +203,7 @@ pub(crate) fn go_through(
             bridges,
             table,
             batches.as_slice(),
-            offers,
+            traffic.offers,
             &mut written.drops,
         )
 }
@@ -207,13 +213,12 @@ fn go_through_all(
     alloc: Global,
     bridges: &mut Vec<Bridge>,
     tables: &[Table],
-    run: &Run,
-    offers: &[Offer],
+    traffic: &Traffic<'_>,
     told: &[Start],
     written: &mut Written,
 ) -> bool {
     for table in tables {
-        if !go_through(alloc, bridges, table, run, offers, told, written) {
+        if !go_through(alloc, bridges, table, traffic, told, written) {
             return false;
         }
     }
@@ -229,25 +234,17 @@ pub(crate) fn bridges_of(alloc: Global, plan: &Plan) -> Result<Vec<Bridge>, Memo
     Ok(bridges)
 }
 
-/// Whether a run with these tables and offers has the book that is told.
+/// Whether a run with these tables and this traffic has the book that is told.
 fn has_book(
     alloc: Global,
     bridges: &mut Vec<Bridge>,
     tables: &[Table],
-    run: &Run,
-    offers: &[Offer],
+    traffic: &Traffic<'_>,
     told: &Told,
 ) -> bool {
     let mut written = Written::new(alloc);
-    go_through_all(
-        alloc,
-        bridges,
-        tables,
-        run,
-        offers,
-        told.starts,
-        &mut written,
-    ) && written.starts.as_slice() == told.starts
+    go_through_all(alloc, bridges, tables, traffic, told.starts, &mut written)
+        && written.starts.as_slice() == told.starts
         && written.others.as_slice() == told.others
         && written.drops.as_slice() == told.drops
 }
@@ -261,15 +258,12 @@ fn gives_on(alloc: Global, plan: &Plan, run: &Run, told: &Told) -> bool {
     let Ok(offers) = offers_of(alloc, run.offers) else {
         return false;
     };
+    let traffic = Traffic {
+        offers: offers.as_slice(),
+        background: run.background,
+    };
     match bridges_of(alloc, plan) {
-        Ok(mut bridges) => has_book(
-            alloc,
-            &mut bridges,
-            tables.as_slice(),
-            run,
-            offers.as_slice(),
-            told,
-        ),
+        Ok(mut bridges) => has_book(alloc, &mut bridges, tables.as_slice(), &traffic, told),
         Err(_) => false,
     }
 }

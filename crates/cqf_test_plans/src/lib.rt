@@ -1,4 +1,5 @@
-//! Tests of orders, domains, admission, scripts and pages, with values from outside. A crate that has tests is proved twice, so these stand in one of their own.
+//! Tests of orders, domains, admission, scripts and pages, with values from outside. A crate that has tests is proved twice, so
+//! these stand in one of their own.
 #![tactic(auto)]
 
 #[cfg(test)]

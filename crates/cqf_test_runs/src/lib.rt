@@ -24,6 +24,8 @@ mod orders;
 #[cfg(test)]
 mod plants;
 #[cfg(test)]
+mod quiet;
+#[cfg(test)]
 mod starts;
 #[cfg(test)]
 mod tables;

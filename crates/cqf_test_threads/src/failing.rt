@@ -13,7 +13,7 @@ use cqf_test_fixtures::{Asked, Offering, are_offers, line, offers_of, request};
 use cqf_topology::Domain;
 use cqf_worker_loops::{Carried, Free, Worker};
 use cqf_worker_pipe::PipeIn;
-use cqf_worker_threads::{ConductFault, Faults, join_workers, start_workers};
+use cqf_worker_threads::{ConductFault, Faults, Task, join_workers, start_workers};
 use cqf_worker_wires::{Laid, lay};
 use std::alloc::Global;
 use std::collections::VecDeque;
@@ -170,7 +170,11 @@ fn fault_of<R: Threads + Wait + Sync>(
         move |scope| -> Option<ConductFault>
             requires { All MayWork workers.items }
         {
-            match start_workers(alloc, scope, rt, &Free, book, CYCLES, workers) {
+            let task = Task {
+                book,
+                cycles: CYCLES,
+            };
+            match start_workers(alloc, scope, rt, &Free, task, workers) {
                 Ok(working) => {
                     let mut faults = Faults::none();
                     let _done = join_workers(rt, alloc, working, &mut faults);
@@ -182,51 +186,47 @@ fn fault_of<R: Threads + Wait + Sync>(
     )
 }
 
-/// Whether the workers of a plan fail so, with a book and its shares.
+/// What the workers of a plan are given: what is offered, and their tables, of which the second bridge's worker gets the mixed ones.
+#[derive(Clone, Copy)]
+struct Given<'p, 'o, 't, 'm> {
+    plan: &'p Plan,
+    offers: &'o [Offer],
+    tables: &'t [Table],
+    mixed: &'m [Table],
+}
+
+/// Whether the workers fail so, with a book and its shares.
 fn fails_by_book<R: Threads + Wait + Sync>(
     rt: &R,
     alloc: Global,
-    plan: &Plan,
-    offers: &[Offer],
-    tables: (&[Table], &[Table]),
+    given: Given<'_, '_, '_, '_>,
     book: &CycleBook,
     shares: Vec<Share>,
 ) -> bool
-    requires shares { shares.items ≡ new_shares (length plan.now.bridges) }
-    requires offers { AreOffers plan.now offers.now }
-    requires few_offers { length offers.now ≤ 1000000 }
+    requires shares { shares.items ≡ new_shares (length given.plan.now.bridges) }
+    requires offers { AreOffers given.plan.now given.offers.now }
+    requires few_offers { length given.offers.now ≤ 1000000 }
 {
-    match lay(alloc, plan, offers, &[], shares) {
-        Ok(
-            Laid {
-                workers,
-                tables: ends,
-            },
-        ) => {
-            let given = give_tables(rt, alloc, tables.0, tables.1, ends);
+    match lay(alloc, given.plan, given.offers, &[], shares) {
+        Ok(Laid { workers, tables }) => {
+            let are_given = give_tables(rt, alloc, given.tables, given.mixed, tables);
             let fault = fault_of(rt, alloc, book, workers);
-            given & (fault == Some(FAULT))
+            are_given & (fault == Some(FAULT))
         }
         Err(_) => false,
     }
 }
 
 /// Whether they do with a book of their own.
-fn fails_on<R: Threads + Wait + Sync>(
-    rt: &R,
-    alloc: Global,
-    plan: &Plan,
-    offers: &[Offer],
-    tables: (&[Table], &[Table]),
-) -> bool
-    requires offers { AreOffers plan.now offers.now }
-    requires few_offers { length offers.now ≤ 1000000 }
+fn fails_on<R: Threads + Wait + Sync>(rt: &R, alloc: Global, given: Given<'_, '_, '_, '_>) -> bool
+    requires offers { AreOffers given.plan.now given.offers.now }
+    requires few_offers { length given.offers.now ≤ 1000000 }
 {
-    let Ok(pages) = Pages::new(alloc, plan.domain().bridges(), CYCLES) else {
+    let Ok(pages) = Pages::new(alloc, given.plan.domain().bridges(), CYCLES) else {
         return false;
     };
     match CycleBook::new(alloc, pages) {
-        Ok((book, shares)) => fails_by_book(rt, alloc, plan, offers, tables, &book, shares),
+        Ok((book, shares)) => fails_by_book(rt, alloc, given, &book, shares),
         Err(_) => false,
     }
 }
@@ -247,13 +247,15 @@ fn fails_where<R: Threads + Wait + Sync>(
         return false;
     }
     match compile(alloc, domain) {
-        Ok(plan) => fails_on(
-            rt,
-            alloc,
-            &plan,
-            offers,
-            (tables.as_slice(), mixed.as_slice()),
-        ),
+        Ok(plan) => {
+            let given = Given {
+                plan: &plan,
+                offers,
+                tables: tables.as_slice(),
+                mixed: mixed.as_slice(),
+            };
+            fails_on(rt, alloc, given)
+        }
         Err(_) => false,
     }
 }

@@ -1,6 +1,6 @@
 //! Runs that give no account: with more administrators than a desk has seats for, and with a call more than a history holds.
 use crate::asking::{Ask, all_commands};
-use crate::running::outcome_of;
+use crate::running::{Given, outcome_of};
 use cqf_admission::{Call, Command, Entry};
 use cqf_model::{Refused, Reply};
 use cqf_test_fixtures::one_link;
@@ -35,7 +35,13 @@ fn ends_over<R: Threads + Wait + Sync>(
     admins: Vec<Vec<Command>>,
     wanted: Ending,
 ) -> bool {
-    match outcome_of(rt, alloc, domain, &[], admins, 1, &[], &Free) {
+    let given = Given {
+        domain,
+        streams: &[],
+        offers: &[],
+        cycles: 1,
+    };
+    match outcome_of(rt, alloc, given, admins, &Free) {
         Some(Ok(account)) => is_all_in_vain(account.history.entries.as_slice(), wanted),
         Some(Err(fault)) => wanted == Err(fault),
         None => false,

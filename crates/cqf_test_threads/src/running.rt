@@ -21,18 +21,30 @@ pub(crate) struct Scenario {
     pub(crate) cycles: u32,
 }
 
-/// What comes of a run over a domain under an admission that has these streams, with these commands of administrators and what is offered,
-/// where it may be run.
+/// What a run is given beside its administrators: a domain, the streams that are admitted before, what is offered, and for how many
+/// cycles it goes on.
+#[derive(Clone, Copy)]
+pub(crate) struct Given<'d, 's, 'o> {
+    pub(crate) domain: &'d Domain,
+    pub(crate) streams: &'s [Asked],
+    pub(crate) offers: &'o [Offer],
+    pub(crate) cycles: u32,
+}
+
+/// What comes of a run that is given this, with these commands of administrators, where it may be run.
 pub(crate) fn outcome_of<R: Threads + Wait + Sync, P: Pace>(
     rt: &R,
     alloc: Global,
-    domain: &Domain,
-    streams: &[Asked],
+    given: Given<'_, '_, '_>,
     admins: Vec<Vec<Command>>,
-    cycles: u32,
-    offers: &[Offer],
     pace: &P,
 ) -> Option<Result<Account, ConductFault>> {
+    let Given {
+        domain,
+        streams,
+        offers,
+        cycles,
+    } = given;
     if cycles > 100_000 || offers.len() > 1_000_000 || !are_offers(domain, offers) {
         return None;
     }
@@ -63,8 +75,13 @@ pub(crate) fn account_of<R: Threads + Wait + Sync, P: Pace>(
     let Ok(admins) = all_commands(alloc, scenario.admins, scenario.times) else {
         return None;
     };
-    let (streams, cycles) = (scenario.streams, scenario.cycles);
-    match outcome_of(rt, alloc, domain, streams, admins, cycles, offers, pace) {
+    let given = Given {
+        domain,
+        streams: scenario.streams,
+        offers,
+        cycles: scenario.cycles,
+    };
+    match outcome_of(rt, alloc, given, admins, pace) {
         Some(Ok(account)) => Some(account),
         _ => None,
     }

@@ -1,5 +1,6 @@
 -- The first part of an input, line by line.
-use Rattle.std.proofs.Common.{◌≡◌, ◌≢◌, ℕ, ◌<◌, ◌≤◌, ◌+◌, ◌-◌, zero, suc, ◌∙◌, List, [], ◌∷◌, ◌++◌, length, get_or, take, drop, arith, map, not, Bool, true, false}
+use Rattle.std.proofs.Common.{◌≡◌, ◌≢◌, ℕ, ◌<◌, ◌≤◌, ◌+◌, ◌-◌, zero, suc, ◌∙◌, List, [], ◌∷◌, ◌++◌, length, get_or}
+use Rattle.std.proofs.Common.{take, drop, arith, map, not, Bool, true, false}
 use Rattle.std.proofs.Common.{Option, Some, None, refl, sym, ap, inl, inr, length-append, length-drop, subst}
 use Rattle.std.specs.List.{slice_split, onto_first, concat, position_or_len, before_first, after_first}
 use Rattle.std.proofs.lemmas.List.{append_assoc, append-nil, get_or_default, length-map, take_at, take_more, take-append-drop}
@@ -136,7 +137,8 @@ one_part text none = one_part-within (length text) text (omega arith) none
 -- so is a text in which no percent sign is found
 pub one_part-unfound : (text : List ℕ) (found : Option ℕ) (unfound : Bool) → IsFirstByte (is_byte 37) text found → is_some found ≡ not unfound
     → IsTrue unfound → parts_of text ≡ text ∷ []
-one_part-unfound text None unfound nowhere is none_there = one_part text (λ k d below same. nowhere k (omega arith) below (eq-eqb (get_or text k 0) 37 (get_or_default text k 0 d below ∙ same)))
+one_part-unfound text None unfound nowhere is none_there =
+    one_part text (λ k d below same. nowhere k (omega arith) below (eq-eqb (get_or text k 0) 37 (get_or_default text k 0 d below ∙ same)))
 one_part-unfound text (Some k) unfound there is none_there = absurd (cc)
 
 -- so far, what stands in front of the rest has no divider

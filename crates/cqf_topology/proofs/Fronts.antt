@@ -48,4 +48,5 @@ module _ {X : Type 0} (xs : List X) (k : ℕ) (x : X) (inside : k < length xs) (
   pub copy-more : {Y : Type 0} (value : X → Y) (done done' : List X) (copy : X) → done' ≡ done ++ copy ∷ [] → value copy ≡ value x
       → map value done ≡ map value (take k xs) → map value done' ≡ map value (take (k + 1) xs)
   copy-more value done done' copy more same before =
-      ap (map value) more ∙ map-append value done (copy ∷ []) ∙ (λ i. before i ++ same i ∷ []) ∙ sym (map-append value (take k xs) (x ∷ [])) ∙ ap (map value) take-one
+      ap (map value) more ∙ map-append value done (copy ∷ []) ∙ (λ i. before i ++ same i ∷ []) ∙ sym (map-append value (take k xs) (x ∷ []))
+      ∙ ap (map value) take-one

@@ -6,6 +6,7 @@ ghost use Rattle.cqf_lists.specs.Results.{and_then};
 ghost use Rattle.cqf_topology_fields.specs.Fields.{Gives, read_at, tables_of_key, tables_from, names_at};
 ghost use Rattle.cqf_topology.specs.DomainText.{rate_of, rate_from, link_read, if_some, with_front, domain_from, read_text};
 
+use cqf_model::LONGEST_CYCLE;
 use cqf_topology_fields::{
     Key, TomlFault, are_all_tables, array_at, name_at, names_at, number_at, read_document, value_at,
 };
@@ -125,7 +126,7 @@ fn read_link(table: &Table) -> Result<DraftLink, TomlFault>
     let from = name_at(table, Key::From)?;
     let to = name_at(table, Key::To)?;
     let rate = rate_at(table)?;
-    let delay = number_at(table, Key::Delay, 0, 10_000_000)?;
+    let delay = number_at(table, Key::Delay, 0, LONGEST_CYCLE)?;
     Ok(DraftLink {
         from,
         to,
@@ -201,8 +202,8 @@ fn read_bridges(alloc: Global, table: &Table) -> Result<Vec<Name>, TomlFault>
 fn read_table(alloc: Global, table: &Table) -> Result<Draft, TomlFault>
     ensures { Gives TomlFault.Memory (λ draft. draft) result (domain_from (table_view table.now)) }
 {
-    let cycle_time = number_at(table, Key::Cycle, 10_000, 10_000_000)?;
-    let guard = number_at(table, Key::Guard, 1, 10_000_000)?;
+    let cycle_time = number_at(table, Key::Cycle, 10_000, LONGEST_CYCLE)?;
+    let guard = number_at(table, Key::Guard, 1, LONGEST_CYCLE)?;
     let bridges = read_bridges(alloc, table)?;
     let stations = names_at(alloc, table, Key::Stations)?;
     let links = read_links(alloc, table)?;

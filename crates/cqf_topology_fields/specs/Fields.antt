@@ -8,7 +8,9 @@ use Rattle.toml.specs.Data.{Data, as_str, as_integer, as_array, as_table, Items,
 use Rattle.toml.specs.Parse.{parse_document}
 use Rattle.cqf_units.specs.Name.{is_name}
 use Rattle.cqf_topology_fields.specs.declared.keys.Key.{Key}
-use Rattle.cqf_topology_fields.specs.declared.keys.Key.TheVariants.{Cycle, Guard, Bridges, Stations, Links, From, To, Rate, Delay, Streams, Name, Octets, Path, Paths, Deadline}
+use Rattle.cqf_topology_fields.specs.declared.keys.Key.TheVariants.{Cycle, Guard, Bridges, Stations, Links, From, To}
+use Rattle.cqf_topology_fields.specs.declared.keys.Key.TheVariants.{Rate, Delay, Streams, Name, Octets, Path, Paths}
+use Rattle.cqf_topology_fields.specs.declared.keys.Key.TheVariants.{Deadline}
 use Rattle.cqf_topology_fields.specs.declared.faults.TomlFault.{TomlFault}
 use Rattle.cqf_topology_fields.specs.declared.faults.TomlFault.TheVariants.{NotToml, Missing, BadValue}
 

@@ -28,7 +28,7 @@ use Rattle.cqf_worker_loops.specs.declared.carried.Carried.TheVariants.{Item}
 use Rattle.cqf_worker.specs.declared.conducting.Prepared.{Prepared}
 use Rattle.cqf_worker_threads.specs.declared.threads.Administrator.{Administrator}
 use Rattle.cqf_worker_threads.specs.declared.threads.Ended.{Ended}
-use Rattle.cqf_worker.specs.Account.{IsAccount, IsPagedAccount, all_asked, entries_of}
+use Rattle.cqf_worker.specs.Account.{IsAccount, IsPagedAccount, IsRunOf, all_asked, entries_of}
 use Rattle.cqf_worker_wires.specs.Closing.{share_at}
 use Rattle.cqf_worker.specs.Conducting.{IsPrepared, IsSettled, all_seats, seat_of}
 use Rattle.cqf_worker_loops.specs.Handing.{TableEnd}
@@ -72,7 +72,7 @@ module _ (d : Domain) (opening : List Recorded) (offers : List Offer) (backgroun
     tables_in_the_end = ended.sealed.pipes ∙ is.laid.tables ∙ sym (still_tables cycles p.ready.workers.items e.workers.items ended.worked)
 
     -- the seats in the end, of which the conductor's is the sealing one
-    seated_so : (s : AreSeated (all_asked admins) cycles (all_seats e)) × (s.conductor ≡ e.sealed.seat)
+    pub seated_so : (s : AreSeated (all_asked admins) cycles (all_seats e)) × (s.conductor ≡ e.sealed.seat)
     seated_so =
         are_seated admins p.ready.administrators.items p.ready.conductor e.seats.items e.sealed.seat cycles p.ready.tables.items e.sealed.tables.items
         is.seated ended.called ended.sealed
@@ -130,9 +130,8 @@ module _ (d : Domain) (opening : List Recorded) (offers : List Offer) (backgroun
               keeps = promise d entries offers background cycles has.0 accepted history.legal good_offers good_background has.1.of_history;
             } in
             record {
-              opens = settled.history.opening ∙ ap (λ (desk : Counter). length desk.opening.entries) is.desk;
               book = has.0;
-              is = is_account;
+              run = record { opens = settled.history.opening ∙ ap (λ (desk : Counter). length desk.opening.entries) is.desk; is = is_account };
               some = has.1.some;
               its_pages = has.1.pages_of;
             }
@@ -142,9 +141,6 @@ pub gathered_account : (d : Domain) (opening : List Recorded) (offers : List Off
     (admins : List (List Command)) (paged : PagedAccount) (account : Account) → GatheredPagesAreTheBook → IsAccepted d →
     IsPagedAccount d opening offers background cycles admins paged → account.history ≡ paged.history →
     IsBookOfPages (pages_of paged.pages) (length d.bridges) (contents_of account.book) → IsAccount d opening offers background cycles admins account
-gathered_account d opening offers background cycles admins paged account law accepted is same gathered = record {
-  opens = ap (λ (history : History). history.opening) same ∙ is.opens;
-  is = subst₂ (λ (history : History) (book : Contents).
-      IsAccountOf d opening offers background cycles (all_asked admins) (entries_of history) book) (sym same)
-      (sym (law d cycles (pages_of paged.pages) is.book (contents_of account.book) accepted is.some is.its_pages gathered)) is.is;
-}
+gathered_account d opening offers background cycles admins paged account law accepted is same gathered =
+    subst₂ (λ (history : History) (book : Contents). IsRunOf d opening offers background cycles admins history book) (sym same)
+    (sym (law d cycles (pages_of paged.pages) is.book (contents_of account.book) accepted is.some is.its_pages gathered)) is.run

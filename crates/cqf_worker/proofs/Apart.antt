@@ -12,7 +12,8 @@ use Rattle.std.proofs.lemmas.List.Elements.{AllZip-get_or, length_all_zip}
 use Rattle.std.proofs.lemmas.Option.{get_or_from_slice_get, same_Some, slice_get-get_or, slice_get_cases, slice_get_within}
 use Rattle.std.proofs.lemmas.Simd.{map-map}
 use Rattle.cqf_lists.proofs.EachBelow.{map_below}
-use Rattle.cqf_lists.proofs.Members.{contains_at, contains_cases, contains_from_filter, contains_from_map, contains_map, contains_none, find_member, find_some, place_of_member}
+use Rattle.cqf_lists.proofs.Members.{contains_at, contains_cases, contains_from_filter, contains_from_map, contains_map}
+use Rattle.cqf_lists.proofs.Members.{contains_none, find_member, find_some, place_of_member}
 use Rattle.cqf_lists.proofs.Numbers.{kept_number, numbers_ascend}
 use Rattle.cqf_lists.proofs.Pairs.{pairs_head, pairs_tail}
 use Rattle.cqf_model.specs.declared.frames.Page.{Page}
@@ -41,7 +42,8 @@ use Rattle.cqf_worker_loops.specs.Handing.{TableEnd}
 use Rattle.cqf_worker_pipe.specs.PipeEnds.{PipeId}
 use Rattle.cqf_worker_loops.specs.Rows.{wire_of, wires_of}
 use Rattle.cqf_worker_wires.specs.Wires.{AreFedByWires, AreGiven, AreOn, AreWired, AreWorkersOf, BatchPort, IsBeginning, Wiring, pipe_of_tables, tables_pipe}
-use Rattle.cqf_worker_loops.specs.Workers.{HasGoneThrough, Works, batches_at, course_of, ends_in_bridge, item_in, items_in, link_of, links_onward, rows_in}
+use Rattle.cqf_worker_loops.specs.Workers.{HasGoneThrough, IsWorkerOf, Works, batches_at, course_of, ends_in_bridge}
+use Rattle.cqf_worker_loops.specs.Workers.{item_in, items_in, link_of, links_onward, rows_in}
 
 -- nothing is done
 abbrev pub no_course : Course
@@ -68,7 +70,7 @@ pub record HaveRun (t : Traffic) (entries : List Recorded) (cycles : ℕ) (worke
   pub sealed : seals entries ≡ cycles
 
 -- an element is at each place of a list
-element_at : {X : Type 0} (xs : List X) (k : ℕ) → k < length xs → (x : X) × (slice_get xs k ≡ Some x)
+pub element_at : {X : Type 0} (xs : List X) (k : ℕ) → k < length xs → (x : X) × (slice_get xs k ≡ Some x)
 element_at xs k inside = elim (slice_get_cases xs k).1 [
   | inl w ↦ (w.0, w.2)
   | inr past ↦ absurd (omega (arith, inside, past.0))
@@ -126,6 +128,31 @@ was_at cycles workers dones place done worked there =
           (AllZip-get_or (Works cycles) workers dones place done done worked below),
     )
 
+module _ (t : Traffic) (cycles : ℕ) (workers dones : List Worker) (of_bridges : AreWorkersOf t workers) (worked : AllZip (Works cycles) workers dones)
+    (place : ℕ) (done : Worker) (there : slice_get dones place ≡ Some done) where
+  -- what it was, of its bridge
+  was : (w : Worker) × (slice_get workers place ≡ Some w) × Works cycles w done
+  was = was_at cycles workers dones place done worked there
+
+  was_of : IsWorkerOf t place was.0
+  was_of = of_bridges place was.0 was.1
+
+  -- it did its bridge's part
+  pub kept_part : HasGoneThrough t place cycles done
+  kept_part = was.2.part t place was_of
+
+  -- its share is its bridge's
+  pub kept_share : done.share.bridge ≡ place
+  kept_share = was.2.share ∙ ap (λ (s : Own). s.bridge) was_of.is_share
+
+  -- it takes at ports of the links that end in its bridge
+  pub kept_ins : map link_of done.ins.items ≡ links_into t.domain place
+  kept_ins = kept_links was.0.ins.items done.ins.items was.2.ins ∙ was_of.links_in
+
+  -- and puts at ports of those that leave it and end in another
+  pub kept_outs : map link_of done.outs.items ≡ links_onward t.domain place
+  kept_outs = kept_links was.0.outs.items done.outs.items was.2.outs ∙ was_of.links_out
+
 -- what the lists of the worker at a place say
 own_is : (dones : List Worker) (place : ℕ) (done : Worker) → slice_get dones place ≡ Some done → own_courses dones place ≡ course_of done
 own_is dones place done there = ap (λ (o : Option Worker). option_map_or course_of o no_course) there
@@ -160,27 +187,19 @@ module _ (t : Traffic) (entries : List Recorded) (cycles : ℕ) (workers dones :
 
   -- the worker at a place did its bridge's part
   gone_at : (place : ℕ) (done : Worker) → slice_get dones place ≡ Some done → HasGoneThrough t place cycles done
-  gone_at place done there =
-      let was = was_at cycles workers dones place done run.worked there in
-      was.2.part t place (run.of_bridges place was.0 was.1)
+  gone_at place done there = kept_part t cycles workers dones run.of_bridges run.worked place done there
 
   -- its share is its bridge's
   share_number : (place : ℕ) (done : Worker) → slice_get dones place ≡ Some done → done.share.bridge ≡ place
-  share_number place done there =
-      let was = was_at cycles workers dones place done run.worked there in
-      was.2.share ∙ ap (λ (s : Own). s.bridge) (run.of_bridges place was.0 was.1).is_share
+  share_number place done there = kept_share t cycles workers dones run.of_bridges run.worked place done there
 
   -- it takes at ports of the links that end in its bridge
   ins_links : (place : ℕ) (done : Worker) → slice_get dones place ≡ Some done → map link_of done.ins.items ≡ links_into t.domain place
-  ins_links place done there =
-      let was = was_at cycles workers dones place done run.worked there in
-      kept_links was.0.ins.items done.ins.items was.2.ins ∙ (run.of_bridges place was.0 was.1).links_in
+  ins_links place done there = kept_ins t cycles workers dones run.of_bridges run.worked place done there
 
   -- and puts at ports of those that leave it and end in another
   outs_links : (place : ℕ) (done : Worker) → slice_get dones place ≡ Some done → map link_of done.outs.items ≡ links_onward t.domain place
-  outs_links place done there =
-      let was = was_at cycles workers dones place done run.worked there in
-      kept_links was.0.outs.items done.outs.items was.2.outs ∙ (run.of_bridges place was.0 was.1).links_out
+  outs_links place done there = kept_outs t cycles workers dones run.of_bridges run.worked place done there
 
   -- these ports ascend
   ins_ascend : (place : ℕ) (done : Worker) → slice_get dones place ≡ Some done → AllPairs (λ (a b : ℕ). a < b) (map link_of done.ins.items)

@@ -2,3 +2,5 @@ mod Seating
 mod Preparing
 mod Apart
 mod Accounts
+mod Lacking
+mod Told

@@ -1,5 +1,6 @@
 -- The seats of a run: an administrator has the one of its number, and the conductor the next.
-use Rattle.std.proofs.Common.{ℕ, zero, suc, ◌≡◌, ◌+◌, ◌<◌, ◌∷◌, ◌++◌, [], List, Contains, Some, length, length-append, get_or, take, map, refl, sym, ap, subst, ◌∙◌, append-nil, arith, inl, inr, add-one}
+use Rattle.std.proofs.Common.{ℕ, zero, suc, ◌≡◌, ◌+◌, ◌<◌, ◌∷◌, ◌++◌, [], List, Contains, Some, length, length-append}
+use Rattle.std.proofs.Common.{get_or, take, map, refl, sym, ap, subst, ◌∙◌, append-nil, arith, inl, inr, add-one}
 use Rattle.std.specs.Prelude.{false, option_map, slice_get}
 use Rattle.std.specs.List.{AllZip}
 use Rattle.std.proofs.Math.Seq.{take-append_seam}

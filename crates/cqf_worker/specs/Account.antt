@@ -25,18 +25,22 @@ all_asked admins = map acts_asked admins
 abbrev pub entries_of : History → List Recorded
 entries_of history = map recorded_of history.entries.items
 
--- an account says of its history and its book all that is promised of them, of what the administrators' commands call for, and it
--- tells the number of entries in the opening part
-pub record IsAccount (d : Domain) (opening : List Recorded) (offers : List Offer) (background : List Background) (cycles : ℕ)
-    (admins : List (List Command)) (account : Account) : Type 0 where
-  pub opens : account.history.opening ≡ length opening
-  pub is : IsAccountOf d opening offers background cycles (all_asked admins) (entries_of account.history) (contents_of account.book)
+-- a history and a book say all that is promised of a run, of what the administrators' commands call for, and the history tells the number
+-- of entries in the opening part
+pub record IsRunOf (d : Domain) (opening : List Recorded) (offers : List Offer) (background : List Background) (cycles : ℕ)
+    (admins : List (List Command)) (history : History) (book : Contents) : Type 0 where
+  pub opens : history.opening ≡ length opening
+  pub is : IsAccountOf d opening offers background cycles (all_asked admins) (entries_of history) book
 
--- and one by pages says it of the book whose pages these are
+-- an account has such a history and such a book
+abbrev pub IsAccount : Domain → List Recorded → List Offer → List Background → ℕ → List (List Command) → Account → Type 0
+IsAccount d opening offers background cycles admins account =
+    IsRunOf d opening offers background cycles admins account.history (contents_of account.book)
+
+-- and one by pages has such a history, and the pages of such a book
 pub record IsPagedAccount (d : Domain) (opening : List Recorded) (offers : List Offer) (background : List Background) (cycles : ℕ)
     (admins : List (List Command)) (account : PagedAccount) : Type 0 where
-  pub opens : account.history.opening ≡ length opening
   pub book : Contents
-  pub is : IsAccountOf d opening offers background cycles (all_asked admins) (entries_of account.history) book
+  pub run : IsRunOf d opening offers background cycles admins account.history book
   pub some : IsSomeBook d cycles book
   pub its_pages : ArePagesOf d cycles (pages_of account.pages) book

@@ -1,3 +1,4 @@
 pub mod Account
+pub mod Failing
 -- what the inner functions say
 pub mod Conducting

@@ -6,8 +6,11 @@ ghost use Rattle.cqf_desk.specs.Desk.{fresh_seats};
 ghost use Rattle.cqf_model.specs.History.{seals};
 ghost use Rattle.cqf_model.specs.Run.{AreBackground, AreOffers};
 ghost use Rattle.cqf_worker_wires.specs.Wires.{AreWired, Wiring, pipe_of_tables, tables_pipe};
+ghost use Rattle.cqf_worker_threads.specs.Telling.{IsStartFault};
 ghost use Rattle.cqf_worker.specs.Account.{IsAccount, IsPagedAccount};
-ghost use Rattle.cqf_worker.specs.Conducting.{AreBooked, AreLaidFor, AreSeatedFor, AreShut, IsFirstOfFaults, IsPrepared, IsSettled};
+ghost use Rattle.cqf_worker.specs.Conducting.{AreBooked, AreLaidFor, AreSeatedFor, AreShut, IsBookFault, IsDeskFault};
+ghost use Rattle.cqf_worker.specs.Conducting.{IsFirstOfFaults, IsPipeFault, IsPrepared, IsSettleFault, IsSettled};
+ghost use Rattle.cqf_worker.specs.Failing.{IsConductFault};
 ghost use Rattle.cqf_model.specs.Limits.{most_cycles, most_rows};
 
 use crate::account::{Account, PagedAccount};
@@ -23,11 +26,21 @@ use cqf_model::{Background, Offer};
 use cqf_topology::Domain;
 use cqf_worker_loops::{Carried, Pace, Sealed, Worker};
 use cqf_worker_pipe::PipeIn;
-use cqf_worker_threads::{Administrator, ConductFault, Ended, Faults, Ready, run_threads};
+use cqf_worker_threads::{Administrator, ConductFault, Ended, Faults, Ready, Task, run_threads};
 use cqf_worker_wires::{ClosingFault, Laid, close_pipes, lay};
 use std::alloc::Global;
 use std::sync::Wait;
 use std::thread::Threads;
+
+/// What a run is given beside its admission and its administrators: a domain, what is offered at its bridges, the background frames of its
+/// links, and for how many cycles it goes on.
+#[derive(Clone, Copy)]
+struct Given<'d, 'o, 'b> {
+    domain: &'d Domain,
+    offers: &'o [Offer],
+    background: &'b [Background],
+    cycles: u32,
+}
 
 /// A run that is ready to begin: its desk, its book, and what its threads begin with.
 #[derive(Drop)]
@@ -45,6 +58,7 @@ fn open_desk(
 ) -> Result<(Desk, Vec<Seat>), ConductFault>
     ensures desk { IfOk result (λ made. made.0 ≡ record { opening = admission; seats = admins + 1 }) }
     ensures seats { IfOk result (λ made. made.1.items ≡ fresh_seats (admins + 1)) }
+    ensures err { IfErr result IsStartFault }
 {
     if admins >= usize::from(u16::MAX) {
         return Err(ConductFault::Spawn);
@@ -52,10 +66,8 @@ fn open_desk(
     let Ok(seats) = u16::try_from(admins + 1) else {
         return Err(ConductFault::Spawn);
     };
-    match Desk::new(alloc, admission, seats) {
-        Ok(made) => Ok(made),
-        Err(_) => Err(ConductFault::Memory),
-    }
+    let made = Desk::new(alloc, admission, seats)?;
+    Ok(made)
 }
 
 /// Gives each administrator its seat, and the conductor the one behind them.
@@ -65,7 +77,8 @@ fn seat_each(
     admins: Vec<Vec<Command>>,
 ) -> Result<(Vec<Administrator>, Seat), ConductFault>
     requires { seats.items ≡ fresh_seats (length admins.items + 1) }
-    ensures { IfOk result (λ seated. AreSeatedFor (map (λ c. c.items) admins.items) seated.0.items seated.1) }
+    ensures ok { IfOk result (λ seated. AreSeatedFor (map (λ c. c.items) admins.items) seated.0.items seated.1) }
+    ensures err { IfErr result IsStartFault }
 {
     let mut left = seats.into_iter();
     let mut administrators = Vec::new(alloc);
@@ -91,64 +104,56 @@ fn open_book(
     cycles: u32,
 ) -> Result<(CycleBook, Vec<Share>), ConductFault>
     requires { cycles ≤ most_cycles }
-    ensures { IfOk result (λ made. AreBooked domain.now cycles made.0 made.1.items) }
+    ensures ok { IfOk result (λ made. AreBooked domain.now cycles made.0 made.1.items) }
+    ensures err { IfErr result IsStartFault }
 {
+    // the domain is accepted: a fact
     let _accepted = domain.cycle_time();
-    let Ok(pages) = Pages::new(alloc, domain.bridges(), cycles) else {
-        return Err(ConductFault::Memory);
-    };
-    match CycleBook::new(alloc, pages) {
-        Ok(made) => Ok(made),
-        Err(_) => Err(ConductFault::Memory),
-    }
+    let pages = Pages::new(alloc, domain.bridges(), cycles)?;
+    let made = CycleBook::new(alloc, pages)?;
+    Ok(made)
 }
 
 /// The workers of the domain's bridges, with pipes between them.
 fn lay_all(
     alloc: Global,
-    domain: &Domain,
-    offers: &[Offer],
-    background: &[Background],
+    given: Given<'_, '_, '_>,
     shares: Vec<Share>,
 ) -> Result<Laid, ConductFault>
-    requires shares { shares.items ≡ new_shares (length domain.now.bridges) }
-    requires offers { AreOffers domain.now offers.now }
-    requires few_offers { length offers.now ≤ most_rows }
-    requires background { AreBackground domain.now background.now }
-    requires few_background { length background.now ≤ most_rows }
-    ensures { IfOk result (λ laid. AreLaidFor domain.now offers.now background.now laid.workers.items laid.tables.items) }
+    requires shares { shares.items ≡ new_shares (length given.domain.now.bridges) }
+    requires offers { AreOffers given.domain.now given.offers.now }
+    requires few_offers { length given.offers.now ≤ most_rows }
+    requires background { AreBackground given.domain.now given.background.now }
+    requires few_background { length given.background.now ≤ most_rows }
+    ensures ok { IfOk result (λ laid. AreLaidFor given.entry.domain.now given.entry.offers.now given.entry.background.now laid.workers.items laid.tables.items) }
+    ensures err { IfErr result IsStartFault }
 {
-    let Ok(plan) = compile(alloc, domain) else {
-        return Err(ConductFault::Memory);
-    };
-    match lay(alloc, &plan, offers, background, shares) {
-        Ok(laid) => Ok(laid),
-        Err(_) => Err(ConductFault::Memory),
-    }
+    let plan = compile(alloc, given.domain)?;
+    let laid = lay(alloc, &plan, given.offers, given.background, shares)?;
+    Ok(laid)
 }
 
 /// Makes all that a run begins with.
 fn prepare(
     alloc: Global,
-    domain: &Domain,
+    given: Given<'_, '_, '_>,
     admission: Admission,
-    offers: &[Offer],
-    background: &[Background],
-    cycles: u32,
     admins: Vec<Vec<Command>>,
 ) -> Result<Prepared, ConductFault>
-    requires domain { admission.domain ≡ domain.now }
-    requires short { cycles ≤ most_cycles }
-    requires offers { AreOffers domain.now offers.now }
-    requires few_offers { length offers.now ≤ most_rows }
-    requires background { AreBackground domain.now background.now }
-    requires few_background { length background.now ≤ most_rows }
-    ensures { IfOk result (IsPrepared domain.now admission.entries offers.now background.now cycles (map (λ c. c.items) admins.items)) }
+    requires domain { admission.domain ≡ given.domain.now }
+    requires short { given.cycles ≤ most_cycles }
+    requires offers { AreOffers given.domain.now given.offers.now }
+    requires few_offers { length given.offers.now ≤ most_rows }
+    requires background { AreBackground given.domain.now given.background.now }
+    requires few_background { length given.background.now ≤ most_rows }
+    ensures ok { IfOk result (IsPrepared given.entry.domain.now admission.entries given.entry.offers.now given.entry.background.now given.entry.cycles
+        (map (λ c. c.items) admins.items)) }
+    ensures err { IfErr result IsStartFault }
 {
     let (desk, seats) = open_desk(alloc, admission, admins.len())?;
     let (administrators, conductor) = seat_each(alloc, seats, admins)?;
-    let (book, shares) = open_book(alloc, domain, cycles)?;
-    let Laid { workers, tables } = lay_all(alloc, domain, offers, background, shares)?;
+    let (book, shares) = open_book(alloc, given.domain, given.cycles)?;
+    let Laid { workers, tables } = lay_all(alloc, given, shares)?;
     let ready = Ready {
         workers,
         tables,
@@ -160,7 +165,8 @@ fn prepare(
 
 /// Closes a desk.
 fn close_desk(desk: Desk, seats: Vec<Seat>) -> Result<History, ConductFault>
-    ensures { IfOk result (λ history. IsClosed desk seats.items history) }
+    ensures ok { IfOk result (λ history. IsClosed desk seats.items history) }
+    ensures err { IfErr result (IsDeskFault desk seats.items) }
 {
     match desk.close(seats) {
         Ok(history) => Ok(history),
@@ -171,7 +177,8 @@ fn close_desk(desk: Desk, seats: Vec<Seat>) -> Result<History, ConductFault>
 
 /// Closes a book.
 fn close_book(book: CycleBook, shares: Vec<Share>) -> Result<Pages, ConductFault>
-    ensures { IfOk result (λ pages. Agree book shares.items pages book.bridges) }
+    ensures ok { IfOk result (λ pages. Agree book shares.items pages book.bridges) }
+    ensures err { IfErr result (IsBookFault book shares.items) }
 {
     match book.close_pages(shares) {
         Ok(pages) => Ok(pages),
@@ -208,7 +215,8 @@ fn shut_pipes(
 ) -> Result<Vec<Share>, ConductFault>
     requires wired { (wiring : Wiring) × AreWired wiring workers.items }
     requires tables { map pipe_of_tables tables.items ≡ map tables_pipe workers.items }
-    ensures { IfOk result (λ shares. AreShut tables.items workers.items shares.items) }
+    ensures ok { IfOk result (λ shares. AreShut tables.items workers.items shares.items) }
+    ensures err { IfErr result (IsPipeFault workers.items) }
 {
     match close_pipes(alloc, tables, workers) {
         Ok(shares) => Ok(shares),
@@ -226,7 +234,8 @@ fn settle(
 ) -> Result<PagedAccount, ConductFault>
     requires wired { (wiring : Wiring) × AreWired wiring ended.workers.items }
     requires tables { map pipe_of_tables ended.sealed.tables.items ≡ map tables_pipe ended.workers.items }
-    ensures { IfOk result (IsSettled desk book ended) }
+    ensures ok { IfOk result (IsSettled desk book ended) }
+    ensures err { IfErr result (IsSettleFault desk book ended) }
 {
     let Ended {
         workers,
@@ -254,7 +263,8 @@ fn settle(
 /// bridge of the domain, and 1,000,000 background frames, each on a link of it. Before each command and before each step of a bridge
 /// the pace is asked, while no lock is held. It waits until all threads have ended.
 ///
-/// Refused with the first fault in the order that [`ConductFault`] tells; then the history and the pages are gone.
+/// Refused with the first fault in the order that [`ConductFault`] tells; then the history and the pages are gone. `Bridge` comes for want of
+/// memory, or where a bridge refuses to receive a cycle that it has sent; `ChannelLost` never as pipes are closed.
 pub fn conduct_pages<R: Threads + Wait + Sync, P: Pace>(
     rt: &R,
     alloc: Global,
@@ -273,30 +283,33 @@ pub fn conduct_pages<R: Threads + Wait + Sync, P: Pace>(
     requires few_offers { length offers.now ≤ most_rows }
     requires background { AreBackground domain.now background.now }
     requires few_background { length background.now ≤ most_rows }
-    ensures { IfOk result (IsPagedAccount domain.now admission.entries offers.now background.now cycles (map (λ c. c.items) admins.items)) }
+    ensures ok { IfOk result (IsPagedAccount domain.now admission.entries offers.now background.now cycles (map (λ c. c.items) admins.items)) }
+    ensures err { IfErr result (IsConductFault domain.now admission.entries offers.now background.now cycles (map (λ c. c.items) admins.items)) }
 {
     seats_give_the_history();
     bridges_apart_post_the_pages();
     book_of_history_says_the_shift();
+    // the domain is accepted: a fact
     let _accepted = domain.cycle_time();
-    let Prepared { desk, book, ready } = prepare(
-        alloc, domain, admission, offers, background, cycles, admins,
-    )?;
-    let ended = run_threads(rt, alloc, pace, &desk, &book, cycles, ready)?;
+    let given = Given {
+        domain,
+        offers,
+        background,
+        cycles,
+    };
+    let Prepared { desk, book, ready } = prepare(alloc, given, admission, admins)?;
+    let task = Task {
+        book: &book,
+        cycles,
+    };
+    let ended = run_threads(rt, alloc, pace, &desk, task, ready)?;
     let account = settle(alloc, desk, book, ended)?;
     Ok(account)
 }
 
-/// Runs a network under administration: a thread for each bridge of the domain, one for each administrator, and the calling one,
-/// which closes the cycles. Administrator i makes its commands in order with seat i, while the bridges run; the cycles are closed
-/// with the next seat. What comes of it is one history and one book, and the book is the one that the compiled gate lists demand for
-/// that history, whatever turns the threads took (IEEE 802.1Q, Annex T; history and book: profile).
-///
-/// The admission is for that domain and has no Seal yet. `cycles` is at most 100,000; there are at most 1,000,000 offers, each at a
-/// bridge of the domain, and 1,000,000 background frames, each on a link of it. Before each command and before each step of a bridge
-/// the pace is asked, while no lock is held. It waits until all threads have ended.
-///
-/// Refused with the first fault in the order that [`ConductFault`] tells; then the history and the book are gone.
+/// Runs a network as [`conduct_pages`] does, of which it takes the same and is refused with the same, and gives the book that the pages
+/// tell, in order: the one that the compiled gate lists demand for the history, whatever turns the threads took (IEEE 802.1Q, Annex T;
+/// history and book: profile). Refused too with `Memory` where the book has no room; then the history and the book are gone.
 pub fn conduct<R: Threads + Wait + Sync, P: Pace>(
     rt: &R,
     alloc: Global,
@@ -315,15 +328,15 @@ pub fn conduct<R: Threads + Wait + Sync, P: Pace>(
     requires few_offers { length offers.now ≤ most_rows }
     requires background { AreBackground domain.now background.now }
     requires few_background { length background.now ≤ most_rows }
-    ensures { IfOk result (IsAccount domain.now admission.entries offers.now background.now cycles (map (λ c. c.items) admins.items)) }
+    ensures ok { IfOk result (IsAccount domain.now admission.entries offers.now background.now cycles (map (λ c. c.items) admins.items)) }
+    ensures err { IfErr result (IsConductFault domain.now admission.entries offers.now background.now cycles (map (λ c. c.items) admins.items)) }
 {
     gathered_pages_are_the_book();
+    // the domain is accepted: a fact
     let _accepted = domain.cycle_time();
     let PagedAccount { history, pages } = conduct_pages(
         rt, alloc, domain, admission, offers, background, cycles, admins, pace,
     )?;
-    let Ok(book) = book_of(alloc, &pages, domain.bridges()) else {
-        return Err(ConductFault::Memory);
-    };
+    let book = book_of(alloc, &pages, domain.bridges())?;
     Ok(Account { history, book })
 }

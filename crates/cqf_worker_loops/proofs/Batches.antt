@@ -1,5 +1,6 @@
 -- The batches that went through ports, by link.
-use Rattle.std.proofs.Common.{ℕ, zero, suc, ◌+◌, ◌≡◌, ◌<◌, ◌==◌, ◌∷◌, ◌++◌, [], Bool, List, true, false, length, map, refl, sym, ap, ap₂, ◌∙◌, arith, inl, inr, subst, length-append}
+use Rattle.std.proofs.Common.{ℕ, zero, suc, ◌+◌, ◌≡◌, ◌<◌, ◌==◌, ◌∷◌, ◌++◌, [], Bool, List, true, false, length, map}
+use Rattle.std.proofs.Common.{refl, sym, ap, ap₂, ◌∙◌, arith, inl, inr, subst, length-append}
 use Rattle.std.proofs.Common.{All, AllPairs, Contains, cond, append-nil, eq-eqb, ne_eqb}
 use Rattle.std.specs.Prelude.{slice_get, Some}
 use Rattle.std.specs.List.{flat_map}

@@ -71,7 +71,8 @@ module _ {T : Type 0} where
   wires_same (port ∷ ports) (x ∷ items) = ap (λ ws. (port.link, port.pipe.pipe) ∷ ws) (wires_same ports items)
 
   -- what a port is with one item more, where each port gets one at most
-  pub all_more : (P Q : LinkEnd (End T) → Type 0) → ((port : LinkEnd (End T)) → P port → Q port) → ((port : LinkEnd (End T)) (x : T) → P port → Q (with_item_at port x)) →
+  pub all_more : (P Q : LinkEnd (End T) → Type 0) → ((port : LinkEnd (End T)) → P port → Q port) →
+      ((port : LinkEnd (End T)) (x : T) → P port → Q (with_item_at port x)) →
       (ports : List (LinkEnd (End T))) (items : List T) → All P ports → All Q (with_each ports items)
   all_more P Q keep more [] items all = All-nil Q
   all_more P Q keep more (port ∷ ports) [] all =

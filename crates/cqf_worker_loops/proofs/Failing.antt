@@ -13,7 +13,8 @@ use Rattle.cqf_worker_loops.proofs.Batches.{BatchPort}
 
 -- its bridge doesn't receive the cycle that it has sent
 pub not_received : (cycle : ℕ) (w : Worker) (table : CycleTable) (batches : List LinkBatch) (halfway after : BridgeState)
-    (outs outs_after : List BatchPort) (starts : List Started) (fault : WorkerFault) → length batches ≡ length w.ins.items → SendsOn cycle w.agenda w.bridge halfway outs outs_after starts →
+    (outs outs_after : List BatchPort) (starts : List Started) (fault : WorkerFault) → length batches ≡ length w.ins.items →
+    SendsOn cycle w.agenda w.bridge halfway outs outs_after starts →
     IsReceiveOnFault cycle w.agenda table batches halfway after fault → IsCycleFault cycle w fault
 not_received cycle w table batches halfway after outs outs_after starts (working.Bridge reason) one_each sent why = inr (record {
   table = table;

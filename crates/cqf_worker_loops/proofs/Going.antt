@@ -1,5 +1,6 @@
 -- A worker goes through its cycles.
-use Rattle.std.proofs.Common.{ℕ, zero, suc, ◌+◌, ◌≡◌, ◌<◌, ◌≤◌, ◌∷◌, ◌++◌, [], List, Some, All, AllPairs, length, map, refl, sym, ap, ◌∙◌, arith, inl, inr, subst, Contains, length-append}
+use Rattle.std.proofs.Common.{ℕ, zero, suc, ◌+◌, ◌≡◌, ◌<◌, ◌≤◌, ◌∷◌, ◌++◌, [], List, Some, All, AllPairs, length, map}
+use Rattle.std.proofs.Common.{refl, sym, ap, ◌∙◌, arith, inl, inr, subst, Contains, length-append}
 use Rattle.std.specs.Prelude.{◌==◌, false, slice_get, true}
 use Rattle.std.specs.List.{flat_map}
 use Rattle.std.specs.Option.{option_to_list}
@@ -38,12 +39,16 @@ use Rattle.cqf_worker_loops.specs.GivingUp.{IsCycleFault, StopsEarly, StopsFor}
 use Rattle.cqf_worker_pipe.specs.PipeEnds.{End}
 use Rattle.cqf_worker_loops.specs.Rows.{wires_of, with_each}
 use Rattle.cqf_worker_loops.specs.Stepping.{GoesOn, HasPorts, MayGoOn, onward}
-use Rattle.cqf_worker_loops.specs.Workers.{HasCarried, HasGoneThrough, IsUnused, IsWorkerOf, Works, batches_at, contents_by_worker, course_of, ends_in_bridge, items_in, link_of, links_onward, rows_in}
-use Rattle.cqf_worker_loops.proofs.Batches.{BatchPort, batch_count, batches_more, counts_more, first_at, first_member, items_more, links_same, one_at, taken_last}
+use Rattle.cqf_worker_loops.specs.Workers.{HasCarried, HasGoneThrough, IsUnused, IsWorkerOf, Works, batches_at}
+use Rattle.cqf_worker_loops.specs.Workers.{contents_by_worker, course_of, ends_in_bridge, items_in, link_of}
+use Rattle.cqf_worker_loops.specs.Workers.{links_onward, rows_in}
+use Rattle.cqf_worker_loops.proofs.Batches.{BatchPort, batch_count, batches_more, counts_more, first_at, first_member}
+use Rattle.cqf_worker_loops.proofs.Batches.{items_more, links_same, one_at, taken_last}
 use Rattle.cqf_worker_loops.proofs.Each.{all_more, wires_same}
 use Rattle.cqf_worker_loops.proofs.Stopping.{CarriesItems, each_carries, items_alone}
 use Rattle.cqf_worker_loops.proofs.Onward.{new_links, onward_links, ports_received, ports_sent}
 use Rattle.cqf_worker_loops.proofs.OneMore.{IsNextCycle, PutsMore, TakesMore, stands_behind, worked_on}
+use Rattle.cqf_worker_pipe.specs.PipeRule.{most_items}
 
 -- so many went through a port at most
 abbrev pub IsWithin : ℕ → BatchPort → Type 0
@@ -226,7 +231,8 @@ module _ (t : Traffic) (number n : ℕ) (before after : Worker) (at : StandsAt t
       })
 
   -- one page more was posted
-  pages_grow : map contents_by_worker after.share.pages ≡ map contents_by_worker before.share.pages ++ page_given step.sends.batches step.halfway.background step.dropped ∷ []
+  pages_grow : map contents_by_worker after.share.pages ≡ map contents_by_worker before.share.pages
+      ++ page_given step.sends.batches step.halfway.background step.dropped ∷ []
   pages_grow =
       ap (λ (s : Own). map contents_by_worker s.pages) step.posts ∙ map-append contents_by_worker before.share.pages (step.page ∷ [])
       ∙ ap (λ (c : Contents). map contents_by_worker before.share.pages ++ c ∷ []) contents_now
@@ -262,7 +268,8 @@ module _ (t : Traffic) (number n : ℕ) (before after : Worker) (at : StandsAt t
   brought_now : taken_in t.domain (course_of after) number n ≡ step.batches
   brought_now =
       (λ i. flat_map (λ l. option_to_list (slice_get (batches_at (step.takes i) l) n)) (sym at.links_in i))
-      ∙ taken_last before.ins.items step.batches n (subst (AllPairs (λ (a b : ℕ). a < b)) (sym at.links_in) (links_ascend t.domain number)) step.one_each at.gone.has_taken
+      ∙ taken_last before.ins.items step.batches n (subst (AllPairs (λ (a b : ℕ). a < b)) (sym at.links_in) (links_ascend t.domain number))
+      step.one_each at.gone.has_taken
 
   -- it sent with the traffic's background frames
   sends_now : SendsCycle (at.gone.worked.before n) step.halfway n (backed_for t.domain t.background number n) [] step.sends.batches
@@ -373,12 +380,12 @@ all_gone cycle cycles worker now going through = record {
 
 -- a worker still may put at its ports behind its cycles
 pub room_then : (t : Traffic) (number cycle : ℕ) (now : Worker) → StandsAt t number cycle now → cycle ≤ 100000 →
-    All (λ (port : BatchPort). length port.pipe.items < 1000000) now.outs.items
+    All (λ (port : BatchPort). length port.pipe.items < most_items) now.outs.items
 room_then t number cycle now at early k d below = omega (arith, early, (at.gone.has_put k d below).1)
 
 -- and where it stops in one
 pub room_left : (t : Traffic) (number cycle : ℕ) (now after : Worker) (items : List (Carried LinkBatch)) → StandsAt t number cycle now → cycle < 100000 →
-    after.outs.items ≡ with_each now.outs.items items → All (λ (port : BatchPort). length port.pipe.items < 1000000) after.outs.items
+    after.outs.items ≡ with_each now.outs.items items → All (λ (port : BatchPort). length port.pipe.items < most_items) after.outs.items
 room_left t number cycle now after items at early more k d below =
     omega (arith, early, subst (All (IsWithin (cycle + 1))) (sym more) (within_more now.outs.items cycle items at.gone.has_put) k d below)
 

@@ -7,6 +7,7 @@ use Rattle.std.proofs.Math.Seq.{map-set_same}
 use Rattle.cqf_worker_loops.specs.Handing.{GivesEach, GivesSome, pipes_of}
 use Rattle.cqf_worker_pipe.specs.PipeEnds.{End}
 use Rattle.cqf_worker_loops.specs.Rows.{MayGet, with_items}
+use Rattle.cqf_worker_pipe.specs.PipeRule.{most_items}
 
 -- the first ends, so many, have the items more where all have them; those behind are as they were
 pub record HandsOn {T : Type 0} (xs : List T) (before after : List (End T)) (count : ℕ) (all : Bool) : Type 0 where
@@ -153,6 +154,6 @@ module _ {T : Type 0} (xs : List T) where
 
   -- the next end still has room
   pub room_next : (more : ℕ) (before after : List (End T)) (count : ℕ) (all : Bool) (d : End T) → HandsOn xs before after count all →
-      All (λ (e : End T). length e.items + more < 1000000) before → count < length before → length (get_or after count d).items + more < 1000000
+      All (λ (e : End T). length e.items + more < most_items) before → count < length before → length (get_or after count d).items + more < most_items
   room_next more before after count all d h room below =
       omega (arith, room count d below, ap (λ (e : End T). length e.items) (h.behind count d (omega arith)))

@@ -1,5 +1,6 @@
 -- A bridge that did its part goes through one cycle more.
-use Rattle.std.proofs.Common.{ℕ, ◌+◌, ◌≡◌, ◌<◌, ◌≤◌, ◌⊎◌, ◌∷◌, ◌++◌, [], List, Some, length, sym, ap, ◌∙◌, arith, inl, inr, subst, Contains, cond, length-append}
+use Rattle.std.proofs.Common.{ℕ, ◌+◌, ◌≡◌, ◌<◌, ◌≤◌, ◌⊎◌, ◌∷◌, ◌++◌, [], List, Some, length, sym, ap, ◌∙◌, arith, inl}
+use Rattle.std.proofs.Common.{inr, subst, Contains, cond, length-append}
 use Rattle.std.specs.Prelude.{nat_lt, slice_get, true}
 use Rattle.std.specs.Option.{option_to_list}
 use Rattle.std.proofs.lemmas.Bool.{cases_lt, cond-false, cond-true, le-ltb, lt-ltb}
@@ -117,7 +118,8 @@ module _ (t : Traffic) (number n : ℕ) (old new : Course) (half after : BridgeS
   sends' : (k : ℕ) → k < n + 1 → SendsCycle (before' k) (halfway' k) k (backed_for t.domain t.background number k) [] (batches' k)
   sends' = each_next (λ k. SendsCycle (before' k) (halfway' k) k (backed_for t.domain t.background number k) [] (batches' k)) n
       (λ k less. sends_same t number k (w.before k) (w.halfway k) (before' k) (halfway' k) (w.batches k) (batches' k)
-      (sym (sooner_is w.before (n + 1) after k (omega (arith, less)))) (sym (sooner_is w.halfway n half k less)) (sym (sooner_is w.batches n next.batches k less))
+      (sym (sooner_is w.before (n + 1) after k (omega (arith, less)))) (sym (sooner_is w.halfway n half k less))
+      (sym (sooner_is w.batches n next.batches k less))
       (w.sends k (omega (arith, less, next.sent_before))))
       (sends_same t number n (w.before n) half (before' n) (halfway' n) next.batches (batches' n)
       (sym (sooner_is w.before (n + 1) after n (omega arith))) (sym (later_is w.halfway n half n (omega arith)))

@@ -47,14 +47,16 @@ new_links d make same [] = refl
 new_links d make same (l ∷ ls) = (λ i. same l i ∷ new_links d make same ls i)
 
 -- a bridge with its ports that sends a cycle has them still
-pub ports_sent : (a b : BridgeState) (cycle : ℕ) (backed : List Backed) (batches : List LinkBatch) → SendsCycle a b cycle backed [] batches → HasPorts a → HasPorts b
+pub ports_sent : (a b : BridgeState) (cycle : ℕ) (backed : List Backed) (batches : List LinkBatch) → SendsCycle a b cycle backed [] batches
+    → HasPorts a → HasPorts b
 ports_sent a b cycle backed batches s has =
     let links : map (λ (r : PortRecord). r.link) b.ports ≡ links_from a.domain a.number =
     ap (λ (x : BridgeState). map (λ (r : PortRecord). r.link) x.ports) s.bridge ∙ sent_links a.domain cycle backed a.ports s.made s.one_each ∙ has in
     links ∙ ap (λ (x : BridgeState). links_from x.domain x.number) (sym s.bridge)
 
 -- and one that receives it
-pub ports_received : (run : Run) (a b : BridgeState) (cycle : ℕ) (batches : List LinkBatch) (dropped : List Dropped) → ReceivesCycle run a b cycle batches dropped →
+pub ports_received : (run : Run) (a b : BridgeState) (cycle : ℕ) (batches : List LinkBatch) (dropped : List Dropped) →
+    ReceivesCycle run a b cycle batches dropped →
     HasPorts a → HasPorts b
 ports_received run a b cycle batches dropped r has =
     let links : map (λ (p : PortRecord). p.link) b.ports ≡ links_from a.domain a.number =
@@ -70,7 +72,8 @@ onward_links a b cycle backed batches s has =
     ∙ ap (filter (ends_in_bridge a.domain)) (ap (map (λ (x : LinkBatch). x.link)) s.batches ∙ batch_links cycle backed a.ports s.made s.one_each ∙ has)
 
 -- so there is one for each port
-pub onward_count : (a b : BridgeState) (cycle : ℕ) (backed : List Backed) (batches : List LinkBatch) (outs : List BatchPort) → SendsCycle a b cycle backed [] batches →
+pub onward_count : (a b : BridgeState) (cycle : ℕ) (backed : List Backed) (batches : List LinkBatch) (outs : List BatchPort) →
+    SendsCycle a b cycle backed [] batches →
     HasPorts a → map link_of outs ≡ links_onward a.domain a.number → length (onward a.domain batches) ≡ length outs
 onward_count a b cycle backed batches outs s has links =
     sym (length-map (onward a.domain batches) (λ (x : LinkBatch). x.link))

@@ -1,5 +1,6 @@
 -- Cycles that a conductor closes, one after the other.
-use Rattle.std.proofs.Common.{ℕ, ◌≡◌, ◌<◌, ◌≤◌, ◌+◌, ◌-◌, ◌⊎◌, ◌∷◌, ◌++◌, [], Bool, false, List, Some, length, get_or, map, refl, sym, ap, subst, ◌∙◌, append_assoc, append-nil, arith, inl, inr}
+use Rattle.std.proofs.Common.{ℕ, ◌≡◌, ◌<◌, ◌≤◌, ◌+◌, ◌-◌, ◌⊎◌, ◌∷◌, ◌++◌, [], Bool, false, List, Some, length, get_or}
+use Rattle.std.proofs.Common.{map, refl, sym, ap, subst, ◌∙◌, append_assoc, append-nil, arith, inl, inr}
 use Rattle.std.specs.Prelude.{All, true, drop, replicate, slice_get, take}
 use Rattle.std.proofs.lemmas.List.{length-append, length-map, map-append, replicate-append-replicate}
 use Rattle.std.proofs.lemmas.Bool.{false≢true}
@@ -16,10 +17,13 @@ use Rattle.cqf_worker_loops.specs.declared.carried.Carried.TheVariants.{Item, St
 use Rattle.cqf_worker_loops.specs.declared.sealing.SealingFault.{SealingFault}
 use Rattle.cqf_worker_loops.specs.declared.sealing.SealingFault.TheVariants.{CyclesSpent, Lost, Memory}
 use Rattle.cqf_worker_loops.specs.declared.sealing.Unsealed.{Unsealed}
-use Rattle.cqf_worker_loops.specs.Handing.{ClosesSome, GivesSome, GivesTables, HasBrokenOff, HasClosed, HasSealed, LacksOne, SealsBlock, SealsMany, SealsOne, SealsSome, TableEnd, fault_of_seal, pipes_of}
+use Rattle.cqf_worker_loops.specs.Handing.{ClosesSome, GivesSome, GivesTables, HasBrokenOff, HasClosed, HasSealed}
+use Rattle.cqf_worker_loops.specs.Handing.{LacksOne, SealsBlock, SealsMany, SealsOne, SealsSome, TableEnd}
+use Rattle.cqf_worker_loops.specs.Handing.{fault_of_seal, pipes_of}
 use Rattle.cqf_worker_loops.specs.Stops.{AreItemsThenStop}
 use Rattle.cqf_worker_loops.proofs.Each.{written_back}
 use Rattle.cqf_worker_loops.proofs.Stopping.{HasItems, items_or_none, items_then_stop}
+use Rattle.cqf_worker_pipe.specs.PipeRule.{most_items}
 
 -- what a Seal leaves with a seat
 pub seals_as : (old new : Sitting) (table : CycleTable) → new ≡ with_seal old table → SealsOne old new table
@@ -188,7 +192,8 @@ more_put more after later gives place d below was =
 
 -- and so behind so many cycles
 table_put : (seat : Sitting) (ends : List TableEnd) (count more : ℕ) (now : Sitting) (after later : List TableEnd) (all : Bool) →
-    IsSealing seat ends count now after all → pipes_of later ≡ pipes_of after → GivesTables more after later → (place : ℕ) (d : TableEnd) → place < length later →
+    IsSealing seat ends count now after all → pipes_of later ≡ pipes_of after → GivesTables more after later → (place : ℕ) (d : TableEnd) →
+    place < length later →
     HasItems (get_or later place d) × (length (get_or later place d).items ≤ count + more)
 table_put seat ends count more now after later all s pipes gives place d inside =
     let below : place < length after = omega (arith, inside, as_many after later pipes) in
@@ -220,7 +225,7 @@ lacks_next seat ends count more now next after later all given have s pipes give
 -- so there is room for a Stop
 pub stop_room : (seat : Sitting) (ends : List TableEnd) (count more : ℕ) (now : Sitting) (after later : List TableEnd) (all : Bool) →
     IsSealing seat ends count now after all → pipes_of later ≡ pipes_of after → GivesTables more after later → count + more ≤ 100000 →
-    All (λ (e : TableEnd). length e.items < 1000000) later
+    All (λ (e : TableEnd). length e.items < most_items) later
 stop_room seat ends count more now after later all s pipes gives few place d inside =
     omega (arith, (table_put seat ends count more now after later all s pipes gives place d inside).1, few)
 
@@ -297,7 +302,7 @@ seals_back seat ends count more now next after first later n all given have s ma
 
 -- each end has room for what is to come
 pub seals_room : (seat : Sitting) (ends : List TableEnd) (count more : ℕ) (now : Sitting) (after : List TableEnd) (all : Bool) →
-    IsSealing seat ends count now after all → count + more ≤ 100000 → All (λ (e : TableEnd). length e.items + more < 1000000) after
+    IsSealing seat ends count now after all → count + more ≤ 100000 → All (λ (e : TableEnd). length e.items + more < most_items) after
 seals_room seat ends count more now after all s few place d inside = omega (arith, (s.put place d inside).1, few)
 
 -- in the end all cycles are closed
@@ -311,7 +316,8 @@ pub seals_closed : (seat : Sitting) (ends : List TableEnd) (cycles : ℕ) (now :
 seals_closed seat ends cycles now after all s = record { number = s.number; acts = s.acts; many = s.many }
 
 -- so many are closed, and of those behind them some
-pub closes_some : (seat : Sitting) (ends : List TableEnd) (count more cycles : ℕ) (now next : Sitting) (after : List TableEnd) (all : Bool) (fault : SealingFault) →
+pub closes_some : (seat : Sitting) (ends : List TableEnd) (count more cycles : ℕ) (now next : Sitting) (after : List TableEnd) (all : Bool)
+    (fault : SealingFault) →
     IsSealing seat ends count now after all → SealsSome more now next fault → count + more ≤ cycles → ClosesSome cycles seat next fault
 closes_some seat ends count more cycles now next after all fault s some few =
     let sealed = some.sealed in

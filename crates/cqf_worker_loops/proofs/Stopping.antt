@@ -77,7 +77,8 @@ module _ {T : Type 0} where
   wires_kept (p ∷ before) [] same stopped = absurd (omega (arith, same))
   wires_kept (p ∷ before) (q ∷ after) same stopped =
       let first : wire_of q ≡ wire_of p = wire_kept p q (stopped 0 p (omega arith)) in
-      let rest : wires_of after ≡ wires_of before = wires_kept before after (omega (arith, same)) (λ place d below. stopped (suc place) d (omega (arith, below))) in
+      let rest : wires_of after ≡ wires_of before = wires_kept before after (omega (arith, same))
+      (λ place d below. stopped (suc place) d (omega (arith, below))) in
       λ i. first i ∷ rest i
 
   -- the same of ports that are written back

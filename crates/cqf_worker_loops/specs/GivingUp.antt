@@ -27,7 +27,8 @@ abbrev pub NoTable : End (Carried CycleTable) → End (Carried CycleTable) → W
 NoTable before after fault = (fault ≡ working.Stopped) × MayGet (Stop ∷ []) before after
 
 -- why a cycle isn't sent on: the bridge refuses it, memory is refused, or one of the ports isn't put at
-abbrev pub IsSendOnFault : ℕ → BridgeState → BridgeState → List (LinkEnd (End (Carried LinkBatch))) → List (LinkEnd (End (Carried LinkBatch))) → WorkerFault → Type 0
+abbrev pub IsSendOnFault : ℕ → BridgeState → BridgeState → List (LinkEnd (End (Carried LinkBatch))) → List (LinkEnd (End (Carried LinkBatch)))
+    → WorkerFault → Type 0
 IsSendOnFault cycle before after outs outs_after (working.Bridge reason) = IsSendFault before after cycle reason
 IsSendOnFault cycle before after outs outs_after working.Memory = Unit {0}
 IsSendOnFault cycle before after outs outs_after (working.Book reason) = ⊥

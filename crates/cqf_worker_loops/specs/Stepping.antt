@@ -23,6 +23,7 @@ use Rattle.cqf_worker_pipe.specs.PipeEnds.{End}
 use Rattle.cqf_worker_loops.specs.Rows.{with_each, with_item}
 use Rattle.cqf_worker_loops.specs.Workers.{ends_in_bridge, link_of, links_onward}
 use Rattle.cqf_model.specs.Limits.{most_cycles}
+use Rattle.cqf_worker_pipe.specs.PipeRule.{most_items}
 
 -- a bridge has the ports of the links that leave it
 abbrev pub HasPorts : BridgeState → Type 0
@@ -56,7 +57,7 @@ pub record MayGoOn (cycle : ℕ) (w : Worker) : Type 0 where
   pub early : cycle < most_cycles
   pub ports : HasPorts w.bridge
   pub links_out : map link_of w.outs.items ≡ links_onward w.bridge.domain w.bridge.number
-  pub room : All (λ (port : LinkEnd (End (Carried LinkBatch))). length port.pipe.items < 1000000) w.outs.items
+  pub room : All (λ (port : LinkEnd (End (Carried LinkBatch))). length port.pipe.items < most_items) w.outs.items
   pub backed : AreBackedOf w.bridge.domain w.bridge.number cycle (background_at w.agenda cycle)
   pub offered : IsOffered w.bridge.domain w.bridge.number cycle w.agenda
 

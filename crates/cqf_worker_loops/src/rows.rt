@@ -4,6 +4,7 @@ ghost use Rattle.cqf_worker_loops.specs.Rows.{with_each};
 ghost use Rattle.cqf_worker_loops.specs.Stops.{AreStopped, MissesItem, MissesPut};
 ghost use Rattle.cqf_worker_loops.specs.declared.carried.Carried as carried;
 ghost use Rattle.cqf_worker_loops.specs.declared.carried.Carried.TheVariants.{Item};
+ghost use Rattle.cqf_worker_pipe.specs.PipeRule.{most_items};
 
 use crate::carried::Carried;
 use crate::link_ends::LinkEnd;
@@ -44,7 +45,7 @@ pub(crate) fn put_each<T: Drop, R: Wait>(
     items: Vec<T>,
 ) -> bool
     requires count { length items.items ≡ length ports.old }
-    requires room { All (λ port. length port.pipe.items < 1000000) ports.old }
+    requires room { All (λ port. length port.pipe.items < most_items) ports.old }
     ensures all { IsTrue result → ports.new ≡ with_each ports.old (map Item items.items) }
     ensures missed { IsFalse result → MissesPut ports.old ports.new }
     ensures some { (put : List T) × (ports.new ≡ with_each ports.old (map Item put)) }
@@ -62,7 +63,7 @@ pub(crate) fn put_each<T: Drop, R: Wait>(
 /// Puts at each of the ports, once, that no item comes any more. A port whose pipe's other end is gone is passed over. At each fewer
 /// than 1,000,000 items were put. It waits while a pipe is full, and takes no memory.
 pub fn stop_each<T: Drop, R: Wait>(rt: &R, ports: &mut [LinkEnd<PipeIn<Carried<T>>>])
-    requires room { All (λ port. length port.pipe.items < 1000000) ports.old }
+    requires room { All (λ port. length port.pipe.items < most_items) ports.old }
     ensures count { length ports.new ≡ length ports.old }
     ensures stopped { AreStopped ports.old ports.new }
 {

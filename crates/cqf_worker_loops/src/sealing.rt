@@ -22,6 +22,7 @@ ghost use Rattle.cqf_worker_loops.specs.Rows.{with_items};
 ghost use Rattle.cqf_worker_loops.specs.Stops.{AreItemsThenStop};
 ghost use Rattle.cqf_worker_loops.specs.declared.carried.Carried.TheVariants.{Item, Stop};
 ghost use Rattle.cqf_model.specs.Limits.{most_cycles};
+ghost use Rattle.cqf_worker_pipe.specs.PipeRule.{most_items};
 
 use crate::carried::Carried;
 use cqf_admission::{SealFault, Table};
@@ -88,7 +89,7 @@ fn hand<R: Wait>(
     first: Carried<Table>,
     behind: VecDeque<Carried<Table>>,
 ) -> bool
-    requires room { length end.old.items + length behind.items < 1000000 }
+    requires room { length end.old.items + length behind.items < most_items }
     ensures given { result ≡ true → end.new ≡ with_items end.old (first ∷ behind.items) }
     ensures gone { result ≡ false → end.new ≡ end.old }
 {
@@ -116,7 +117,7 @@ fn hand_on<R: Wait>(
     block: &Block,
     tables: &mut [PipeIn<Carried<Table>>],
 ) -> Result<bool, Memory>
-    requires room { All (λ end. length end.items + length (tables_handed block.now) < 1000000) tables.old }
+    requires room { All (λ end. length end.items + length (tables_handed block.now) < most_items) tables.old }
     ensures pipes { pipes_of tables.new ≡ pipes_of tables.old }
     ensures some { GivesSome (map Item (tables_handed block.now)) tables.old tables.new }
     ensures given { IfOk result (λ all. all ≡ true → GivesEach (map Item (tables_handed block.now)) tables.old tables.new) }
@@ -135,7 +136,7 @@ fn hand_on<R: Wait>(
 
 /// Puts a Stop in a pipe, and says whether the other end was there to have it.
 fn tell<R: Wait>(rt: &R, end: &mut PipeIn<Carried<Table>>) -> bool
-    requires room { length end.old.items < 1000000 }
+    requires room { length end.old.items < most_items }
     ensures given { result ≡ true → end.new ≡ with_items end.old (Stop ∷ []) }
     ensures gone { result ≡ false → end.new ≡ end.old }
 {
@@ -148,7 +149,7 @@ fn tell<R: Wait>(rt: &R, end: &mut PipeIn<Carried<Table>>) -> bool
 /// Tells each worker, once, that no table comes any more, passing over those that have ended. At each end fewer than 1,000,000 items
 /// were put. It waits while a pipe is full, and takes no memory.
 pub fn stop_tables<R: Wait>(rt: &R, tables: &mut [PipeIn<Carried<Table>>])
-    requires room { All (λ end. length end.items < 1000000) tables.old }
+    requires room { All (λ end. length end.items < most_items) tables.old }
     ensures pipes { pipes_of tables.new ≡ pipes_of tables.old }
     ensures stopped { GivesSome (Stop ∷ []) tables.old tables.new }
 {
@@ -238,7 +239,7 @@ fn seal_next<R: Wait>(
     tables: &mut [PipeIn<Carried<Table>>],
 ) -> Result<bool, SealingFault>
     requires some { 0 < count }
-    requires room { All (λ end. length end.items + count < 1000000) tables.old }
+    requires room { All (λ end. length end.items + count < most_items) tables.old }
     ensures pipes { pipes_of tables.new ≡ pipes_of tables.old }
     ensures some { GivesTables count tables.old tables.new }
     ensures ok { IfOk result (λ all. SealsBlock count seat.old seat.new tables.old tables.new all) }

@@ -10,6 +10,7 @@ ghost use Rattle.cqf_worker_loops.specs.Stepping.{GoesOn, HasPorts, IsOffered, M
 ghost use Rattle.cqf_worker_loops.specs.Workers.{ends_in_bridge, link_of, links_onward};
 ghost use Rattle.cqf_worker_loops.specs.declared.carried.Carried.TheVariants.{Item};
 ghost use Rattle.cqf_model.specs.Limits.{most_cycles};
+ghost use Rattle.cqf_worker_pipe.specs.PipeRule.{most_items};
 
 use crate::carried::Carried;
 use crate::link_ends::LinkEnd;
@@ -73,7 +74,7 @@ fn send_on<R: Wait>(
     requires backed { AreBackedOf bridge.old.domain bridge.old.number cycle.0 (background_at agenda.now cycle.0) }
     requires ports { HasPorts bridge.old }
     requires links { map link_of outs.old ≡ links_onward bridge.old.domain bridge.old.number }
-    requires room { All (λ port. length port.pipe.items < 1000000) outs.old }
+    requires room { All (λ port. length port.pipe.items < most_items) outs.old }
     ensures ok { IfOk result (λ starts. SendsOn cycle.0 agenda.now bridge.old bridge.new outs.old outs.new starts.items) }
     ensures err { IfErr result (IsSendOnFault cycle.0 bridge.old bridge.new outs.old outs.new) }
     ensures put { (put : List LinkBatch) × (outs.new ≡ with_each outs.old (map Item put)) }

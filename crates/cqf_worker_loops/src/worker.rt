@@ -6,6 +6,7 @@ ghost use Rattle.cqf_worker_loops.specs.Rows.{wires_of};
 ghost use Rattle.cqf_worker_loops.specs.Stops.{AreItems, AreItemsThenStop, AreStopped};
 ghost use Rattle.cqf_worker_loops.specs.Workers.{IsWorkerOf, Works};
 ghost use Rattle.cqf_model.specs.Limits.{most_cycles};
+ghost use Rattle.cqf_worker_pipe.specs.PipeRule.{most_items};
 
 use crate::carried::Carried;
 use crate::link_ends::LinkEnd;
@@ -74,7 +75,7 @@ fn work_cycles<R: Wait, P: Pace>(
     ensures ok { OnOk result (Works cycles worker.old worker.new) }
     ensures err { IfErr result (StopsEarly cycles worker.old) }
     ensures outs { wires_of worker.new.outs.items ≡ wires_of worker.old.outs.items }
-    ensures room { All (λ port. length port.pipe.items < 1000000) worker.new.outs.items }
+    ensures room { All (λ port. length port.pipe.items < most_items) worker.new.outs.items }
     ensures batches { All (λ port. AreItems port.pipe.items) worker.new.outs.items }
 {
     new_bridge_follows();
@@ -87,7 +88,7 @@ fn work_cycles<R: Wait, P: Pace>(
 /// Lets go of a worker: first of the ends at which it takes, so that who puts there waits no more; then those who take from it are
 /// told that nothing comes any more. Gives the ends at which that was put, behind batches alone.
 fn let_go<R: Wait>(rt: &R, worker: Worker) -> Vec<LinkEnd<PipeIn<Carried<Batch>>>>
-    requires room { All (λ port. length port.pipe.items < 1000000) worker.outs.items }
+    requires room { All (λ port. length port.pipe.items < most_items) worker.outs.items }
     requires batches { All (λ port. AreItems port.pipe.items) worker.outs.items }
     ensures count { length result.items ≡ length worker.outs.items }
     ensures stopped { AreStopped worker.outs.items result.items }

@@ -1,5 +1,6 @@
 -- Each step on a pipe keeps its rule.
-use Rattle.std.proofs.Common.{◌≡◌, ◌≢◌, ℕ, zero, suc, ◌+◌, ◌<◌, true, false, true≢false, List, [], ◌∷◌, ◌++◌, length, set, sym, refl, ap, ◌∙◌, subst, ⊎_elim, append_assoc, append-nil, arith}
+use Rattle.std.proofs.Common.{◌≡◌, ◌≢◌, ℕ, zero, suc, ◌+◌, ◌<◌, true, false, true≢false, List, [], ◌∷◌, ◌++◌, length}
+use Rattle.std.proofs.Common.{set, sym, refl, ap, ◌∙◌, subst, ⊎_elim, append_assoc, append-nil, arith}
 use mathlib.Core.Option.{some, some-ne-none}
 use lib.ListN.{get_elem?}
 use Rattle.std.proofs.lemmas.List.{length-append}
@@ -7,7 +8,7 @@ use Rattle.crossbeam_channel.specs.Fifo.{Pushes, Pops, Forks, Merges, Learns}
 use Rattle.atomic_table.proofs.Lists.{at_set, at_snoc}
 use Rattle.cqf_worker_pipe.specs.declared.pipe_rule.Bundle.{Bundle}
 use Rattle.cqf_worker_pipe.specs.declared.pipe_rule.Log.{Log}
-use Rattle.cqf_worker_pipe.specs.PipeRule.{Fits, IsPut, IsRest, IsTaken, Piped, items_in, items_of, log}
+use Rattle.cqf_worker_pipe.specs.PipeRule.{Fits, IsPut, IsRest, IsTaken, Piped, items_in, items_of, log, most_items}
 
 module _ {T : Type 0} where
   -- what stands at a place of a list with one more, and stood at none before, stands at its end
@@ -46,7 +47,7 @@ module _ {T : Type 0} where
   items_snoc (b ∷ bs) x = ap (λ l. items_in b ++ l) (items_snoc bs x) ∙ sym (append_assoc (items_in b) (items_of bs) (items_in x))
 
   -- sending: a bundle more was put, and waits behind the others
-  pub sends : (n pass : ℕ) (v : Log T) (x : Bundle T) → v.puts ≡ true → length v.put + length x.behind.items < 1000000
+  pub sends : (n pass : ℕ) (v : Log T) (x : Bundle T) → v.puts ≡ true → length v.put + length x.behind.items < most_items
       → Pushes Piped n pass v x (IsPut v x)
   sends n pass v x may room items views _ h at =
       let w : Log T = log v.puts v.takes (v.put ++ items_in x) v.taken in

@@ -5,6 +5,10 @@ use lib.ListN.{get_elem?}
 use Rattle.cqf_worker_pipe.specs.declared.pipe_rule.Bundle.{Bundle}
 use Rattle.cqf_worker_pipe.specs.declared.pipe_rule.Log.{Log}
 
+-- so many items may be put into a pipe
+abbrev pub most_items : ℕ
+most_items = 1000000
+
 module _ {T : Type 0} where
   -- the items of a bundle, and of several one behind the other
   abbrev pub items_in : Bundle T → List T
@@ -29,7 +33,7 @@ module _ {T : Type 0} where
     pub put : List T
     pub taken : List T
     pub in_order : put ≡ taken ++ items_of held
-    pub few : length put ≤ 1000000
+    pub few : length put ≤ most_items
     pub each : (pass : ℕ) (v : Log T) → get_elem? views pass ≡ some v → Fits putter taker put taken pass v
 
   -- the bundle's items were put
@@ -38,7 +42,7 @@ module _ {T : Type 0} where
 
   -- the bundle's items were taken, and not more than may be put
   abbrev pub IsTaken : Log T → Bundle T → Log T → Type 0
-  IsTaken v x w = (w ≡ log v.puts v.takes v.put (v.taken ++ items_in x)) × (length w.taken ≤ 1000000)
+  IsTaken v x w = (w ≡ log v.puts v.takes v.put (v.taken ++ items_in x)) × (length w.taken ≤ most_items)
 
   -- the channel holds what was put and not taken
   abbrev pub IsRest : Log T → List (Bundle T) → Type 0

@@ -3,7 +3,7 @@ ghost use Rattle.std.specs.Prelude.{◌≡◌, ◌+◌, ◌<◌, ◌++◌, [], �
 ghost use Rattle.crossbeam_channel.specs.Claims.{IsSeatAt, view};
 ghost use Rattle.crossbeam_channel.specs.Ends.{receives_on};
 ghost use Rattle.cqf_worker_pipe.specs.PipeEnds.{AreLeft, IsTaker};
-ghost use Rattle.cqf_worker_pipe.specs.PipeRule.{IsTaken};
+ghost use Rattle.cqf_worker_pipe.specs.PipeRule.{IsTaken, most_items};
 
 use crate::pipe_rule::{Bundle, InOrder, Log, Puts, Receiver, Roles, Sender, Takes, Token, Total};
 use cqf_units::Memory;
@@ -35,12 +35,13 @@ impl<T: Drop> Model for PipeIn<T> {
     ghost use Rattle.crossbeam_channel.specs.Claims.{IsSeatAt};
     ghost use Rattle.crossbeam_channel.specs.Ends.{sends_on};
     ghost use Rattle.cqf_worker_pipe.specs.PipeEnds.{End, IsPutter, pipe_of, put_by};
+    ghost use Rattle.cqf_worker_pipe.specs.PipeRule.{most_items};
 
     ghost Value = { End T };
 
     ghost view = { λ s. record { pipe = pipe_of s.pass; items = put_by s.pass } };
 
-    ghost invariant = { λ s. IsSeatAt (sends_on s.sender) s.pass × IsPutter s.pass × (s.puts ≡ length (put_by s.pass)) × (s.puts ≤ 1000000) };
+    ghost invariant = { λ s. IsSeatAt (sends_on s.sender) s.pass × IsPutter s.pass × (s.puts ≡ length (put_by s.pass)) × (s.puts ≤ most_items) };
 }
 
 /// The end of a pipe at which items are taken. Contracts see which pipe it is, and the items that were taken, in order.
@@ -58,12 +59,13 @@ impl<T: Drop> Model for PipeOut<T> {
     ghost use Rattle.crossbeam_channel.specs.Claims.{IsSeatAt};
     ghost use Rattle.crossbeam_channel.specs.Ends.{receives_on};
     ghost use Rattle.cqf_worker_pipe.specs.PipeEnds.{End, IsTaker, handed_by, pipe_of, taken_by};
+    ghost use Rattle.cqf_worker_pipe.specs.PipeRule.{most_items};
 
     ghost Value = { End T };
 
     ghost view = { λ s. record { pipe = pipe_of s.pass; items = handed_by s.pass s.waiting.items } };
 
-    ghost invariant = { λ s. IsSeatAt (receives_on s.receiver) s.pass × IsTaker s.pass × (length (taken_by s.pass) ≤ 1000000)
+    ghost invariant = { λ s. IsSeatAt (receives_on s.receiver) s.pass × IsTaker s.pass × (length (taken_by s.pass) ≤ most_items)
         × (taken_by s.pass ≡ handed_by s.pass s.waiting.items ++ s.waiting.items) × (s.takes ≡ length (handed_by s.pass s.waiting.items)) };
 }
 
@@ -122,7 +124,7 @@ impl<T: Drop> PipeIn<T> {
     /// Puts an item in the pipe, up to a million in all. It waits while the pipe is full. Where the other end is gone the item
     /// comes back, and nothing was put. It takes no memory.
     pub fn put<R: Wait>(&mut self, rt: &R, item: T) -> Result<(), T>
-        requires room { length self.old.items < 1000000 }
+        requires room { length self.old.items < most_items }
         ensures pipe { self.new.pipe ≡ self.old.pipe }
         ensures ok { OnOk result (self.new.items ≡ self.old.items ++ item ∷ []) }
         ensures err { IfErr result (λ back. self.new.items ≡ self.old.items) }
@@ -142,7 +144,7 @@ impl<T: Drop> PipeIn<T> {
         first: T,
         behind: VecDeque<T>,
     ) -> Result<(), (T, VecDeque<T>)>
-        requires room { length self.old.items + length behind.items < 1000000 }
+        requires room { length self.old.items + length behind.items < most_items }
         ensures pipe { self.new.pipe ≡ self.old.pipe }
         ensures ok { OnOk result (self.new.items ≡ self.old.items ++ first ∷ behind.items) }
         ensures err { IfErr result (λ back. self.new.items ≡ self.old.items) }

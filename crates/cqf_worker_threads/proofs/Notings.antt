@@ -1,12 +1,12 @@
 -- What is noted of the threads of a run, as they end one after the other.
-use Rattle.std.proofs.Common.{ℕ, ◌≡◌, ◌<◌, ◌≤◌, ◌++◌, List, [], ◌∷◌, All, Bool, Err, IfErr, IfOk, None, Ok, Option, Result, Some, arith, ap, cond, false, length, map, refl, subst, sym, true, inl, inr, ◌∙◌}
+use Rattle.std.proofs.Common.{ℕ, ◌≡◌, ◌<◌, ◌++◌, List, [], ◌∷◌, All, Bool, Err, IfErr, IfOk, None, Ok, Option}
+use Rattle.std.proofs.Common.{Result, Some, arith, ap, cond, false, length, refl, subst, sym, true, inl, inr, ◌∙◌}
 use Rattle.std.specs.List.{AllZip}
 use Rattle.std.specs.Prelude.{Contains}
 use Rattle.std.proofs.lemmas.Bool.{false≢true}
 use Rattle.std.proofs.lemmas.List.{length-map}
 use Rattle.std.proofs.lemmas.List.Elements.{All-contains_itself, All-head, All-tail, All-weaker}
 use Rattle.std.proofs.lemmas.Option.{same_Some}
-use Rattle.cqf_desk.specs.Desk.{Sitting}
 use Rattle.cqf_worker_loops.specs.declared.calling.CallFault.{CallFault}
 use Rattle.cqf_worker_loops.specs.declared.calling.CallFault.TheVariants as call
 use Rattle.cqf_worker_loops.specs.declared.calling.Unmade.{Unmade}
@@ -18,8 +18,7 @@ use Rattle.cqf_worker_loops.specs.declared.worker.GaveUp.{GaveUp}
 use Rattle.cqf_worker_loops.specs.declared.worker.Worker.{Worker}
 use Rattle.cqf_worker_loops.specs.declared.worker.WorkerFault.{WorkerFault}
 use Rattle.cqf_worker_loops.specs.declared.worker.WorkerFault.TheVariants as working
-use Rattle.cqf_worker_loops.specs.GivingUp.{HasGivenUp, StopsEarly}
-use Rattle.cqf_worker_loops.specs.Commands.{HasLeftOff}
+use Rattle.cqf_worker_loops.specs.GivingUp.{StopsEarly}
 use Rattle.cqf_worker_loops.specs.Handing.{HasBrokenOff, LacksOne, TableEnd, pipes_of}
 use Rattle.cqf_worker_threads.specs.declared.faults.ConductFault.{ConductFault}
 use Rattle.cqf_worker_threads.specs.declared.faults.ConductFault.TheVariants as conduct
@@ -27,7 +26,8 @@ use Rattle.cqf_worker_threads.specs.declared.faults.Faults.{Faults}
 use Rattle.cqf_worker_threads.specs.declared.threads.Administrator.{Administrator}
 use Rattle.cqf_worker_threads.specs.declared.threads.Ready.{Ready}
 use Rattle.cqf_worker_threads.specs.Faults.{IsClean, first_noted, is_before, is_noted, told_of}
-use Rattle.cqf_worker_threads.specs.Noting.{NotesFault, NotesAll, fault_in_bridge, fault_in_call, fault_of_caller, fault_of_conductor, fault_of_worker, noted, noted_with}
+use Rattle.cqf_worker_threads.specs.Noting.{NotesFault, NotesAll, fault_in_bridge, fault_in_call, fault_of_caller}
+use Rattle.cqf_worker_threads.specs.Noting.{fault_of_conductor, fault_of_worker, noted, noted_with}
 use Rattle.cqf_worker_threads.specs.Running.{AnswersWorker, BreaksOff, CallAnswers, HasOneMore}
 use Rattle.cqf_worker_threads.specs.Telling.{IsStartFault, MayBeTold}
 
@@ -53,7 +53,8 @@ module _ {X Y : Type 0} (cause : Y → Option ConductFault) where
 
   -- one answer more
   pub notes_more : (before now after : Faults) (first kept more : List X) (answers : List (Result X Y)) (answer : Result X Y) →
-      NotesAll cause before now first kept answers → NotesFault cause now after kept more answer → NotesAll cause before after first more (answers ++ answer ∷ [])
+      NotesAll cause before now first kept answers → NotesFault cause now after kept more answer →
+      NotesAll cause before after first more (answers ++ answer ∷ [])
   notes_more before now after first kept more [] answer all one = (
     after,
     more,
@@ -139,7 +140,8 @@ module _ (cycles : ℕ) (r : Ready) where
     all_told P [] (answer ∷ answers) before after kept more may zip notes told = absurd zip
     all_told P (a ∷ those) [] before after kept more may zip notes told = absurd zip
     all_told {A} P (a ∷ those) (answer ∷ answers) before after kept more may zip notes told =
-        all_told P those answers notes.0 after notes.1 more (All-tail (λ (b : A). (why : Y) → P b (Err why) → MayCause cycles r (cause why)) a those may) zip.1 notes.3
+        all_told P those answers notes.0 after notes.1 more (All-tail (λ (b : A). (why : Y) → P b (Err why) → MayCause cycles r (cause why)) a those may)
+        zip.1 notes.3
         (notes_told before notes.0 kept notes.1 answer notes.2 told
         (λ why is. All-head (λ (b : A). (why : Y) → P b (Err why) → MayCause cycles r (cause why)) a those may why (subst (P a) is zip.0)))
 
@@ -159,7 +161,8 @@ module _ (cycles : ℕ) (r : Ready) where
       (All-contains_itself r.workers.items)
 
   -- and an administrator's
-  caller_cause : (a : Administrator) (fault : CallFault) → Contains r.administrators.items a → 0 < length a.commands.items → MayCause cycles r (fault_in_call fault)
+  caller_cause : (a : Administrator) (fault : CallFault) → Contains r.administrators.items a → 0 < length a.commands.items →
+      MayCause cycles r (fault_in_call fault)
   caller_cause a call.HistoryFull there some = inr (record { administrator = a; there = there; some = some })
   caller_cause a call.Memory there some = tt
 
@@ -190,7 +193,8 @@ module _ (cycles : ℕ) (r : Ready) where
           sym (length-map after (λ (e : TableEnd). e.pipe)) ∙ ap length pipes ∙ length-map before (λ (e : TableEnd). e.pipe)
 
   -- all that is noted in the end, with what the conductor has
-  pub told_with : (faults : Faults) (sealed : Result Sealed SealingFault) → AreTold cycles r faults → IfErr sealed (BreaksOff cycles r.conductor r.tables.items) →
+  pub told_with : (faults : Faults) (sealed : Result Sealed SealingFault) → AreTold cycles r faults →
+      IfErr sealed (BreaksOff cycles r.conductor r.tables.items) →
       AreTold cycles r (noted_with faults sealed)
   told_with faults (Ok done) told why = told
   told_with faults (Err fault) told why = told_more faults (fault_of_conductor fault) told (conductor_cause why.0 fault why.1 why.2)

@@ -10,7 +10,7 @@ use Rattle.cqf_worker_loops.specs.declared.worker.WorkerFault.{WorkerFault}
 use Rattle.cqf_worker_loops.specs.declared.worker.WorkerFault.TheVariants as working
 use Rattle.cqf_worker_loops.specs.GivingUp.{StopsEarly}
 
--- why not all threads are started
+-- why a run doesn't begin: memory is refused, or not all of its threads are started
 abbrev pub IsStartFault : ConductFault → Type 0
 IsStartFault conduct.Memory = Unit {0}
 IsStartFault (conduct.Bridge bridge reason) = ⊥

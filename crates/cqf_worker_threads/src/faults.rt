@@ -3,6 +3,7 @@ ghost use Rattle.std.specs.Prelude.{◌≡◌, IfNone, Some, true};
 ghost use Rattle.cqf_worker_threads.specs.Faults.{IsClean, conduct_fault_text, first_noted, is_before, is_noted, rank};
 
 use cqf_bridge::BridgeFault;
+use cqf_units::Memory;
 use std::fmt;
 use thiserror::Error;
 
@@ -37,6 +38,16 @@ impl fmt::Display for ConductFault {
             ConductFault::ChannelLost => f.write_str("ChannelLost"),
             ConductFault::Spawn => f.write_str("Spawn"),
         }
+    }
+}
+
+impl From<Memory> for ConductFault {
+    ghost use Rattle.cqf_worker_threads.specs.declared.faults.ConductFault.TheVariants as variant;
+
+    ghost from_gives = { λ _ fault. fault ≡ variant.Memory };
+
+    fn from(_refused: Memory) -> ConductFault {
+        ConductFault::Memory
     }
 }
 

@@ -8,7 +8,7 @@ ghost use Rattle.cqf_worker_loops.specs.declared.calling.Unmade.{Unmade};
 ghost use Rattle.cqf_worker_loops.specs.declared.worker.GaveUp.{GaveUp};
 ghost use Rattle.cqf_worker_loops.specs.declared.worker.Worker.{Worker};
 ghost use Rattle.cqf_worker_threads.specs.Faults.{IsClean, is_noted};
-ghost use Rattle.cqf_worker_threads.specs.Noting.{NotesFault, NotesAll, fault_of_caller, fault_of_conductor, fault_of_worker, noted, noted_with};
+ghost use Rattle.cqf_worker_threads.specs.Noting.{NotesFault, NotesAll, IsKept, fault_of_caller, fault_of_conductor, fault_of_worker, noted, noted_with};
 ghost use Rattle.cqf_worker_threads.specs.Running.{AnswersWorker, BreaksOff, CallAnswers, CallsOf, HasOneMore, IsEnded, IsReadyWorker, RunAnswers};
 ghost use Rattle.cqf_worker_threads.specs.Telling.{IsStartFault, MayBeTold};
 ghost use Rattle.cqf_model.specs.Limits.{most_cycles};
@@ -53,6 +53,21 @@ pub struct Ended {
     pub sealed: Sealed,
 }
 
+/// What each worker is to go through, at most 100,000 cycles, and the book in which it posts its pages.
+#[derive(Clone, Copy)]
+pub struct Task<'s> {
+    pub book: &'s CycleBook,
+    pub cycles: u32,
+}
+
+/// What the threads of a run share: what they do before each call and step, the desk at which administrators call and cycles are
+/// closed, and what each worker is to go through.
+struct Shared<'s, P> {
+    pace: &'s P,
+    desk: &'s Desk,
+    task: Task<'s>,
+}
+
 /// That a worker's thread gives what its work promises, also where it gives up.
 #[derive(Drop)]
 pub struct OfWorker {
@@ -86,7 +101,7 @@ pub type Working = PromisedHandle<Result<Worker, GaveUp>, OfWorker>;
 /// An administrator's thread.
 type Calling = PromisedHandle<Result<Seat, Unmade>, OfAdministrator>;
 
-/// Starts a thread for each worker, for at most 100,000 cycles; the handles stand in the workers' order. `Spawn` where one can't be
+/// Starts a thread for each worker, with this to go through; the handles stand in the workers' order. `Spawn` where one can't be
 /// started, `Memory` where its handle can't be kept: the workers that aren't started are let go of. Those that were started go on,
 /// and their scope waits for them, so the caller has to tell them that no table comes (`stop_tables`), or to let go of the ends.
 pub fn start_workers<'s, E, R: Threads + Wait + Sync, P: Pace>(
@@ -94,16 +109,16 @@ pub fn start_workers<'s, E, R: Threads + Wait + Sync, P: Pace>(
     scope: &'s Scope<'s, E>,
     rt: &'s R,
     pace: &'s P,
-    book: &'s CycleBook,
-    cycles: u32,
+    task: Task<'s>,
     workers: Vec<Worker>,
 ) -> Result<Vec<Working>, ConductFault>
-    requires few { cycles ≤ most_cycles }
+    requires few { task.cycles ≤ most_cycles }
     requires new { All MayWork workers.items }
     ensures of { IfOk result (λ handles. map (λ h. h.promise.worker.value) handles.items ≡ workers.items) }
-    ensures cycles { IfOk result (λ handles. All (λ h. h.promise.cycles ≡ cycles) handles.items) }
+    ensures cycles { IfOk result (λ handles. All (λ h. h.promise.cycles ≡ task.entry.cycles) handles.items) }
     ensures err { IfErr result IsStartFault }
 {
+    let Task { book, cycles } = task;
     let mut handles = Vec::new(alloc);
     for worker in workers {
         let promise = OfWorker {
@@ -211,18 +226,13 @@ fn note_conductor(faults: &mut Faults, fault: SealingFault)
     }
 }
 
-/// Notes what a worker's thread gives: the worker stands behind the others, or `Memory` is noted where it can't be kept; else why it
-/// gave up is.
-fn note_worked(answer: Result<Worker, GaveUp>, workers: &mut Vec<Worker>, faults: &mut Faults)
-    ensures { NotesFault fault_of_worker faults.old faults.new workers.old.items workers.new.items answer }
+/// Keeps what a thread gave behind what others did, or notes `Memory` where it can't be kept.
+fn keep<T: Drop>(given: T, kept: &mut Vec<T>, faults: &mut Faults)
+    ensures { IsKept faults.old faults.new kept.old.items kept.new.items given }
 {
-    match answer {
-        Ok(worker) => {
-            let Ok(()) = workers.push(worker) else {
-                return faults.note(ConductFault::Memory);
-            };
-        }
-        Err(why) => note_worker(faults, why),
+    match kept.push(given) {
+        Ok(()) => {}
+        Err(_) => faults.note(ConductFault::Memory),
     }
 }
 
@@ -236,8 +246,10 @@ fn join_worker<R: Threads + Wait>(
     ensures { (answer : Result Worker GaveUp) × AnswersWorker handle.promise.cycles handle.promise.worker.value answer
         × NotesFault fault_of_worker faults.old faults.new workers.old.items workers.new.items answer }
 {
-    let answer = handle.join(rt);
-    note_worked(answer, workers, faults);
+    match handle.join(rt) {
+        Ok(worker) => keep(worker, workers, faults),
+        Err(why) => note_worker(faults, why),
+    }
 }
 
 /// Waits for all workers' threads, and gives the workers that come back, in the handles' order. It notes the fault of each that gave
@@ -262,20 +274,6 @@ pub fn join_workers<R: Threads + Wait>(
     workers
 }
 
-/// Notes what an administrator's thread gives, in the same way.
-fn note_called(answer: Result<Seat, Unmade>, seats: &mut Vec<Seat>, faults: &mut Faults)
-    ensures { NotesFault fault_of_caller faults.old faults.new seats.old.items seats.new.items answer }
-{
-    match answer {
-        Ok(seat) => {
-            let Ok(()) = seats.push(seat) else {
-                return faults.note(ConductFault::Memory);
-            };
-        }
-        Err(why) => note_caller(faults, why),
-    }
-}
-
 /// Waits for an administrator's thread, in the same way.
 fn join_administrator<R: Threads + Wait>(
     rt: &R,
@@ -286,8 +284,10 @@ fn join_administrator<R: Threads + Wait>(
     ensures { (answer : Result Sitting Unmade) × CallAnswers handle.promise.administrator.value answer
         × NotesFault fault_of_caller faults.old faults.new seats.old.items seats.new.items answer }
 {
-    let answer = handle.join(rt);
-    note_called(answer, seats, faults);
+    match handle.join(rt) {
+        Ok(seat) => keep(seat, seats, faults),
+        Err(why) => note_caller(faults, why),
+    }
 }
 
 /// Waits for all administrators' threads.
@@ -315,22 +315,20 @@ fn start_all<'s, E, R: Threads + Wait + Sync, P: Pace>(
     alloc: Global,
     scope: &'s Scope<'s, E>,
     rt: &'s R,
-    pace: &'s P,
-    desk: &'s Desk,
-    book: &'s CycleBook,
-    cycles: u32,
+    shared: Shared<'s, P>,
     workers: Vec<Worker>,
     administrators: Vec<Administrator>,
 ) -> Result<(Vec<Working>, Vec<Calling>), ConductFault>
-    requires few { cycles ≤ most_cycles }
+    requires few { shared.task.cycles ≤ most_cycles }
     requires new { All MayWork workers.items }
     requires fresh { All (λ a. a.seat.calls ≡ []) administrators.items }
     ensures workers { IfOk result (λ handles. map (λ h. h.promise.worker.value) handles.0.items ≡ workers.items) }
-    ensures cycles { IfOk result (λ handles. All (λ h. h.promise.cycles ≡ cycles) handles.0.items) }
+    ensures cycles { IfOk result (λ handles. All (λ h. h.promise.cycles ≡ shared.entry.task.cycles) handles.0.items) }
     ensures administrators { IfOk result (λ handles. map (λ h. h.promise.administrator.value) handles.1.items ≡ administrators.items) }
     ensures err { IfErr result IsStartFault }
 {
-    let working = start_workers(alloc, scope, rt, pace, book, cycles, workers)?;
+    let Shared { pace, desk, task } = shared;
+    let working = start_workers(alloc, scope, rt, pace, task, workers)?;
     let calling = start_administrators(alloc, scope, rt, pace, desk, administrators)?;
     Ok((working, calling))
 }
@@ -363,15 +361,12 @@ fn run_in<'s, E, R: Threads + Wait + Sync, P: Pace>(
     alloc: Global,
     scope: &'s Scope<'s, E>,
     rt: &'s R,
-    pace: &'s P,
-    desk: &'s Desk,
-    book: &'s CycleBook,
-    cycles: u32,
+    shared: Shared<'s, P>,
     ready: Ready,
 ) -> Result<Ended, ConductFault>
-    requires { IsReadyWorker cycles ready }
-    ensures ok { IfOk result (IsEnded cycles ready) }
-    ensures err { IfErr result (MayBeTold cycles ready) }
+    requires { IsReadyWorker shared.task.cycles ready }
+    ensures ok { IfOk result (IsEnded shared.entry.task.cycles ready) }
+    ensures err { IfErr result (MayBeTold shared.entry.task.cycles ready) }
 {
     let Ready {
         workers,
@@ -379,17 +374,9 @@ fn run_in<'s, E, R: Threads + Wait + Sync, P: Pace>(
         administrators,
         conductor,
     } = ready;
-    let started = start_all(
-        alloc,
-        scope,
-        rt,
-        pace,
-        desk,
-        book,
-        cycles,
-        workers,
-        administrators,
-    );
+    let desk = shared.desk;
+    let cycles = shared.task.cycles;
+    let started = start_all(alloc, scope, rt, shared, workers, administrators);
     let (working, calling) = match started {
         Ok(threads) => threads,
         Err(fault) => {
@@ -437,7 +424,7 @@ fn all_ended(
 }
 
 /// Runs the threads: each worker goes through all cycles and each administrator makes its commands on a thread of its own, while
-/// this one closes the cycles and hands their tables on. `cycles` is at most 100,000, and nothing is done yet: no seat has calls, and
+/// this one closes the cycles and hands their tables on. There are at most 100,000 cycles, and nothing is done yet: no seat has calls, and
 /// nothing was put. It returns when all threads have ended: `Spawn` where a thread couldn't be started, `Memory` where its handle
 /// couldn't be kept, and else the first fault in the order of [`ConductFault`], if there is one. `Bridge` comes with the number of a
 /// worker's bridge, and why it may give up (`work`). Then all that was ready is gone. It waits for threads, pipes and locks.
@@ -446,20 +433,24 @@ pub fn run_threads<R: Threads + Wait + Sync, P: Pace>(
     alloc: Global,
     pace: &P,
     desk: &Desk,
-    book: &CycleBook,
-    cycles: u32,
+    task: Task<'_>,
     ready: Ready,
 ) -> Result<Ended, ConductFault>
-    requires { IsReadyWorker cycles ready }
-    ensures ok { IfOk result (IsEnded cycles ready) }
-    ensures err { IfErr result (MayBeTold cycles ready) }
+    requires { IsReadyWorker task.cycles ready }
+    ensures ok { IfOk result (IsEnded task.entry.cycles ready) }
+    ensures err { IfErr result (MayBeTold task.entry.cycles ready) }
 {
+    let Task { book, cycles } = task;
     thread::scope(
         thread::scope_env(),
         rt,
         move |scope| -> Result<Ended, ConductFault>
             requires { IsReadyWorker cycles ready }
             ensures { RunAnswers cycles ready result }
-        { run_in(alloc, scope, rt, pace, desk, book, cycles, ready) },
+        {
+            let task = Task { book, cycles };
+            let shared = Shared { pace, desk, task };
+            run_in(alloc, scope, rt, shared, ready)
+        },
     )
 }

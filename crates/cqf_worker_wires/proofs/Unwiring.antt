@@ -19,7 +19,8 @@ use Rattle.cqf_worker_wires.specs.declared.closing.Parts.{Parts}
 use Rattle.cqf_worker_loops.specs.declared.worker.Worker.{Worker}
 use Rattle.cqf_worker_wires.specs.Closing.{AreFedBy, AreGivenBy, ArePartsOf, HasLostOne, HaveMore, IsFedBy, IsPartner, share_at, tables_at}
 use Rattle.cqf_worker_pipe.specs.PipeEnds.{AreLeft, End, PipeId}
-use Rattle.cqf_worker_wires.specs.Wires.{AreFedByWires, AreGiven, AreOn, BatchPort, IsOn, LackEnds, Wiring, count_on, ins_at, outs_at, pipe_of_tables, tables_pipe}
+use Rattle.cqf_worker_wires.specs.Wires.{AreFedByWires, AreGiven, AreOn, BatchPort, IsOn, LackEnds, Wiring, count_on}
+use Rattle.cqf_worker_wires.specs.Wires.{ins_at, outs_at, pipe_of_tables, tables_pipe}
 
 -- lists end to end with one more list behind
 flat_more : {X Y : Type 0} (f : X → List Y) (xs : List X) (x : X) (front list : List Y) → front ≡ flat_map f xs → list ≡ front ++ f x →
@@ -73,7 +74,8 @@ partner_found outs link place found at is =
     }
 
 -- its place is one of theirs
-pub place_within : (outs : List BatchPort) (link place : ℕ) (d : BatchPort) → position (λ (out : BatchPort). out.link == link) outs ≡ Some place → place < length outs
+pub place_within : (outs : List BatchPort) (link place : ℕ) (d : BatchPort) → position (λ (out : BatchPort). out.link == link) outs
+    ≡ Some place → place < length outs
 place_within outs link place d at = (position-Some (λ (out : BatchPort). out.link == link) outs place d at).0
 
 -- what stands behind some is of the list

@@ -1,5 +1,7 @@
 -- Pipes are laid to workers, link by link.
-use Rattle.std.proofs.Common.{ℕ, suc, ◌≡◌, ◌≢◌, ◌+◌, ◌<◌, ◌++◌, ◌∷◌, [], List, Contains, Some, None, length, length-append, map, get_or, set, filter, sym, ap, subst, ◌∙◌, arith, refl, inl, inr, append-nil, add-one, eq-eqb, ne_eqb}
+use Rattle.std.proofs.Common.{ℕ, suc, ◌≡◌, ◌≢◌, ◌+◌, ◌<◌, ◌++◌, ◌∷◌, [], List, Contains, Some, None, length}
+use Rattle.std.proofs.Common.{length-append, map, get_or, set, filter, sym, ap, subst, ◌∙◌, arith, refl, inl, inr}
+use Rattle.std.proofs.Common.{append-nil, add-one, eq-eqb, ne_eqb}
 use Rattle.std.specs.Prelude.{Bool, ◌==◌, All, Option, false, if◌then◌else◌, slice_get, true}
 use Rattle.std.specs.Option.{option_map_or}
 use Rattle.std.proofs.lemmas.Bool.{cases_eq, cases_lt, cond-false, cond-true}
@@ -21,7 +23,8 @@ use Rattle.cqf_model.specs.Run.{AreBackground, AreOffers}
 use Rattle.cqf_laws_bridge.specs.Courses.{Traffic}
 use Rattle.cqf_worker_loops.specs.declared.carried.Carried.{Carried}
 use Rattle.cqf_worker_loops.specs.declared.worker.Worker.{Worker}
-use Rattle.cqf_worker_wires.specs.Laying.{AreBare, AreLaidWires, ArePorts, HasIn, HasOut, IsBare, IsLaid, LaysFirst, LaysLink, LaysPipe, first_into, first_onward}
+use Rattle.cqf_worker_wires.specs.Laying.{AreBare, AreLaidWires, ArePorts, HasIn, HasOut, IsBare, IsLaid, LaysFirst}
+use Rattle.cqf_worker_wires.specs.Laying.{LaysLink, LaysPipe, first_into, first_onward}
 use Rattle.cqf_worker_pipe.specs.PipeEnds.{End, PipeId}
 use Rattle.cqf_worker_wires.specs.Wires.{AreOn, AreWired, AreWorkersOf, BatchPort, IsOn, Wiring, pipe_of_tables, tables_pipe}
 use Rattle.cqf_worker_loops.specs.Workers.{IsUnused, IsWorkerOf, MayWork, ends_in_bridge, is_bridge, link_of}
@@ -179,7 +182,11 @@ out_own t wiring link number before after p has of_link mine on begins ends so =
     (ap (λ l. first_onward t.domain number link ++ l ∷ []) of_link ∙ sym (onward_more t.domain number link begins ends))
     (ports_more wiring (first_onward t.domain number link) before.outs.items after.outs.items p so.outs has.more mine on) in
     subst (λ (w : Worker). IsLaid t wiring link (suc link) number w) (sym has.same)
-    (record { ready = record { is_bridge = so.ready.is_bridge; is_agenda = so.ready.is_agenda; no_tables = so.ready.no_tables; is_share = so.ready.is_share }; ins = so.ins; outs = more })
+    (record {
+      ready = record { is_bridge = so.ready.is_bridge; is_agenda = so.ready.is_agenda; no_tables = so.ready.no_tables; is_share = so.ready.is_share };
+      ins = so.ins;
+      outs = more;
+    })
 
 -- a worker in whose bridge the link doesn't end, and the one in whose bridge it ends, once that one has the port
 in_other : (t : Traffic) (wiring : Wiring) (link number : ℕ) (w : Worker) → enters t.domain link number ≡ false → IsLaid t wiring link (suc link) number w →
@@ -199,7 +206,11 @@ in_own t wiring link number before after p has of_link mine on ends so =
     (ap (λ l. first_into t.domain number link ++ l ∷ []) of_link ∙ sym (into_more t.domain number link ends))
     (ports_more wiring (first_into t.domain number link) before.ins.items after.ins.items p so.ins has.more mine on) in
     subst (λ (w : Worker). IsLaid t wiring (suc link) (suc link) number w) (sym has.same)
-    (record { ready = record { is_bridge = so.ready.is_bridge; is_agenda = so.ready.is_agenda; no_tables = so.ready.no_tables; is_share = so.ready.is_share }; ins = more; outs = so.outs })
+    (record {
+      ready = record { is_bridge = so.ready.is_bridge; is_agenda = so.ready.is_agenda; no_tables = so.ready.no_tables; is_share = so.ready.is_share };
+      ins = more;
+      outs = so.outs;
+    })
 
 -- a link that ends in no bridge wants no port
 none_wanted : (t : Traffic) (wiring : Wiring) (link number : ℕ) (w : Worker) → enters t.domain link number ≡ false →
@@ -214,7 +225,8 @@ none_wanted t wiring link number w none ended so = record {
 pub pipe_laid : (workers : List Worker) (link from to : ℕ) (x y v w : Worker) (out into : BatchPort) → from < length workers → to < length workers →
     x ≡ get_or workers from x → HasOut x y out → v ≡ get_or (set workers from y) to v → HasIn v w into → out.link ≡ link → into.link ≡ link →
     IsUnused out → IsUnused into → out.pipe.pipe ≡ into.pipe.pipe → LaysPipe link from to workers (set (set workers from y) to w)
-pipe_laid workers link from to x y v w out into from_inside to_inside x_is has_out v_is has_in out_link into_link out_unused into_unused one_pipe t wiring so begins ends in_bridge =
+pipe_laid workers link from to x y v w out into from_inside to_inside x_is has_out v_is has_in out_link into_link out_unused into_unused
+    one_pipe t wiring so begins ends in_bridge =
     let id = out.pipe.pipe in
     let more = with_pipe wiring link id in
     let on_out : IsOn more out = cond-true (out.link == link) (Some id) (wiring out.link) (eq-eqb out.link link out_link) in
@@ -238,9 +250,11 @@ pipe_laid workers link from to x y v w out into from_inside to_inside x_is has_o
 pub pipe_laid_at : (workers : List Worker) (link from to a b : ℕ) (x y v w : Worker) (out into : BatchPort) → a ≡ from → b ≡ to → from < length workers →
     to < length workers → x ≡ get_or workers a x → HasOut x y out → v ≡ get_or (set workers a y) b v → HasIn v w into → out.link ≡ link →
     into.link ≡ link → IsUnused out → IsUnused into → out.pipe.pipe ≡ into.pipe.pipe → LaysPipe link from to workers (set (set workers a y) b w)
-pipe_laid_at workers link from to a b x y v w out into is_from is_to from_inside to_inside x_is has_out v_is has_in out_link into_link out_unused into_unused one_pipe =
+pipe_laid_at workers link from to a b x y v w out into is_from is_to from_inside to_inside x_is has_out v_is has_in out_link into_link
+    out_unused into_unused one_pipe =
     let at : LaysPipe link a b workers (set (set workers a y) b w) =
-    pipe_laid workers link a b x y v w out into (omega (arith, is_from, from_inside)) (omega (arith, is_to, to_inside)) x_is has_out v_is has_in out_link into_link
+    pipe_laid workers link a b x y v w out into (omega (arith, is_from, from_inside)) (omega (arith, is_to, to_inside)) x_is has_out v_is
+    has_in out_link into_link
     out_unused into_unused one_pipe in
     subst (λ k. LaysPipe link from k workers (set (set workers a y) b w)) is_to (subst (λ k. LaysPipe link k b workers (set (set workers a y) b w)) is_from at)
 
@@ -346,7 +360,8 @@ next_share count before rest share is =
 pub workers_laid : (t : Traffic) (wiring : Wiring) (workers : List Worker) → AreOffers t.domain t.offers → AreBackground t.domain t.background →
     AreLaidWires t wiring (length t.domain.links) (length t.domain.links) workers → AreWorkersOf t workers
 workers_laid t wiring workers offers background so number w there =
-    subst (IsWorkerOf t number) (get_or_from_slice_get workers number w w there) (worker_laid (get_or workers number w) (so number w (slice_get_within workers number w there)))
+    subst (IsWorkerOf t number) (get_or_from_slice_get workers number w w there)
+    (worker_laid (get_or workers number w) (so number w (slice_get_within workers number w there)))
   where
     -- one of them
     worker_laid : (u : Worker) → IsLaid t wiring (length t.domain.links) (length t.domain.links) number u → IsWorkerOf t number u

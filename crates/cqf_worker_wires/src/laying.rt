@@ -134,6 +134,7 @@ fn lay_link(
     ensures laid { OnOk result (LaysLink domain.now link workers.old.items workers.new.items) }
     ensures tables { OnOk result (map tables_pipe workers.new.items ≡ map tables_pipe workers.old.items) }
 {
+    // the domain is accepted: a fact
     let _accepted = domain.cycle_time();
     let between = domain.link(link);
     match between.to {

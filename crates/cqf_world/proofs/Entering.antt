@@ -29,7 +29,8 @@ pub no_seal : (command : Command) → is_seal (act_of_command command) ≡ false
 no_seal (Admit request) = refl
 no_seal (Withdraw name) = refl
 
-module _ (v : WorldState) (tables : List CycleTable) (driven : List Driven) (lines : List Line) (entries : List Recorded) (world : IsWorld v tables driven lines)
+module _ (v : WorldState) (tables : List CycleTable) (driven : List Driven) (lines : List Line) (entries : List Recorded)
+    (world : IsWorld v tables driven lines)
     (legal : IsLegalHistory v.domain entries) (counted : seals entries ≡ seals v.entries)
     (stay : (cycle : ℕ) → cycle < seals v.entries → table_at v.domain entries cycle ≡ table_at v.domain v.entries cycle) where
   -- with more entries, none of which is a Seal, the run is the same
@@ -59,8 +60,10 @@ module _ (v : WorldState) (tables : List CycleTable) (driven : List Driven) (lin
       given_are = r.given_are;
       sent_are = r.sent_are;
       bridge_driven = λ bridge s inside.
-          subst (λ (n : ℕ). IsDriven (sealed_run (record v { entries = entries })) n r.net bridge (cycle_of_bridge v bridge) (links_taken v bridge) (get_or driven bridge s)) (sym counted)
-          (subst (λ (run : Run). IsDriven run (seals v.entries) r.net bridge (cycle_of_bridge v bridge) (links_taken v bridge) (get_or driven bridge s)) (sym run_same)
+          subst (λ (n : ℕ). IsDriven (sealed_run (record v { entries = entries })) n r.net bridge (cycle_of_bridge v bridge)
+          (links_taken v bridge) (get_or driven bridge s)) (sym counted)
+          (subst (λ (run : Run). IsDriven run (seals v.entries) r.net bridge (cycle_of_bridge v bridge) (links_taken v bridge) (get_or driven bridge s))
+          (sym run_same)
           (r.bridge_driven bridge s inside));
       all_lines = r.all_lines;
       taken_are = r.taken_are;
@@ -90,5 +93,6 @@ called_world v tables driven lines old new seat act result counted stay world do
       | inr f ↦
           let same = answers.unchanged f in
           subst (λ (d : Domain). IsWorld (record v { domain = d; entries = new.entries }) tables driven lines) (sym same_domain)
-          (subst (λ (es : List Recorded). IsWorld (record v { entries = es }) tables driven lines) (entries ∙ ap (λ (a : Administration). a.entries) (sym same)) world)
+          (subst (λ (es : List Recorded). IsWorld (record v { entries = es }) tables driven lines)
+          (entries ∙ ap (λ (a : Administration). a.entries) (sym same)) world)
     ]

@@ -100,7 +100,8 @@ module _ (w : WorldState) (tables : List CycleTable) (driven : List Driven) (lin
         all_driven = length-set driven bridge (with_table s) ∙ is.all_driven;
         given_are = refl;
         sent_are = refl;
-        bridge_driven = each_with (λ k. IsDriven (sealed_run w) (seals w.entries) is.net k (cycle_of_bridge w k) (links_taken w k)) driven bridge (with_table s) inside
+        bridge_driven = each_with (λ k. IsDriven (sealed_run w) (seals w.entries) is.net k (cycle_of_bridge w k) (links_taken w k)) driven
+            bridge (with_table s) inside
             with_it (λ other d in_driven differ. is.bridge_driven other d in_driven);
         all_lines = is.all_lines;
         taken_are = is.taken_are;

@@ -1,5 +1,6 @@
 -- One link more among those of which a batch was taken: its batch stands behind those of the links before it.
-use Rattle.std.proofs.Common.{◌≡◌, ℕ, ◌<◌, ◌++◌, Bool, List, drop, length, map, sym, ap, ◌∙◌, arith, refl, inl, inr, subst, true, false, take, AllPairs, Contains, eq-eqb, eqb-true}
+use Rattle.std.proofs.Common.{◌≡◌, ℕ, ◌<◌, ◌++◌, Bool, List, drop, length, map, sym, ap, ◌∙◌, arith, refl, inl, inr}
+use Rattle.std.proofs.Common.{subst, true, false, take, AllPairs, Contains, eq-eqb, eqb-true}
 use Rattle.std.specs.Prelude.{◌∷◌, [], filter, nat_lt, Option, Some, slice_get}
 use Rattle.std.specs.Option.{option_map_or}
 use Rattle.std.proofs.lemmas.Option.{slice_get_cases}
@@ -42,7 +43,8 @@ kept_more q r l (m ∷ ns) up held lacks has same = elim (contains_cases m ns l 
         | inl t ↦
             cond-true (r m) (m ∷ filter r ns) (filter r ns) (still ∙ t)
             ∙ ap (λ (ks : List ℕ). m ∷ ks) rest
-            ∙ ap (λ (n : ℕ). insert (m ∷ kept) n l) (sym (ap length (cond-true (nat_lt m l) (m ∷ filter (λ k. nat_lt k l) kept) (filter (λ k. nat_lt k l) kept) (lt-ltb m l less))))
+            ∙ ap (λ (n : ℕ). insert (m ∷ kept) n l)
+            (sym (ap length (cond-true (nat_lt m l) (m ∷ filter (λ k. nat_lt k l) kept) (filter (λ k. nat_lt k l) kept) (lt-ltb m l less))))
             ∙ ap (λ (ks : List ℕ). insert ks (before l ks) l) (sym (cond-true (q m) (m ∷ kept) kept t))
         | inr f ↦
             cond-false (r m) (m ∷ filter r ns) (filter r ns) (still ∙ f)
@@ -61,7 +63,8 @@ pub same_parts : {X : Type 0} (x y : X) (xs ys : List X) → x ∷ xs ≡ y ∷ 
 same_parts x y xs ys e = (cc, cc)
 
 -- a link whose end is a bridge ends in it
-pub ends_in : (d : Domain) (l b : ℕ) (link : Link) → IsAccepted d → slice_get d.links l ≡ Some link → link.to ≡ Bridge b → (enters d l b ≡ true) × (b < length d.bridges)
+pub ends_in : (d : Domain) (l b : ℕ) (link : Link) → IsAccepted d → slice_get d.links l ≡ Some link → link.to ≡ Bridge b → (enters d l b ≡ true)
+    × (b < length d.bridges)
 ends_in d l b link accepted there to = (
   ap (λ (o : Option Link). option_map_or (λ (x : Link). node_is x.to b) o false) there ∙ ap (λ (n : Node). node_is n b) to ∙ eq-eqb b b refl,
   subst (IsNode d) to (accepted.links_good l link there).to_node,

@@ -26,7 +26,8 @@ pub given_counts : (w : WorldState) (given sent taken : List ℕ) (stopped : Boo
 given_counts w given sent taken stopped is = given_as w w.entries w.pages given sent taken stopped is is.legal refl refl is.in_order
 
 -- with another history alone
-pub given_entries : (w : WorldState) (entries : List Recorded) → IsGivenWorld w → IsLegalHistory w.domain entries → IsGivenWorld (record w { entries = entries })
+pub given_entries : (w : WorldState) (entries : List Recorded) → IsGivenWorld w → IsLegalHistory w.domain entries →
+    IsGivenWorld (record w { entries = entries })
 given_entries w entries is legal = given_as w entries w.pages w.given w.sent w.taken w.stopped is legal refl refl is.in_order
 
 -- what is so in any case is so where a growth was refused

@@ -1,5 +1,6 @@
 -- A bridge receives its cycle, and posts its page.
-use Rattle.std.proofs.Common.{◌≡◌, ℕ, ◌+◌, ◌<◌, ◌≤◌, ◌++◌, Bool, List, get_or, length, map, set, sym, ap, ◌∙◌, arith, refl, inl, inr, subst, true, false, Contains, eq-eqb, eqb-true}
+use Rattle.std.proofs.Common.{◌≡◌, ℕ, ◌+◌, ◌<◌, ◌≤◌, ◌++◌, Bool, List, get_or, length, map, set, sym, ap, ◌∙◌, arith}
+use Rattle.std.proofs.Common.{refl, inl, inr, subst, true, false, Contains, eq-eqb, eqb-true}
 use Rattle.std.specs.Prelude.{◌∷◌, [], ◌==◌, Some, filter, nat_lt, slice_get}
 use Rattle.std.proofs.lemmas.Bool.{cases_Bool, cases_eq, cases_lt, cond-false, cond-true, false≢true, le-ltb, lt-ltb, ltb-true}
 use Rattle.std.proofs.lemmas.List.{get_or-set_other, get_or-set_same, length-map, length-set, length_push}
@@ -35,7 +36,9 @@ use Rattle.cqf_world.specs.declared.parts.Line.{Line}
 use Rattle.cqf_world.specs.declared.parts.Driven.{Driven}
 use Rattle.cqf_bridge_turn.specs.Agenda.{offers_listed_at}
 use Rattle.cqf_world.specs.Events.{MayPost, Posts}
-use Rattle.cqf_world.specs.Parts.{IsLine, IsNextToPost, IsPageOf, IsRunAt, IsRunningWorld, IsDriven, IsWorld, MayReceiveItsCycle, PostsOut, ReceivesItsCycle, given_of, handed_to, links_taken, sent_of_driven, taken_of}
+use Rattle.cqf_world.specs.Parts.{IsLine, IsNextToPost, IsPageOf, IsRunAt, IsRunningWorld, IsDriven, IsWorld}
+use Rattle.cqf_world.specs.Parts.{MayReceiveItsCycle, PostsOut, ReceivesItsCycle, given_of, handed_to, links_taken}
+use Rattle.cqf_world.specs.Parts.{sent_of_driven, taken_of}
 use Rattle.cqf_world.specs.World.{ArePagesOfTheBook, WorldState, contents_posted, cycle_of_bridge, sealed_run, sent_by_driven, taken_from}
 use Rattle.cqf_world.proofs.Keeping.{given_as}
 use Rattle.cqf_world.proofs.Standing.{count_at, count_kept, each_with, sent_at, driven_at}
@@ -81,7 +84,8 @@ module _ (s : Driven) (t : CycleTable) (batches : List LinkBatch) (offers : List
   pub memory_so : (fault : BridgeFault) → ((run : Run) → IsRunOfBridge s.bridge.domain s.bridge.number s.posted t.rows offers run →
       IsReceiveFault run s.bridge after s.posted (record { table_cycle = t.cycle; rows = t.rows; batches = batches }) fault) → fault ≡ Memory
   memory_so fault h = may.memory_alone after fault (λ run at.
-      subst (λ (xs : List LinkBatch). IsReceiveFault run s.bridge after s.posted (record { table_cycle = t.cycle; rows = t.rows; batches = xs }) fault) are_batches
+      subst (λ (xs : List LinkBatch). IsReceiveFault run s.bridge after s.posted (record { table_cycle = t.cycle; rows = t.rows; batches = xs }) fault)
+      are_batches
       (h run (handed_so run at)))
 
   -- or receives it
@@ -132,7 +136,8 @@ module _ (v : WorldState) (tables : List CycleTable) (driven : List Driven) (lin
     has_sent = omega (arith, sent_is, sent, st.not_behind, st.with_table, st.not_ahead, st.in_cycle);
     has_taken = λ link ends.
         (let listed = link_listed v.domain bridge link ends in
-        let passes = all_pass (λ l. nat_lt (cycle_of_bridge v bridge) (taken_from v l)) (links_into v.domain bridge) (sym taken_length ∙ all ∙ st.incoming) link listed in
+        let passes = all_pass (λ l. nat_lt (cycle_of_bridge v bridge) (taken_from v l)) (links_into v.domain bridge)
+        (sym taken_length ∙ all ∙ st.incoming) link listed in
         omega (arith, ltb-true (cycle_of_bridge v bridge) (taken_from v link) passes, at_most link ends, st.with_table, st.not_ahead, st.in_cycle));
   }
 
@@ -190,7 +195,8 @@ module _ (v : WorldState) (tables : List CycleTable) (driven : List Driven) (lin
           of_run = of_run offers t at_cycle;
           memory_alone = λ after fault h.
               but_for_memory (sealed_run v) (seals v.entries) s.posted is.net s.bridge after fault is.compiled
-              (loses v.domain v.entries v.offers v.background (seals v.entries) is.net accepted.given.legal (omega arith) accepted.given.offers accepted.given.background
+              (loses v.domain v.entries v.offers v.background (seals v.entries) is.net accepted.given.legal (omega arith) accepted.given.offers
+              accepted.given.background
               is.compiled) half.of_run.domain (record { not_spent = half.of_run.not_spent; next = (sym st.received, half.turn, refl) }) within
               (subst (λ (k : Handed). IsReceiveFault (sealed_run v) s.bridge after s.posted k fault) handed (h (sealed_run v) (of_run offers t at_cycle)));
         }
@@ -274,7 +280,8 @@ module _ (v : WorldState) (tables : List CycleTable) (driven : List Driven) (lin
                   let last : cycle ≡ cycle_of_bridge v bridge = omega (arith, past, more, length_push (pages_of v.pages bridge) page) in
                   let same : page ≡ other =
                   same_Some page other (sym (slice_get_behind (pages_of v.pages bridge) page [] cycle last) ∙ at) in
-                  let is_book = subst (λ (n : ℕ). IsBook (sealed_run v) (compiled_lists v.domain) n book) (count v.domain v.entries (seals v.entries)) of_history.is_book in
+                  let is_book = subst (λ (n : ℕ). IsBook (sealed_run v) (compiled_lists v.domain) n book) (count v.domain v.entries (seals v.entries))
+                  of_history.is_book in
                   ap contents_posted (sym same) ∙ page_is page_follows book is_book
                   ∙ (λ i. page_of v.domain (sym e i) ((st.in_cycle ∙ sym last) i) book)
             ]
@@ -309,7 +316,8 @@ module _ (v : WorldState) (tables : List CycleTable) (driven : List Driven) (lin
 
       -- a link into the bridge: a batch of the cycle before was taken from it
       line_posted : (link : ℕ) (x : Line) → enters v.domain link bridge ≡ true →
-          IsLine v.domain is.net link (cycle_of_bridge after bridge) (sent_by_driven v bridge) (sent_by_driven v (bridge_of v.domain link)) (get_or lines link x)
+          IsLine v.domain is.net link (cycle_of_bridge after bridge) (sent_by_driven v bridge) (sent_by_driven v (bridge_of v.domain link))
+          (get_or lines link x)
       line_posted link x ends =
           let li = is.line link bridge x ends in
           let in_lines : link < length lines = omega (arith, link_ending v.domain bridge link ends, is.all_lines) in
@@ -337,7 +345,8 @@ module _ (v : WorldState) (tables : List CycleTable) (driven : List Driven) (lin
         all_driven = length-set driven bridge z ∙ is.all_driven;
         given_are = sym given_still;
         sent_are = sym sent_still;
-        bridge_driven = each_with (λ k. IsDriven (sealed_run v) (seals v.entries) is.net k (cycle_of_bridge after k) (links_taken after k)) driven bridge z inside
+        bridge_driven = each_with (λ k. IsDriven (sealed_run v) (seals v.entries) is.net k (cycle_of_bridge after k) (links_taken after k))
+            driven bridge z inside
             driven_posted (λ other d in_driven differ.
             subst (λ (n : ℕ). IsDriven (sealed_run v) (seals v.entries) is.net other n
             (filter (λ l. nat_lt n (taken_from v l)) (links_into v.domain other)) (get_or driven other d)) (cycle_there other differ)
@@ -346,10 +355,12 @@ module _ (v : WorldState) (tables : List CycleTable) (driven : List Driven) (lin
         taken_are = is.taken_are;
         line = λ link to x ends. elim (cases_eq to bridge) [
           | inl e ↦
-              subst (λ (k : ℕ). IsLine v.domain is.net link (cycle_of_bridge after k) (sent_by_driven v k) (sent_by_driven v (bridge_of v.domain link)) (get_or lines link x)) (sym e)
+              subst (λ (k : ℕ). IsLine v.domain is.net link (cycle_of_bridge after k) (sent_by_driven v k)
+              (sent_by_driven v (bridge_of v.domain link)) (get_or lines link x)) (sym e)
               (line_posted link x (ap (enters v.domain link) (sym e) ∙ ends))
           | inr differ ↦
-              subst (λ (n : ℕ). IsLine v.domain is.net link n (sent_by_driven v to) (sent_by_driven v (bridge_of v.domain link)) (get_or lines link x)) (cycle_there to differ)
+              subst (λ (n : ℕ). IsLine v.domain is.net link n (sent_by_driven v to) (sent_by_driven v (bridge_of v.domain link)) (get_or lines link x))
+              (cycle_there to differ)
               (is.line link to x ends)
         ];
       }
@@ -419,12 +430,18 @@ module _ (v : WorldState) (tables : List CycleTable) (driven : List Driven) (lin
       may_receive_so offers but_for_memory loses =
           may_receive v tables driven lines run bridge s in_driven here_v world may_v offers but_for_memory loses t at_cycle
 
-      module _ (z : Driven) (pages_after : Posted) (out : PostsOut s z t v.pages pages_after) (offers : OffersAreOfTheBridge) (receiving : ReceivingFollows) where
+      module _ (z : Driven) (pages_after : Posted) (out : PostsOut s z t v.pages pages_after) (offers : OffersAreOfTheBridge)
+          (receiving : ReceivingFollows) where
         abbrev now_posted : Posted
         now_posted = with_page v.pages out.page
 
         abbrev world_posted : Posted → WorldState
-        world_posted pages = record v { pages = pages; given = map given_of (set driven bridge z); sent = map sent_of_driven (set driven bridge z); stopped = false }
+        world_posted pages = record v {
+          pages = pages;
+          given = map given_of (set driven bridge z);
+          sent = map sent_of_driven (set driven bridge z);
+          stopped = false;
+        }
 
         runs_on : IsRunningWorld (record v { pages = now_posted }) tables (set driven bridge z) lines
         runs_on = posted_goes_on v tables driven lines run bridge s in_driven here_v world may_v t at_cycle z pages_after out offers receiving
@@ -449,9 +466,11 @@ module _ (v : WorldState) (tables : List CycleTable) (driven : List Driven) (lin
         pub posted_world : PageFollows → ThereAreSoManyTables → IsWorld (world_posted pages_after) tables (set driven bridge z) lines
         posted_world page_follows count =
             subst (λ (p : Posted). IsWorld (world_posted p) tables (set driven bridge z) lines) (sym out.posted) (record {
-              given = given_as v v.entries now_posted (map given_of (set driven bridge z)) (map sent_of_driven (set driven bridge z)) v.taken false world.given world.given.legal
+              given = given_as v v.entries now_posted (map given_of (set driven bridge z)) (map sent_of_driven (set driven bridge z)) v.taken
+                  false world.given world.given.legal
                   refl refl (next_posted v.pages out.page world.given.in_order is_next);
-              pages = pages_still v tables driven lines run bridge s in_driven here_v world may_v t at_cycle z pages_after out offers receiving page_follows count;
+              pages = pages_still v tables driven lines run bridge s in_driven here_v world may_v t at_cycle z pages_after out offers
+                  receiving page_follows count;
               sealed = λ b. elim (cases_eq b bridge) [
                 | inl e ↦
                     subst (λ (k : ℕ). cycle_of_bridge (record v { pages = now_posted }) k ≤ seals v.entries) (sym e)
@@ -486,7 +505,13 @@ module _ (v : WorldState) (tables : List CycleTable) (driven : List Driven) (lin
       record v { pages = pages_after; given = map given_of (set driven bridge z); sent = map sent_of_driven (set driven bridge z); stopped = true }
       ≡ record old { stopped = true }
   unposted_alone z pages_after given sent pages =
-      subst (λ (w : WorldState). record v { pages = pages_after; given = map given_of (set driven bridge z); sent = map sent_of_driven (set driven bridge z); stopped = true }
+      subst (λ (w : WorldState). record v {
+        pages = pages_after;
+        given = map given_of (set driven bridge z);
+        sent =
+            map sent_of_driven (set driven bridge z);
+        stopped = true;
+      }
       ≡ record w { stopped = true }) old_same
       (λ i. record v {
         pages = pages i;

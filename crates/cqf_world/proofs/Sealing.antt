@@ -1,5 +1,6 @@
 -- A Seal closes a cycle.
-use Rattle.std.proofs.Common.{◌≡◌, ℕ, ◌+◌, ◌-◌, ◌<◌, ◌≤◌, ◌++◌, List, flat_map, get_or, length, sym, ap, ◌∙◌, arith, refl, inl, inr, subst, false, Contains, eqb-true, length-append}
+use Rattle.std.proofs.Common.{◌≡◌, ℕ, ◌+◌, ◌-◌, ◌<◌, ◌≤◌, ◌++◌, List, flat_map, get_or, length, sym, ap, ◌∙◌, arith}
+use Rattle.std.proofs.Common.{refl, inl, inr, subst, false, Contains, eqb-true, length-append}
 use Rattle.std.specs.Prelude.{◌∷◌, [], ◌==◌, ◌&&◌, nat_lt}
 use Rattle.std.proofs.lemmas.Bool.{and_parts, cases_lt, lt-ltb, ltb-true}
 use Rattle.std.proofs.lemmas.List.{get_or-append_right, get_or_append_left}
@@ -17,7 +18,8 @@ use Rattle.cqf_model.specs.History.{IsLegalHistory, Recorded, Seals, seals, tabl
 use Rattle.cqf_model.specs.HistoryBook.{IsBookOfHistory}
 use Rattle.cqf_model.specs.Network.{Network, compiled_lists}
 use Rattle.cqf_model.proofs.Links.{bridge_within}
-use Rattle.cqf_laws_network.specs.NetworkLaws.{IsShorter, LegalNetworkExists, ShorterBookIsTheBeginning, book_before_cycle, drops_before_cycle, starts_before_cycle}
+use Rattle.cqf_laws_network.specs.NetworkLaws.{IsShorter, LegalNetworkExists, ShorterBookIsTheBeginning}
+use Rattle.cqf_laws_network.specs.NetworkLaws.{book_before_cycle, drops_before_cycle, starts_before_cycle}
 use Rattle.cqf_laws_cycle.specs.BridgeCycle.{IsCompiledNetwork}
 use Rattle.cqf_laws_cycle.specs.RunSteps.{LongerRunKeepsItsCycles}
 use Rattle.cqf_laws_history.specs.HistoryLaws.{ThereAreSoManyTables}
@@ -46,10 +48,12 @@ page_before : (d : Domain) (bridge cycle cycles : ℕ) (book : Contents) → cyc
 page_before d bridge cycle cycles book within =
     let starts : (xs : List Started) → page_starts d bridge cycle (starts_before_cycle cycles xs) ≡ page_starts d bridge cycle xs =
     λ xs. sym (filter_weaker (λ (s : Started). leaves d s.link bridge && (s.cycle.0 == cycle)) (λ (s : Started). nat_lt s.cycle.0 cycles) xs
-    (λ s held passes. lt-ltb s.cycle.0 cycles (omega (arith, within, eqb-true s.cycle.0 cycle (and_parts (leaves d s.link bridge) (s.cycle.0 == cycle) passes).1)))) in
+    (λ s held passes. lt-ltb s.cycle.0 cycles
+    (omega (arith, within, eqb-true s.cycle.0 cycle (and_parts (leaves d s.link bridge) (s.cycle.0 == cycle) passes).1)))) in
     let drops : page_drops bridge cycle (drops_before_cycle cycles book.drops) ≡ page_drops bridge cycle book.drops =
     sym (filter_weaker (λ (x : Dropped). (x.bridge == bridge) && (x.cycle.0 == cycle)) (λ (x : Dropped). nat_lt x.cycle.0 cycles) book.drops
-    (λ x held passes. lt-ltb x.cycle.0 cycles (omega (arith, within, eqb-true x.cycle.0 cycle (and_parts (x.bridge == bridge) (x.cycle.0 == cycle) passes).1)))) in
+    (λ x held passes. lt-ltb x.cycle.0 cycles
+    (omega (arith, within, eqb-true x.cycle.0 cycle (and_parts (x.bridge == bridge) (x.cycle.0 == cycle) passes).1)))) in
     λ i. record { starts = starts book.starts i; background = starts book.background i; drops = drops i }
 
 module _ (v : WorldState) (tables : List CycleTable) (driven : List Driven) (lines : List Line) (accepted : IsWorld v tables driven lines)
@@ -128,7 +132,8 @@ module _ (v : WorldState) (tables : List CycleTable) (driven : List Driven) (lin
   -- it sends what was sent
   batch_same : (l cycle : ℕ) → cycle < seals v.entries → batch_of v.domain is.net.carried cycle l ≡ batch_of v.domain some.0.carried cycle l
   batch_same l cycle within =
-      let kept = keeps (sealed_run more) (sealed_run v).tables (compiled_lists v.domain) (seals v.entries) (seals entries) is.net some.0 is_shorter is.compiled.legal
+      let kept = keeps (sealed_run more) (sealed_run v).tables (compiled_lists v.domain) (seals v.entries) (seals entries) is.net some.0
+      is_shorter is.compiled.legal
       some.1.legal in
       λ i. record { link = l; cycle = cycle; frames = sym (kept.sends l cycle within) i }
 
@@ -152,7 +157,8 @@ module _ (v : WorldState) (tables : List CycleTable) (driven : List Driven) (lin
         has_sent = λ e. longer_halfway (sealed_run more) (sealed_run v).tables (seals v.entries) (seals entries) is.net some.0 x.bridge is_longer
             (omega (arith, st.received, e, st.with_table, st.closed)) (st.has_sent e);
         starts = λ e. st.starts e
-            ∙ ap (flat_map starts_of_batch) (map_same (batch_of v.domain is.net.carried x.posted) (batch_of v.domain some.0.carried x.posted) (links_from v.domain bridge)
+            ∙ ap (flat_map starts_of_batch) (map_same (batch_of v.domain is.net.carried x.posted) (batch_of v.domain some.0.carried x.posted)
+            (links_from v.domain bridge)
             (λ l held. batch_same l x.posted (omega (arith, e, st.with_table, st.closed))));
         taken = st.taken
             ∙ map_same (batch_of v.domain is.net.carried x.posted) (batch_of v.domain some.0.carried x.posted) (links_taken v bridge)
@@ -213,12 +219,14 @@ module _ (v : WorldState) (tables : List CycleTable) (driven : List Driven) (lin
   }
 
 -- what a closed cycle leaves
-pub closed_world : (v : WorldState) (tables after : List CycleTable) (driven : List Driven) (lines : List Line) (old new : Administration) (seat : ℕ) (was : WorldState) →
+pub closed_world : (v : WorldState) (tables after : List CycleTable) (driven : List Driven) (lines : List Line) (old new : Administration)
+    (seat : ℕ) (was : WorldState) →
     IsWorld v tables driven lines → v ≡ was → was.stopped ≡ false → seals was.entries < was.cycles → v.domain ≡ old.domain → v.entries ≡ old.entries →
     ClosesInWorld old new seat tables after → IsLegalHistory new.domain new.entries → SealsAreCounted → ClosedTablesStay → ThereAreSoManyTables →
     ShorterBookIsTheBeginning → LegalNetworkExists → LongerRunKeepsItsCycles → LongerRunIsFollowed → LongerRunIsFollowedHalfway →
     IsWorld (record v { domain = new.domain; entries = new.entries }) after driven lines
-closed_world v tables after driven lines old new seat was world same was_on was_may domain entries closes legal counted stay count shorter_book exists keeps longer
+closed_world v tables after driven lines old new seat was world same was_on was_may domain entries closes legal counted stay count shorter_book
+    exists keeps longer
     longer_halfway =
     let goes_on = subst (λ (w : WorldState). w.stopped ≡ false) (sym same) was_on in
     let may = subst (λ (w : WorldState). seals w.entries < w.cycles) (sym same) was_may in

@@ -40,7 +40,8 @@ module _ (v : WorldState) (tables : List CycleTable) (driven : List Driven) (lin
     (s : Driven) (inside : bridge < length driven) (here : s ≡ get_or driven bridge s) where
   pub driven_at : IsDriven (sealed_run v) (seals v.entries) is.net bridge (cycle_of_bridge v bridge) (links_taken v bridge) s
   driven_at =
-      subst (IsDriven (sealed_run v) (seals v.entries) is.net bridge (cycle_of_bridge v bridge) (links_taken v bridge)) (sym here) (is.bridge_driven bridge s inside)
+      subst (IsDriven (sealed_run v) (seals v.entries) is.net bridge (cycle_of_bridge v bridge) (links_taken v bridge)) (sym here)
+      (is.bridge_driven bridge s inside)
 
   pub sent_at : sent_by_driven v bridge ≡ s.sent
   sent_at = count_at sent_of_driven v.sent driven bridge s is.sent_are inside ∙ ap sent_of_driven (sym here)

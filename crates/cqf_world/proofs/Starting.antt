@@ -99,7 +99,8 @@ module _ (w : WorldState) (driven : List Driven) (lines : List Line) (accepted :
 
   -- each bridge follows the network
   driven_begins : (net : Network) → NewBridgeFollows → (bridge : ℕ) (s : Driven) → bridge < length w.domain.bridges →
-      IsNewDriven w.domain w.offers w.background bridge s → IsDriven (sealed_run w) (seals w.entries) net bridge (cycle_of_bridge w bridge) (links_taken w bridge) s
+      IsNewDriven w.domain w.offers w.background bridge s → IsDriven (sealed_run w) (seals w.entries) net bridge (cycle_of_bridge w bridge)
+      (links_taken w bridge) s
   driven_begins net follows bridge s inside is = record {
     in_cycle = is.none_posted ∙ sym (in_cycle_0 bridge);
     not_behind = omega (arith, is.none_posted);
@@ -117,7 +118,8 @@ module _ (w : WorldState) (driven : List Driven) (lines : List Line) (accepted :
   }
 
   -- and nothing is under way
-  line_begins : (net : Network) (link bridge : ℕ) (x : Line) → link < length w.domain.links → (get_or lines link x).taken ≡ 0 → (get_or lines link x).waiting.items ≡ [] →
+  line_begins : (net : Network) (link bridge : ℕ) (x : Line) → link < length w.domain.links → (get_or lines link x).taken ≡ 0 →
+      (get_or lines link x).waiting.items ≡ [] →
       IsLine w.domain net link (cycle_of_bridge w bridge) (sent_by_driven w bridge) (sent_by_driven w (bridge_of w.domain link)) (get_or lines link x)
   line_begins net link bridge x inside counted waits =
       let from = bridge_of w.domain link in
@@ -226,7 +228,8 @@ module _ (a : Administration) (plan at : Domain) (offers : List Offer) (backgrou
       }
 
   -- and it is a world
-  pub is_world : IsLegalHistory a.domain a.entries → AreOffers plan offers → AreBackground plan background → cycles ≤ 100000 → LegalNetworkExists → NewBridgeFollows →
+  pub is_world : IsLegalHistory a.domain a.entries → AreOffers plan offers → AreBackground plan background → cycles ≤ 100000 →
+      LegalNetworkExists → NewBridgeFollows →
       (tables : List CycleTable) → tables ≡ [] → IsWorld made tables driven lines
   is_world legal are_offers are_background few exists follows tables none =
       subst (λ (ts : List CycleTable). IsWorld made ts driven lines) (sym none)

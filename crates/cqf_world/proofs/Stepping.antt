@@ -1,5 +1,6 @@
 -- A bridge sends its cycle, and its batches come onto the links.
-use Rattle.std.proofs.Common.{◌≡◌, ℕ, suc, ◌+◌, ◌-◌, ◌<◌, ◌≤◌, ◌++◌, Bool, List, flat_map, get_or, length, map, set, sym, ap, ◌∙◌, arith, refl, inl, inr, subst, true, false, eq-eqb, ne_eqb, append-nil}
+use Rattle.std.proofs.Common.{◌≡◌, ℕ, suc, ◌+◌, ◌-◌, ◌<◌, ◌≤◌, ◌++◌, Bool, List, flat_map, get_or, length, map, set}
+use Rattle.std.proofs.Common.{sym, ap, ◌∙◌, arith, refl, inl, inr, subst, true, false, eq-eqb, ne_eqb, append-nil}
 use Rattle.std.specs.Prelude.{◌∷◌, [], ◌==◌, filter, if◌then◌else◌, Option}
 use Rattle.std.specs.Option.{option_map_or}
 use Rattle.std.proofs.lemmas.Bool.{cases_eq, cond-true}
@@ -26,7 +27,8 @@ use Rattle.cqf_world.specs.declared.parts.Line.{Line}
 use Rattle.cqf_world.specs.declared.parts.Driven.{Driven}
 use Rattle.cqf_bridge_turn.specs.Agenda.{background_at}
 use Rattle.cqf_world.specs.Events.{MayStep}
-use Rattle.cqf_world.specs.Parts.{AreComing, IsLine, IsRunningWorld, IsDriven, IsWorld, SendsItsCycle, SendsOut, given_of, links_taken, sent_of_driven, taken_of, under_way}
+use Rattle.cqf_world.specs.Parts.{AreComing, IsLine, IsRunningWorld, IsDriven, IsWorld, SendsItsCycle, SendsOut}
+use Rattle.cqf_world.specs.Parts.{given_of, links_taken, sent_of_driven, taken_of, under_way}
 use Rattle.cqf_world.specs.World.{WorldState, cycle_of_bridge, sealed_run, sent_by_driven}
 use Rattle.cqf_world.proofs.Keeping.{given_counts}
 use Rattle.cqf_world.proofs.Standing.{count_kept, each_with, given_at, sent_at, driven_at}
@@ -187,23 +189,27 @@ module _ (v : WorldState) (tables : List CycleTable) (driven : List Driven) (lin
           ∙ ap (λ (ns : List ℕ). get_or ns link 0) coming.counts
           ∙ get_or-map taken_of lines link x 0 in_lines in
           let put = coming.behind link to x ends ∙ ap (λ (ys : List LinkBatch). ys ++ filter (λ (b : LinkBatch). b.link == link) batches) li.waiting
-          ∙ ap (λ (bs : List LinkBatch). under_way v.domain is.net link before.taken (sent_by_driven v from - before.taken) ++ filter (λ (b : LinkBatch). b.link == link) bs) batches_are
+          ∙ ap (λ (bs : List LinkBatch). under_way v.domain is.net link before.taken (sent_by_driven v from - before.taken)
+          ++ filter (λ (b : LinkBatch). b.link == link) bs) batches_are
           ∙ ap (λ (bs : List LinkBatch). under_way v.domain is.net link before.taken (sent_by_driven v from - before.taken) ++ bs)
           (sent_on v.domain is.net.carried bridge s.posted link in_links
           ∙ ap (λ (b : Bool). if b then batch_of v.domain is.net.carried s.posted link ∷ [] else []) (leaves_one v.domain link bridge in_links)) in
-          let waiting : (get_or w link x).waiting.items ≡ under_way v.domain is.net link before.taken (sent_by_driven after from - before.taken) = elim (cases_eq from bridge) [
+          let waiting : (get_or w link x).waiting.items ≡ under_way v.domain is.net link before.taken (sent_by_driven after from - before.taken) =
+          elim (cases_eq from bridge) [
             | inl e ↦
                 let old : sent_by_driven v from ≡ s.posted = ap (sent_by_driven v) e ∙ sent_is ∙ (counts_step may).1 in
                 let new : s.posted + 1 ≡ sent_by_driven after from = sym (ap (sent_by_driven after) e ∙ sent_here) in
                 put
-                ∙ ap (λ (b : Bool). under_way v.domain is.net link before.taken (sent_by_driven v from - before.taken) ++ (if b then batch_of v.domain is.net.carried s.posted link ∷ [] else []))
+                ∙ ap (λ (b : Bool). under_way v.domain is.net link before.taken (sent_by_driven v from - before.taken)
+                ++ (if b then batch_of v.domain is.net.carried s.posted link ∷ [] else []))
                 (eq-eqb from bridge e)
                 ∙ ap (λ (n : ℕ). under_way v.domain is.net link before.taken (n - before.taken) ++ batch_of v.domain is.net.carried s.posted link ∷ []) old
                 ∙ one_longer v.domain is.net link before.taken s.posted (omega (arith, li.not_more, old))
                 ∙ ap (λ (n : ℕ). under_way v.domain is.net link before.taken (n - before.taken)) new
             | inr differ ↦
                 put
-                ∙ ap (λ (b : Bool). under_way v.domain is.net link before.taken (sent_by_driven v from - before.taken) ++ (if b then batch_of v.domain is.net.carried s.posted link ∷ [] else []))
+                ∙ ap (λ (b : Bool). under_way v.domain is.net link before.taken (sent_by_driven v from - before.taken)
+                ++ (if b then batch_of v.domain is.net.carried s.posted link ∷ [] else []))
                 (ne_eqb from bridge differ)
                 ∙ append-nil (under_way v.domain is.net link before.taken (sent_by_driven v from - before.taken))
                 ∙ ap (λ (n : ℕ). under_way v.domain is.net link before.taken (n - before.taken)) (sym (sent_there from differ))
@@ -308,7 +314,12 @@ module _ (v : WorldState) (tables : List CycleTable) (driven : List Driven) (lin
       record v { given = map given_of (set driven bridge z); sent = map sent_of_driven (set driven bridge z); taken = map taken_of w; stopped = true }
       ≡ record old { stopped = true }
   unsent_alone z w given sent counts =
-      subst (λ (k : WorldState). record v { given = map given_of (set driven bridge z); sent = map sent_of_driven (set driven bridge z); taken = map taken_of w; stopped = true }
+      subst (λ (k : WorldState). record v {
+        given = map given_of (set driven bridge z);
+        sent = map sent_of_driven (set driven bridge z);
+        taken = map taken_of w;
+        stopped = true;
+      }
       ≡ record k { stopped = true }) old_same
       (λ i. record v {
         given = (count_kept given_of driven bridge s z here_v given ∙ sym run.given_are) i;

@@ -1,5 +1,6 @@
 -- A bridge takes the oldest batch under way on a link.
-use Rattle.std.proofs.Common.{◌≡◌, ℕ, suc, ◌+◌, ◌-◌, ◌<◌, ◌++◌, List, get_or, length, map, set, sym, ap, ◌∙◌, arith, refl, inl, inr, subst, true, false, eqb-true}
+use Rattle.std.proofs.Common.{◌≡◌, ℕ, suc, ◌+◌, ◌-◌, ◌<◌, ◌++◌, List, get_or, length, map, set, sym, ap, ◌∙◌, arith}
+use Rattle.std.proofs.Common.{refl, inl, inr, subst, true, false, eqb-true}
 use Rattle.std.specs.Prelude.{◌∷◌, [], filter, nat_lt, Option}
 use Rattle.std.specs.List.{insert}
 use Rattle.std.specs.Option.{option_map_or}
@@ -53,7 +54,8 @@ module _ (v : WorldState) (tables : List CycleTable) (driven : List Driven) (lin
   st = driven_at v tables driven lines is bridge s inside here
 
   li : IsLine v.domain is.net link (cycle_of_bridge v bridge) (sent_by_driven v bridge) (sent_by_driven v (bridge_of v.domain link)) x
-  li = subst (IsLine v.domain is.net link (cycle_of_bridge v bridge) (sent_by_driven v bridge) (sent_by_driven v (bridge_of v.domain link))) (sym there) (is.line link bridge x ends)
+  li = subst (IsLine v.domain is.net link (cycle_of_bridge v bridge) (sent_by_driven v bridge) (sent_by_driven v (bridge_of v.domain link)))
+      (sym there) (is.line link bridge x ends)
 
   sent_is : sent_by_driven v bridge ≡ s.sent
   sent_is = sent_at v tables driven lines is bridge s inside here
@@ -84,10 +86,13 @@ module _ (v : WorldState) (tables : List CycleTable) (driven : List Driven) (lin
       let not_taken = subst (λ (b : ℕ). taken_from v link ≡ cycle_of_bridge v b) e may.not_taken in
       (omega (arith, sent_is, has_sent, st.in_cycle), omega (arith, taken_is, not_taken, st.in_cycle), omega (arith, may.under_way, taken_is, waiting_is))
 
-  module _ (may : MayTake v link) (y : Line) (z : Driven) (batch : LinkBatch) (popped : x.waiting.items ≡ batch ∷ y.waiting.items) (counted : y.taken ≡ x.taken + 1)
-      (same : z ≡ record s { taken = z.taken }) (put : z.taken.items ≡ insert s.taken.items (length (filter (λ (b : LinkBatch). nat_lt b.link batch.link) s.taken.items)) batch) where
+  module _ (may : MayTake v link) (y : Line) (z : Driven) (batch : LinkBatch) (popped : x.waiting.items ≡ batch ∷ y.waiting.items)
+      (counted : y.taken ≡ x.taken + 1)
+      (same : z ≡ record s { taken = z.taken }) (put : z.taken.items
+      ≡ insert s.taken.items (length (filter (λ (b : LinkBatch). nat_lt b.link batch.link) s.taken.items)) batch) where
     -- the batch is the network's of the bridge's cycle
-    one_fewer : (n : ℕ) → under_way v.domain is.net link x.taken (suc n) ≡ batch_of v.domain is.net.carried x.taken link ∷ under_way v.domain is.net link (x.taken + 1) n
+    one_fewer : (n : ℕ) → under_way v.domain is.net link x.taken (suc n) ≡ batch_of v.domain is.net.carried x.taken link
+        ∷ under_way v.domain is.net link (x.taken + 1) n
     one_fewer n =
         let net = is.net in
         let f = λ (k : ℕ). batch_of v.domain net.carried (x.taken + k) link ∷ [] in
@@ -107,7 +112,8 @@ module _ (v : WorldState) (tables : List CycleTable) (driven : List Driven) (lin
     parts : (batch ≡ batch_of v.domain is.net.carried x.taken link) × (y.waiting.items ≡ under_way v.domain is.net link (x.taken + 1) left)
     unfolding left
     parts =
-        let some : sent_by_driven v (bridge_of v.domain link) - x.taken ≡ suc (sent_by_driven v (bridge_of v.domain link) - x.taken - 1) = omega (arith, c.2, waiting_is) in
+        let some : sent_by_driven v (bridge_of v.domain link) - x.taken ≡ suc (sent_by_driven v (bridge_of v.domain link) - x.taken - 1) =
+        omega (arith, c.2, waiting_is) in
         same_parts batch (batch_of v.domain is.net.carried x.taken link) y.waiting.items
         (under_way v.domain is.net link (x.taken + 1) (sent_by_driven v (bridge_of v.domain link) - x.taken - 1))
         (sym popped ∙ li.waiting ∙ ap (under_way v.domain is.net link x.taken) some ∙ one_fewer (sent_by_driven v (bridge_of v.domain link) - x.taken - 1))
@@ -193,7 +199,8 @@ module _ (v : WorldState) (tables : List CycleTable) (driven : List Driven) (lin
       not_more = omega (arith, counted, c.2, waiting_is);
       waiting = parts.1
           ∙ (λ i. under_way v.domain is.net link (sym counted i)
-          ((let e : sent_by_driven v (bridge_of v.domain link) - x.taken - 1 ≡ sent_by_driven v (bridge_of v.domain link) - y.taken = omega (arith, counted) in e) i));
+          ((let e : sent_by_driven v (bridge_of v.domain link) - x.taken - 1 ≡ sent_by_driven v (bridge_of v.domain link) - y.taken =
+          omega (arith, counted) in e) i));
     }
 
     -- and the world goes on
@@ -216,19 +223,24 @@ module _ (v : WorldState) (tables : List CycleTable) (driven : List Driven) (lin
       line = λ m to d into. elim (cases_eq m link) [
         | inl e ↦
             let to_is : to ≡ bridge = one_end v.domain link to bridge (ap (λ (k : ℕ). enters v.domain k to) (sym e) ∙ into) ends in
-            subst (λ (k : ℕ). IsLine v.domain is.net k (cycle_of_bridge v to) (sent_by_driven v to) (sent_by_driven v (bridge_of v.domain k)) (get_or (set lines link y) k d)) (sym e)
-            (subst (λ (b : ℕ). IsLine v.domain is.net link (cycle_of_bridge v b) (sent_by_driven v b) (sent_by_driven v (bridge_of v.domain link)) (get_or (set lines link y) link d)) (sym to_is)
-            (subst (IsLine v.domain is.net link (cycle_of_bridge v bridge) (sent_by_driven v bridge) (sent_by_driven v (bridge_of v.domain link))) (sym (get_or-set_same lines link y d in_lines))
+            subst (λ (k : ℕ). IsLine v.domain is.net k (cycle_of_bridge v to) (sent_by_driven v to) (sent_by_driven v (bridge_of v.domain k))
+            (get_or (set lines link y) k d)) (sym e)
+            (subst (λ (b : ℕ). IsLine v.domain is.net link (cycle_of_bridge v b) (sent_by_driven v b) (sent_by_driven v (bridge_of v.domain link))
+            (get_or (set lines link y) link d)) (sym to_is)
+            (subst (IsLine v.domain is.net link (cycle_of_bridge v bridge) (sent_by_driven v bridge) (sent_by_driven v (bridge_of v.domain link)))
+            (sym (get_or-set_same lines link y d in_lines))
             line_taken))
         | inr differ ↦
-            subst (IsLine v.domain is.net m (cycle_of_bridge v to) (sent_by_driven v to) (sent_by_driven v (bridge_of v.domain m))) (sym (get_or-set_other lines link m y d differ))
+            subst (IsLine v.domain is.net m (cycle_of_bridge v to) (sent_by_driven v to) (sent_by_driven v (bridge_of v.domain m)))
+            (sym (get_or-set_other lines link m y d differ))
             (is.line m to d into)
       ];
     }
 
 module _ (v : WorldState) (tables : List CycleTable) (driven : List Driven) (lines : List Line) (old : WorldState) (old_same : v ≡ old)
     (world : IsWorld v tables driven lines) (old_on : old.stopped ≡ false) (link bridge place lplace : ℕ) (s : Driven) (x : Line)
-    (d : Domain) (of_domain : d ≡ v.domain) (ends_d : enters d link bridge ≡ true) (at : place ≡ bridge) (lat : lplace ≡ link) (at_place : s ≡ get_or driven place s)
+    (d : Domain) (of_domain : d ≡ v.domain) (ends_d : enters d link bridge ≡ true) (at : place ≡ bridge) (lat : lplace ≡ link)
+    (at_place : s ≡ get_or driven place s)
     (at_lplace : x ≡ get_or lines lplace x) where
   on : v.stopped ≡ false
   on = subst (λ (w : WorldState). w.stopped ≡ false) (sym old_same) old_on
@@ -251,7 +263,8 @@ module _ (v : WorldState) (tables : List CycleTable) (driven : List Driven) (lin
   -- a batch may be taken where the counts say so
   pub may_so : (s.sent ≡ s.posted → ⊥) → x.taken ≡ s.posted → 0 < length x.waiting.items → MayTake old link
   may_so sent not_taken some =
-      subst (λ (w : WorldState). MayTake w link) old_same (may_take v tables driven lines run link bridge s x ends_v in_driven here_v there_v sent not_taken some)
+      subst (λ (w : WorldState). MayTake w link) old_same (may_take v tables driven lines run link bridge s x ends_v in_driven here_v there_v
+      sent not_taken some)
 
   -- and the counts say so where it may be
   pub counts_so : MayTake old link → (s.sent ≡ s.posted + 1) × (x.taken ≡ s.posted) × (0 < length x.waiting.items)
@@ -278,7 +291,8 @@ module _ (v : WorldState) (tables : List CycleTable) (driven : List Driven) (lin
 
     runs_on : IsRunningWorld (record v { taken = map taken_of (set lines link y) }) tables (set driven bridge z) (set lines link y)
     runs_on =
-        taken_goes_on v tables driven lines run link bridge s x ends_v in_driven here_v there_v may_v y z moves.batch moves.popped moves.counted moves.same moves.put
+        taken_goes_on v tables driven lines run link bridge s x ends_v in_driven here_v there_v may_v y z moves.batch moves.popped
+        moves.counted moves.same moves.put
 
     is_after : record v { taken = map taken_of (set lines link y) } ≡ world_taken
     is_after = λ i. record v { given = runs_on.given_are i; sent = runs_on.sent_are i; taken = map taken_of (set lines link y); stopped = on i }
@@ -305,10 +319,21 @@ module _ (v : WorldState) (tables : List CycleTable) (driven : List Driven) (lin
 
   -- where it can't be moved, no count changes
   pub refused_alone : (y : Line) (z : Driven) → y.taken ≡ x.taken → z ≡ record s { taken = z.taken } →
-      record v { given = map given_of (set driven bridge z); sent = map sent_of_driven (set driven bridge z); taken = map taken_of (set lines link y); stopped = true }
+      record v {
+        given = map given_of (set driven bridge z);
+        sent = map sent_of_driven (set driven bridge z);
+        taken =
+            map taken_of (set lines link y);
+        stopped = true;
+      }
       ≡ record old { stopped = true }
   refused_alone y z counted same =
-      subst (λ (w : WorldState). record v { given = map given_of (set driven bridge z); sent = map sent_of_driven (set driven bridge z); taken = map taken_of (set lines link y); stopped = true } ≡ record w { stopped = true }) old_same
+      subst (λ (w : WorldState). record v {
+        given = map given_of (set driven bridge z);
+        sent = map sent_of_driven (set driven bridge z);
+        taken = map taken_of (set lines link y);
+        stopped = true;
+      } ≡ record w { stopped = true }) old_same
       (λ i. record v {
         given = (count_kept given_of driven bridge s z here_v (ap given_of same) ∙ sym run.given_are) i;
         sent = (count_kept sent_of_driven driven bridge s z here_v (ap sent_of_driven same) ∙ sym run.sent_are) i;

@@ -17,6 +17,7 @@ pub(crate) fn bridge_at_end(domain: &Domain, link: u8) -> Option<u8>
     ensures some { IfSome result (λ bridge. (enters domain.now link bridge ≡ true) × (bridge < length domain.now.bridges)) }
     ensures none { IfNone result ((bridge : ℕ) → enters domain.now link bridge ≡ false) }
 {
+    // the domain is accepted: a fact
     let _accepted = domain.cycle_time();
     if link >= domain.links() {
         return None;

@@ -15,7 +15,7 @@ use crate::making::{new_driven_bridges, new_lines};
 use crate::parts::{Driven, Line};
 use crate::receiving::post_page;
 use crate::sending::send_all;
-use cqf_admission::{Admission, Command, Table};
+use cqf_admission::{Admission, Command, MOST_CALLS, Table};
 use cqf_book::Pages;
 use cqf_compile::Plan;
 use cqf_laws_bridge::{
@@ -29,9 +29,6 @@ use cqf_model::{Background, Offer, Refused};
 use cqf_units::Memory;
 use std::alloc::{AllocError, Global};
 use std::marker::Model;
-
-/// How many calls a history may have that aren't Seals.
-const MOST_CALLS: usize = 100_000;
 
 /// All that a running network holds: an admission and the tables of its Seals, the bridges with what they were given, the batches
 /// under way on the links between them, and the pages that were posted.
@@ -110,6 +107,7 @@ impl<'a> World<'a> {
     {
         new_bridge_follows();
         legal_network_exists();
+        // its history is legal: a fact
         let _legal = admission.history();
         let domain = plan.domain();
         Ok(World {
@@ -180,6 +178,7 @@ impl World<'_> {
         state_follows_history();
         closed_tables_stay();
         let answer = ask(&mut self.admission, seat, command);
+        // its history is legal: a fact
         let _legal = self.admission.history();
         match answer {
             Err(Refused::HistoryFull) => unreachable!(),
@@ -206,6 +205,7 @@ impl World<'_> {
         longer_run_keeps_its_cycles();
         longer_run_is_followed();
         let closed = close_cycle(&mut self.admission, &mut self.tables, seat);
+        // its history is legal: a fact
         let _legal = self.admission.history();
         if closed.is_err() {
             self.stopped = true;

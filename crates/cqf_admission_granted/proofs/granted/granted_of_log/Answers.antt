@@ -25,7 +25,8 @@ loop-logged-preserved-in_default c =
     let item = get_or c.args.log.now k first in
     c.loop-logged.invariant
     ∙ sym (nothing c.args.domain.now (map recorded c.args.log.now) c.requires k (recorded item)
-    (recorded_at recorded c.args.log.now k item c.loop-logged-test.true (get_or_default c.args.log.now k first item c.loop-logged-test.true)) c.in_default.ensures)
+    (recorded_at recorded c.args.log.now k item c.loop-logged-test.true (get_or_default c.args.log.now k first item c.loop-logged-test.true))
+    c.in_default.ensures)
 
 pub row_of-requires-clause-admissible : goal.row_of-requires-clause-admissible
 row_of-requires-clause-admissible c =
@@ -35,7 +36,8 @@ row_of-requires-clause-admissible c =
     let item = get_or c.args.log.now k first in
     let place = c.in-Admit.place in
     let admitted = (granted c.args.domain.now (map recorded c.args.log.now) c.requires k (recorded item)
-    (recorded_at recorded c.args.log.now k item c.loop-logged-test.true (get_or_default c.args.log.now k first item c.loop-logged-test.true)) c.streams_follow_history.ensures.granted
+    (recorded_at recorded c.args.log.now k item c.loop-logged-test.true (get_or_default c.args.log.now k first item c.loop-logged-test.true))
+    c.streams_follow_history.ensures.granted
     (request_at (map asked_of rs) place) c.in-Some.receipt (ap (act_in (map asked_of rs) c.args.script.now) c.in-Admit.is) c.in-Some.ensures).0 in
     let low : place < length rs = omega (arith, is_there (map asked_of rs) place admitted, length-map rs asked_of) in
     subst (IsAdmissible c.args.domain.now)
@@ -49,7 +51,8 @@ end_stream-requires c =
     let k = c.loop-logged.logged-index in
     let item = get_or c.args.log.now k first in
     let ends = withdrawn c.args.domain.now (map recorded c.args.log.now) c.requires k (recorded item)
-    (recorded_at recorded c.args.log.now k item c.loop-logged-test.true (get_or_default c.args.log.now k first item c.loop-logged-test.true)) c.streams_follow_history.ensures.withdrawn
+    (recorded_at recorded c.args.log.now k item c.loop-logged-test.true (get_or_default c.args.log.now k first item c.loop-logged-test.true))
+    c.streams_follow_history.ensures.withdrawn
     (word_at c.args.script.now c.in-Withdraw.from c.in-Withdraw.octets) c.in-Some.receipt
     (ap (act_in (map asked_of rs) c.args.script.now) c.in-Withdraw.is) c.in-Some.ensures in
     omega (arith, ends.0, ap length c.loop-logged.invariant)
@@ -83,7 +86,8 @@ loop-logged-preserved c =
           (word_at script w.in-Withdraw.from w.in-Withdraw.octets) receipt
           (ap (act_in (map asked_of rs) script) w.in-Withdraw.is) c.in-Some.ensures).1 w.end_stream.new.rows.items
           (subst (λ (rows : List Row). EndsAt rows w.end_stream.new.rows.items receipt.no receipt.effect) c.loop-logged.invariant w.end_stream.ensures)))
-      | in-Seal w ↦ rw w.rows-is (c.loop-logged.invariant ∙ sym (sealed d all c.requires k (recorded item) at (ap (act_in (map asked_of rs) script) w.in-Seal.is)))
+      | in-Seal w ↦ rw w.rows-is (c.loop-logged.invariant
+          ∙ sym (sealed d all c.requires k (recorded item) at (ap (act_in (map asked_of rs) script) w.in-Seal.is)))
     ]
 
 pub unreachable-requires : goal.unreachable-requires
@@ -94,6 +98,7 @@ unreachable-requires c =
     let item = get_or c.args.log.now k first in
     let place = c.in-Admit.place in
     let admitted = (granted c.args.domain.now (map recorded c.args.log.now) c.requires k (recorded item)
-    (recorded_at recorded c.args.log.now k item c.loop-logged-test.true (get_or_default c.args.log.now k first item c.loop-logged-test.true)) c.streams_follow_history.ensures.granted
+    (recorded_at recorded c.args.log.now k item c.loop-logged-test.true (get_or_default c.args.log.now k first item c.loop-logged-test.true))
+    c.streams_follow_history.ensures.granted
     (request_at (map asked_of rs) place) c.in-Some.receipt (ap (act_in (map asked_of rs) c.args.script.now) c.in-Admit.is) c.in-Some.ensures).0 in
     absurd (omega (arith, is_there (map asked_of rs) place admitted, length-map rs asked_of, c.if-place-requests.true))

@@ -15,7 +15,8 @@ loop-entry-preserved-in_default c =
     let k = c.loop-entry.entry-index in
     let item = c.entry-item.result in
     c.loop-entry.invariant
-    ∙ sym (nothing c.args.domain.now (map recorded_of entries) c.requires k (recorded_of item) (recorded_at recorded_of entries k item c.loop-entry-test.true c.entry-item.is)
+    ∙ sym (nothing c.args.domain.now (map recorded_of entries) c.requires k (recorded_of item)
+    (recorded_at recorded_of entries k item c.loop-entry-test.true c.entry-item.is)
     (not_accepted item.reply c.in_default.not-Accepted))
 
 pub row_of-requires-clause-admissible : goal.row_of-requires-clause-admissible
@@ -23,7 +24,8 @@ row_of-requires-clause-admissible c =
     let entries = c.args.entries.now in
     let k = c.loop-entry.entry-index in
     let item = c.entry-item.result in
-    (granted c.args.domain.now (map recorded_of entries) c.requires k (recorded_of item) (recorded_at recorded_of entries k item c.loop-entry-test.true c.entry-item.is)
+    (granted c.args.domain.now (map recorded_of entries) c.requires k (recorded_of item)
+    (recorded_at recorded_of entries k item c.loop-entry-test.true c.entry-item.is)
     c.streams_follow_history.ensures.granted (asked_of c.in-Admit.request) c.in-Accepted.receipt (ap act_of c.in-Admit.is) c.in-Accepted.is).0
 
 pub end_stream-requires : goal.end_stream-requires

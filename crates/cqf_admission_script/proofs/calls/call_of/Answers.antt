@@ -20,7 +20,8 @@ returns c =
           let stands : StandsIn requests text (what.Admit place) = subst (λ what. StandsIn requests text what) w.in-Admit.is c.requires in
           let same : length requests ≡ length c.args.requests.now = length-map c.args.requests.now asked_of in
           let inside : place < length c.args.requests.now = omega (arith, stands, same) in
-          rw (w.call-is, w.in-Admit.is) (ap (λ asked. (c.args.order.seat, Admits asked)) (copied ∙ sym (request_read c.args.requests.now place w.index-requests-place.result inside w.index-requests-place.is)))
+          rw (w.call-is, w.in-Admit.is) (ap (λ asked. (c.args.order.seat, Admits asked))
+          (copied ∙ sym (request_read c.args.requests.now place w.index-requests-place.result inside w.index-requests-place.is)))
       | in-Withdraw+in_ok-from_str-in-Withdraw w ↦
           rw (w.call-is, w.in-Withdraw.is) (ap (λ word. (c.args.order.seat, Withdraws word)) (w.in_ok-from_str-in-Withdraw.ensures.ok ∙ w.word_of.ensures))
       | in-Seal w ↦ rw (w.call-is, w.in-Seal.is) refl

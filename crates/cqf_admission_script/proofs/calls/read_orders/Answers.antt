@@ -50,7 +50,8 @@ loop-line-preserved c =
     let is_behind : behind ≡ after_first is_line_feed left = ap (λ l. l.now) c.in-Some.behind-is ∙ c.in-Some.ensures.rest in
     let ends : LineEnds text (length text - length left + length line) line =
     line_at text left line stood.rest (omega (arith, so_far.inside, so_far.counted)) is_line in
-    let good : call_of_line requests seat c.args.cycles place.line place.sealed place.called line ≡ Ok (show c.in-Ok.order) = ap (λ l. call_of_line requests seat c.args.cycles place.line place.sealed place.called l.now) c.in-Some.line-is ∙ c.in-Ok.ensures.value text ends in
+    let good : call_of_line requests seat c.args.cycles place.line place.sealed place.called line ≡ Ok (show c.in-Ok.order) =
+    ap (λ l. call_of_line requests seat c.args.cycles place.line place.sealed place.called l.now) c.in-Some.line-is ∙ c.in-Ok.ensures.value text ends in
     let more : c.push.new.self.items ≡ orders ++ c.in-Ok.order ∷ [] = grind (arith, common_steps) in (
       read-one_more requests seat c.args.cycles text (map show orders) (map show c.push.new.self.items) place.line next.line place.sealed place.called
           next.sealed next.called left line behind (show c.in-Ok.order)

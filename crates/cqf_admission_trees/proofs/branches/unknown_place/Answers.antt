@@ -7,7 +7,8 @@ use Rattle.cqf_admission_trees.proofs.branches.unknown_place.Goals as goal
 
 pub returns-then-is_none : goal.returns-then-is_none
 returns-then-is_none c =
-    unknown_found c.args.domain.now (branch_of c.args.branch.now) c.loop-place.place (omega (arith, c.loop-place-test.true, length-map c.args.branch.now string_bytes))
+    unknown_found c.args.domain.now (branch_of c.args.branch.now) c.loop-place.place
+    (omega (arith, c.loop-place-test.true, length-map c.args.branch.now string_bytes))
     (ap is_none (sym c.node_of.ensures) ∙ ap not c.if-is_none.ensures) c.loop-place.invariant
 
 pub returns : goal.returns

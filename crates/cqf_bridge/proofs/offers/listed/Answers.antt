@@ -8,11 +8,13 @@ pub loop-place-preserved : goal.loop-place-preserved
 loop-place-preserved c =
     elim c.if-is_offered.branch [
       | then-is_offered+in_ok-push w ↦
-          one_listed c.args.domain.now c.args.offers.now c.args.bridge c.args.cycle.0 c.loop-place.place c.index-offers-place.result c.loop-place-test.true c.index-offers-place.is
+          one_listed c.args.domain.now c.args.offers.now c.args.bridge c.args.cycle.0 c.loop-place.place c.index-offers-place.result
+          c.loop-place-test.true c.index-offers-place.is
           (sym c.is_offered.ensures ∙ w.if-is_offered.true) _ _ c.loop-place.invariant
           (ap (λ v. v.items) w.list-is ∙ w.in_ok-push.ensures.items ∙ ap (λ (x : Offered). c.loop-place.list.items ++ x ∷ []) w.with_number.ensures)
       | else-is_offered w ↦
           ap (λ v. v.items) w.list-is
-          ∙ one_passed c.args.domain.now c.args.offers.now c.args.bridge c.args.cycle.0 c.loop-place.place c.index-offers-place.result c.loop-place-test.true c.index-offers-place.is
+          ∙ one_passed c.args.domain.now c.args.offers.now c.args.bridge c.args.cycle.0 c.loop-place.place c.index-offers-place.result
+          c.loop-place-test.true c.index-offers-place.is
           (sym c.is_offered.ensures ∙ w.if-is_offered.false) _ c.loop-place.invariant
     ]

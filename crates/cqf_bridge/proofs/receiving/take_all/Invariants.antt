@@ -6,4 +6,5 @@ use Rattle.cqf_bridge.proofs.receiving.take_all.Given as goal
 -- the frames so far are taken
 abbrev pub invariant-loop-frame : goal.invariant-loop-frame
 invariant-loop-frame l =
-    IsTaking l.domain l.table.rows l.number l.cycle.0 l.fn.ports.items l.fn.drops.items (map received_as l.frames) l.frame-index l.gates l.ports.items l.drops.items
+    IsTaking l.phase.domain.now l.phase.table.now.rows l.phase.number l.phase.cycle.0 l.fn.ports.items l.fn.drops.items (map received_as l.frames)
+    l.frame-index l.gates l.ports.items l.drops.items

@@ -20,5 +20,6 @@ queue_all-requires-clause-taken c =
 pub returns : goal.returns
 returns c =
     on_ok_weaker c.queue_all.result
-    (queued_as c.args.domain.now (received_as c.args.frame.now) c.args.row.now c.args.class c.link.result c.args.ports.now.items _ c.requires.class c.link.ensures)
+    (queued_as c.args.domain.now (received_as c.args.frame.now) c.args.row.now c.args.class c.link.result c.args.ports.now.items _
+    c.requires.class c.link.ensures)
     c.queue_all.ensures

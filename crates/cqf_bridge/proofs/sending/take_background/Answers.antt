@@ -8,7 +8,8 @@ pub loop-frame-init : goal.loop-frame-init
 loop-frame-init c = none_taken c.args.port.now c.args.background.now c.requires
 
 pub returns : goal.returns
-returns c = c.loop-frame.invariant ∙ all_taken c.args.port.now c.args.background.now c.requires c.loop-frame.frame-index (omega (arith, c.loop-frame-test.false))
+returns c = c.loop-frame.invariant ∙ all_taken c.args.port.now c.args.background.now c.requires c.loop-frame.frame-index
+    (omega (arith, c.loop-frame-test.false))
 
 pub record-requires-clause-in_order : goal.record-requires-clause-in_order
 record-requires-clause-in_order c =

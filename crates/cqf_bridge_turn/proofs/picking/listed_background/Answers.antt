@@ -2,7 +2,7 @@ use Rattle.std.proofs.Common.{ℕ, ◌∙◌, ◌++◌, ◌∷◌, [], ap, refl,
 use Rattle.cqf_model.specs.declared.frames.Backed.{Backed}
 use Rattle.cqf_model.specs.declared.frames.Background.{Background}
 use Rattle.cqf_bridge_turn.specs.Picking.{is_backed_from}
-use Rattle.cqf_bridge_turn.proofs.Listing.{one_kept, one_passed}
+use Rattle.cqf_lists.proofs.Numbered.{one_kept, one_passed}
 use Rattle.cqf_bridge_turn.proofs.picking.listed_background.Goals as goal
 use Rattle.cqf_bridge_turn.proofs.picking.listed_background.Goals.{then-is_from+in_ok-push, else-is_from}
 

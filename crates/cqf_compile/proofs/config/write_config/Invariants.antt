@@ -9,4 +9,5 @@ abbrev pub invariant-loop-link : goal.invariant-loop-link
 invariant-loop-link l = l.text.items ≡ flat_map (text_of_link l.plan) (take l.link l.plan.links)
 
 abbrev pub invariant-loop-row : goal.invariant-loop-row
-invariant-loop-row l = l.text.items ≡ flat_map (text_of_link l.plan) l.plan.links ++ flat_map (text_of_row l.plan) (map (λ row. arc_value row) (take l.row-index l.rows))
+invariant-loop-row l = l.text.items ≡ flat_map (text_of_link l.plan) l.plan.links
+    ++ flat_map (text_of_row l.plan) (map (λ row. arc_value row) (take l.row-index l.rows))

@@ -6,23 +6,23 @@ pub put_offers-standing-requires : goal.put_offers-standing-requires
 put_offers-standing-requires c =
     rw (c.as_slice-2.ensures.value, c.as_slice-branches.ensures.value, c.from.ensures)
     (may_put c.the_laws.ensures c.args.basis.now c.args.cycle c.args.standing.now c.requires.way c.requires.in_run c.ranges.cycle.fits
-    c.tell_waiting.new.now.items c.tell_waiting.new.next.items c.tell_waiting.new.starts
-    (rw (c.as_slice.ensures.value, c.as_slice-branches.ensures.value, c.clear.ensures.items) at c.tell_waiting.ensures.sends)
-    (c.tell_waiting.ensures.capacity ∙ c.clear.ensures.capacity))
+    c.tell_links.new.now.items c.tell_links.new.next.items c.tell_links.new.starts
+    (rw (c.as_slice.ensures.value, c.as_slice-branches.ensures.value, c.clear.ensures.items) at c.tell_links.ensures.sends)
+    (c.tell_links.ensures.capacity ∙ c.clear.ensures.capacity))
 
 pub returns-clause-way : goal.returns-clause-way
 returns-clause-way c =
     rw (c.swap.ensures.x_after, c.swap.ensures.y_after, c.from.ensures)
     (next_way c.the_laws.ensures c.args.basis.now c.args.cycle c.args.standing.now c.requires.way c.requires.in_run c.ranges.cycle.fits
-    c.tell_waiting.new.now.items c.tell_waiting.new.next.items c.tell_waiting.new.starts
-    (rw (c.as_slice.ensures.value, c.as_slice-branches.ensures.value, c.clear.ensures.items) at c.tell_waiting.ensures.sends)
-    (c.tell_waiting.ensures.capacity ∙ c.clear.ensures.capacity)
-    c.put_offers-standing.result c.put_offers-standing.new.lanes c.tell_waiting.new.now refl
+    c.tell_links.new.now.items c.tell_links.new.next.items c.tell_links.new.starts
+    (rw (c.as_slice.ensures.value, c.as_slice-branches.ensures.value, c.clear.ensures.items) at c.tell_links.ensures.sends)
+    (c.tell_links.ensures.capacity ∙ c.clear.ensures.capacity)
+    c.put_offers-standing.result c.put_offers-standing.new.lanes c.tell_links.new.now refl
     (rw (c.as_slice-2.ensures.value, c.as_slice-branches.ensures.value, c.from.ensures) at c.put_offers-standing.ensures))
 
 pub returns-clause-starts : goal.returns-clause-starts
 returns-clause-starts c =
     starts_told c.the_laws.ensures c.args.basis.now c.args.cycle c.args.standing.now c.requires.way c.requires.in_run c.ranges.cycle.fits
-    c.tell_waiting.new.now.items c.tell_waiting.new.next.items c.tell_waiting.new.starts
-    (rw (c.as_slice.ensures.value, c.as_slice-branches.ensures.value, c.clear.ensures.items) at c.tell_waiting.ensures.sends)
-    (c.tell_waiting.ensures.capacity ∙ c.clear.ensures.capacity)
+    c.tell_links.new.now.items c.tell_links.new.next.items c.tell_links.new.starts
+    (rw (c.as_slice.ensures.value, c.as_slice-branches.ensures.value, c.clear.ensures.items) at c.tell_links.ensures.sends)
+    (c.tell_links.ensures.capacity ∙ c.clear.ensures.capacity)

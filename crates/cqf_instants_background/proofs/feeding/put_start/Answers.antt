@@ -1,6 +1,6 @@
 use Rattle.std.proofs.Common.{◌∙◌, ap, arith, eqb-true, length, subst, sym}
 use Rattle.cqf_model.specs.declared.ports.Arrival.{Arrival}
-use Rattle.cqf_instants_background.specs.Feeding.{FeedsArrival, lists_of_frames}
+use Rattle.cqf_lists.specs.ByNumber.{AddsTo, lists_of}
 use Rattle.cqf_instants_background.proofs.Feeds.{AddsStart-none, AddsStart-some, some_in}
 use Rattle.cqf_instants_background.proofs.feeding.put_start.Goals as goal
 
@@ -13,8 +13,8 @@ returns-then-is_empty c =
 -- and else it stands behind what is given
 pub returns : goal.returns
 returns c =
-    AddsStart-some c.args.lists.now.items (lists_of_frames c.put_arrival.new.lists.items) c.from.result c.index.result.now _ c.args.start.now c.from.ensures
+    AddsStart-some c.args.lists.now.items (lists_of c.put_arrival.new.lists.items) c.from.result c.index.result.now _ c.args.start.now c.from.ensures
     (omega (arith, c.requires, c.from.ensures)) c.index.ensures
     (omega (arith, ap length c.as_slice.ensures.value, some_in (length c.as_slice.result.now) (sym c.is_empty.ensures ∙ c.if-is_empty.false)))
-    (subst (λ (a : Arrival). FeedsArrival (lists_of_frames c.args.lists.now.items) (lists_of_frames c.put_arrival.new.lists.items) c.args.start.now.link a)
+    (subst (λ (a : Arrival). AddsTo (lists_of c.args.lists.now.items) (lists_of c.put_arrival.new.lists.items) c.args.start.now.link a)
     c.arrival_of_start.ensures c.in_ok-put_arrival.ensures)

@@ -1,7 +1,7 @@
 use Rattle.std.proofs.Common.{ℕ, ◌∙◌, ◌++◌, ◌∷◌, [], ap, refl, sym}
 use Rattle.cqf_model.specs.declared.frames.Backed.{Backed}
 use Rattle.cqf_model.specs.declared.frames.Background.{Background}
-use Rattle.cqf_instants_background.proofs.Numbering.{one_kept, one_passed}
+use Rattle.cqf_lists.proofs.Numbered.{one_kept, one_passed}
 use Rattle.cqf_instants_background.specs.Frames.{is_early}
 use Rattle.cqf_instants_background.proofs.frames.listed_before.Goals as goal
 use Rattle.cqf_instants_background.proofs.frames.listed_before.Goals.{then-is_early+in_ok-push, else-is_early}

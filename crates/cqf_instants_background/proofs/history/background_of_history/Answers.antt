@@ -5,7 +5,8 @@ use Rattle.std.specs.declared.vec.Vec.{Vec}
 use Rattle.std.proofs.lemmas.List.{length-map}
 use Rattle.cqf_model.specs.declared.frames.Backed.{Backed}
 use Rattle.cqf_model.specs.declared.ports.Arrival.{Arrival}
-use Rattle.cqf_instants_background.specs.Feeding.{AreFed, lists_of_frames}
+use Rattle.cqf_lists.specs.ByNumber.{lists_of}
+use Rattle.cqf_instants_background.specs.Feeding.{AreFed}
 use Rattle.cqf_instants_background.specs.Frames.{by_instant}
 use Rattle.cqf_instants_background.proofs.Takings.{all_taken, frames_on_links}
 use Rattle.cqf_instants_background.proofs.Whole.{AreOfRun, background_is, cycle_in, on_links, some_run}
@@ -14,7 +15,8 @@ use Rattle.cqf_instants_background.proofs.history.background_of_history.Goals as
 -- each background frame is on a link of the domain
 pub feed_links-requires-clause-frames : goal.feed_links-requires-clause-frames
 feed_links-requires-clause-frames c =
-    frames_on_links c.args.domain.now c.args.background.now (c.from.result * c.cycle_time-cycle_time.result.0) c.links-links.result c.as_slice.result.now c.requires.background
+    frames_on_links c.args.domain.now c.args.background.now (c.from.result * c.cycle_time-cycle_time.result.0) c.links-links.result
+    c.as_slice.result.now c.requires.background
     (c.as_slice.ensures.value ∙ c.in_ok-frames.ensures) c.links-links.ensures
 
 -- and so is each start
@@ -33,17 +35,17 @@ tell_links-requires-clause-taken c =
     let by : c.in_ok-frames.frames.items ≡ by_instant c.args.background.now (c.args.cycles * d.cycle_time) =
     c.in_ok-frames.ensures ∙ ap (by_instant c.args.background.now)
     ((λ i. c.from.ensures i * c.cycle_time-cycle_time.ensures.value i)) in
-    λ l inside. all_taken d c.args.cycles r.carried c.args.starts.now c.args.background.now c.in_ok-frames.frames.items (lists_of_frames c.in_ok-lists.lists.items)
+    λ l inside. all_taken d c.args.cycles r.carried c.args.starts.now c.args.background.now c.in_ok-frames.frames.items (lists_of c.in_ok-lists.lists.items)
     c.cycle_time-cycle_time.ensures.accepted (omega (arith, c.ranges.cycles.fits)) r.turn r.are c.requires.background by
-    (subst (λ (xs : List Backed). AreFed xs c.args.starts.now (length d.links) (lists_of_frames c.in_ok-lists.lists.items)) c.as_slice.ensures.value
-    (subst (λ k. AreFed c.as_slice.result.now c.args.starts.now k (lists_of_frames c.in_ok-lists.lists.items)) c.links-links.ensures c.in_ok-lists.ensures))
+    (subst (λ (xs : List Backed). AreFed xs c.args.starts.now (length d.links) (lists_of c.in_ok-lists.lists.items)) c.as_slice.ensures.value
+    (subst (λ k. AreFed c.as_slice.result.now c.args.starts.now k (lists_of c.in_ok-lists.lists.items)) c.links-links.ensures c.in_ok-lists.ensures))
     l (omega (arith, inside, length-map c.in_ok-lists.lists.items (λ (v : Vec Arrival Global). v.items)))
 
 -- sorted by cycle they are the background of each history of which the starts are
 pub returns : goal.returns
 returns c =
     background_is c.gate_gives_class.ensures c.port_starts_the_background.ensures c.args.domain.now c.args.cycles _ c.links-links.result c.args.starts.now
-    c.args.background.now c.as_slice.result.now (lists_of_frames c.in_ok-lists.lists.items) c.in_ok-backed.backed.items c.sort_by_key.new.self.items
+    c.args.background.now c.as_slice.result.now (lists_of c.in_ok-lists.lists.items) c.in_ok-backed.backed.items c.sort_by_key.new.self.items
     (λ i. c.from.ensures i * c.cycle_time-cycle_time.ensures.value i) c.links-links.ensures (c.as_slice.ensures.value ∙ c.in_ok-frames.ensures)
     c.in_ok-lists.ensures (length c.in_ok-lists.lists.items) (sym (length-map c.in_ok-lists.lists.items (λ (v : Vec Arrival Global). v.items)))
     c.in_ok-backed.ensures (record {

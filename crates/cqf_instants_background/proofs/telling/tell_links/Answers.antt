@@ -13,7 +13,11 @@ pub tell_link-requires-clause-link : goal.tell_link-requires-clause-link
 tell_link-requires-clause-link c =
     let all : c.loop-arrivals.yielded ++ c.in-Some.arrivals ∷ into_iter_items c.next.new.self ≡ c.args.lists.items =
     ap (λ xs. c.loop-arrivals.yielded ++ xs) (sym c.in-Some.ensures.steps.0) ∙ c.loop-arrivals.invariant.0 in
-    omega (arith, below_all c.loop-arrivals.yielded c.in-Some.arrivals _ c.args.lists.items c.loop-arrivals.link all c.loop-arrivals.invariant.1, c.requires.one_each)
+    omega (
+      arith,
+      below_all c.loop-arrivals.yielded c.in-Some.arrivals _ c.args.lists.items c.loop-arrivals.link all c.loop-arrivals.invariant.1,
+      c.requires.one_each,
+    )
 
 -- what it is given may be taken
 pub tell_link-requires-clause-taken : goal.tell_link-requires-clause-taken
@@ -27,7 +31,8 @@ pub loop-arrivals-preserved : goal.loop-arrivals-preserved
 loop-arrivals-preserved c =
     let front = c.loop-arrivals.yielded in
     let rest = into_iter_items c.next.new.self in
-    let all : front ++ c.in-Some.arrivals ∷ rest ≡ c.args.lists.items = ap (λ xs. front ++ xs) (sym c.in-Some.ensures.steps.0) ∙ c.loop-arrivals.invariant.0 in (
+    let all : front ++ c.in-Some.arrivals ∷ rest ≡ c.args.lists.items = ap (λ xs. front ++ xs) (sym c.in-Some.ensures.steps.0)
+    ∙ c.loop-arrivals.invariant.0 in (
       append_assoc front (c.in-Some.arrivals ∷ []) rest ∙ all,
       omega (arith, length-append front (c.in-Some.arrivals ∷ []), c.loop-arrivals.invariant.1),
       link_told front c.in-Some.arrivals rest c.args.lists.items c.loop-arrivals.link all c.loop-arrivals.invariant.1 c.args.domain.now c.args.end.0 _ _
@@ -38,5 +43,6 @@ loop-arrivals-preserved c =
 pub returns : goal.returns
 returns c =
     all_told c.args.domain.now c.args.end.0 c.loop-arrivals.yielded (into_iter_items c.loop-arrivals.arrivals-iterator) c.args.lists.items c.loop-arrivals.link
-    c.loop-arrivals.starts.items c.loop-arrivals.invariant.0 c.loop-arrivals.invariant.1 (sym c.loop-arrivals.arrivals-iterator.rest.ok.0 ∙ c.in-None.ensures.steps.0)
+    c.loop-arrivals.starts.items c.loop-arrivals.invariant.0 c.loop-arrivals.invariant.1 (sym c.loop-arrivals.arrivals-iterator.rest.ok.0
+    ∙ c.in-None.ensures.steps.0)
     c.loop-arrivals.invariant.2

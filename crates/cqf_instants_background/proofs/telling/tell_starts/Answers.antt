@@ -18,12 +18,14 @@ loop-start-preserved c =
     let f = told c.args.cycle_time.0 c.args.link in
     elim c.if-is_low.branch [
       | then-is_low+in_ok-push w ↦
-          one_told f is_low made c.loop-start.start-index _ _ c.loop-start-test.true refl c.args.starts.now.items c.loop-start.starts.items c.loop-start.invariant
+          one_told f is_low made c.loop-start.start-index _ _ c.loop-start-test.true refl c.args.starts.now.items c.loop-start.starts.items
+          c.loop-start.invariant
           _ (sym c.is_low.ensures ∙ w.if-is_low.true)
           (ap (λ v. v.items) w.starts-is ∙ w.in_ok-push.ensures.items ∙ ap (λ (x : Started). c.loop-start.starts.items ++ x ∷ []) w.told.ensures)
       | else-is_low w ↦
           ap (λ v. v.items) w.starts-is
-          ∙ one_passed f is_low made c.loop-start.start-index _ _ c.loop-start-test.true refl c.args.starts.now.items c.loop-start.starts.items c.loop-start.invariant
+          ∙ one_passed f is_low made c.loop-start.start-index _ _ c.loop-start-test.true refl c.args.starts.now.items c.loop-start.starts.items
+          c.loop-start.invariant
           (sym c.is_low.ensures ∙ w.if-is_low.false)
     ]
 

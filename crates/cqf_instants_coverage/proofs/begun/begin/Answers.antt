@@ -23,7 +23,12 @@ returns-then-row-cycle c =
     slice_get_read c.args.rows.now (length c.args.rows.now) k c.index-rows-place.result refl (omega (arith, c.loop-place-test.true)) c.index-rows-place.is in
     record {
       begins = c.loop-place.invariant;
-      next = λ row there. omega (arith, c.if-row-cycle.true, ap (λ (r : Row). r.admitted.0) (one_there c.args.rows.now k c.index-rows-place.result row at there));
+      next = λ row there. omega (
+        arith,
+        c.if-row-cycle.true,
+        ap (λ (r : Row). r.admitted.0)
+            (one_there c.args.rows.now k c.index-rows-place.result row at there),
+      );
     }
 
 pub loop-place-preserved : goal.loop-place-preserved

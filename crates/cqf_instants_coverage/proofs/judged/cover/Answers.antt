@@ -35,11 +35,11 @@ loop-offer-preserved c =
     slice_get_read offers (length offers) p c.offer-item.result refl c.loop-offer-test.true c.offer-item.is in
     let some : 0 < d.cycle_time = omega (arith, c.cycle_time-cycle_time.ensures.accepted.cycle_least) in
     let is_cycle = c.cycle_of-cycle.ensures ∙ ap (λ n. c.offer-item.result.at.0 / n) c.cycle_time-cycle_time.ensures.value in
-    subst (λ js. CoversTo d c.args.rows.now offers (p + 1) c.in_ok-begun.begun (λ name. get (pointwise nat_eq) c.begin.new.last name) c.judge.new.used.items js)
+    subst (λ js. CoversTo d c.args.rows.now offers (p + 1) c.in_ok-count.count (λ name. get (pointwise nat_eq) c.begin.new.last name) c.judge.new.used.items js)
     (sym c.in_ok-push.ensures.items)
-    (covers_more d c.args.rows.now offers p c.loop-offer.begun (λ name. get (pointwise nat_eq) c.loop-offer.last name) c.loop-offer.used.items
-    c.loop-offer.judgements.items c.loop-offer.invariant c.offer-item.result at some c.requires.order c.cycle_of-cycle.result.0 c.in_ok-begun.begun is_cycle
-    (λ name. get (pointwise nat_eq) c.begin.new.last name) c.in_ok-begun.ensures c.judge.new.used.items c.judge.result c.judge.ensures
+    (covers_more d c.args.rows.now offers p c.loop-offer.count (λ name. get (pointwise nat_eq) c.loop-offer.last name) c.loop-offer.used.items
+    c.loop-offer.judgements.items c.loop-offer.invariant c.offer-item.result at some c.requires.order c.cycle_of-cycle.result.0 c.in_ok-count.count is_cycle
+    (λ name. get (pointwise nat_eq) c.begin.new.last name) c.in_ok-count.ensures c.judge.new.used.items c.judge.result c.judge.ensures
     (record {
       follow = c.rows_follow.ensures.follow;
       rise = c.rows_follow.ensures.begin;
@@ -51,6 +51,6 @@ loop-offer-preserved c =
     }))
 
 pub returns : goal.returns
-returns c = covers_all c.args.domain.now c.args.rows.now c.args.offers.now c.loop-offer.offer-index c.loop-offer.begun
+returns c = covers_all c.args.domain.now c.args.rows.now c.args.offers.now c.loop-offer.offer-index c.loop-offer.count
     (λ name. get (pointwise nat_eq) c.loop-offer.last name) c.loop-offer.used.items c.loop-offer.judgements.items
     (omega (arith, c.loop-offer-test.false, c.loop-offer.auto.offer-index-end)) c.loop-offer.invariant

@@ -7,4 +7,4 @@ use Rattle.cqf_instants_coverage.proofs.judged.cover.Given as goal
 
 abbrev pub invariant-loop-offer : goal.invariant-loop-offer
 invariant-loop-offer l =
-    CoversTo l.domain l.rows l.offers l.offer-index l.begun (λ name. get (pointwise nat_eq) l.last name) l.used.items l.judgements.items
+    CoversTo l.domain l.rows l.offers l.offer-index l.count (λ name. get (pointwise nat_eq) l.last name) l.used.items l.judgements.items

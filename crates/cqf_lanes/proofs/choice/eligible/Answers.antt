@@ -4,8 +4,12 @@ use Rattle.cqf_lanes.proofs.choice.eligible.Goals as goal
 
 -- a mask of eight lanes has eight bits
 pub overflow_cast-result : goal.overflow_cast-result
-overflow_cast-result c = record { fits = subst (λ m. m < 256) (sym (compared_mask c.args.need.now c.args.left.now c.told-need c.told-left)) (compared_small c.args.need.now c.args.left.now c.told-need c.told-left) }
+overflow_cast-result c = record {
+  fits = subst (λ m. m < 256) (sym (compared_mask c.args.need.now c.args.left.now c.told-need c.told-left))
+      (compared_small c.args.need.now c.args.left.now c.told-need c.told-left);
+}
 
 -- those of the gates stay whose comparison holds
 pub returns : goal.returns
-returns c = eligible_from_mask c.args.gates _ c.args.need.now c.args.left.now c.told-need c.told-left (compared_mask c.args.need.now c.args.left.now c.told-need c.told-left)
+returns c = eligible_from_mask c.args.gates _ c.args.need.now c.args.left.now c.told-need c.told-left
+    (compared_mask c.args.need.now c.args.left.now c.told-need c.told-left)

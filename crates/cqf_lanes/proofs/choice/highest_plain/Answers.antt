@@ -5,11 +5,13 @@ use Rattle.cqf_lanes.proofs.choice.highest_plain.Goals as goal
 
 -- the first bit from above that is set
 pub returns-then-mask-bit-ne0 : goal.returns-then-mask-bit-ne0
-returns-then-mask-bit-ne0 c = highest_by_search c.args.mask c.loop-above.above (1 * 2 ^ (7 - c.loop-above.above) % 256) c.ranges.mask.fits (omega arith) c.loop-above.invariant (one_shl (7 - c.loop-above.above) 8 (omega arith)) c.if-mask-bit-ne0.true
+returns-then-mask-bit-ne0 c = highest_by_search c.args.mask c.loop-above.above (1 * 2 ^ (7 - c.loop-above.above) % 256) c.ranges.mask.fits
+    (omega arith) c.loop-above.invariant (one_shl (7 - c.loop-above.above) 8 (omega arith)) c.if-mask-bit-ne0.true
 
 -- one more isn't set
 pub loop-above-preserved : goal.loop-above-preserved
-loop-above-preserved c = search_goes_on c.args.mask c.loop-above.above (1 * 2 ^ (7 - c.loop-above.above) % 256) (omega arith) c.loop-above.invariant (one_shl (7 - c.loop-above.above) 8 (omega arith)) c.if-mask-bit-ne0.false
+loop-above-preserved c = search_goes_on c.args.mask c.loop-above.above (1 * 2 ^ (7 - c.loop-above.above) % 256) (omega arith)
+    c.loop-above.invariant (one_shl (7 - c.loop-above.above) 8 (omega arith)) c.if-mask-bit-ne0.false
 
 -- none is
 pub returns : goal.returns

@@ -6,22 +6,26 @@ use Rattle.cqf_lanes.proofs.runs.open_run.Goals as goal
 
 -- one of sixteen closes the class
 pub returns-then-closed-ne0 : goal.returns-then-closed-ne0
-returns-then-closed-ne0 c = run_ends_in_chunk c.args.class c.loop-done.done c.closed_from-closed.result c.args.states.now (omega arith) c.loop-done.invariant.opened c.closed_from-closed.ensures (omega arith)
+returns-then-closed-ne0 c = run_ends_in_chunk c.args.class c.loop-done.done c.closed_from-closed.result c.args.states.now (omega arith)
+    c.loop-done.invariant.opened c.closed_from-closed.ensures (omega arith)
 
 -- none does
 pub loop-done-preserved : goal.loop-done-preserved
 loop-done-preserved c = record {
   inside = omega arith;
-  opened = run_goes_on c.args.class c.loop-done.done c.closed_from-closed.result c.args.states.now (omega arith) c.loop-done.invariant.opened c.closed_from-closed.ensures (omega arith);
+  opened = run_goes_on c.args.class c.loop-done.done c.closed_from-closed.result c.args.states.now (omega arith) c.loop-done.invariant.opened
+      c.closed_from-closed.ensures (omega arith);
 }
 
 -- the rest goes on
 pub returns : goal.returns
-returns c = run_of_rest c.args.class c.loop-done.done c.open_run_plain.result c.args.states.now _ c.loop-done.invariant.inside refl c.loop-done.invariant.opened c.open_run_plain.ensures
+returns c = run_of_rest c.args.class c.loop-done.done c.open_run_plain.result c.args.states.now _ c.loop-done.invariant.inside refl
+    c.loop-done.invariant.opened c.open_run_plain.ensures
 
 -- the run isn't longer than the entries
 pub overflow_add-result-2 : goal.overflow_add-result-2
 overflow_add-result-2 c =
-    let whole = run_of_rest c.args.class c.loop-done.done c.open_run_plain.result c.args.states.now _ c.loop-done.invariant.inside refl c.loop-done.invariant.opened c.open_run_plain.ensures in
+    let whole = run_of_rest c.args.class c.loop-done.done c.open_run_plain.result c.args.states.now _ c.loop-done.invariant.inside refl
+    c.loop-done.invariant.opened c.open_run_plain.ensures in
     let most = prefix_len-le-length (λ gates. has_bit gates c.args.class) c.args.states.now in
     record { fits = omega (arith, whole, most) }

@@ -6,11 +6,13 @@ use Rattle.cqf_lanes.proofs.runs.open_run_plain.Goals as goal
 
 -- the first entry that closes the class
 pub returns-then-gates-class-eq0 : goal.returns-then-gates-class-eq0
-returns-then-gates-class-eq0 c = run_ends c.args.class c.loop-place.place c.args.states.now (omega arith) c.loop-place.invariant (λ more. lacks_from_zero _ c.args.class (1 * 2 ^ c.args.class % 256) (one_shl c.args.class 8 (omega arith)) c.if-gates-class-eq0.true)
+returns-then-gates-class-eq0 c = run_ends c.args.class c.loop-place.place c.args.states.now (omega arith) c.loop-place.invariant
+    (λ more. lacks_from_zero _ c.args.class (1 * 2 ^ c.args.class % 256) (one_shl c.args.class 8 (omega arith)) c.if-gates-class-eq0.true)
 
 -- one more entry opens it
 pub loop-place-preserved : goal.loop-place-preserved
-loop-place-preserved c = run_goes_on_by_one c.args.class c.loop-place.place c.args.states.now c.loop-place.invariant (has_from_nonzero _ c.args.class (1 * 2 ^ c.args.class % 256) (one_shl c.args.class 8 (omega arith)) c.if-gates-class-eq0.false)
+loop-place-preserved c = run_goes_on_by_one c.args.class c.loop-place.place c.args.states.now c.loop-place.invariant
+    (has_from_nonzero _ c.args.class (1 * 2 ^ c.args.class % 256) (one_shl c.args.class 8 (omega arith)) c.if-gates-class-eq0.false)
 
 -- all do
 pub returns : goal.returns

@@ -10,10 +10,13 @@ overflow_add-lanes c = adds_fit w64 c.loop-done.lanes c.eight_masked-lanes.resul
 -- eight more places
 pub loop-done-preserved : goal.loop-done-preserved
 loop-done-preserved c =
-    let long : length c.loop-done.lanes ≡ length c.eight_masked-lanes.result = c.loop-done.auto.lanes.0 ∙ sym (ap length c.eight_masked-lanes.ensures.lanes ∙ length-masked_chunk c.args.bit 8 c.loop-done.done c.args.costs.now c.args.masks.now c.requires.side_by_side (omega arith)) in
+    let long : length c.loop-done.lanes ≡ length c.eight_masked-lanes.result =
+    c.loop-done.auto.lanes.0 ∙ sym (ap length c.eight_masked-lanes.ensures.lanes ∙ length-masked_chunk c.args.bit 8 c.loop-done.done
+    c.args.costs.now c.args.masks.now c.requires.side_by_side (omega arith)) in
     record {
       inside = omega arith;
-      value = masked_eight_more c.args.bit c.args.costs.now c.args.masks.now c.loop-done.lanes c.eight_masked-lanes.result c.loop-done.done long c.eight_masked-lanes.ensures.lanes c.loop-done.invariant.value;
+      value = masked_eight_more c.args.bit c.args.costs.now c.args.masks.now c.loop-done.lanes c.eight_masked-lanes.result c.loop-done.done
+          long c.eight_masked-lanes.ensures.lanes c.loop-done.invariant.value;
       short = omega (arith, sum-zip2 c.loop-done.lanes c.eight_masked-lanes.result long);
     }
 
@@ -23,8 +26,10 @@ overflow_add-result c = sum_fits w64 0 c.loop-done.lanes (omega arith)
 
 -- with the rest
 pub overflow_add-result-2 : goal.overflow_add-result-2
-overflow_add-result-2 c = masked_of_all_fits c.args.bit c.args.costs.now c.args.masks.now c.loop-done.lanes c.loop-done.done c.masked_sum_plain.result c.requires.few c.type_inv.costs c.loop-done.invariant.value c.masked_sum_plain.ensures
+overflow_add-result-2 c = masked_of_all_fits c.args.bit c.args.costs.now c.args.masks.now c.loop-done.lanes c.loop-done.done
+    c.masked_sum_plain.result c.requires.few c.type_inv.costs c.loop-done.invariant.value c.masked_sum_plain.ensures
 
 -- all places are summed
 pub returns : goal.returns
-returns c = masked_of_all c.args.bit c.args.costs.now c.args.masks.now c.loop-done.lanes c.loop-done.done c.masked_sum_plain.result c.loop-done.invariant.value c.masked_sum_plain.ensures
+returns c = masked_of_all c.args.bit c.args.costs.now c.args.masks.now c.loop-done.lanes c.loop-done.done c.masked_sum_plain.result
+    c.loop-done.invariant.value c.masked_sum_plain.ensures

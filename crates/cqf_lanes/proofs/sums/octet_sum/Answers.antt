@@ -10,10 +10,12 @@ overflow_add-lanes c = adds_fit w64 c.loop-done.lanes c.eight_from-lanes.result 
 -- eight more values
 pub loop-done-preserved : goal.loop-done-preserved
 loop-done-preserved c =
-    let long : length c.loop-done.lanes ≡ length c.eight_from-lanes.result = c.loop-done.auto.lanes.0 ∙ sym (ap length c.eight_from-lanes.ensures.lanes ∙ length-chunk c.loop-done.done 8 c.args.octets.now (omega arith)) in
+    let long : length c.loop-done.lanes ≡ length c.eight_from-lanes.result =
+    c.loop-done.auto.lanes.0 ∙ sym (ap length c.eight_from-lanes.ensures.lanes ∙ length-chunk c.loop-done.done 8 c.args.octets.now (omega arith)) in
     record {
       inside = omega arith;
-      value = sum_eight_more c.args.octets.now c.loop-done.lanes c.eight_from-lanes.result c.loop-done.done long c.eight_from-lanes.ensures.lanes c.loop-done.invariant.value;
+      value = sum_eight_more c.args.octets.now c.loop-done.lanes c.eight_from-lanes.result c.loop-done.done long c.eight_from-lanes.ensures.lanes
+          c.loop-done.invariant.value;
       short = omega (arith, sum-zip2 c.loop-done.lanes c.eight_from-lanes.result long);
     }
 
@@ -23,7 +25,8 @@ overflow_add-result c = sum_fits w64 0 c.loop-done.lanes (omega arith)
 
 -- with the rest
 pub overflow_add-result-2 : goal.overflow_add-result-2
-overflow_add-result-2 c = sum_of_all_fits c.args.octets.now c.loop-done.lanes c.loop-done.done c.octet_sum_plain.result c.requires c.type_inv.octets c.loop-done.invariant.value c.octet_sum_plain.ensures
+overflow_add-result-2 c = sum_of_all_fits c.args.octets.now c.loop-done.lanes c.loop-done.done c.octet_sum_plain.result c.requires
+    c.type_inv.octets c.loop-done.invariant.value c.octet_sum_plain.ensures
 
 -- all values are summed
 pub returns : goal.returns

@@ -14,12 +14,14 @@ returns-clause-tables_halfway c run others net b tables =
 
 pub returns-clause-longer : goal.returns-clause-longer
 returns-clause-longer c run others cycles longer net more b is within =
-    let keeps = c.longer_run_keeps_its_cycles.ensures run others (compiled_lists run.domain) cycles longer net more is.shorter is.beginning.legal is.whole.legal in
+    let keeps = c.longer_run_keeps_its_cycles.ensures run others (compiled_lists run.domain) cycles longer net more is.shorter
+    is.beginning.legal is.whole.legal in
     follows_both run others net more b (λ l. keeps.waits l b.received within)
 
 pub returns-clause-longer_halfway : goal.returns-clause-longer_halfway
 returns-clause-longer_halfway c run others cycles longer net more b is within =
-    let keeps = c.longer_run_keeps_its_cycles.ensures run others (compiled_lists run.domain) cycles longer net more is.shorter is.beginning.legal is.whole.legal in
+    let keeps = c.longer_run_keeps_its_cycles.ensures run others (compiled_lists run.domain) cycles longer net more is.shorter
+    is.beginning.legal is.whole.legal in
     let upto : b.received ≤ cycles = omega (arith, within) in
     has_sent_both run others net more b (λ l. keeps.waits l b.received upto)
     (same_background run others cycles b.received b.number net more keeps within)

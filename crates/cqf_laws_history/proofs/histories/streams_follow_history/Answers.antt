@@ -1,4 +1,4 @@
-use Rattle.cqf_laws_history.proofs.Streams.{granted_is_last, seal_changes_no_stream, withdrawn_ends}
+use Rattle.cqf_laws_history.proofs.Growth.{granted_is_last, seal_changes_no_stream, withdrawn_ends}
 use Rattle.cqf_laws_history.proofs.histories.streams_follow_history.Goals as goal
 
 pub returns-clause-granted : goal.returns-clause-granted

@@ -18,7 +18,8 @@ loop-batch-preserved-in-Continue-1 c =
     let d = c.args.domain.now in
     let end = c.in-Some-bridge_at_end.ensures in
     let inside : c.from.result < length c.loop-batch.bridges.items = omega (arith, c.from.ensures, end.some.1, c.requires, c.loop-batch.invariant.as_many) in
-    one_handed d c.loop-batch.yielded c.args.bridges.now.items c.loop-batch.bridges.items c.in-Some.batch c.index_mut.result.now _ c.in-Some-bridge_at_end.bridge c.from.result
+    one_handed d c.loop-batch.yielded c.args.bridges.now.items c.loop-batch.bridges.items c.in-Some.batch c.index_mut.result.now _
+    c.in-Some-bridge_at_end.bridge c.from.result
     (ap (λ (l : ℕ). enters d l c.in-Some-bridge_at_end.bridge) (sym c.link.ensures) ∙ end.some.0)
     (λ other ends. end.only other (ap (λ (l : ℕ). enters d l other) c.link.ensures ∙ ends)) c.from.ensures inside c.index_mut.ensures.value refl refl
     c.in_ok-push.ensures.items c.loop-batch.invariant

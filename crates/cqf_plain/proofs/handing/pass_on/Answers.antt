@@ -10,12 +10,15 @@ use Rattle.cqf_plain.proofs.handing.pass_on.Goals as goal
 
 pub returns-clause-handed : goal.returns-clause-handed
 returns-clause-handed c = λ run net cycle same of all.
-    all_handed run net cycle of c.args.bridges.now.items c.args.sent.items all c.sort_batches.new.batches.items c.hand_out.new.bridges.items c.in_ok-sort_batches.ensures
-    (subst (λ (d : Domain). AreHandedOut d c.sort_batches.new.batches.items c.args.bridges.now.items c.hand_out.new.bridges.items) (sym same) c.in_ok-hand_out.ensures)
+    all_handed run net cycle of c.args.bridges.now.items c.args.sent.items all c.sort_batches.new.batches.items c.hand_out.new.bridges.items
+    c.in_ok-sort_batches.ensures
+    (subst (λ (d : Domain). AreHandedOut d c.sort_batches.new.batches.items c.args.bridges.now.items c.hand_out.new.bridges.items) (sym same)
+    c.in_ok-hand_out.ensures)
 
 pub returns-clause-listed : goal.returns-clause-listed
 returns-clause-listed c = λ run net cycle same of all.
-    cycle_listed run net cycle of c.args.bridges.now.items c.args.sent.items all c.sort_batches.new.batches.items (contents_of c.args.book.now) _ c.in_ok-sort_batches.ensures
+    cycle_listed run net cycle of c.args.bridges.now.items c.args.sent.items all c.sort_batches.new.batches.items (contents_of c.args.book.now)
+    _ c.in_ok-sort_batches.ensures
     (c.in_ok-extend_from_slice.ensures.items
     ∙ ap (λ (xs : List Started). c.args.book.now.starts.items ++ xs)
     (c.as_slice-2.ensures.value ∙ c.in_ok-starts.ensures ∙ ap (flat_map starts_of_batch) c.as_slice.ensures.value))

@@ -13,7 +13,8 @@ is_lost-requires-clause-in_cycle c =
     let frames = map received_as c.args.frames.now in
     let count = c.loop-frame.frame-index in
     let x = received_as c.frame-item.result in
-    let is : x ≡ get_or frames count x = ap received_as c.frame-item.is ∙ sym (get_or-map received_as c.args.frames.now count c.frame-item.result x c.loop-frame-test.true) in
+    let is : x ≡ get_or frames count x = ap received_as c.frame-item.is
+    ∙ sym (get_or-map received_as c.args.frames.now count c.frame-item.result x c.loop-frame-test.true) in
     c.requires.in_cycle x
     (among c.args.domain.now c.args.number c.args.table.now.cycle c.args.table.now.rows frames count c.loop-frame.gates
     c.loop-frame.invariant (omega (arith, c.loop-frame-test.true, length-map c.args.frames.now received_as)) x is)
@@ -23,7 +24,8 @@ is_lost-requires-clause-kept c =
     let frames = map received_as c.args.frames.now in
     let count = c.loop-frame.frame-index in
     let x = received_as c.frame-item.result in
-    let is : x ≡ get_or frames count x = ap received_as c.frame-item.is ∙ sym (get_or-map received_as c.args.frames.now count c.frame-item.result x c.loop-frame-test.true) in
+    let is : x ≡ get_or frames count x = ap received_as c.frame-item.is
+    ∙ sym (get_or-map received_as c.args.frames.now count c.frame-item.result x c.loop-frame-test.true) in
     next_kept c.args.domain.now c.args.number c.args.table.now.cycle c.args.table.now.rows frames count c.loop-frame.gates
     c.loop-frame.invariant (omega (arith, c.loop-frame-test.true, length-map c.args.frames.now received_as)) x is c.requires.ordered
 
@@ -37,7 +39,8 @@ returns-then-branch c =
     let frames = map received_as c.args.frames.now in
     let count = c.loop-frame.frame-index in
     let x = received_as c.frame-item.result in
-    let is : x ≡ get_or frames count x = ap received_as c.frame-item.is ∙ sym (get_or-map received_as c.args.frames.now count c.frame-item.result x c.loop-frame-test.true) in
+    let is : x ≡ get_or frames count x = ap received_as c.frame-item.is
+    ∙ sym (get_or-map received_as c.args.frames.now count c.frame-item.result x c.loop-frame-test.true) in
     policing_stops c.args.domain.now c.args.number c.args.table.now.cycle c.args.table.now.rows frames count c.loop-frame.gates
     c.loop-frame.invariant (omega (arith, c.loop-frame-test.true, length-map c.args.frames.now received_as)) x is
     (λ tables policed table counted. c.in_ok-is_lost.ensures.yes tables policed table counted c.if-branch.true)
@@ -47,7 +50,8 @@ loop-frame-preserved c =
     let frames = map received_as c.args.frames.now in
     let count = c.loop-frame.frame-index in
     let x = received_as c.frame-item.result in
-    let is : x ≡ get_or frames count x = ap received_as c.frame-item.is ∙ sym (get_or-map received_as c.args.frames.now count c.frame-item.result x c.loop-frame-test.true) in
+    let is : x ≡ get_or frames count x = ap received_as c.frame-item.is
+    ∙ sym (get_or-map received_as c.args.frames.now count c.frame-item.result x c.loop-frame-test.true) in
     policing_more c.args.domain.now c.args.number c.args.table.now.cycle c.args.table.now.rows frames count c.loop-frame.gates
     c.loop-frame.invariant (omega (arith, c.loop-frame-test.true, length-map c.args.frames.now received_as)) x is
     _ c.in_ok-is_lost.ensures.counted c.in_ok-is_lost.ensures.kept

@@ -20,7 +20,8 @@ receive_one-requires-clause-part c =
       c.loop-place.place,
       p.2,
       p.3,
-      next_receives p.0 p.1 c.args.table.now p.2 p.3 c.loop-place.place c.loop-place.bridges.items c.args.drops.now.items c.loop-place.drops.items c.index_mut.result.now
+      next_receives p.0 p.1 c.args.table.now p.2 p.3 c.loop-place.place c.loop-place.bridges.items c.args.drops.now.items
+          c.loop-place.drops.items c.index_mut.result.now
           (c.loop-place.invariant.received p.0 p.1 p.2 p.3 p.4) inside c.index_mut.ensures.value,
     )
 
@@ -29,9 +30,11 @@ pub returns-in-Err-clause-stops : goal.returns-in-Err-clause-stops
 returns-in-Err-clause-stops c = λ run net of is_table all.
     let inside : c.loop-place.place < length run.domain.bridges = omega (arith, c.loop-place-test.true, c.len-place-end.ensures, all.one_each) in
     let so_far = c.loop-place.invariant.received run net of is_table all in
-    let stands = next_receives run net c.args.table.now of is_table c.loop-place.place c.loop-place.bridges.items c.args.drops.now.items c.loop-place.drops.items
+    let stands = next_receives run net c.args.table.now of is_table c.loop-place.place c.loop-place.bridges.items c.args.drops.now.items
+    c.loop-place.drops.items
     c.index_mut.result.now so_far inside c.index_mut.ensures.value in
-    one_stops run net c.args.table.now of is_table c.loop-place.place c.loop-place.bridges.items c.args.drops.now.items c.loop-place.drops.items c.in-Err.fault so_far inside
+    one_stops run net c.args.table.now of is_table c.loop-place.place c.loop-place.bridges.items c.args.drops.now.items c.loop-place.drops.items
+    c.in-Err.fault so_far inside
     (c.in-Err.ensures.stops run net c.loop-place.place of is_table stands)
 
 -- or does
@@ -41,11 +44,13 @@ loop-place-preserved c = record {
   received = λ run net of is_table all.
       (let inside : c.loop-place.place < length run.domain.bridges = omega (arith, c.loop-place-test.true, c.len-place-end.ensures, all.one_each) in
       let so_far = c.loop-place.invariant.received run net of is_table all in
-      let stands = next_receives run net c.args.table.now of is_table c.loop-place.place c.loop-place.bridges.items c.args.drops.now.items c.loop-place.drops.items
+      let stands = next_receives run net c.args.table.now of is_table c.loop-place.place c.loop-place.bridges.items c.args.drops.now.items
+      c.loop-place.drops.items
       c.index_mut.result.now so_far inside c.index_mut.ensures.value in
-      one_received run net c.args.table.now of is_table c.loop-place.place c.loop-place.place c.loop-place.bridges.items _ c.args.drops.now.items c.loop-place.drops.items _
+      one_received run net c.args.table.now of is_table c.loop-place.place c.loop-place.place c.loop-place.bridges.items _ c.args.drops.now.items
+      c.loop-place.drops.items _
       c.in-Ok.dropped.items c.receive_one.new.driven so_far inside refl refl (c.in-Ok.ensures.receives run net c.loop-place.place of is_table stands)
-      (c.in-Ok-extend_from_slice.ensures.items ∙ ap (λ (xs : List Dropped). c.loop-place.drops.items ++ xs) c.as_slice.ensures.value));
+      (c.in_ok-extend_from_slice.ensures.items ∙ ap (λ (xs : List Dropped). c.loop-place.drops.items ++ xs) c.as_slice.ensures.value));
 }
 
 -- in the end all have

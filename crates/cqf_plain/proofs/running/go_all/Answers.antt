@@ -1,5 +1,5 @@
 use Rattle.std.proofs.Common.{ℕ, arith, subst}
-use Rattle.cqf_plain.specs.Course.{IsAt}
+use Rattle.cqf_plain.specs.SoFar.{IsAt}
 use Rattle.cqf_plain.proofs.Ending.{at_next, may_go_on, numbered_so}
 use Rattle.cqf_plain.proofs.running.go_all.Goals as goal
 
@@ -18,7 +18,7 @@ go_on-requires-clause-part c =
     let p = c.requires.part in (
       p.0,
       p.1,
-      may_go_on c.args.domain.now c.args.tables.now p.0 p.1 p.2 c.requires.numbered c.loop-place.place c.index-tables-place.result c.loop-place.course
+      may_go_on c.args.domain.now c.args.tables.now p.0 p.1 p.2 c.requires.numbered c.loop-place.place c.index-tables-place.result c.loop-place.so_far
           c.loop-place-test.true c.index-tables-place.is (c.loop-place.invariant p.0 p.1 p.2 p.3),
     )
 
@@ -26,18 +26,20 @@ go_on-requires-clause-part c =
 pub returns-in-Err-clause-stops : goal.returns-in-Err-clause-stops
 returns-in-Err-clause-stops c = λ run net over at.
     c.in-Err.ensures.stops run net
-    (may_go_on c.args.domain.now c.args.tables.now run net over c.requires.numbered c.loop-place.place c.index-tables-place.result c.loop-place.course
+    (may_go_on c.args.domain.now c.args.tables.now run net over c.requires.numbered c.loop-place.place c.index-tables-place.result c.loop-place.so_far
     c.loop-place-test.true c.index-tables-place.is (c.loop-place.invariant run net over at))
 
 -- or is at the next cycle
 pub loop-place-preserved : goal.loop-place-preserved
 loop-place-preserved c = λ run net over at.
-    at_next c.args.domain.now c.args.tables.now run net over c.requires.numbered c.loop-place.place c.index-tables-place.result _ c.loop-place-test.true c.index-tables-place.is
+    at_next c.args.domain.now c.args.tables.now run net over c.requires.numbered c.loop-place.place c.index-tables-place.result _
+    c.loop-place-test.true c.index-tables-place.is
     (c.in-Ok.ensures.goes run net
-    (may_go_on c.args.domain.now c.args.tables.now run net over c.requires.numbered c.loop-place.place c.index-tables-place.result c.loop-place.course
+    (may_go_on c.args.domain.now c.args.tables.now run net over c.requires.numbered c.loop-place.place c.index-tables-place.result c.loop-place.so_far
     c.loop-place-test.true c.index-tables-place.is (c.loop-place.invariant run net over at)))
 
 -- in the end it is behind its last table
 pub returns-clause-goes : goal.returns-clause-goes
 returns-clause-goes c = λ run net over at.
-    subst (λ (n : ℕ). IsAt run net n c.loop-place.course) (omega (arith, c.loop-place-test.false, c.loop-place.auto.place-end)) (c.loop-place.invariant run net over at)
+    subst (λ (n : ℕ). IsAt run net n c.loop-place.so_far) (omega (arith, c.loop-place-test.false, c.loop-place.auto.place-end))
+    (c.loop-place.invariant run net over at)

@@ -29,9 +29,11 @@ loop-place-preserved c = record {
   sent = λ run net of all.
       (let inside : c.loop-place.place < length run.domain.bridges = omega (arith, c.loop-place-test.true, c.len-place-end.ensures, all.one_each) in
       let so_far = c.loop-place.invariant.sent run net of all in
-      let stands = next_sends run net c.args.cycle.0 of c.loop-place.place c.loop-place.bridges.items c.loop-place.batches.items c.index_mut.result.now so_far inside
+      let stands = next_sends run net c.args.cycle.0 of c.loop-place.place c.loop-place.bridges.items c.loop-place.batches.items
+      c.index_mut.result.now so_far inside
       c.index_mut.ensures.value in
-      one_sent run net c.args.cycle.0 of c.loop-place.place c.loop-place.place c.loop-place.bridges.items _ c.loop-place.batches.items _ c.send_one.new.driven so_far inside
+      one_sent run net c.args.cycle.0 of c.loop-place.place c.loop-place.place c.loop-place.bridges.items _ c.loop-place.batches.items _
+      c.send_one.new.driven so_far inside
       refl refl
       (c.in_ok-send_one.ensures.halfway run net c.loop-place.place of stands) (c.in_ok-send_one.ensures.sends run net c.loop-place.place of stands));
 }

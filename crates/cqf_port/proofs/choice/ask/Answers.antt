@@ -16,8 +16,12 @@ loop-class-preserved c =
     let octet_time = nanos_of_octet c.args.rate in
     let asked = c.loop-class.asked in
     elim c.match-asked_of.branch [
-      | in-Some w ↦ subst (λ (after : Asked). AreAsked octet_time c.args.arrivals.now c.args.heads.now c.args.t.0 c.args.left.now (c.loop-class.class + 1) after.classes after.need after.left) (sym w.asked-is)
-          (asked_some octet_time c.args.arrivals.now c.args.heads.now c.args.t.0 c.args.left.now c.loop-class.class asked.classes asked.need asked.left c.loop-class-test.true c.loop-class.invariant w.in-Some.ensures.short w.in-Some.need w.in-Some.open _ refl w.in-Some.ensures.asked)
-      | in_default w ↦ subst (λ (after : Asked). AreAsked octet_time c.args.arrivals.now c.args.heads.now c.args.t.0 c.args.left.now (c.loop-class.class + 1) after.classes after.need after.left) (sym w.asked-is)
-          (asked_none octet_time c.args.arrivals.now c.args.heads.now c.args.t.0 c.args.left.now c.loop-class.class asked.classes asked.need asked.left c.loop-class-test.true c.loop-class.invariant w.in_default.ensures.short w.in_default.ensures.asked)
+      | in-Some w ↦ subst (λ (after : Asked). AreAsked octet_time c.args.arrivals.now c.args.heads.now c.args.t.0 c.args.left.now
+          (c.loop-class.class + 1) after.classes after.need after.left) (sym w.asked-is)
+          (asked_some octet_time c.args.arrivals.now c.args.heads.now c.args.t.0 c.args.left.now c.loop-class.class asked.classes asked.need
+          asked.left c.loop-class-test.true c.loop-class.invariant w.in-Some.ensures.short w.in-Some.need w.in-Some.open _ refl w.in-Some.ensures.asked)
+      | in_default w ↦ subst (λ (after : Asked). AreAsked octet_time c.args.arrivals.now c.args.heads.now c.args.t.0 c.args.left.now
+          (c.loop-class.class + 1) after.classes after.need after.left) (sym w.asked-is)
+          (asked_none octet_time c.args.arrivals.now c.args.heads.now c.args.t.0 c.args.left.now c.loop-class.class asked.classes asked.need
+          asked.left c.loop-class-test.true c.loop-class.invariant w.in_default.ensures.short w.in_default.ensures.asked)
     ]

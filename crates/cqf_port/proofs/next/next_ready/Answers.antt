@@ -32,6 +32,7 @@ events-smaller c = omega (arith, c.idle_until.ensures.later)
 -- none is in a whole round
 pub returns : goal.returns
 returns c =
-    let goes_by = rules_of c.args.schedule.now c.args.rate in
-    never_ready c.mask_is_in_force.ensures.states c.mask_is_in_force.ensures.some goes_by c.args.arrivals.now c.args.heads.now c.args.from.0 c.all_come.result.0 (omega (arith, c.round.ensures.some, c.round.ensures.value)) c.all_come.ensures.from c.all_come.ensures.come
+    let goes_by = rules_of c.args.egress.now.schedule.now c.args.egress.now.rate in
+    never_ready c.mask_is_in_force.ensures.states c.mask_is_in_force.ensures.some goes_by c.args.egress.now.arrivals.now c.args.heads.now
+    c.args.from.0 c.all_come.result.0 (omega (arith, c.round.ensures.some, c.round.ensures.value)) c.all_come.ensures.from c.all_come.ensures.come
     (λ s after soon. c.events.invariant.none s after (omega (arith, c.round.ensures.value)))

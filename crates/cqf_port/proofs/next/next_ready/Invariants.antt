@@ -8,7 +8,7 @@ abbrev pub invariant-events : goal.invariant-events
 invariant-events l = record {
   from : l.fn.from.0 ≤ l.t;
   in_time : l.t ≤ l.horizon;
-  none : (s : ℕ) → l.fn.from.0 ≤ s → s < l.t → NoneReady (rules_of l.schedule l.rate) l.arrivals l.heads s 0;
+  none : (s : ℕ) → l.fn.from.0 ≤ s → s < l.t → NoneReady (rules_of l.egress.schedule.now l.egress.rate) l.egress.arrivals.now l.heads s 0;
 }
 
 -- what is left to the horizon

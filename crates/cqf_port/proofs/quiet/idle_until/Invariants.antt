@@ -7,7 +7,8 @@ use Rattle.cqf_port.proofs.quiet.idle_until.Given as goal
 abbrev pub invariant-loop-class : goal.invariant-loop-class
 invariant-loop-class l = record {
   later : l.t.0 < l.until;
-  idle : (class : ℕ) → class < l.class → IsIdleOf (rules_of l.schedule l.rate) l.arrivals (get_or l.heads class None) l.t.0 l.until;
+  idle : (class : ℕ) → class < l.class → IsIdleOf (rules_of l.egress.schedule.now l.egress.rate) l.egress.arrivals.now (get_or l.heads class None)
+      l.t.0 l.until;
   within : l.until ≤ 2 ^ 64 - 1;
-  turns : l.until < 2 ^ 64 - 1 → OneTurns (rules_of l.schedule l.rate) l.arrivals l.heads l.until;
+  turns : l.until < 2 ^ 64 - 1 → OneTurns (rules_of l.egress.schedule.now l.egress.rate) l.egress.arrivals.now l.heads l.until;
 }

@@ -4,4 +4,5 @@ use Rattle.cqf_port.proofs.run.hand_on.Given as goal
 
 -- the starts so far stand behind what the caller had
 abbrev pub invariant-loop-transmission : goal.invariant-loop-transmission
-invariant-loop-transmission l = (l.given.items ≡ l.initial.given.items ++ map (start_of l.arrivals) (take l.transmission-index l.made)) × (l.kept ≡ length l.initial.given.items)
+invariant-loop-transmission l = (l.given.items ≡ l.initial.given.items ++ map (start_of l.arrivals) (take l.transmission-index l.made))
+    × (l.kept ≡ length l.initial.given.items)

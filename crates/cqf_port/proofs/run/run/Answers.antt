@@ -15,13 +15,15 @@ instants-init c = record {
 
 -- what a refused instant added
 pub returns-in_err-after-clause-more : goal.returns-in_err-after-clause-more
-returns-in_err-after-clause-more c = more_again c.args.starts.now.items c.instants.starts.items c.step.new.starts.items c.args.reached.0 c.instants.t c.instants.invariant.more c.step.ensures.more c.instants.invariant.from_reached
+returns-in_err-after-clause-more c = more_again c.args.starts.now.items c.instants.starts.items c.step.new.starts.items c.args.reached.0
+    c.instants.t c.instants.invariant.more c.step.ensures.more c.instants.invariant.from_reached
 
 -- the next instant at which anything can happen, or the end
 pub instants-preserved : goal.instants-preserved
 instants-preserved c = record {
   abreast = c.in_ok-after.ensures.ok.abreast _ (omega (arith, c.in_ok-after.ensures.ok.later)) (omega arith);
-  more = more_again c.args.starts.now.items c.instants.starts.items c.step.new.starts.items c.args.reached.0 c.instants.t c.instants.invariant.more c.step.ensures.more c.instants.invariant.from_reached;
+  more = more_again c.args.starts.now.items c.instants.starts.items c.step.new.starts.items c.args.reached.0 c.instants.t
+      c.instants.invariant.more c.step.ensures.more c.instants.invariant.from_reached;
   from_reached = omega (arith, c.in_ok-after.ensures.ok.later);
   in_time = omega arith;
 }
@@ -34,4 +36,5 @@ instants-smaller c = omega (arith, c.in_ok-after.ensures.ok.later)
 pub returns-clause-ok : goal.returns-clause-ok
 returns-clause-ok c =
     let at_end : c.instants.t ≡ c.args.until.0 = omega arith in
-    subst (λ (t : ℕ). IsAbreast (rules_of c.args.schedule.now c.args.rate) c.args.arrivals.now t c.instants.starts.items c.instants.progress) at_end c.instants.invariant.abreast
+    subst (λ (t : ℕ). IsAbreast (rules_of c.args.egress.now.schedule.now c.args.egress.now.rate) c.args.egress.now.arrivals.now t
+    c.instants.starts.items c.instants.progress) at_end c.instants.invariant.abreast

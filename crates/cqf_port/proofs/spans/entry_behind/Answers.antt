@@ -10,11 +10,16 @@ returns-clause-force c =
     let list = c.args.list.now in
     let place = c.args.place in
     let same : c.entries-entries.result.now ≡ list = c.entries-entries.ensures.value in
-    let ends : c.args.t + ((get_or list place (0, 0)).1 - c.args.offset) ≡ c.args.t + c.widened.result = omega (arith, c.widened.ensures.value, ap (λ (xs : List Entry). (get_or xs place (0, 0)).1) same) in
+    let ends : c.args.t + ((get_or list place (0, 0)).1 - c.args.offset) ≡ c.args.t + c.widened.result =
+    omega (arith, c.widened.ensures.value, ap (λ (xs : List Entry). (get_or xs place (0, 0)).1) same) in
     let inside = c.requires.force.inside in
     elim c.if-place-entries.branch [
-      | then-place-entries w ↦ subst (λ after. InForce list (c.args.t + c.widened.result) after 0) (sym w.after-is) (subst (λ begins. InForce list begins 0 0) ends
-          (force_again list c.args.t place c.args.offset c.entries-entries.ensures.facts c.requires.force (omega (arith, w.if-place-entries.true, ap length same))))
-      | else-place-entries w ↦ subst (λ after. InForce list (c.args.t + c.widened.result) after 0) (sym w.after-is) (subst (λ begins. InForce list begins (place + 1) 0) ends
-          (force_next list c.args.t place c.args.offset c.entries-entries.ensures.facts c.requires.force (omega (arith, w.if-place-entries.false, ap length same, inside))))
+      | then-place-entries w ↦ subst (λ after. InForce list (c.args.t + c.widened.result) after 0) (sym w.after-is)
+          (subst (λ begins. InForce list begins 0 0) ends
+          (force_again list c.args.t place c.args.offset c.entries-entries.ensures.facts c.requires.force
+          (omega (arith, w.if-place-entries.true, ap length same))))
+      | else-place-entries w ↦ subst (λ after. InForce list (c.args.t + c.widened.result) after 0) (sym w.after-is)
+          (subst (λ begins. InForce list begins (place + 1) 0) ends
+          (force_next list c.args.t place c.args.offset c.entries-entries.ensures.facts c.requires.force
+          (omega (arith, w.if-place-entries.false, ap length same, inside))))
     ]

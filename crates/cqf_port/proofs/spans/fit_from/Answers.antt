@@ -9,17 +9,22 @@ loop-t-preserved c =
     let list = c.args.list.now in
     let place = c.loop-t.place in
     let ends : c.loop-t.t + (get_or list place (0, 0)).1 ≡ c.entry_behind.result.1 = omega (arith, c.entry_behind.ensures.value) in
-    let over : get_or (get_or c.args.spans.now place []) c.args.class 0 < c.args.need = omega (arith, c.if-spans-place.false, ap (λ n. get_or (get_or c.args.spans.now place []) n 0) c.from.ensures) in
+    let over : get_or (get_or c.args.spans.now place []) c.args.class 0 < c.args.need =
+    omega (arith, c.if-spans-place.false, ap (λ n. get_or (get_or c.args.spans.now place []) n 0) c.from.ensures) in
     record {
       later = omega (arith, c.loop-t.invariant.later, c.entry_behind.ensures.later);
       force = c.entry_behind.ensures.force;
-      nowhere = nowhere_on list c.args.class c.args.need c.args.begins c.loop-t.t c.entry_behind.result.1 c.loop-t.invariant.nowhere
+      nowhere = nowhere_on list c.args.class c.args.need c.args.ahead.begins c.loop-t.t c.entry_behind.result.1 c.loop-t.invariant.nowhere
           (subst (λ n. FitsNowhere list c.args.class c.args.need c.loop-t.t n) ends
-          (nowhere_within c.mask_is_in_force.ensures.states c.mask_is_in_force.ensures.round c.mask_is_in_force.ensures.some list c.args.spans.now c.loop-t.t place c.args.class c.args.need c.requires.spans c.loop-t.invariant.force c.requires.gate c.requires.some c.requires.short c.entry_behind.ensures.short over));
+          (nowhere_within c.mask_is_in_force.ensures.states c.mask_is_in_force.ensures.round c.mask_is_in_force.ensures.some list
+          c.args.spans.now c.loop-t.t place c.args.class c.args.need c.requires.spans c.loop-t.invariant.force c.requires.gate
+          c.requires.some c.requires.short c.entry_behind.ensures.short over));
     }
 
 -- it fits into this one
 pub returns-then-spans-place-clause-fits : goal.returns-then-spans-place-clause-fits
 returns-then-spans-place-clause-fits c = λ soon.
     let place = c.loop-t.place in
-    fits_at c.mask_is_in_force.ensures.states c.mask_is_in_force.ensures.round c.mask_is_in_force.ensures.some c.args.list.now c.args.spans.now c.loop-t.t place c.args.class c.args.need c.requires.spans c.loop-t.invariant.force c.requires.gate c.requires.some c.requires.short (omega (arith, c.if-spans-place.true, ap (λ n. get_or (get_or c.args.spans.now place []) n 0) c.from.ensures))
+    fits_at c.mask_is_in_force.ensures.states c.mask_is_in_force.ensures.round c.mask_is_in_force.ensures.some c.args.list.now c.args.spans.now
+    c.loop-t.t place c.args.class c.args.need c.requires.spans c.loop-t.invariant.force c.requires.gate c.requires.some c.requires.short
+    (omega (arith, c.if-spans-place.true, ap (λ n. get_or (get_or c.args.spans.now place []) n 0) c.from.ensures))

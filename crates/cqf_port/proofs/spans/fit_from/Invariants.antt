@@ -6,9 +6,9 @@ use Rattle.cqf_port.proofs.spans.fit_from.Given as goal
 -- an entry begins, and before it fits nowhere
 abbrev pub invariant-loop-t : goal.invariant-loop-t
 invariant-loop-t l = record {
-  later : l.fn.begins ≤ l.t;
+  later : l.fn.ahead.begins ≤ l.t;
   force : InForce l.list l.t l.place 0;
-  nowhere : FitsNowhere l.list l.class l.need l.fn.begins l.t;
+  nowhere : FitsNowhere l.list l.class l.need l.fn.ahead.begins l.t;
 }
 
 -- what is left up to the end

@@ -12,4 +12,5 @@ returns-in-Always c = span_always c.args.list.now c.args.class c.args.t (2 ^ 63)
 
 -- it closes
 pub returns-in-Until : goal.returns-in-Until
-returns-in-Until c = span_until c.args.list.now c.args.class c.args.t (2 ^ 63) c.in-Until.closed.0 c.in-Until.ensures.span.0 c.in-Until.ensures.span.1 c.in-Until.ensures.span.2
+returns-in-Until c = span_until c.args.list.now c.args.class c.args.t (2 ^ 63) c.in-Until.closed.0 c.in-Until.ensures.span.0
+    c.in-Until.ensures.span.1 c.in-Until.ensures.span.2

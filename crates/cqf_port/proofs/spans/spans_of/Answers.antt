@@ -13,13 +13,28 @@ loop-place-preserved c =
     let place = c.loop-place.place in
     let more = sum_by_more (λ (entry : Entry). entry.1) entries place (0, 0) c.loop-place-test.true in
     let row : AreSpansAt entries (round_of (take place entries)) (2 ^ 63) c.row_at.result =
-    subst (λ t. AreSpansAt entries t (2 ^ 63) c.row_at.result) c.loop-place.invariant.begun (subst (λ (xs : List Entry). AreSpansAt xs c.loop-place.begun (2 ^ 63) c.row_at.result) (sym c.entries-entries.ensures.value) c.row_at.ensures) in
+    subst (λ t. AreSpansAt entries t (2 ^ 63) c.row_at.result) c.loop-place.invariant.begun
+    (subst (λ (xs : List Entry). AreSpansAt xs c.loop-place.begun (2 ^ 63) c.row_at.result) (sym c.entries-entries.ensures.value) c.row_at.ensures) in
     record {
       sixteen = length-set c.loop-place.spans place c.row_at.result ∙ c.loop-place.invariant.sixteen;
       begun = omega (arith, more, c.widened-begun.ensures.value, c.loop-place.invariant.begun);
       short = omega (arith, c.widened-begun.ensures.short, c.loop-place.invariant.short);
-      rows = each_written (λ k spans. AreSpansAt entries (round_of (take k entries)) (2 ^ 63) spans) c.loop-place.spans place place c.row_at.result [] refl (omega (arith, c.entries-entries.ensures.facts.few, ap length c.entries-entries.ensures.value, c.loop-place.invariant.sixteen)) c.loop-place.invariant.rows row;
+      rows = each_written (λ k spans. AreSpansAt entries (round_of (take k entries)) (2 ^ 63) spans) c.loop-place.spans place place
+          c.row_at.result [] refl (omega (
+            arith,
+            c.entries-entries.ensures.facts.few,
+            ap length c.entries-entries.ensures.value,
+            c.loop-place.invariant.sixteen,
+          )) c.loop-place.invariant.rows row;
     }
 
 pub overflow_add-begun : goal.overflow_add-begun
-overflow_add-begun c = record { fits = omega (arith, c.widened-begun.ensures.short, c.loop-place.invariant.short, c.entries-entries.ensures.facts.few, ap length c.entries-entries.ensures.value) }
+overflow_add-begun c = record {
+  fits = omega (
+    arith,
+    c.widened-begun.ensures.short,
+    c.loop-place.invariant.short,
+    c.entries-entries.ensures.facts.few,
+    ap length c.entries-entries.ensures.value,
+  );
+}

@@ -43,8 +43,10 @@ returns-in-Err-clause-err c =
     let inside : place < length requests = omega (arith, c.loop-place-test.true, length-map c.args.requests.now asked_of) in
     let asked = asked_at c.args.requests.now place c.index-requests-place.result c.loop-place-test.true c.index-requests-place.is
     ∙ ap (λ (rs : List Asked). request_at rs place) (sym so_far.0) in
-    refused_whole (λ found. IsRefused found c.in-Err.stop) d requests old old place (admitted_from d [] 1 requests) refl so_far.0 so_far.1.domain inside so_far.2
-    (λ more. subst (λ (there : Domain). IsRefused (admitted_from there old.administration.entries (place + 1) (request_at old.requests place ∷ more)) c.in-Err.stop) (sym so_far.1.domain)
+    refused_whole (λ found. IsRefused found c.in-Err.stop) d requests old old place (admitted_from d [] 1 requests) refl so_far.0
+    so_far.1.domain inside so_far.2
+    (λ more. subst (λ (there : Domain). IsRefused (admitted_from there old.administration.entries (place + 1) (request_at old.requests place ∷ more))
+    c.in-Err.stop) (sym so_far.1.domain)
     (subst (λ (one : Asked). IsRefused (admitted_from d old.administration.entries (place + 1) (one ∷ more)) c.in-Err.stop) asked
     (c.in-Err.ensures.err old.administration.entries more)))
 

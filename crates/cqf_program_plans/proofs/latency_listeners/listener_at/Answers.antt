@@ -21,4 +21,5 @@ returns-in-Station c =
     let told : Option Node → Option (List ℕ) = λ o. if is_station o then Some (option_map_or (name_of_node d) o []) else None in
     let ends : end_of d c.args.link ≡ Some (Station c.in-Station.station) =
     ap (option_map (λ (link : Link). link.to)) c.link.ensures ∙ ap Some c.in-Station.is in
-    ap Some (c.copied.ensures ∙ sym (get_or_from_slice_get d.stations c.in-Station.station c.station_name.result.now [] c.station_name.ensures)) ∙ ap told (sym ends)
+    ap Some (c.copied.ensures ∙ sym (get_or_from_slice_get d.stations c.in-Station.station c.station_name.result.now [] c.station_name.ensures))
+    ∙ ap told (sym ends)

@@ -4,7 +4,7 @@ use Rattle.cqf_model.specs.declared.topology.Hop.{Hop}
 use Rattle.cqf_model.specs.Domain.{end_of}
 use Rattle.cqf_model.specs.Table.{link_cost}
 use Rattle.cqf_program_plans.specs.LatencyText.{is_station, latency_to}
-use Rattle.cqf_program_plans.proofs.LatencyLists.{items_of, listed_more}
+use Rattle.cqf_program_plans.proofs.Found.{items_of, listed_more}
 use Rattle.cqf_program_plans.proofs.latency_listeners.push_listeners.Goals as goal
 use Rattle.cqf_program_plans.proofs.latency_listeners.push_listeners.Goals.{in-Some+in_ok-push, in_default}
 

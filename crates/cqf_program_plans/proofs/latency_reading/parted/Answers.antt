@@ -13,9 +13,11 @@ pub loop-planned-init : goal.loop-planned-init
 loop-planned-init c =
     let given = c.into_iter-planned-iterator.ensures.into_iter_gives.0 in (
       ap (λ (ps : List Planned). asked_in (map planned_text ps)) (sym given)
-          ∙ sym (ap (λ (rs : List Request). map asked_of rs ++ asked_in (map planned_text (into_iter_items c.into_iter-planned-iterator.result))) c.in_ok-requests.ensures.items),
+          ∙ sym (ap (λ (rs : List Request). map asked_of rs ++ asked_in (map planned_text (into_iter_items c.into_iter-planned-iterator.result)))
+          c.in_ok-requests.ensures.items),
       ap (λ (ps : List Planned). deadlines_in (map planned_text ps)) (sym given)
-          ∙ sym (ap (λ (ds : List (Option ℕ)). ds ++ deadlines_in (map planned_text (into_iter_items c.into_iter-planned-iterator.result))) c.in_ok-deadlines.ensures.items),
+          ∙ sym (ap (λ (ds : List (Option ℕ)). ds ++ deadlines_in (map planned_text (into_iter_items c.into_iter-planned-iterator.result)))
+          c.in_ok-deadlines.ensures.items),
     )
 
 pub loop-planned-preserved : goal.loop-planned-preserved

@@ -31,7 +31,8 @@ returns g c =
     let put_streams = Puts-as _ streams (ap decimal c.streams_on.ensures) c.put_number-4.ensures in
     let put_used = Puts-as (used_text c.budget_on-most.result c.cost_on-held.result) used
     (ap (λ (n : ℕ). used_text n c.cost_on-held.result) is_most ∙ ap (used_text most) is_held) c.put_used.ensures in
-    Puts-field (name_of_link d l) (decimal (rate_on d l)) (decimal most ∷ decimal held ∷ left ∷ fits ∷ streams ∷ used ∷ []) c.put_link.ensures c.put_byte.ensures
+    Puts-field (name_of_link d l) (decimal (rate_on d l)) (decimal most ∷ decimal held ∷ left ∷ fits ∷ streams ∷ used ∷ []) c.put_link.ensures
+    c.put_byte.ensures
     (Puts-field (decimal (rate_on d l)) (decimal most) (decimal held ∷ left ∷ fits ∷ streams ∷ used ∷ []) put_rate c.put_byte-2.ensures
     (Puts-field (decimal most) (decimal held) (left ∷ fits ∷ streams ∷ used ∷ []) put_most c.put_byte-3.ensures
     (Puts-field (decimal held) left (fits ∷ streams ∷ used ∷ []) put_held c.put_byte-4.ensures

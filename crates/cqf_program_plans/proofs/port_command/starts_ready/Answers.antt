@@ -10,4 +10,5 @@ invariant_of-result c = AreTellable-started c.run_to.new.self c.in_ok-run_to.ens
 
 pub returns : goal.returns
 returns c = IsStartsText-run (rules_of c.args.list c.args.rate) c.args.arrivals.items c.args.until c.args.rate c.with_arrivals-port.result c.run_to.new.self
-    c.with_arrivals-port.ensures c.in_ok-run_to.ensures.ok (λ past. (c.in_ok-run_to.ensures.past past).1) c.in_ok-run_to.ensures.facts c.in_ok-run_to.ensures.only
+    c.with_arrivals-port.ensures c.in_ok-run_to.ensures.ok (λ past. (c.in_ok-run_to.ensures.past past).1) c.in_ok-run_to.ensures.facts
+    c.in_ok-run_to.ensures.only

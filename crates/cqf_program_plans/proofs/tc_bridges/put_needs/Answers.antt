@@ -27,5 +27,6 @@ loop-row-preserved g c =
     (ap (λ found. option_map_or (needs_by d bridge row) found []) way) c.put_needs_of.ensures in
     record {
       put = Puts-as _ _ (sym (stream_more (stream_needs d bridge) rows k row at.0)) (Puts-then _ _ invariant.put put);
-      seen = subst (λ (before : List Row). IsSeenWay d bridge before c.way_of-way.new.seen) (sym at.1) (c.way_of-way.ensures.noted (take k rows) invariant.seen);
+      seen = subst (λ (before : List Row). IsSeenWay d bridge before c.way_of-way.new.seen) (sym at.1)
+          (c.way_of-way.ensures.noted (take k rows) invariant.seen);
     }

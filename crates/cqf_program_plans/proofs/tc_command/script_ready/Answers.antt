@@ -9,6 +9,7 @@ invariant_of-result c =
     record {
       of_ports = c.in_ok-port_words.ensures.words
           ∙ ap tx_words
-          (c.compiled_list-port_list.ensures ∙ ap (λ (time : ℕ). port_list time c.guard.result.0) c.cycle_time.ensures.value ∙ ap (λ (guard : ℕ). port_list d.cycle_time guard) c.guard.ensures);
+          (c.compiled_list-port_list.ensures ∙ ap (λ (time : ℕ). port_list time c.guard.result.0) c.cycle_time.ensures.value
+          ∙ ap (λ (guard : ℕ). port_list d.cycle_time guard) c.guard.ensures);
       of_gates = c.in_ok-gate_words.ensures.words ∙ ap gate_words c.cycle_time-2.ensures.value;
     }

@@ -8,4 +8,5 @@ pub loop-bridge-preserved : goal.loop-bridge-preserved
 loop-bridge-preserved g c =
     let text = bridge_text c.args.domain.now c.args.rows.now in
     let bridge = c.loop-bridge.bridge in
-    Puts-as _ _ (sym (ap (each_below text) (add-one bridge))) (Puts-then (each_below text bridge) (text bridge) c.loop-bridge.invariant c.put_bridge_function.ensures)
+    Puts-as _ _ (sym (ap (each_below text) (add-one bridge))) (Puts-then (each_below text bridge) (text bridge) c.loop-bridge.invariant
+    c.put_bridge_function.ensures)

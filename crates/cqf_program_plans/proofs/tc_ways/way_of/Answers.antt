@@ -13,7 +13,8 @@ returns c =
     let there = sym c.first_hop.ensures ∙ c.in_ok-hop.was in
     record {
       way = λ before now.
-          ap (λ (new : Bool). Some (hop.from, new)) (c.is_unseen-is_new.ensures.value ∙ new_where_unseen d bridge before row c.args.seen.now now hop.from c.is_unseen-is_new.ensures.range)
+          ap (λ (new : Bool). Some (hop.from, new)) (c.is_unseen-is_new.ensures.value ∙ new_where_unseen d bridge before row c.args.seen.now
+          now hop.from c.is_unseen-is_new.ensures.range)
           ∙ sym (ap (option_map (λ (h : Hop). (h.from, is_new d bridge before h.from))) there);
       noted = λ before now. seen_more d bridge before row c.args.seen.now now hop c.note.new.seen there c.note.ensures;
     }

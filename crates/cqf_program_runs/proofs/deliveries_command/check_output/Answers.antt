@@ -11,12 +11,14 @@ check_scenario-requires-clause-may c = c.in_ok-planned.ensures.ok.may
 pub returns-clause-ok : goal.returns-clause-ok
 returns-clause-ok c =
     IfOk-weaker c.check_scenario.result _ _
-    (λ line told. IsChecked-given c.args.cycles c.args.input.now c.in_ok-planned.planned (Ok line.items) c.in_ok-planned.ensures.ok told) c.check_scenario.ensures.ok
+    (λ line told. IsChecked-given c.args.cycles c.args.input.now c.in_ok-planned.planned (Ok line.items) c.in_ok-planned.ensures.ok told)
+    c.check_scenario.ensures.ok
 
 pub returns-clause-err : goal.returns-clause-err
 returns-clause-err c =
     IfErr-weaker c.check_scenario.result _ _
-    (λ stop refused. IsCheckRefusal-given c.args.cycles c.args.input.now c.in_ok-planned.planned stop c.in_ok-planned.ensures.ok refused) c.check_scenario.ensures.err
+    (λ stop refused. IsCheckRefusal-given c.args.cycles c.args.input.now c.in_ok-planned.planned stop c.in_ok-planned.ensures.ok refused)
+    c.check_scenario.ensures.err
 
 pub returns-in_err-planned-clause-err : goal.returns-in_err-planned-clause-err
 returns-in_err-planned-clause-err c =

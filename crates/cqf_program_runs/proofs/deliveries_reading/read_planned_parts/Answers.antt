@@ -29,6 +29,8 @@ pub returns-in_err-given-clause-err : goal.returns-in_err-given-clause-err
 returns-in_err-given-clause-err c =
     let texts = texts_of c.args.parts in
     let found = c.in_ok-requests.ensures.ok in
-    passed-on c.from_residual-in_err-given.result c.in_err-given.field-0.0 (IsRefused (planned_scenario_of c.args.cycles texts)) c.from_residual-in_err-given.ensures.1
-    (planned-refused c.args.cycles texts c.in_ok-domain.domain found.streams c.in_ok-domain.ensures.ok found.holds c.in_ok-requests.requests.items c.in_err-given.field-0.0
+    passed-on c.from_residual-in_err-given.result c.in_err-given.field-0.0 (IsRefused (planned_scenario_of c.args.cycles texts))
+    c.from_residual-in_err-given.ensures.1
+    (planned-refused c.args.cycles texts c.in_ok-domain.domain found.streams c.in_ok-domain.ensures.ok found.holds c.in_ok-requests.requests.items
+    c.in_err-given.field-0.0
     found.planned.asked c.in_err-given.ensures.err)

@@ -3,7 +3,7 @@ use Rattle.cqf_compile.proofs.Bridges.{no_hop}
 use Rattle.cqf_model.specs.declared.topology.Hop.{Hop}
 use Rattle.cqf_model.specs.Domain.{end_of}
 use Rattle.cqf_program_plans.specs.LatencyText.{is_station}
-use Rattle.cqf_program_runs.proofs.Listed.{items_of, listed_more}
+use Rattle.cqf_program_plans.proofs.Found.{items_of, listed_more}
 use Rattle.cqf_program_runs.specs.Arrivals.{whole_in}
 use Rattle.cqf_program_runs.specs.Deliveries.{delivery_to}
 use Rattle.cqf_program_runs.proofs.made.push_to_listeners.Goals as goal

@@ -9,6 +9,7 @@ invariant-loop-order l =
     (l.ledger.administration.domain ≡ l.fn.ledger.administration.domain)
     × (l.ledger.requests ≡ l.fn.ledger.requests)
     × (l.ledger.script ≡ l.fn.ledger.script)
-    × (with_calls l.fn.ledger.administration.domain l.ledger.administration.entries (map (ordered_in l.fn.ledger.requests l.fn.ledger.script) (drop l.order-index l.orders))
+    × (with_calls l.fn.ledger.administration.domain l.ledger.administration.entries
+    (map (ordered_in l.fn.ledger.requests l.fn.ledger.script) (drop l.order-index l.orders))
     ≡ with_calls l.fn.ledger.administration.domain l.fn.ledger.administration.entries (map (ordered_in l.fn.ledger.requests l.fn.ledger.script) l.fn.orders))
     × HasRoom l.cycles l.ledger.administration.entries (map (ordered_in l.fn.ledger.requests l.fn.ledger.script) (drop l.order-index l.orders))

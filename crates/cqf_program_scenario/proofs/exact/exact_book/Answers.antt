@@ -53,5 +53,6 @@ returns c =
     let dropped = c.in_ok-drops.ensures entries rows c.requires.legal sliced.judged in
     subst (λ (os : List Offer). TellsBook parts (IsThere d entries os given.background.items c.args.cycles)) c.as_slice-offers.ensures.value
     (subst (λ (ps : ExactParts). TellsBook ps (IsThere d entries offers given.background.items c.args.cycles)) (sym c.new.ensures)
-    (parts_are_told c.tables_are_orderly.ensures.orderly c.book_of_history_is_there.ensures d c.args.cycles rows offers judgements entries given.background.items _
+    (parts_are_told c.tables_are_orderly.ensures.orderly c.book_of_history_is_there.ensures d c.args.cycles rows offers judgements entries
+    given.background.items _
     c.cycle_time-accepted.ensures.accepted offered c.requires.background sliced c.in_ok-pass.ensures backed dropped))

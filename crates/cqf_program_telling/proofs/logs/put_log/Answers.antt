@@ -9,4 +9,5 @@ use Rattle.cqf_program_telling.proofs.logs.put_log.Goals as goal
 pub loop-logged-preserved : goal.loop-logged-preserved
 loop-logged-preserved g c =
     let puts = Puts-then _ _ c.loop-logged.invariant c.put_logged.ensures in
-    Puts-as _ (history_text (map (recorded_in (map asked_of c.args.requests.now) c.args.script.now) (take (c.loop-logged.logged-index + 1) c.args.log.now))) (grind (arith, common_steps)) puts
+    Puts-as _ (history_text (map (recorded_in (map asked_of c.args.requests.now) c.args.script.now) (take (c.loop-logged.logged-index + 1) c.args.log.now)))
+    (grind (arith, common_steps)) puts

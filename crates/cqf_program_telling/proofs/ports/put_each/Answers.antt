@@ -9,4 +9,5 @@ use Rattle.cqf_program_telling.proofs.ports.put_each.Goals as goal
 pub loop-start-preserved : goal.loop-start-preserved
 loop-start-preserved g c =
     let puts = Puts-then _ _ c.loop-start.invariant c.put_start.ensures in
-    Puts-as _ (lines_of_port (nanos_of_octet c.args.rate) (map (start_of c.args.arrivals.now) (take (c.loop-start.start-index + 1) c.args.starts.now))) (grind (arith, common_steps)) puts
+    Puts-as _ (lines_of_port (nanos_of_octet c.args.rate) (map (start_of c.args.arrivals.now) (take (c.loop-start.start-index + 1) c.args.starts.now)))
+    (grind (arith, common_steps)) puts

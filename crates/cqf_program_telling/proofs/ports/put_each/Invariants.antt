@@ -6,4 +6,5 @@ use Rattle.cqf_units.specs.Timing.{nanos_of_octet}
 use Rattle.cqf_program_telling.proofs.ports.put_each.Given as goal
 
 abbrev pub invariant-loop-start : goal.invariant-loop-start
-invariant-loop-start g l = Puts g.W.Write.contents l.initial.press l.press (lines_of_port (nanos_of_octet l.rate) (map (start_of l.arrivals) (take l.start-index l.starts)))
+invariant-loop-start g l = Puts g.W.Write.contents l.initial.press l.press
+    (lines_of_port (nanos_of_octet l.rate) (map (start_of l.arrivals) (take l.start-index l.starts)))

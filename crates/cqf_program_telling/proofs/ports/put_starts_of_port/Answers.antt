@@ -9,4 +9,5 @@ use Rattle.cqf_program_telling.proofs.ports.put_starts_of_port.Goals as goal
 
 pub returns : goal.returns
 returns g c =
-    Puts-then (line_of_fields start_header) (lines_of_port (nanos_of_octet c.args.rate) (map (start_of c.args.arrivals.now) c.args.starts.now)) c.put_header.ensures c.put_each.ensures
+    Puts-then (line_of_fields start_header) (lines_of_port (nanos_of_octet c.args.rate) (map (start_of c.args.arrivals.now) c.args.starts.now))
+    c.put_header.ensures c.put_each.ensures

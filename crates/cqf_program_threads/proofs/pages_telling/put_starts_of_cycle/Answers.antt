@@ -5,7 +5,8 @@ use Rattle.cqf_program_press.proofs.PressLemmas.{Puts-as, Puts-nothing, Puts-the
 use Rattle.cqf_report.specs.Books.{lines_of_starts}
 use Rattle.cqf_program_threads.specs.PagedBooks.{IsStretch, stands_on, starts_on_links}
 use Rattle.cqf_program_threads.proofs.PageLines.{starts_more}
-use Rattle.cqf_program_threads.proofs.Places.{ArePlaces, accepted_too, first_places, from_too, inside_too, next_places, on_the_link, own_has_place, own_within, place_on_page}
+use Rattle.cqf_program_threads.proofs.Places.{ArePlaces, accepted_too, first_places, from_too, inside_too, next_places}
+use Rattle.cqf_program_threads.proofs.Places.{on_the_link, own_has_place, own_within, place_on_page}
 use Rattle.cqf_program_threads.proofs.pages_telling.put_starts_of_cycle.Goals as goal
 
 -- at first no line is put, and each place is its page's begin

@@ -9,5 +9,6 @@ pub returns-clause-rule : goal.returns-clause-rule
 returns-clause-rule c =
     let given = c.value_parser-2.ensures.given in
     let in_range : c.range.result ≡ vp.Unsigned 1 100000 = rw c.value_parser.ensures at c.range.ensures in
-    with_parser c.wanted_option.result c.value_parser-2.result (wanted_rule (codes "cycles")) (vp.Unsigned 1 100000) c.value_parser-2.ensures.others c.wanted_option.ensures.rule
+    with_parser c.wanted_option.result c.value_parser-2.result (wanted_rule (codes "cycles")) (vp.Unsigned 1 100000)
+    c.value_parser-2.ensures.others c.wanted_option.ensures.rule
     (given.1 ∙ ap (λ (p : ValueParser). Some p) (given.2 ∙ in_range))

@@ -46,5 +46,6 @@ returns g c =
     let Written : List ℕ → Type 0 = λ text. HasWritten (λ (w : Vec ℕ Global). Some w.items) c.loop-link.writer text in
     let all : c.loop-link.link ≡ length d.links = omega (arith, c.loop-link-test.false, c.loop-link.auto.link-end, c.links-link-end.ensures) in
     handed-out c.written_text.result (λ w. w.items) Written (columns_text d (frames_by columns) (octets_by columns)) c.written_text.ensures
-    (subst (λ (n : ℕ). Written (line_of_fields link_header ++ each_below (λ l. line_of_fields (column_fields d (frames_by columns) (octets_by columns) l)) n)) all
+    (subst (λ (n : ℕ). Written (line_of_fields link_header ++ each_below (λ l. line_of_fields (column_fields d (frames_by columns) (octets_by columns) l)) n))
+    all
     c.loop-link.invariant)

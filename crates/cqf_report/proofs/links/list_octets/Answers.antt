@@ -1,8 +1,8 @@
 use Rattle.std.proofs.Common.{arith}
-use Rattle.cqf_report.proofs.LinkLists.{AddsOctets-set}
+use Rattle.cqf_lists.proofs.ByNumber.{put_to}
 use Rattle.cqf_report.proofs.links.list_octets.Goals as goal
 
 pub returns : goal.returns
 returns c =
-    AddsOctets-set c.args.by_link.now.items c.from.result c.args.link c.push.new.self c.index_mut.result.now _ c.args.octets
+    put_to c.args.by_link.now.items c.from.result c.args.link c.push.new.self c.index_mut.result.now _ c.args.octets
     c.from.ensures (omega (arith, c.requires, c.from.ensures)) c.index_mut.ensures.value c.in_ok-push.ensures.items

@@ -1,13 +1,14 @@
 use Rattle.std.proofs.Common.{◌≡◌, ℕ, [], List, Vec, Global, Some, ◌∙◌, ◌++◌, ◌<◌, subst, sym, ap, arith, length}
 use Rattle.std.specs.Prelude.{slice_index}
 use Rattle.std.proofs.lemmas.List.{get_or_default}
+use Rattle.cqf_lists.specs.ByNumber.{lists_of}
 use Rattle.cqf_lists.specs.Lists.{each_below}
 use Rattle.cqf_model.specs.Domain.{Domain}
 use Rattle.cqf_model.specs.Book.{contents_of}
 use Rattle.cqf_model.specs.OnLinks.{frames_on, octets_on}
 use Rattle.cqf_report.specs.Books.{name_of_link}
 use Rattle.cqf_model.specs.declared.frames.Started.{Started}
-use Rattle.cqf_report.specs.ByLink.{AreListsByLink, lists_by_link}
+use Rattle.cqf_report.specs.ByLink.{AreListsByLink}
 use Rattle.cqf_report.specs.LinkSums.{link_fields, link_header, links_text, most_on}
 use Rattle.cqf_report.specs.Written.{HasWritten, line_of_fields}
 use Rattle.cqf_report.proofs.LinkLines.{one_line_more}
@@ -26,9 +27,9 @@ loop-link-preserved g c =
     let so_far = line_of_fields link_header ++ each_below (λ l. line_of_fields (link_fields d starts l)) link in
     let Written : List ℕ → Type 0 = λ text. HasWritten (λ (w : Vec ℕ Global). Some w.items) c.write_sums.new.writer text in
     let ends : c.name_of.result.now ≡ name_of_link d link = c.name_of.ensures.name ∙ ap (λ (x : Domain). name_of_link x link) c.in_ok-names.ensures in
-    let listed : AreListsByLink starts 256 (lists_by_link c.as_slice.result.now) =
-    subst (λ (lists : List (Vec ℕ Global)). AreListsByLink starts 256 (lists_by_link lists)) (sym c.as_slice.ensures.value)
-    (subst (λ (xs : List Started). AreListsByLink xs 256 (lists_by_link c.in_ok-by_link.by_link.items)) value c.in_ok-by_link.ensures) in
+    let listed : AreListsByLink starts 256 (lists_of c.as_slice.result.now) =
+    subst (λ (lists : List (Vec ℕ Global)). AreListsByLink starts 256 (lists_of lists)) (sym c.as_slice.ensures.value)
+    (subst (λ (xs : List Started). AreListsByLink xs 256 (lists_of c.in_ok-by_link.by_link.items)) value c.in_ok-by_link.ensures) in
     let frames : c.sums_of_link-sums.result.frames ≡ frames_on link starts = c.sums_of_link-sums.ensures.frames starts listed in
     let octets : c.sums_of_link-sums.result.octets ≡ octets_on link starts = c.sums_of_link-sums.ensures.octets starts listed in
     let below : link < 256 = omega (arith, c.loop-link-test.true, c.links-link-end.type_inv) in

@@ -37,31 +37,31 @@ loop-number-preserved g c =
           c.loop-number.invariant.taken (λ rest still. rw c.in-Some.is at (c.in_ok-row.ensures.taken rest still)));
     }
 
-pub returns-in-Ok-End-clause-ok : goal.returns-in-Ok-End-clause-ok
-returns-in-Ok-End-clause-ok g c =
+pub returns-in-End-clause-ok : goal.returns-in-End-clause-ok
+returns-in-End-clause-ok g c =
     taken-end (length g.F.RowFormat.header)
     (g.F.RowFormat.row_of c.args.format.now) g.F.RowFormat.instant_of g.R.Read.remaining c.args.reader.now c.loop-number.number c.loop-number.before.0
     c.loop-number.rows.items c.loop-number.reader
-    c.loop-number.invariant.taken (λ rest still. rw c.in-Ok-End.field-0-is at (c.in-Ok-End.ensures.taken (Some (length g.F.RowFormat.header)) rest still))
+    c.loop-number.invariant.taken (λ rest still. rw c.in-End.is at (c.in_ok-take_record.ensures.taken (Some (length g.F.RowFormat.header)) rest still))
 
-pub returns-in-Ok-Row-clause-err : goal.returns-in-Ok-Row-clause-err
-returns-in-Ok-Row-clause-err g c rows gives other =
+pub returns-in-Row-clause-err : goal.returns-in-Row-clause-err
+returns-in-Row-clause-err g c rows gives other =
     taken-fault (length g.F.RowFormat.header)
     (g.F.RowFormat.row_of c.args.format.now) g.F.RowFormat.instant_of g.R.Read.remaining c.args.reader.now c.loop-number.number c.loop-number.before.0
     c.loop-number.rows.items c.loop-number.reader TooMany
     c.loop-number.invariant.taken
-    (λ rest still. let row = rw c.in-Ok-Row.field-0-is at (c.in-Ok-Row.ensures.taken (Some (length g.F.RowFormat.header)) rest still) in
+    (λ rest still. let row = rw c.in-Row.is at (c.in_ok-take_record.ensures.taken (Some (length g.F.RowFormat.header)) rest still) in
     next-beyond (g.F.RowFormat.row_of c.args.format.now) g.F.RowFormat.instant_of c.loop-number.number c.loop-number.before.0 _ row.rest rest
     (omega arith) row.first)
     rows gives
 
-pub returns-in-Ok-Refused-clause-err : goal.returns-in-Ok-Refused-clause-err
-returns-in-Ok-Refused-clause-err g c rows gives other =
+pub returns-in-Refused-clause-err : goal.returns-in-Refused-clause-err
+returns-in-Refused-clause-err g c rows gives other =
     taken-fault (length g.F.RowFormat.header)
     (g.F.RowFormat.row_of c.args.format.now) g.F.RowFormat.instant_of g.R.Read.remaining c.args.reader.now c.loop-number.number c.loop-number.before.0
     c.loop-number.rows.items c.loop-number.reader TooMany
     c.loop-number.invariant.taken
-    (λ rest still. let row = rw c.in-Ok-Refused.field-0-is at (c.in-Ok-Refused.ensures.taken (Some (length g.F.RowFormat.header)) rest still) in
+    (λ rest still. let row = rw c.in-Refused.is at (c.in_ok-take_record.ensures.taken (Some (length g.F.RowFormat.header)) rest still) in
     next-beyond (g.F.RowFormat.row_of c.args.format.now) g.F.RowFormat.instant_of c.loop-number.number c.loop-number.before.0 row.fields row.rest rest
     (omega arith) row.first)
     rows gives

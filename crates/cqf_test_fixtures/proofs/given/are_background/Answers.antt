@@ -15,4 +15,5 @@ loop-frame-preserved c =
 
 -- in the end all may
 pub returns : goal.returns
-returns c = λ _. subst (All (IsBackground c.args.domain.now)) (take_all c.loop-frame.frame-index c.args.frames.now c.loop-frame-test.false) c.loop-frame.invariant
+returns c = λ _. subst (All (IsBackground c.args.domain.now)) (take_all c.loop-frame.frame-index c.args.frames.now c.loop-frame-test.false)
+    c.loop-frame.invariant

@@ -12,7 +12,8 @@ loop-offer-preserved c =
     let offers = c.args.offers.now in
     let k = c.loop-offer.offer-index in
     let offer = c.offer-item.result in
-    subst (All (IsOffer c.args.domain.now)) (ap (λ (x : Offer). take k offers ++ x ∷ []) c.offer-item.is ∙ sym (take_more offers k offer c.loop-offer-test.true))
+    subst (All (IsOffer c.args.domain.now)) (ap (λ (x : Offer). take k offers ++ x ∷ []) c.offer-item.is
+    ∙ sym (take_more offers k offer c.loop-offer-test.true))
     (All-push (IsOffer c.args.domain.now) (take k offers) offer c.loop-offer.invariant (c.is_offer.ensures c.if-not-is_offer.false))
 
 -- in the end all may

@@ -23,8 +23,8 @@ unreachable-requires-in_default-next c =
     omega (arith, left, c.in_default-next.ensures.cases.0, c.loop-commands.left.rest.ok.0)
 
 -- each has the seat of its number
-pub returns : goal.returns
-returns c =
+pub returns-clause-ok : goal.returns-clause-ok
+returns-clause-ok c =
     let none : length (into_iter_items c.loop-commands.commands-iterator) ≡ 0 =
     omega (arith, c.in-None.ensures.steps.0, c.loop-commands.commands-iterator.rest.ok.0) in
     all_seated (λ (v : Vec Command Global). v.items) c.loop-commands.administrators.items (into_iter_items c.loop-commands.left) c.args.seats.items

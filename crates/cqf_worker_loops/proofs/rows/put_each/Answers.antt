@@ -57,5 +57,6 @@ returns-in-Err-clause-missed g c is =
     let all : items ++ c.in-Some.item ∷ rest ≡ c.args.items.items = ap (λ xs. items ++ xs) (sym c.in-Some.ensures.steps.0) ∙ c.loop-item.invariant.2 in (
       items,
       omega (arith, ap length all, length-append items (c.in-Some.item ∷ rest), c.loop-item.invariant.1, c.requires.count),
-      none_more c.loop-item.ports c.loop-item.place c.index-ports-place.result c.put.new.self c.in-Err.ensures.pipe c.in-Err.ensures.err ∙ c.loop-item.invariant.0,
+      none_more c.loop-item.ports c.loop-item.place c.index-ports-place.result c.put.new.self c.in-Err.ensures.pipe c.in-Err.ensures.err
+          ∙ c.loop-item.invariant.0,
     )

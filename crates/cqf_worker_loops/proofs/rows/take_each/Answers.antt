@@ -11,8 +11,12 @@ returns-in_err-items-clause-some g c = ([], sym (with_none c.args.ports.now))
 
 -- nothing was taken yet
 pub loop-place-init : goal.loop-place-init
-loop-place-init g c =
-    (sym (with_none c.args.ports.now) ∙ ap (λ xs. with_each c.args.ports.now (map Item xs)) (sym c.in_ok-items.ensures.items), ap length c.in_ok-items.ensures.items, refl)
+loop-place-init g c = (
+  sym (with_none c.args.ports.now) ∙ ap (λ xs. with_each c.args.ports.now (map Item xs)) (sym c.in_ok-items.ensures.items),
+  ap length
+      c.in_ok-items.ensures.items,
+  refl,
+)
 
 -- the next pipe's item was taken
 pub loop-place-preserved : goal.loop-place-preserved

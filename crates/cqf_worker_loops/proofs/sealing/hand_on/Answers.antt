@@ -9,7 +9,12 @@ use Rattle.cqf_worker_loops.proofs.sealing.hand_on.Goals as goal
 
 -- no end was handed them yet
 pub loop-place-init : goal.loop-place-init
-loop-place-init g c = (hands_none (map Item (tables_handed c.args.block.now)) c.args.tables.now, refl, misses_none (map Item (tables_handed c.args.block.now)) c.args.tables.now)
+loop-place-init g c = (
+  hands_none (map Item (tables_handed c.args.block.now)) c.args.tables.now,
+  refl,
+  misses_none
+      (map Item (tables_handed c.args.block.now)) c.args.tables.now,
+)
 
 -- the next end was handed them, unless its worker has ended
 pub loop-place-preserved : goal.loop-place-preserved

@@ -16,7 +16,8 @@ loop-left-preserved g c =
           (c.seal_next.new.tables ++ drop (length c.seal_next.new.tables) c.loop-left.conductor.tables.items)) (c.loop-left.all && c.in-Ok.given)) now
           (seals_back c.args.conductor.now.seat c.args.conductor.now.tables.items closed more c.loop-left.conductor.seat c.seal_next.new.seat
           c.loop-left.conductor.tables.items c.as_mut_slice-tables.result.now c.seal_next.new.tables c.loop-left.conductor.tables.len c.loop-left.all
-          c.in-Ok.given (c.loop-left.all && c.in-Ok.given) c.loop-left.invariant.0 c.loop-left.conductor.tables.ok.0 c.as_mut_slice-tables.ensures.value c.seal_next.ensures.pipes
+          c.in-Ok.given (c.loop-left.all && c.in-Ok.given) c.loop-left.invariant.0 c.loop-left.conductor.tables.ok.0
+          c.as_mut_slice-tables.ensures.value c.seal_next.ensures.pipes
           c.seal_next.ensures.some c.in-Ok.ensures.ok (omega (arith, c.tables_at_once.ensures.some, c.loop-left-test.true, c.min-count.ensures))
           (record { had = λ is. (search rules, search rules); lack = and_cases c.loop-left.all c.in-Ok.given })),
       omega (arith, c.loop-left.invariant.1),
@@ -38,7 +39,8 @@ returns-clause-put g c =
 
 pub returns-clause-closed : goal.returns-clause-closed
 returns-clause-closed g c =
-    subst (λ (count : ℕ). HasClosed count c.args.conductor.now.seat c.loop-left.conductor.seat) (none_left c.args.cycles c.loop-left.left (omega (arith, c.loop-left-test.false)))
+    subst (λ (count : ℕ). HasClosed count c.args.conductor.now.seat c.loop-left.conductor.seat)
+    (none_left c.args.cycles c.loop-left.left (omega (arith, c.loop-left-test.false)))
     (seals_closed c.args.conductor.now.seat c.args.conductor.now.tables.items (c.args.cycles - c.loop-left.left) c.loop-left.conductor.seat
     c.loop-left.conductor.tables.items c.loop-left.all c.loop-left.invariant.0)
 

@@ -13,7 +13,8 @@ loop-init g c = seals_nothing c.args.seat.now _ c.new-tables.ensures.items
 pub loop-preserved : goal.loop-preserved
 loop-preserved g c =
     subst (λ (tables : List CycleTable). SealsMany (c.loop.counter + 1) c.args.seat.now c.seal_one.new.seat tables) (sym c.in-Ok.ensures.items)
-    (seals_more c.loop.counter c.args.seat.now c.loop.seat c.seal_one.new.seat c.loop.tables.items c.in_ok-table.table c.loop.invariant c.in_ok-table.ensures.ok)
+    (seals_more c.loop.counter c.args.seat.now c.loop.seat c.seal_one.new.seat c.loop.tables.items c.in_ok-table.table c.loop.invariant
+    c.in_ok-table.ensures.ok)
 
 -- the next isn't
 pub returns-in_err-table-clause-err : goal.returns-in_err-table-clause-err
@@ -26,5 +27,6 @@ returns-in_err-table-clause-err g c =
 pub returns-in_default-clause-err : goal.returns-in_default-clause-err
 returns-in_default-clause-err g c =
     some_many c.args.count (c.loop.counter + 1) c.args.seat.now c.seal_one.new.seat (c.loop.tables.items ++ c.in_ok-table.table ∷ [])
-    (seals_more c.loop.counter c.args.seat.now c.loop.seat c.seal_one.new.seat c.loop.tables.items c.in_ok-table.table c.loop.invariant c.in_ok-table.ensures.ok)
+    (seals_more c.loop.counter c.args.seat.now c.loop.seat c.seal_one.new.seat c.loop.tables.items c.in_ok-table.table c.loop.invariant
+    c.in_ok-table.ensures.ok)
     (omega arith)

@@ -27,12 +27,14 @@ returns-clause-ok g c =
     let outs = c.args.worker.now.outs in
     let ins = c.args.worker.now.ins in
     let sent = subst
-    (λ before. SendsOn c.args.cycle.0 c.args.worker.now.agenda c.args.worker.now.bridge c.send_on.new.bridge before c.send_on.new.outs c.in_ok-starts.starts.items)
+    (λ before. SendsOn c.args.cycle.0 c.args.worker.now.agenda c.args.worker.now.bridge c.send_on.new.bridge before c.send_on.new.outs
+    c.in_ok-starts.starts.items)
     c.as_mut_slice.ensures.value c.in_ok-starts.ensures.ok in
     let outs_back = written_back c.send_on.new.outs outs.items outs.len
     (ap length sent.puts ∙ with_count outs.items (map Item (onward c.args.worker.now.bridge.domain sent.batches))) outs.ok.0 in
     let taken = c.in_ok-batches.ensures.all ∙ ap (λ before. with_each before (map Item c.in_ok-batches.batches.items)) c.as_mut_slice-2.ensures.value in
-    let ins_back = written_back c.take_batches.new.ins ins.items ins.len (ap length taken ∙ with_count ins.items (map Item c.in_ok-batches.batches.items)) ins.ok.0 in
+    let ins_back = written_back c.take_batches.new.ins ins.items ins.len (ap length taken ∙ with_count ins.items (map Item c.in_ok-batches.batches.items))
+    ins.ok.0 in
     record {
       table = c.in_ok-table.table;
       halfway = c.send_on.new.bridge;
@@ -47,7 +49,8 @@ returns-clause-ok g c =
       takes = ins_back ∙ taken;
       one_each = c.in_ok-batches.ensures.count ∙ ap length c.as_mut_slice-2.ensures.value;
       receives = subst
-          (λ batches. ReceivesOn c.args.cycle.0 c.args.worker.now.agenda c.in_ok-table.table batches c.send_on.new.bridge c.receive_on.new.bridge c.in_ok-drops.drops.items)
+          (λ batches. ReceivesOn c.args.cycle.0 c.args.worker.now.agenda c.in_ok-table.table batches c.send_on.new.bridge c.receive_on.new.bridge
+          c.in_ok-drops.drops.items)
           c.as_slice.ensures.value c.in_ok-drops.ensures.ok;
       page_is = c.in-Ok.ensures;
       posts = c.in_ok-post_page.ensures.ok;
@@ -57,8 +60,10 @@ returns-clause-ok g c =
 -- it isn't received
 pub returns-in_err-drops-clause-err : goal.returns-in_err-drops-clause-err
 returns-in_err-drops-clause-err g c =
-    passed_on c.from_residual-in_err-drops.result c.in_err-drops.field-0.0 (IsCycleFault c.args.cycle.0 c.args.worker.now) c.from_residual-in_err-drops.ensures.1
-    (not_received c.args.cycle.0 c.args.worker.now c.in_ok-table.table c.as_slice.result.now c.send_on.new.bridge c.receive_on.new.bridge c.as_mut_slice.result.now
+    passed_on c.from_residual-in_err-drops.result c.in_err-drops.field-0.0 (IsCycleFault c.args.cycle.0 c.args.worker.now)
+    c.from_residual-in_err-drops.ensures.1
+    (not_received c.args.cycle.0 c.args.worker.now c.in_ok-table.table c.as_slice.result.now c.send_on.new.bridge c.receive_on.new.bridge
+    c.as_mut_slice.result.now
     c.send_on.new.outs c.in_ok-starts.starts.items c.in_err-drops.field-0.0
     (ap length c.as_slice.ensures.value ∙ c.in_ok-batches.ensures.count ∙ ap length c.as_mut_slice-2.ensures.value) c.in_ok-starts.ensures.ok
     c.in_err-drops.ensures.err)

@@ -42,7 +42,8 @@ loop-share-preserved c =
         c.loop-share.invariant.count,
       );
       bare = subst (AreBare t) (sym c.in_ok-push.ensures.items)
-          (bare_more t workers worker c.in-Some.share.bridge (ap (λ (own : Own). own.bridge) next.0 ∙ sym c.loop-share.invariant.count) c.loop-share.invariant.bare
+          (bare_more t workers worker c.in-Some.share.bridge (ap (λ (own : Own). own.bridge) next.0 ∙ sym c.loop-share.invariant.count)
+          c.loop-share.invariant.bare
           c.in_ok-worker.ensures.worker);
       pipes = pipes_more c.loop-share.tables.items c.push-in-loop-share.new.self.items workers c.push.new.self.items c.in_ok-worker.putting worker
           c.in_ok-push-2.ensures.items c.in_ok-push.ensures.items c.in_ok-worker.ensures.pipe c.loop-share.invariant.pipes;

@@ -5,7 +5,8 @@ use Rattle.cqf_world.proofs.receiving.post_page.Goals as goal
 
 pub put_page-requires : goal.put_page-requires
 put_page-requires c =
-    next_page c.args.bridge_driven.now c.receive_cycle.new.bridge_driven c.args.table.now c.in_ok-drops.drops.items c.in_ok-drops.drops.items c.in_ok-page.page c.args.pages.now
+    next_page c.args.bridge_driven.now c.receive_cycle.new.bridge_driven c.args.table.now c.in_ok-drops.drops.items c.in_ok-drops.drops.items
+    c.in_ok-page.page c.args.pages.now
     c.requires.next c.in_ok-drops.ensures.ok c.in_ok-page.ensures.ok
 
 pub returns-clause-ok : goal.returns-clause-ok

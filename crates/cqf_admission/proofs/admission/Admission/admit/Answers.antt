@@ -15,39 +15,39 @@ grant-requires-clause-sound c =
     (can_be_asked c.state_follows_history.ensures.held d entries c.self.inside.held.rows c.self.inside.next c.self.inside.sealed c.self.invariant)
 
 pub push-requires-clause-live : goal.push-requires-clause-live
-push-requires-clause-live c = ap (λ (r : Row). r.withdrawn) c.in-Ok-grant.ensures.is
+push-requires-clause-live c = ap (λ (r : Row). r.withdrawn) c.in-Ok.ensures.is
 
-pub invariant_of-self-in-Ok-grant : goal.invariant_of-self-in-Ok-grant
-invariant_of-self-in-Ok-grant c =
+pub invariant_of-self-in-Ok : goal.invariant_of-self-in-Ok
+invariant_of-self-in-Ok c =
     let laws = c.state_follows_history.ensures in
-    (request_granted laws.goes_on laws.counted laws.granted c.args.seat c.in-Ok.asked (asked_of c.args.request.now) c.self.invariant c.self.view_is
-    (omega (arith, c.if-len-self-ge-MOST_CALLS.false, c.len.ensures)) (ap asked_by c.in-Ok.ensures) c.reserve.ensures.items c.enter.ensures
-    c.reserve-2.ensures.same c.in-Ok-grant.ensures c.in-Ok-push.ensures.rows).running
+    (request_granted laws.goes_on laws.counted laws.granted c.args.seat c.in_ok-asked.asked (asked_of c.args.request.now) c.self.invariant c.self.view_is
+    (omega (arith, c.if-len-self-ge-MOST_CALLS.false, c.len.ensures)) (ap asked_by c.in_ok-asked.ensures) c.reserve.ensures.items c.enter.ensures
+    c.reserve-2.ensures.same c.in-Ok.ensures c.in_ok-push-in-Ok.ensures.rows).running
 
-pub returns-in-Ok-push-clause-held : goal.returns-in-Ok-push-clause-held
-returns-in-Ok-push-clause-held c =
+pub returns-in_ok-push-in-Ok-clause-held : goal.returns-in_ok-push-in-Ok-clause-held
+returns-in_ok-push-in-Ok-clause-held c =
     let laws = c.state_follows_history.ensures in
-    (request_granted laws.goes_on laws.counted laws.granted c.args.seat c.in-Ok.asked (asked_of c.args.request.now) c.self.invariant c.self.view_is
-    (omega (arith, c.if-len-self-ge-MOST_CALLS.false, c.len.ensures)) (ap asked_by c.in-Ok.ensures) c.reserve.ensures.items c.enter.ensures
-    c.reserve-2.ensures.same c.in-Ok-grant.ensures c.in-Ok-push.ensures.rows).held
+    (request_granted laws.goes_on laws.counted laws.granted c.args.seat c.in_ok-asked.asked (asked_of c.args.request.now) c.self.invariant c.self.view_is
+    (omega (arith, c.if-len-self-ge-MOST_CALLS.false, c.len.ensures)) (ap asked_by c.in_ok-asked.ensures) c.reserve.ensures.items c.enter.ensures
+    c.reserve-2.ensures.same c.in-Ok.ensures c.in_ok-push-in-Ok.ensures.rows).held
 
 pub invariant_of-self-in-Err : goal.invariant_of-self-in-Err
 invariant_of-self-in-Err c =
     let laws = c.state_follows_history.ensures in
-    (request_refused laws.goes_on laws.counted laws.refused c.args.seat c.in-Ok.asked (asked_of c.args.request.now) c.in-Err.refused c.self.invariant
-    c.self.view_is (omega (arith, c.if-len-self-ge-MOST_CALLS.false, c.len.ensures)) (ap asked_by c.in-Ok.ensures) c.reserve.ensures.items
+    (request_refused laws.goes_on laws.counted laws.refused c.args.seat c.in_ok-asked.asked (asked_of c.args.request.now) c.in-Err.refused c.self.invariant
+    c.self.view_is (omega (arith, c.if-len-self-ge-MOST_CALLS.false, c.len.ensures)) (ap asked_by c.in_ok-asked.ensures) c.reserve.ensures.items
     c.enter-in-Err.ensures c.reserve-2.ensures.same c.in-Err.ensures).running
 
 pub returns-in-Err-clause-answers : goal.returns-in-Err-clause-answers
 returns-in-Err-clause-answers c =
     let laws = c.state_follows_history.ensures in
-    (request_refused laws.goes_on laws.counted laws.refused c.args.seat c.in-Ok.asked (asked_of c.args.request.now) c.in-Err.refused c.self.invariant
-    c.self.view_is (omega (arith, c.if-len-self-ge-MOST_CALLS.false, c.len.ensures)) (ap asked_by c.in-Ok.ensures) c.reserve.ensures.items
+    (request_refused laws.goes_on laws.counted laws.refused c.args.seat c.in_ok-asked.asked (asked_of c.args.request.now) c.in-Err.refused c.self.invariant
+    c.self.view_is (omega (arith, c.if-len-self-ge-MOST_CALLS.false, c.len.ensures)) (ap asked_by c.in_ok-asked.ensures) c.reserve.ensures.items
     c.enter-in-Err.ensures c.reserve-2.ensures.same c.in-Err.ensures).answers
 
 pub returns-in-Err-clause-held : goal.returns-in-Err-clause-held
 returns-in-Err-clause-held c =
     let laws = c.state_follows_history.ensures in
-    (request_refused laws.goes_on laws.counted laws.refused c.args.seat c.in-Ok.asked (asked_of c.args.request.now) c.in-Err.refused c.self.invariant
-    c.self.view_is (omega (arith, c.if-len-self-ge-MOST_CALLS.false, c.len.ensures)) (ap asked_by c.in-Ok.ensures) c.reserve.ensures.items
+    (request_refused laws.goes_on laws.counted laws.refused c.args.seat c.in_ok-asked.asked (asked_of c.args.request.now) c.in-Err.refused c.self.invariant
+    c.self.view_is (omega (arith, c.if-len-self-ge-MOST_CALLS.false, c.len.ensures)) (ap asked_by c.in_ok-asked.ensures) c.reserve.ensures.items
     c.enter-in-Err.ensures c.reserve-2.ensures.same c.in-Err.ensures).held

@@ -12,7 +12,9 @@ invariant_of-self-2 c =
     let laws = c.state_follows_history.ensures in
     (sealed_leaves laws.goes_on laws.counted laws.lets_go laws.closes laws.held c.args.seat
     (record { cycle = c.self.inside.sealed; rows = c.self.inside.held.rows }) c.self.invariant c.self.view_is
-    (omega (arith, c.if-self-ge-MOST_SEALS.false)) c.reserve.ensures.items c.enter.ensures (c.let_go.ensures ∙ ap (λ (h : HeldRows). filter (λ (row : Row). is_held row (c.self.inside.sealed + 1)) h.rows) c.share.ensures.same) refl refl).running
+    (omega (arith, c.if-self-ge-MOST_SEALS.false)) c.reserve.ensures.items c.enter.ensures
+    (c.let_go.ensures ∙ ap (λ (h : HeldRows). filter (λ (row : Row). is_held row (c.self.inside.sealed + 1)) h.rows) c.share.ensures.same)
+    refl refl).running
 
 pub let_go-requires : goal.let_go-requires
 let_go-requires c =
@@ -25,18 +27,22 @@ pub new-requires : goal.new-requires
 new-requires c =
     let held = c.state_follows_history.ensures.held c.self.inside.domain
     (map recorded_of c.self.inside.history.items) c.self.inside.held.rows c.self.inside.next c.self.invariant.legal c.self.invariant.state in
-    subst AreInOrder (sym c.in-Ok.ensures.rows) (record { numbers = held.numbers; names = held.names })
+    subst AreInOrder (sym c.in_ok-listed.ensures.rows) (record { numbers = held.numbers; names = held.names })
 
 pub returns-clause-closes : goal.returns-clause-closes
 returns-clause-closes c =
     let laws = c.state_follows_history.ensures in
     (sealed_leaves laws.goes_on laws.counted laws.lets_go laws.closes laws.held c.args.seat c.new.result c.self.invariant c.self.view_is
-    (omega (arith, c.if-self-ge-MOST_SEALS.false)) c.reserve.ensures.items c.enter.ensures (c.let_go.ensures ∙ ap (λ (h : HeldRows). filter (λ (row : Row). is_held row (c.self.inside.sealed + 1)) h.rows) c.share.ensures.same) c.new.ensures.cycle
-    (c.new.ensures.rows ∙ c.in-Ok.ensures.rows)).closes
+    (omega (arith, c.if-self-ge-MOST_SEALS.false)) c.reserve.ensures.items c.enter.ensures
+    (c.let_go.ensures ∙ ap (λ (h : HeldRows). filter (λ (row : Row). is_held row (c.self.inside.sealed + 1)) h.rows) c.share.ensures.same)
+    c.new.ensures.cycle
+    (c.new.ensures.rows ∙ c.in_ok-listed.ensures.rows)).closes
 
 pub returns-clause-lets_go : goal.returns-clause-lets_go
 returns-clause-lets_go c =
     let laws = c.state_follows_history.ensures in
     (sealed_leaves laws.goes_on laws.counted laws.lets_go laws.closes laws.held c.args.seat c.new.result c.self.invariant c.self.view_is
-    (omega (arith, c.if-self-ge-MOST_SEALS.false)) c.reserve.ensures.items c.enter.ensures (c.let_go.ensures ∙ ap (λ (h : HeldRows). filter (λ (row : Row). is_held row (c.self.inside.sealed + 1)) h.rows) c.share.ensures.same) c.new.ensures.cycle
-    (c.new.ensures.rows ∙ c.in-Ok.ensures.rows)).lets_go
+    (omega (arith, c.if-self-ge-MOST_SEALS.false)) c.reserve.ensures.items c.enter.ensures
+    (c.let_go.ensures ∙ ap (λ (h : HeldRows). filter (λ (row : Row). is_held row (c.self.inside.sealed + 1)) h.rows) c.share.ensures.same)
+    c.new.ensures.cycle
+    (c.new.ensures.rows ∙ c.in_ok-listed.ensures.rows)).lets_go

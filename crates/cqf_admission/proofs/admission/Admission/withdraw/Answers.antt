@@ -8,37 +8,37 @@ find_open-requires c =
     (c.state_follows_history.ensures.held c.self.inside.domain
     (map recorded_of c.self.inside.history.items) c.self.inside.held.rows c.self.inside.next c.self.invariant.legal c.self.invariant.state).named
 
-pub invariant_of-self-in-Ok-find_open : goal.invariant_of-self-in-Ok-find_open
-invariant_of-self-in-Ok-find_open c =
+pub invariant_of-self-in-Ok : goal.invariant_of-self-in-Ok
+invariant_of-self-in-Ok c =
     let laws = c.state_follows_history.ensures in
-    (withdrawal_done laws.goes_on laws.counted laws.withdrawn laws.held c.args.seat c.in-Ok.asked c.args.name.now c.self.invariant c.self.view_is
-    (omega (arith, c.if-len-self-ge-MOST_CALLS.false, c.len.ensures)) c.in-Ok.ensures.ok c.reserve.ensures.items c.enter.ensures c.in-Ok-find_open.ensures
-    c.in-Ok-end.ensures.rows).running
+    (withdrawal_done laws.goes_on laws.counted laws.withdrawn laws.held c.args.seat c.in_ok-asked.asked c.args.name.now c.self.invariant c.self.view_is
+    (omega (arith, c.if-len-self-ge-MOST_CALLS.false, c.len.ensures)) c.in_ok-asked.ensures.ok c.reserve.ensures.items c.enter.ensures c.in-Ok.ensures
+    c.in_ok-end-in-Ok.ensures.rows).running
 
-pub returns-in-Ok-end-clause-held : goal.returns-in-Ok-end-clause-held
-returns-in-Ok-end-clause-held c =
+pub returns-in_ok-end-in-Ok-clause-held : goal.returns-in_ok-end-in-Ok-clause-held
+returns-in_ok-end-in-Ok-clause-held c =
     let laws = c.state_follows_history.ensures in
-    (withdrawal_done laws.goes_on laws.counted laws.withdrawn laws.held c.args.seat c.in-Ok.asked c.args.name.now c.self.invariant c.self.view_is
-    (omega (arith, c.if-len-self-ge-MOST_CALLS.false, c.len.ensures)) c.in-Ok.ensures.ok c.reserve.ensures.items c.enter.ensures c.in-Ok-find_open.ensures
-    c.in-Ok-end.ensures.rows).held
+    (withdrawal_done laws.goes_on laws.counted laws.withdrawn laws.held c.args.seat c.in_ok-asked.asked c.args.name.now c.self.invariant c.self.view_is
+    (omega (arith, c.if-len-self-ge-MOST_CALLS.false, c.len.ensures)) c.in_ok-asked.ensures.ok c.reserve.ensures.items c.enter.ensures c.in-Ok.ensures
+    c.in_ok-end-in-Ok.ensures.rows).held
 
 pub invariant_of-self-in-Err : goal.invariant_of-self-in-Err
 invariant_of-self-in-Err c =
     let laws = c.state_follows_history.ensures in
-    (withdrawal_refused laws.goes_on laws.counted laws.refused c.args.seat c.in-Ok.asked c.args.name.now c.in-Err.refused c.self.invariant c.self.view_is
-    (omega (arith, c.if-len-self-ge-MOST_CALLS.false, c.len.ensures)) c.in-Ok.ensures.ok c.reserve.ensures.items c.enter-in-Err.ensures
+    (withdrawal_refused laws.goes_on laws.counted laws.refused c.args.seat c.in_ok-asked.asked c.args.name.now c.in-Err.refused c.self.invariant c.self.view_is
+    (omega (arith, c.if-len-self-ge-MOST_CALLS.false, c.len.ensures)) c.in_ok-asked.ensures.ok c.reserve.ensures.items c.enter-in-Err.ensures
     c.in-Err.ensures).running
 
 pub returns-in-Err-clause-answers : goal.returns-in-Err-clause-answers
 returns-in-Err-clause-answers c =
     let laws = c.state_follows_history.ensures in
-    (withdrawal_refused laws.goes_on laws.counted laws.refused c.args.seat c.in-Ok.asked c.args.name.now c.in-Err.refused c.self.invariant c.self.view_is
-    (omega (arith, c.if-len-self-ge-MOST_CALLS.false, c.len.ensures)) c.in-Ok.ensures.ok c.reserve.ensures.items c.enter-in-Err.ensures
+    (withdrawal_refused laws.goes_on laws.counted laws.refused c.args.seat c.in_ok-asked.asked c.args.name.now c.in-Err.refused c.self.invariant c.self.view_is
+    (omega (arith, c.if-len-self-ge-MOST_CALLS.false, c.len.ensures)) c.in_ok-asked.ensures.ok c.reserve.ensures.items c.enter-in-Err.ensures
     c.in-Err.ensures).answers
 
 pub returns-in-Err-clause-held : goal.returns-in-Err-clause-held
 returns-in-Err-clause-held c =
     let laws = c.state_follows_history.ensures in
-    (withdrawal_refused laws.goes_on laws.counted laws.refused c.args.seat c.in-Ok.asked c.args.name.now c.in-Err.refused c.self.invariant c.self.view_is
-    (omega (arith, c.if-len-self-ge-MOST_CALLS.false, c.len.ensures)) c.in-Ok.ensures.ok c.reserve.ensures.items c.enter-in-Err.ensures
+    (withdrawal_refused laws.goes_on laws.counted laws.refused c.args.seat c.in_ok-asked.asked c.args.name.now c.in-Err.refused c.self.invariant c.self.view_is
+    (omega (arith, c.if-len-self-ge-MOST_CALLS.false, c.len.ensures)) c.in_ok-asked.ensures.ok c.reserve.ensures.items c.enter-in-Err.ensures
     c.in-Err.ensures).held

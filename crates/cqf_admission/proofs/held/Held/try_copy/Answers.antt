@@ -6,7 +6,8 @@ use Rattle.cqf_admission.proofs.held.Held.try_copy.Goals as goal
 pub invariant_of-result : goal.invariant_of-result
 invariant_of-result c =
     let names : c.in_ok-clone.field-0.keys ≡ c.self.inside.names.keys =
-    same_from_all_zip (λ (name copy : List ℕ). copy ≡ name) c.self.inside.names.keys c.in_ok-clone.field-0.keys c.in_ok-clone.ensures.cases (λ name copy is. is) in
+    same_from_all_zip (λ (name copy : List ℕ). copy ≡ name) c.self.inside.names.keys c.in_ok-clone.field-0.keys c.in_ok-clone.ensures.cases
+    (λ name copy is. is) in
     let rows = rw c.as_slice.ensures.value at c.in_ok-shared_rows.ensures in
     let ending = rw c.as_slice-4.ensures.value at c.in_ok-shared_rows-2.ensures in
     let costs = c.in_ok-from_slice.ensures.items ∙ c.as_slice-2.ensures.value in

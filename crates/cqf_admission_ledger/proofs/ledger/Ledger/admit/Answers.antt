@@ -38,8 +38,8 @@ see-requires-clause-known c =
     form_at d rs i.names i.forms.items c.args.place request c.index_mut-form.result.now c.self.invariant.1 c.self.invariant.2 low is
     c.index_mut-form.ensures.value
 
-pub invariant_of-self-in_default : goal.invariant_of-self-in_default
-invariant_of-self-in_default c =
+pub invariant_of-self-in_err-see : goal.invariant_of-self-in_err-see
+invariant_of-self-in_err-see c =
     let i = c.self.inside in
     let d = i.domain.now in
     let rs = i.requests.now in
@@ -72,8 +72,8 @@ weigh-requires-clause-can c =
     let at : read ≡ form = put_there i.forms.items c.args.place form read (omega (arith, low, c.self.invariant.1.as_many)) c.index.ensures in
     let of : IsFormOf d rs (asked_of request) read =
     subst (λ (f : Form). IsFormOf d rs (asked_of request) f) (sym at)
-    (subst (λ (names : List Request). IsFormOf d names (asked_of request) form) c.self.invariant.2 c.in-Ok.ensures.form) in
-    can_be_weighed d rs (asked_of request) c.reserve-2.new.self.names read of (subst IsSeen (sym at) c.in-Ok.ensures.seen)
+    (subst (λ (names : List Request). IsFormOf d names (asked_of request) form) c.self.invariant.2 c.in_ok-see.ensures.form) in
+    can_be_weighed d rs (asked_of request) c.reserve-2.new.self.names read of (subst IsSeen (sym at) c.in_ok-see.ensures.seen)
     (c.reserve-2.ensures.names ∙ c.self.invariant.3)
 
 pub weigh-requires-clause-within : goal.weigh-requires-clause-within
@@ -109,12 +109,12 @@ push-requires-clause-fits c =
     let at : read ≡ form = put_there i.forms.items c.args.place form read (omega (arith, low, c.self.invariant.1.as_many)) c.index.ensures in
     let of : IsFormOf d rs (asked_of request) read =
     subst (λ (f : Form). IsFormOf d rs (asked_of request) f) (sym at)
-    (subst (λ (names : List Request). IsFormOf d names (asked_of request) form) c.self.invariant.2 c.in-Ok.ensures.form) in
+    (subst (λ (names : List Request). IsFormOf d names (asked_of request) form) c.self.invariant.2 c.in_ok-see.ensures.form) in
     (weighs_one d rs (entries_of rs script i.log.items) c.reserve-2.new.self.rows i.slots i.sealed r laws.held c.know_domain.ensures (asked_of request) read
-    c.in-Ok-weigh.stand of c.in-Ok-weigh.ensures).fits
+    c.in-Ok.stand of c.in-Ok.ensures).fits
 
-pub invariant_of-self-in-Ok-weigh : goal.invariant_of-self-in-Ok-weigh
-invariant_of-self-in-Ok-weigh c =
+pub invariant_of-self-in-Ok : goal.invariant_of-self-in-Ok
+invariant_of-self-in-Ok c =
     let i = c.self.inside in
     let d = i.domain.now in
     let rs = i.requests.now in
@@ -131,18 +131,18 @@ invariant_of-self-in-Ok-weigh c =
     let at : read ≡ form = put_there i.forms.items c.args.place form read (omega (arith, low, c.self.invariant.1.as_many)) c.index.ensures in
     let of : IsFormOf d rs (asked_of request) read =
     subst (λ (f : Form). IsFormOf d rs (asked_of request) f) (sym at)
-    (subst (λ (names : List Request). IsFormOf d names (asked_of request) form) c.self.invariant.2 c.in-Ok.ensures.form) in
+    (subst (λ (names : List Request). IsFormOf d names (asked_of request) form) c.self.invariant.2 c.in_ok-see.ensures.form) in
     let few : length i.log.items - i.sealed < 100000 = omega (arith, c.if-len-self-ge-MOST_CALLS.false, c.len.ensures) in
-    let known = forms_set d rs i.names i.forms.items c.args.place request form c.self.invariant.1 c.self.invariant.2 low is c.in-Ok.ensures.form in
+    let known = forms_set d rs i.names i.forms.items c.args.place request form c.self.invariant.1 c.self.invariant.2 low is c.in_ok-see.ensures.form in
     let done = admit_granted d rs script i.log.items c.reserve.new.self.items c.enter.new.log.items c.reserve-2.new.self.rows i.slots i.sealed r
     c.self.invariant.4 c.args.self.now c.self.view_is c.reserve.ensures.items few laws.goes_on laws.counted laws.held laws.granted
-    c.streams_follow_history.ensures.granted c.know_domain.ensures c.args.seat c.args.place request read c.in-Ok-weigh.stand c.push.new.self.rows
-    (record { no = c.len-no.result; effect = record { 0 = i.sealed } }) low is of c.in-Ok-weigh.ensures
+    c.streams_follow_history.ensures.granted c.know_domain.ensures c.args.seat c.args.place request read c.in-Ok.stand c.push.new.self.rows
+    (record { no = c.len-no.result; effect = record { 0 = i.sealed } }) low is of c.in-Ok.ensures
     (λ k. record { no = c.len-no.ensures k; effect = record { 0 = i.sealed } }) c.push.ensures.rows c.enter.ensures in
     (done.of, known, c.self.invariant.2, c.push.ensures.names ∙ c.reserve-2.ensures.names ∙ c.self.invariant.3, done.there)
 
-pub returns-in-Ok-weigh-clause-answers : goal.returns-in-Ok-weigh-clause-answers
-returns-in-Ok-weigh-clause-answers c =
+pub returns-in-Ok-clause-answers : goal.returns-in-Ok-clause-answers
+returns-in-Ok-clause-answers c =
     let i = c.self.inside in
     let d = i.domain.now in
     let rs = i.requests.now in
@@ -159,16 +159,16 @@ returns-in-Ok-weigh-clause-answers c =
     let at : read ≡ form = put_there i.forms.items c.args.place form read (omega (arith, low, c.self.invariant.1.as_many)) c.index.ensures in
     let of : IsFormOf d rs (asked_of request) read =
     subst (λ (f : Form). IsFormOf d rs (asked_of request) f) (sym at)
-    (subst (λ (names : List Request). IsFormOf d names (asked_of request) form) c.self.invariant.2 c.in-Ok.ensures.form) in
+    (subst (λ (names : List Request). IsFormOf d names (asked_of request) form) c.self.invariant.2 c.in_ok-see.ensures.form) in
     let few : length i.log.items - i.sealed < 100000 = omega (arith, c.if-len-self-ge-MOST_CALLS.false, c.len.ensures) in
     (admit_granted d rs script i.log.items c.reserve.new.self.items c.enter.new.log.items c.reserve-2.new.self.rows i.slots i.sealed r
     c.self.invariant.4 c.args.self.now c.self.view_is c.reserve.ensures.items few laws.goes_on laws.counted laws.held laws.granted
-    c.streams_follow_history.ensures.granted c.know_domain.ensures c.args.seat c.args.place request read c.in-Ok-weigh.stand c.push.new.self.rows
-    (record { no = c.len-no.result; effect = record { 0 = i.sealed } }) low is of c.in-Ok-weigh.ensures
+    c.streams_follow_history.ensures.granted c.know_domain.ensures c.args.seat c.args.place request read c.in-Ok.stand c.push.new.self.rows
+    (record { no = c.len-no.result; effect = record { 0 = i.sealed } }) low is of c.in-Ok.ensures
     (λ k. record { no = c.len-no.ensures k; effect = record { 0 = i.sealed } }) c.push.ensures.rows c.enter.ensures).answers
 
-pub returns-in-Ok-weigh-clause-held : goal.returns-in-Ok-weigh-clause-held
-returns-in-Ok-weigh-clause-held c =
+pub returns-in-Ok-clause-held : goal.returns-in-Ok-clause-held
+returns-in-Ok-clause-held c =
     let i = c.self.inside in
     let d = i.domain.now in
     let rs = i.requests.now in
@@ -185,12 +185,12 @@ returns-in-Ok-weigh-clause-held c =
     let at : read ≡ form = put_there i.forms.items c.args.place form read (omega (arith, low, c.self.invariant.1.as_many)) c.index.ensures in
     let of : IsFormOf d rs (asked_of request) read =
     subst (λ (f : Form). IsFormOf d rs (asked_of request) f) (sym at)
-    (subst (λ (names : List Request). IsFormOf d names (asked_of request) form) c.self.invariant.2 c.in-Ok.ensures.form) in
+    (subst (λ (names : List Request). IsFormOf d names (asked_of request) form) c.self.invariant.2 c.in_ok-see.ensures.form) in
     let few : length i.log.items - i.sealed < 100000 = omega (arith, c.if-len-self-ge-MOST_CALLS.false, c.len.ensures) in
     (admit_granted d rs script i.log.items c.reserve.new.self.items c.enter.new.log.items c.reserve-2.new.self.rows i.slots i.sealed r
     c.self.invariant.4 c.args.self.now c.self.view_is c.reserve.ensures.items few laws.goes_on laws.counted laws.held laws.granted
-    c.streams_follow_history.ensures.granted c.know_domain.ensures c.args.seat c.args.place request read c.in-Ok-weigh.stand c.push.new.self.rows
-    (record { no = c.len-no.result; effect = record { 0 = i.sealed } }) low is of c.in-Ok-weigh.ensures
+    c.streams_follow_history.ensures.granted c.know_domain.ensures c.args.seat c.args.place request read c.in-Ok.stand c.push.new.self.rows
+    (record { no = c.len-no.result; effect = record { 0 = i.sealed } }) low is of c.in-Ok.ensures
     (λ k. record { no = c.len-no.ensures k; effect = record { 0 = i.sealed } }) c.push.ensures.rows c.enter.ensures).holds
 
 pub invariant_of-self-in-Err : goal.invariant_of-self-in-Err
@@ -211,11 +211,12 @@ invariant_of-self-in-Err c =
     let at : read ≡ form = put_there i.forms.items c.args.place form read (omega (arith, low, c.self.invariant.1.as_many)) c.index.ensures in
     let of : IsFormOf d rs (asked_of request) read =
     subst (λ (f : Form). IsFormOf d rs (asked_of request) f) (sym at)
-    (subst (λ (names : List Request). IsFormOf d names (asked_of request) form) c.self.invariant.2 c.in-Ok.ensures.form) in
+    (subst (λ (names : List Request). IsFormOf d names (asked_of request) form) c.self.invariant.2 c.in_ok-see.ensures.form) in
     let few : length i.log.items - i.sealed < 100000 = omega (arith, c.if-len-self-ge-MOST_CALLS.false, c.len.ensures) in
-    let known = forms_set d rs i.names i.forms.items c.args.place request form c.self.invariant.1 c.self.invariant.2 low is c.in-Ok.ensures.form in
+    let known = forms_set d rs i.names i.forms.items c.args.place request form c.self.invariant.1 c.self.invariant.2 low is c.in_ok-see.ensures.form in
     let done = admit_refused d rs script i.log.items c.reserve.new.self.items c.enter-in-Err.new.log.items c.reserve-2.new.self.rows i.slots i.sealed r
-    c.self.invariant.4 c.args.self.now c.self.view_is c.reserve.ensures.items few laws.goes_on laws.counted laws.held c.know_domain.ensures c.args.seat c.args.place
+    c.self.invariant.4 c.args.self.now c.self.view_is c.reserve.ensures.items few laws.goes_on laws.counted laws.held c.know_domain.ensures
+    c.args.seat c.args.place
     request read c.in-Err.refused low is of c.in-Err.ensures c.enter-in-Err.ensures in
     (done.of, known, c.self.invariant.2, c.reserve-2.ensures.names ∙ c.self.invariant.3, done.there)
 
@@ -237,10 +238,11 @@ returns-in-Err-clause-answers c =
     let at : read ≡ form = put_there i.forms.items c.args.place form read (omega (arith, low, c.self.invariant.1.as_many)) c.index.ensures in
     let of : IsFormOf d rs (asked_of request) read =
     subst (λ (f : Form). IsFormOf d rs (asked_of request) f) (sym at)
-    (subst (λ (names : List Request). IsFormOf d names (asked_of request) form) c.self.invariant.2 c.in-Ok.ensures.form) in
+    (subst (λ (names : List Request). IsFormOf d names (asked_of request) form) c.self.invariant.2 c.in_ok-see.ensures.form) in
     let few : length i.log.items - i.sealed < 100000 = omega (arith, c.if-len-self-ge-MOST_CALLS.false, c.len.ensures) in
     (admit_refused d rs script i.log.items c.reserve.new.self.items c.enter-in-Err.new.log.items c.reserve-2.new.self.rows i.slots i.sealed r
-    c.self.invariant.4 c.args.self.now c.self.view_is c.reserve.ensures.items few laws.goes_on laws.counted laws.held c.know_domain.ensures c.args.seat c.args.place
+    c.self.invariant.4 c.args.self.now c.self.view_is c.reserve.ensures.items few laws.goes_on laws.counted laws.held c.know_domain.ensures
+    c.args.seat c.args.place
     request read c.in-Err.refused low is of c.in-Err.ensures c.enter-in-Err.ensures).answers
 
 pub returns-in-Err-clause-held : goal.returns-in-Err-clause-held
@@ -261,8 +263,9 @@ returns-in-Err-clause-held c =
     let at : read ≡ form = put_there i.forms.items c.args.place form read (omega (arith, low, c.self.invariant.1.as_many)) c.index.ensures in
     let of : IsFormOf d rs (asked_of request) read =
     subst (λ (f : Form). IsFormOf d rs (asked_of request) f) (sym at)
-    (subst (λ (names : List Request). IsFormOf d names (asked_of request) form) c.self.invariant.2 c.in-Ok.ensures.form) in
+    (subst (λ (names : List Request). IsFormOf d names (asked_of request) form) c.self.invariant.2 c.in_ok-see.ensures.form) in
     let few : length i.log.items - i.sealed < 100000 = omega (arith, c.if-len-self-ge-MOST_CALLS.false, c.len.ensures) in
     (admit_refused d rs script i.log.items c.reserve.new.self.items c.enter-in-Err.new.log.items c.reserve-2.new.self.rows i.slots i.sealed r
-    c.self.invariant.4 c.args.self.now c.self.view_is c.reserve.ensures.items few laws.goes_on laws.counted laws.held c.know_domain.ensures c.args.seat c.args.place
+    c.self.invariant.4 c.args.self.now c.self.view_is c.reserve.ensures.items few laws.goes_on laws.counted laws.held c.know_domain.ensures
+    c.args.seat c.args.place
     request read c.in-Err.refused low is of c.in-Err.ensures c.enter-in-Err.ensures).holds

@@ -13,7 +13,8 @@ use Rattle.cqf_admission_ledger.proofs.ledger.Ledger.held_on.Goals as goal
 pub taken_of-requires-clause-within : goal.taken_of-requires-clause-within
 taken_of-requires-clause-within c =
     let i = c.self.inside in
-    let inside : c.args.link < length i.domain.now.links = subst (λ (k : Kept). c.args.link < length k.administration.domain.links) (sym c.self.view_is) c.requires in
+    let inside : c.args.link < length i.domain.now.links = subst (λ (k : Kept). c.args.link < length k.administration.domain.links)
+    (sym c.self.view_is) c.requires in
     within i.domain.now i.requests.now (entries_of i.requests.now i.script.now i.log.items) i.holdings.rows i.slots i.sealed c.self.invariant.0
     c.state_follows_history.ensures.held c.args.link (omega (arith, inside, c.know_domain.ensures.few_links))
 
@@ -21,7 +22,8 @@ pub returns-clause-held : goal.returns-clause-held
 returns-clause-held c =
     let i = c.self.inside in
     let entries = entries_of i.requests.now i.script.now i.log.items in
-    let inside : c.args.link < length i.domain.now.links = subst (λ (k : Kept). c.args.link < length k.administration.domain.links) (sym c.self.view_is) c.requires in
+    let inside : c.args.link < length i.domain.now.links = subst (λ (k : Kept). c.args.link < length k.administration.domain.links)
+    (sym c.self.view_is) c.requires in
     c.taken_of.ensures
     ∙ ap (λ (ss : List Stand). held_cost ss c.args.link) c.self.invariant.0.are_streams
     ∙ costs i.domain.now i.requests.now entries c.args.link (omega (arith, inside, c.know_domain.ensures.few_links))
@@ -30,7 +32,8 @@ returns-clause-held c =
 pub returns-clause-within : goal.returns-clause-within
 returns-clause-within c =
     let i = c.self.inside in
-    let inside : c.args.link < length i.domain.now.links = subst (λ (k : Kept). c.args.link < length k.administration.domain.links) (sym c.self.view_is) c.requires in
+    let inside : c.args.link < length i.domain.now.links = subst (λ (k : Kept). c.args.link < length k.administration.domain.links)
+    (sym c.self.view_is) c.requires in
     let low = within i.domain.now i.requests.now (entries_of i.requests.now i.script.now i.log.items) i.holdings.rows i.slots i.sealed c.self.invariant.0
     c.state_follows_history.ensures.held c.args.link (omega (arith, inside, c.know_domain.ensures.few_links)) in
     omega (arith, c.taken_of.ensures, low, ap (λ (k : Kept). budget k.administration.domain c.args.link) c.self.view_is)

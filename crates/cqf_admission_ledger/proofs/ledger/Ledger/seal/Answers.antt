@@ -16,7 +16,8 @@ invariant_of-self-2 c =
     let some : i.sealed < 100000 = omega (arith, c.if-self-ge-MOST_SEALS.false) in
     let done = seal_done i.domain.now i.requests.now i.script.now i.log.items c.reserve.new.self.items c.enter.new.log.items i.holdings.rows i.slots i.sealed
     c.self.invariant.0 c.self.invariant.4 c.args.self.now c.self.view_is c.reserve.ensures.items laws.goes_on laws.counted laws.lets_go c.args.seat
-    (i.sealed + 1) c.empty.new.holdings.rows c.empty.new.self (record { 0 = i.sealed }) some c.empty.ensures.rows c.empty.ensures.slots refl refl c.enter.ensures in
+    (i.sealed + 1) c.empty.new.holdings.rows c.empty.new.self (record { 0 = i.sealed }) some c.empty.ensures.rows c.empty.ensures.slots refl
+    refl c.enter.ensures in
     (done.of, c.self.invariant.1, c.self.invariant.2, c.empty.ensures.names ∙ c.self.invariant.3, done.there)
 
 pub returns-clause-closes : goal.returns-clause-closes
@@ -26,5 +27,6 @@ returns-clause-closes c =
     let some : i.sealed < 100000 = omega (arith, c.if-self-ge-MOST_SEALS.false) in
     let done = seal_done i.domain.now i.requests.now i.script.now i.log.items c.reserve.new.self.items c.enter.new.log.items i.holdings.rows i.slots i.sealed
     c.self.invariant.0 c.self.invariant.4 c.args.self.now c.self.view_is c.reserve.ensures.items laws.goes_on laws.counted laws.lets_go c.args.seat
-    (i.sealed + 1) c.empty.new.holdings.rows c.empty.new.self (record { 0 = i.sealed }) some c.empty.ensures.rows c.empty.ensures.slots refl refl c.enter.ensures in
+    (i.sealed + 1) c.empty.new.holdings.rows c.empty.new.self (record { 0 = i.sealed }) some c.empty.ensures.rows c.empty.ensures.slots refl
+    refl c.enter.ensures in
     done.closes

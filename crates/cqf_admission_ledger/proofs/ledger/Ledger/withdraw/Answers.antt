@@ -24,9 +24,11 @@ invariant_of-self-in-Err c =
     let laws = c.state_follows_history.ensures in
     let few : length i.log.items - i.sealed < 100000 = omega (arith, c.if-len-self-ge-MOST_CALLS.false, c.len.ensures) in
     let stands = subst (λ (k : Kept). StandsIn k.requests k.script (Withdraw c.args.from c.args.octets)) (sym c.self.view_is) c.requires in
-    let finds = subst (λ (rs : List Request). FindsOpenForm i.holdings.rows (length rs) (number_of_form rs c.word_of-word.result.now) (Err c.in-Err.refused)) c.self.invariant.2
+    let finds = subst (λ (rs : List Request). FindsOpenForm i.holdings.rows (length rs) (number_of_form rs c.word_of-word.result.now) (Err c.in-Err.refused))
+    c.self.invariant.2
     c.in-Err.ensures in
-    let done = withdraw_refused i.domain.now i.requests.now i.script.now i.log.items c.reserve.new.self.items c.enter-in-Err.new.log.items i.holdings.rows i.slots
+    let done = withdraw_refused i.domain.now i.requests.now i.script.now i.log.items c.reserve.new.self.items c.enter-in-Err.new.log.items
+    i.holdings.rows i.slots
     i.sealed c.self.invariant.0 c.self.invariant.4 c.args.self.now c.self.view_is c.reserve.ensures.items few laws.goes_on laws.counted laws.held c.args.seat
     c.args.from c.args.octets c.word_of-word.result.now c.in-Err.refused c.word_of-word.ensures stands finds c.enter-in-Err.ensures in
     (done.of, c.self.invariant.1, c.self.invariant.2, c.self.invariant.3, done.there)
@@ -37,7 +39,8 @@ returns-in-Err-clause-answers c =
     let laws = c.state_follows_history.ensures in
     let few : length i.log.items - i.sealed < 100000 = omega (arith, c.if-len-self-ge-MOST_CALLS.false, c.len.ensures) in
     let stands = subst (λ (k : Kept). StandsIn k.requests k.script (Withdraw c.args.from c.args.octets)) (sym c.self.view_is) c.requires in
-    let finds = subst (λ (rs : List Request). FindsOpenForm i.holdings.rows (length rs) (number_of_form rs c.word_of-word.result.now) (Err c.in-Err.refused)) c.self.invariant.2
+    let finds = subst (λ (rs : List Request). FindsOpenForm i.holdings.rows (length rs) (number_of_form rs c.word_of-word.result.now) (Err c.in-Err.refused))
+    c.self.invariant.2
     c.in-Err.ensures in
     (withdraw_refused i.domain.now i.requests.now i.script.now i.log.items c.reserve.new.self.items c.enter-in-Err.new.log.items i.holdings.rows i.slots
     i.sealed c.self.invariant.0 c.self.invariant.4 c.args.self.now c.self.view_is c.reserve.ensures.items few laws.goes_on laws.counted laws.held c.args.seat
@@ -49,7 +52,8 @@ returns-in-Err-clause-held c =
     let laws = c.state_follows_history.ensures in
     let few : length i.log.items - i.sealed < 100000 = omega (arith, c.if-len-self-ge-MOST_CALLS.false, c.len.ensures) in
     let stands = subst (λ (k : Kept). StandsIn k.requests k.script (Withdraw c.args.from c.args.octets)) (sym c.self.view_is) c.requires in
-    let finds = subst (λ (rs : List Request). FindsOpenForm i.holdings.rows (length rs) (number_of_form rs c.word_of-word.result.now) (Err c.in-Err.refused)) c.self.invariant.2
+    let finds = subst (λ (rs : List Request). FindsOpenForm i.holdings.rows (length rs) (number_of_form rs c.word_of-word.result.now) (Err c.in-Err.refused))
+    c.self.invariant.2
     c.in-Err.ensures in
     (withdraw_refused i.domain.now i.requests.now i.script.now i.log.items c.reserve.new.self.items c.enter-in-Err.new.log.items i.holdings.rows i.slots
     i.sealed c.self.invariant.0 c.self.invariant.4 c.args.self.now c.self.view_is c.reserve.ensures.items few laws.goes_on laws.counted laws.held c.args.seat
@@ -61,39 +65,45 @@ invariant_of-self-in-Ok c =
     let laws = c.state_follows_history.ensures in
     let few : length i.log.items - i.sealed < 100000 = omega (arith, c.if-len-self-ge-MOST_CALLS.false, c.len.ensures) in
     let stands = subst (λ (k : Kept). StandsIn k.requests k.script (Withdraw c.args.from c.args.octets)) (sym c.self.view_is) c.requires in
-    let opened = subst (λ (rs : List Request). FindsOpenForm i.holdings.rows (length rs) (number_of_form rs c.word_of-word.result.now) (Ok c.in-Ok.number)) c.self.invariant.2
+    let opened = subst (λ (rs : List Request). FindsOpenForm i.holdings.rows (length rs) (number_of_form rs c.word_of-word.result.now) (Ok c.in-Ok.number))
+    c.self.invariant.2
     c.in-Ok.ensures in
     let done = withdraw_done i.domain.now i.requests.now i.script.now i.log.items c.reserve.new.self.items c.enter.new.log.items i.holdings.rows i.slots
     i.sealed c.self.invariant.0 c.self.invariant.4 c.args.self.now c.self.view_is c.reserve.ensures.items few laws.goes_on laws.counted laws.withdrawn laws.held
-    c.streams_follow_history.ensures.withdrawn c.args.seat c.args.from c.args.octets c.word_of-word.result.now c.in-Ok.number c.slot_of-slot.result c.stand.result
+    c.streams_follow_history.ensures.withdrawn c.args.seat c.args.from c.args.octets c.word_of-word.result.now c.in-Ok.number
+    c.slot_of-slot.result c.stand.result
     c.end.new.self.rows c.put.new.self (record { no = c.in-Ok.number; effect = record { 0 = i.sealed } }) c.word_of-word.ensures stands opened c.stand.ensures
-    c.slot_of-slot.ensures c.end.ensures.rows c.in-Ok-put.ensures.more refl c.enter.ensures in
+    c.slot_of-slot.ensures c.end.ensures.rows c.in_ok-put-in-Ok.ensures.more refl c.enter.ensures in
     (done.of, c.self.invariant.1, c.self.invariant.2, c.end.ensures.names ∙ c.self.invariant.3, done.there)
 
-pub returns-in-Ok-put-clause-answers : goal.returns-in-Ok-put-clause-answers
-returns-in-Ok-put-clause-answers c =
+pub returns-in_ok-put-in-Ok-clause-answers : goal.returns-in_ok-put-in-Ok-clause-answers
+returns-in_ok-put-in-Ok-clause-answers c =
     let i = c.self.inside in
     let laws = c.state_follows_history.ensures in
     let few : length i.log.items - i.sealed < 100000 = omega (arith, c.if-len-self-ge-MOST_CALLS.false, c.len.ensures) in
     let stands = subst (λ (k : Kept). StandsIn k.requests k.script (Withdraw c.args.from c.args.octets)) (sym c.self.view_is) c.requires in
-    let opened = subst (λ (rs : List Request). FindsOpenForm i.holdings.rows (length rs) (number_of_form rs c.word_of-word.result.now) (Ok c.in-Ok.number)) c.self.invariant.2
+    let opened = subst (λ (rs : List Request). FindsOpenForm i.holdings.rows (length rs) (number_of_form rs c.word_of-word.result.now) (Ok c.in-Ok.number))
+    c.self.invariant.2
     c.in-Ok.ensures in
     (withdraw_done i.domain.now i.requests.now i.script.now i.log.items c.reserve.new.self.items c.enter.new.log.items i.holdings.rows i.slots
     i.sealed c.self.invariant.0 c.self.invariant.4 c.args.self.now c.self.view_is c.reserve.ensures.items few laws.goes_on laws.counted laws.withdrawn laws.held
-    c.streams_follow_history.ensures.withdrawn c.args.seat c.args.from c.args.octets c.word_of-word.result.now c.in-Ok.number c.slot_of-slot.result c.stand.result
+    c.streams_follow_history.ensures.withdrawn c.args.seat c.args.from c.args.octets c.word_of-word.result.now c.in-Ok.number
+    c.slot_of-slot.result c.stand.result
     c.end.new.self.rows c.put.new.self (record { no = c.in-Ok.number; effect = record { 0 = i.sealed } }) c.word_of-word.ensures stands opened c.stand.ensures
-    c.slot_of-slot.ensures c.end.ensures.rows c.in-Ok-put.ensures.more refl c.enter.ensures).answers
+    c.slot_of-slot.ensures c.end.ensures.rows c.in_ok-put-in-Ok.ensures.more refl c.enter.ensures).answers
 
-pub returns-in-Ok-put-clause-held : goal.returns-in-Ok-put-clause-held
-returns-in-Ok-put-clause-held c =
+pub returns-in_ok-put-in-Ok-clause-held : goal.returns-in_ok-put-in-Ok-clause-held
+returns-in_ok-put-in-Ok-clause-held c =
     let i = c.self.inside in
     let laws = c.state_follows_history.ensures in
     let few : length i.log.items - i.sealed < 100000 = omega (arith, c.if-len-self-ge-MOST_CALLS.false, c.len.ensures) in
     let stands = subst (λ (k : Kept). StandsIn k.requests k.script (Withdraw c.args.from c.args.octets)) (sym c.self.view_is) c.requires in
-    let opened = subst (λ (rs : List Request). FindsOpenForm i.holdings.rows (length rs) (number_of_form rs c.word_of-word.result.now) (Ok c.in-Ok.number)) c.self.invariant.2
+    let opened = subst (λ (rs : List Request). FindsOpenForm i.holdings.rows (length rs) (number_of_form rs c.word_of-word.result.now) (Ok c.in-Ok.number))
+    c.self.invariant.2
     c.in-Ok.ensures in
     (withdraw_done i.domain.now i.requests.now i.script.now i.log.items c.reserve.new.self.items c.enter.new.log.items i.holdings.rows i.slots
     i.sealed c.self.invariant.0 c.self.invariant.4 c.args.self.now c.self.view_is c.reserve.ensures.items few laws.goes_on laws.counted laws.withdrawn laws.held
-    c.streams_follow_history.ensures.withdrawn c.args.seat c.args.from c.args.octets c.word_of-word.result.now c.in-Ok.number c.slot_of-slot.result c.stand.result
+    c.streams_follow_history.ensures.withdrawn c.args.seat c.args.from c.args.octets c.word_of-word.result.now c.in-Ok.number
+    c.slot_of-slot.result c.stand.result
     c.end.new.self.rows c.put.new.self (record { no = c.in-Ok.number; effect = record { 0 = i.sealed } }) c.word_of-word.ensures stands opened c.stand.ensures
-    c.slot_of-slot.ensures c.end.ensures.rows c.in-Ok-put.ensures.more refl c.enter.ensures).holds
+    c.slot_of-slot.ensures c.end.ensures.rows c.in_ok-put-in-Ok.ensures.more refl c.enter.ensures).holds

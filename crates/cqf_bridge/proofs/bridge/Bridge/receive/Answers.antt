@@ -8,40 +8,85 @@ pub receive_frames-received-requires-clause-ready :
     goal.receive_frames-received-requires-clause-ready
 receive_frames-received-requires-clause-ready c =
     let i = c.self.inside in
-    let b : BridgeState = record { domain = i.domain; number = i.number; sent = i.sent; received = i.received; spent = i.spent; ports = i.ports.items; background = i.background.items } in
-    let next = next_to_receive b c.args.cycle.0 c.args.table.now.cycle c.self.invariant.bridge c.if-cycle-self.false c.if-self-2.false (sym c.cycle.ensures ∙ c.if-cycle.false) in
+    let b : BridgeState = record {
+      domain = i.domain;
+      number = i.number;
+      sent = i.sent;
+      received = i.received;
+      spent = i.spent;
+      ports =
+          i.ports.items;
+      background = i.background.items;
+    } in
+    let next = next_to_receive b c.args.cycle.0 c.args.table.now.cycle c.self.invariant.bridge c.if-cycle-self.false c.if-self-2.false
+    (sym c.cycle.ensures ∙ c.if-cycle.false) in
     ready_to_receive b i.gates c.self.invariant c.if-self.false c.args.cycle.0 c.args.table.now.cycle next
 
 pub invariant_of-self : goal.invariant_of-self
 invariant_of-self c =
     let i = c.self.inside in
-    let b : BridgeState = record { domain = i.domain; number = i.number; sent = i.sent; received = i.received; spent = i.spent; ports = i.ports.items; background = i.background.items } in
-    let next = next_to_receive b c.args.cycle.0 c.args.table.now.cycle c.self.invariant.bridge c.if-cycle-self.false c.if-self-2.false (sym c.cycle.ensures ∙ c.if-cycle.false) in
+    let b : BridgeState = record {
+      domain = i.domain;
+      number = i.number;
+      sent = i.sent;
+      received = i.received;
+      spent = i.spent;
+      ports =
+          i.ports.items;
+      background = i.background.items;
+    } in
+    let next = next_to_receive b c.args.cycle.0 c.args.table.now.cycle c.self.invariant.bridge c.if-cycle-self.false c.if-self-2.false
+    (sym c.cycle.ensures ∙ c.if-cycle.false) in
     let run = c.requires.offers.0 in
     let of_run : IsRunOfBridge b.domain b.number c.args.cycle.0 c.args.table.now.rows c.args.offers.now run =
-    subst (λ (x : BridgeState). IsRunOfBridge x.domain x.number c.args.cycle.0 c.args.table.now.rows c.args.offers.now run) (sym c.self.view_is) c.requires.offers.1 in
-    bridge_received b i.gates c.self.invariant c.if-self.false c.args.cycle.0 c.args.table.now.cycle next c.args.table.now.rows c.args.offers.now c.args.batches.now
-    c.receive_frames-received.new.gates c.receive_frames-received.new.ports.items c.in-Ok.drops.items c.in-Ok.ensures.kept run of_run (c.in-Ok.ensures.takes run of_run)
+    subst (λ (x : BridgeState). IsRunOfBridge x.domain x.number c.args.cycle.0 c.args.table.now.rows c.args.offers.now run) (sym c.self.view_is)
+    c.requires.offers.1 in
+    bridge_received b i.gates c.self.invariant c.if-self.false c.args.cycle.0 c.args.table.now.cycle next c.args.table.now.rows
+    c.args.offers.now c.args.batches.now
+    c.receive_frames-received.new.gates c.receive_frames-received.new.ports.items c.in-Ok.drops.items c.in-Ok.ensures.kept run of_run
+    (c.in-Ok.ensures.takes run of_run)
 
 pub returns-in-Ok-clause-receives : goal.returns-in-Ok-clause-receives
 returns-in-Ok-clause-receives c =
     let i = c.self.inside in
-    let b : BridgeState = record { domain = i.domain; number = i.number; sent = i.sent; received = i.received; spent = i.spent; ports = i.ports.items; background = i.background.items } in
-    let next = next_to_receive b c.args.cycle.0 c.args.table.now.cycle c.self.invariant.bridge c.if-cycle-self.false c.if-self-2.false (sym c.cycle.ensures ∙ c.if-cycle.false) in
+    let b : BridgeState = record {
+      domain = i.domain;
+      number = i.number;
+      sent = i.sent;
+      received = i.received;
+      spent = i.spent;
+      ports =
+          i.ports.items;
+      background = i.background.items;
+    } in
+    let next = next_to_receive b c.args.cycle.0 c.args.table.now.cycle c.self.invariant.bridge c.if-cycle-self.false c.if-self-2.false
+    (sym c.cycle.ensures ∙ c.if-cycle.false) in
     let after : BridgeState = record b { received = b.received + 1; ports = c.receive_frames-received.new.ports.items } in
     λ run of_old.
     let of_run : IsRunOfBridge b.domain b.number c.args.cycle.0 c.args.table.now.rows c.args.offers.now run =
     subst (λ (x : BridgeState). IsRunOfBridge x.domain x.number c.args.cycle.0 c.args.table.now.rows c.args.offers.now run) (sym c.self.view_is) of_old in
     subst (λ (x : BridgeState). ReceivesCycle run x after c.args.cycle.0 c.args.batches.now c.in-Ok.drops.items) c.self.view_is
-    (cycle_received b i.gates c.self.invariant c.if-self.false c.args.cycle.0 c.args.table.now.cycle next c.args.table.now.rows c.args.offers.now c.args.batches.now
-    c.receive_frames-received.new.gates c.receive_frames-received.new.ports.items c.in-Ok.drops.items c.in-Ok.ensures.kept run of_run (c.in-Ok.ensures.takes run of_run))
+    (cycle_received b i.gates c.self.invariant c.if-self.false c.args.cycle.0 c.args.table.now.cycle next c.args.table.now.rows
+    c.args.offers.now c.args.batches.now
+    c.receive_frames-received.new.gates c.receive_frames-received.new.ports.items c.in-Ok.drops.items c.in-Ok.ensures.kept run of_run
+    (c.in-Ok.ensures.takes run of_run))
 
 pub returns-in-Err-clause-fault : goal.returns-in-Err-clause-fault
 returns-in-Err-clause-fault c =
     let i = c.self.inside in
-    let b : BridgeState = record { domain = i.domain; number = i.number; sent = i.sent; received = i.received; spent = i.spent; ports = i.ports.items; background = i.background.items } in
+    let b : BridgeState = record {
+      domain = i.domain;
+      number = i.number;
+      sent = i.sent;
+      received = i.received;
+      spent = i.spent;
+      ports =
+          i.ports.items;
+      background = i.background.items;
+    } in
     let handed : Handed = record { table_cycle = c.args.table.now.cycle; rows = c.args.table.now.rows; batches = c.args.batches.now } in
-    let next = next_to_receive b c.args.cycle.0 c.args.table.now.cycle c.self.invariant.bridge c.if-cycle-self.false c.if-self-2.false (sym c.cycle.ensures ∙ c.if-cycle.false) in
+    let next = next_to_receive b c.args.cycle.0 c.args.table.now.cycle c.self.invariant.bridge c.if-cycle-self.false c.if-self-2.false
+    (sym c.cycle.ensures ∙ c.if-cycle.false) in
     let can : CanReceive b c.args.cycle.0 handed =
     record { may = record { not_spent = c.if-self.false; next = next }; batches = c.are_batches.ensures.yes c.if-not-are_batches.false } in
     let after : BridgeState = record b { spent = true; ports = c.receive_frames-received.new.ports.items } in
@@ -55,6 +100,16 @@ returns-in-Err-clause-fault c =
 pub receive_frames-received-requires-clause-early : goal.receive_frames-received-requires-clause-early
 receive_frames-received-requires-clause-early c =
     let i = c.self.inside in
-    let b : BridgeState = record { domain = i.domain; number = i.number; sent = i.sent; received = i.received; spent = i.spent; ports = i.ports.items; background = i.background.items } in
-    let next = next_to_receive b c.args.cycle.0 c.args.table.now.cycle c.self.invariant.bridge c.if-cycle-self.false c.if-self-2.false (sym c.cycle.ensures ∙ c.if-cycle.false) in
+    let b : BridgeState = record {
+      domain = i.domain;
+      number = i.number;
+      sent = i.sent;
+      received = i.received;
+      spent = i.spent;
+      ports =
+          i.ports.items;
+      background = i.background.items;
+    } in
+    let next = next_to_receive b c.args.cycle.0 c.args.table.now.cycle c.self.invariant.bridge c.if-cycle-self.false c.if-self-2.false
+    (sym c.cycle.ensures ∙ c.if-cycle.false) in
     early_to_receive b i.gates c.self.invariant c.if-self.false c.args.cycle.0 c.args.table.now.cycle next

@@ -8,7 +8,16 @@ use Rattle.cqf_bridge.proofs.bridge.Bridge.send.Goals as goal
 pub send_ports-sent-requires-clause-in_step : goal.send_ports-sent-requires-clause-in_step
 send_ports-sent-requires-clause-in_step c =
     let i = c.self.inside in
-    let b : BridgeState = record { domain = i.domain; number = i.number; sent = i.sent; received = i.received; spent = i.spent; ports = i.ports.items; background = i.background.items } in
+    let b : BridgeState = record {
+      domain = i.domain;
+      number = i.number;
+      sent = i.sent;
+      received = i.received;
+      spent = i.spent;
+      ports =
+          i.ports.items;
+      background = i.background.items;
+    } in
     let frames : AreBackedOf b.domain b.number c.args.cycle.0 c.args.background.now =
     subst (λ (x : BridgeState). AreBackedOf x.domain x.number c.args.cycle.0 c.args.background.now) (sym c.self.view_is) c.requires.frames in
     let next : IsNextToSend b c.args.cycle.0 = (c.if-cycle-self.false, c.if-self-2.false) in
@@ -17,7 +26,16 @@ send_ports-sent-requires-clause-in_step c =
 pub invariant_of-self : goal.invariant_of-self
 invariant_of-self c =
     let i = c.self.inside in
-    let b : BridgeState = record { domain = i.domain; number = i.number; sent = i.sent; received = i.received; spent = i.spent; ports = i.ports.items; background = i.background.items } in
+    let b : BridgeState = record {
+      domain = i.domain;
+      number = i.number;
+      sent = i.sent;
+      received = i.received;
+      spent = i.spent;
+      ports =
+          i.ports.items;
+      background = i.background.items;
+    } in
     let frames : AreBackedOf b.domain b.number c.args.cycle.0 c.args.background.now =
     subst (λ (x : BridgeState). AreBackedOf x.domain x.number c.args.cycle.0 c.args.background.now) (sym c.self.view_is) c.requires.frames in
     let next : IsNextToSend b c.args.cycle.0 = (c.if-cycle-self.false, c.if-self-2.false) in
@@ -27,14 +45,24 @@ invariant_of-self c =
     c.args.batches.now.items c.send_ports-sent.new.batches.items xs c.send_ports-sent.new.started.items) c.new-started.ensures.items c.in-Ok.ensures.sends in
     record {
       bridge = bridge_behind b c.self.invariant.bridge c.if-self.false c.args.cycle.0 next c.args.background.now frames _ _ _ _ sends
-          (subst (λ (x : BridgeState). x.spent ≡ false → IsNextToSend x c.args.cycle.0 → c.args.cycle.0 < 100000) (sym c.self.view_is) c.requires.early c.if-self.false next);
+          (subst (λ (x : BridgeState). x.spent ≡ false → IsNextToSend x c.args.cycle.0 → c.args.cycle.0 < 100000) (sym c.self.view_is)
+          c.requires.early c.if-self.false next);
       gates_kept = c.self.invariant.gates_kept;
     }
 
 pub returns-in-Ok-clause-sends : goal.returns-in-Ok-clause-sends
 returns-in-Ok-clause-sends c =
     let i = c.self.inside in
-    let b : BridgeState = record { domain = i.domain; number = i.number; sent = i.sent; received = i.received; spent = i.spent; ports = i.ports.items; background = i.background.items } in
+    let b : BridgeState = record {
+      domain = i.domain;
+      number = i.number;
+      sent = i.sent;
+      received = i.received;
+      spent = i.spent;
+      ports =
+          i.ports.items;
+      background = i.background.items;
+    } in
     let frames : AreBackedOf b.domain b.number c.args.cycle.0 c.args.background.now =
     subst (λ (x : BridgeState). AreBackedOf x.domain x.number c.args.cycle.0 c.args.background.now) (sym c.self.view_is) c.requires.frames in
     let next : IsNextToSend b c.args.cycle.0 = (c.if-cycle-self.false, c.if-self-2.false) in
@@ -43,11 +71,22 @@ returns-in-Ok-clause-sends c =
     subst (λ (xs : List Started). FirstSend b.domain c.args.cycle.0 c.args.background.now (length b.ports) b.ports c.send_ports-sent.new.ports.items
     c.args.batches.now.items c.send_ports-sent.new.batches.items xs c.send_ports-sent.new.started.items) c.new-started.ensures.items c.in-Ok.ensures.sends in
     let after : BridgeState = record b { sent = b.sent + 1; ports = c.send_ports-sent.new.ports.items; background = c.send_ports-sent.new.started.items } in
-    subst (λ (x : BridgeState). SendsCycle x after c.args.cycle.0 c.args.background.now c.args.batches.now.items c.send_ports-sent.new.batches.items) c.self.view_is
+    subst (λ (x : BridgeState). SendsCycle x after c.args.cycle.0 c.args.background.now c.args.batches.now.items c.send_ports-sent.new.batches.items)
+    c.self.view_is
     (cycle_sent b c.self.invariant.bridge c.if-self.false c.args.cycle.0 next c.args.background.now frames _ _ _ _ sends)
 
 pub send_ports-sent-requires-clause-early : goal.send_ports-sent-requires-clause-early
 send_ports-sent-requires-clause-early c =
     let i = c.self.inside in
-    let next : IsNextToSend (record { domain = i.domain; number = i.number; sent = i.sent; received = i.received; spent = i.spent; ports = i.ports.items; background = i.background.items }) c.args.cycle.0 = (c.if-cycle-self.false, c.if-self-2.false) in
-    subst (λ (x : BridgeState). x.spent ≡ false → IsNextToSend x c.args.cycle.0 → c.args.cycle.0 < 100000) (sym c.self.view_is) c.requires.early c.if-self.false next
+    let next : IsNextToSend (record {
+      domain = i.domain;
+      number = i.number;
+      sent = i.sent;
+      received = i.received;
+      spent = i.spent;
+      ports =
+          i.ports.items;
+      background = i.background.items;
+    }) c.args.cycle.0 = (c.if-cycle-self.false, c.if-self-2.false) in
+    subst (λ (x : BridgeState). x.spent ≡ false → IsNextToSend x c.args.cycle.0 → c.args.cycle.0 < 100000) (sym c.self.view_is)
+    c.requires.early c.if-self.false next

@@ -21,10 +21,12 @@ invariant_of-self-2 c =
           (omega (arith, ap length reserved, c.len.ensures, w.if-len-ge-FEW.true)) c.self.invariant
           (ap (position (λ (k : KeptGate). k.number == c.args.gate.number)) c.self.view_is ∙ c.requires)
           ((rw w.unwrap.ensures at w.insert.ensures.keys) ∙ ap (λ (ns : List ℕ). insert_key nat_eq ns c.args.gate.number) w.in_ok-reserve-2.ensures.keys)
-          ∙ ap listed (sym (pushed ∙ ap (λ (i : Inside). i.kept.items ++ c.args.gate ∷ []) w.self-inside-is ∙ ap (λ (gs : List KeptGate). gs ++ c.args.gate ∷ []) reserved))
+          ∙ ap listed (sym (pushed ∙ ap (λ (i : Inside). i.kept.items ++ c.args.gate ∷ []) w.self-inside-is
+          ∙ ap (λ (gs : List KeptGate). gs ++ c.args.gate ∷ []) reserved))
       | else-len-ge-FEW w ↦
           ap (λ (i : Inside). i.numbers.keys) w.self-inside-is
           ∙ among_few FEW gates c.args.gate numbers
           (omega (arith, ap length reserved, c.len.ensures, w.if-len-ge-FEW.false)) c.self.invariant
-          ∙ ap listed (sym (pushed ∙ ap (λ (i : Inside). i.kept.items ++ c.args.gate ∷ []) w.self-inside-is ∙ ap (λ (gs : List KeptGate). gs ++ c.args.gate ∷ []) reserved))
+          ∙ ap listed (sym (pushed ∙ ap (λ (i : Inside). i.kept.items ++ c.args.gate ∷ []) w.self-inside-is
+          ∙ ap (λ (gs : List KeptGate). gs ++ c.args.gate ∷ []) reserved))
     ]

@@ -45,7 +45,12 @@ returns-in-Some-clause-after c =
     let of : Gate → KeptGate = λ g. record { number = row.no; reserved = row.octets; gate = gate_after g c.args.at.0 c.args.octets.0 } in
     f.placed c.pass.new.self (ap (λ (k : KeptGate). k.number) c.pass.ensures.after ∙ f.of_number)
     ∙ ap (with_gate gates) (c.pass.ensures.after
-    ∙ (λ i. record { number = f.of_number i; reserved = row.octets; gate = gate_after (gate_or time row.octets (Some c.index_mut.result.now)) c.args.at.0 c.args.octets.0 })
+    ∙ (λ i. record {
+      number = f.of_number i;
+      reserved = row.octets;
+      gate =
+          gate_after (gate_or time row.octets (Some c.index_mut.result.now)) c.args.at.0 c.args.octets.0;
+    })
     ∙ ap (λ o. of (gate_or time row.octets o)) (sym f.found))
     ∙ ap (λ (gs : List KeptGate). with_gate gs (of (gate_in time gs row.no row.octets))) c.self.view_is
 
@@ -68,7 +73,12 @@ returns-in_ok-keep-in-None-clause-after c =
     let of : Gate → KeptGate = λ g. record { number = row.no; reserved = row.octets; gate = gate_after g c.args.at.0 c.args.octets.0 } in
     c.in_ok-keep-in-None.ensures.added
     ∙ ap (λ (k : KeptGate). gates ++ k ∷ []) (c.pass-passed.ensures.after
-    ∙ (λ i. record { number = (c.new-gate.ensures i).number; reserved = row.octets; gate = gate_after (gate_or time row.octets (Some (c.new-gate.ensures i))) c.args.at.0 c.args.octets.0 })
+    ∙ (λ i. record {
+      number = (c.new-gate.ensures i).number;
+      reserved = row.octets;
+      gate =
+          gate_after (gate_or time row.octets (Some (c.new-gate.ensures i))) c.args.at.0 c.args.octets.0;
+    })
     ∙ ap of (own_gate time row.no row.octets)
     ∙ ap (λ o. of (gate_or time row.octets o)) (sym none.0))
     ∙ sym (none.1 (of (gate_in time gates row.no row.octets)) refl)

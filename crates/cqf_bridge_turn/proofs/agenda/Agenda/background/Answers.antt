@@ -15,8 +15,10 @@ returns c =
     let from = c.partition_point-from.result in
     let rest = take (length all - from) (drop from all) in
     cut_of instant_of_backed time c.args.cycle.0 c.from.result all rest from c.partition_point-count.result
-    c.from.ensures c.self.invariant.some (subst (λ (xs : List Backed). IsNonDecreasingBy instant_of_backed xs) (sym c.as_slice-all.ensures.value) c.self.invariant.background)
-    (λ up. IsPartitionPoint-from_clause (λ (y : Backed). nat_lt (instant_of_backed y) (c.from.result * time)) all from c.partition_point-from.ensures.partitioned up
+    c.from.ensures c.self.invariant.some (subst (λ (xs : List Backed). IsNonDecreasingBy instant_of_backed xs) (sym c.as_slice-all.ensures.value)
+    c.self.invariant.background)
+    (λ up. IsPartitionPoint-from_clause (λ (y : Backed). nat_lt (instant_of_backed y) (c.from.result * time)) all from
+    c.partition_point-from.ensures.partitioned up
     (λ a r f q. search rules))
     c.partition_point-from.ensures.bound refl
     (λ up. IsPartitionPoint-from_clause (λ (y : Backed). nat_lt (instant_of_backed y) (c.from.result * time + time)) rest c.partition_point-count.result

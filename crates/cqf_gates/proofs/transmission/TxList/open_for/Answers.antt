@@ -13,8 +13,11 @@ returns-then-run-len-clause-span c =
     let entries = c.args.self.now in
     let place = c.entry_at-place.result.0 in
     let turned : c.turned-turned.result.items ≡ turned_to place entries = c.turned-turned.ensures ∙ ap (turned_to place) c.entries.ensures.value in
-    let run = run_of_turned entries c.entries.result.now c.turned-turned.result.items c.as_slice.result.now c.states_of.result.items c.as_slice-2.result.now place c.args.class c.open_run-run.result c.entries.ensures.value c.turned-turned.ensures c.as_slice.ensures.value c.states_of.ensures c.as_slice-2.ensures.value c.open_run-run.ensures in
-    all-open entries c.args.class c.args.t.0 place c.entry_at-place.result.1 c.open_run-run.result c.entries.ensures.facts c.entry_at-place.ensures.in_force run (c.if-run-len.true ∙ c.len.ensures.value ∙ ap length turned)
+    let run = run_of_turned entries c.entries.result.now c.turned-turned.result.items c.as_slice.result.now c.states_of.result.items
+    c.as_slice-2.result.now place c.args.class c.open_run-run.result c.entries.ensures.value c.turned-turned.ensures c.as_slice.ensures.value
+    c.states_of.ensures c.as_slice-2.ensures.value c.open_run-run.ensures in
+    all-open entries c.args.class c.args.t.0 place c.entry_at-place.result.1 c.open_run-run.result c.entries.ensures.facts
+    c.entry_at-place.ensures.in_force run (c.if-run-len.true ∙ c.len.ensures.value ∙ ap length turned)
 
 -- so it is always open
 pub returns-then-run-len-clause-always : goal.returns-then-run-len-clause-always
@@ -22,8 +25,11 @@ returns-then-run-len-clause-always c = λ same.
     let entries = c.args.self.now in
     let place = c.entry_at-place.result.0 in
     let turned : c.turned-turned.result.items ≡ turned_to place entries = c.turned-turned.ensures ∙ ap (turned_to place) c.entries.ensures.value in
-    let run = run_of_turned entries c.entries.result.now c.turned-turned.result.items c.as_slice.result.now c.states_of.result.items c.as_slice-2.result.now place c.args.class c.open_run-run.result c.entries.ensures.value c.turned-turned.ensures c.as_slice.ensures.value c.states_of.ensures c.as_slice-2.ensures.value c.open_run-run.ensures in
-    open-always entries c.args.class c.args.t.0 place c.entry_at-place.result.1 c.open_run-run.result c.entries.ensures.facts c.entry_at-place.ensures.in_force run (c.if-run-len.true ∙ c.len.ensures.value ∙ ap length turned)
+    let run = run_of_turned entries c.entries.result.now c.turned-turned.result.items c.as_slice.result.now c.states_of.result.items
+    c.as_slice-2.result.now place c.args.class c.open_run-run.result c.entries.ensures.value c.turned-turned.ensures c.as_slice.ensures.value
+    c.states_of.ensures c.as_slice-2.ensures.value c.open_run-run.ensures in
+    open-always entries c.args.class c.args.t.0 place c.entry_at-place.result.1 c.open_run-run.result c.entries.ensures.facts
+    c.entry_at-place.ensures.in_force run (c.if-run-len.true ∙ c.len.ensures.value ∙ ap length turned)
 
 -- the run isn't longer than the list
 pub slice_bounds-length_of-end : goal.slice_bounds-length_of-end
@@ -31,7 +37,9 @@ slice_bounds-length_of-end c =
     let entries = c.args.self.now in
     let place = c.entry_at-place.result.0 in
     let turned : c.turned-turned.result.items ≡ turned_to place entries = c.turned-turned.ensures ∙ ap (turned_to place) c.entries.ensures.value in
-    let run = run_of_turned entries c.entries.result.now c.turned-turned.result.items c.as_slice.result.now c.states_of.result.items c.as_slice-2.result.now place c.args.class c.open_run-run.result c.entries.ensures.value c.turned-turned.ensures c.as_slice.ensures.value c.states_of.ensures c.as_slice-2.ensures.value c.open_run-run.ensures in
+    let run = run_of_turned entries c.entries.result.now c.turned-turned.result.items c.as_slice.result.now c.states_of.result.items
+    c.as_slice-2.result.now place c.args.class c.open_run-run.result c.entries.ensures.value c.turned-turned.ensures c.as_slice.ensures.value
+    c.states_of.ensures c.as_slice-2.ensures.value c.open_run-run.ensures in
     let short = run_inside (turned_to place entries) c.args.class c.open_run-run.result run in
     let sizes : length c.as_slice-3.result.now ≡ length (turned_to place entries) = ap length (c.as_slice-3.ensures.value ∙ turned) in
     omega (arith, length-take c.open_run-run.result c.as_slice-3.result.now)
@@ -42,8 +50,11 @@ returns-clause-span c =
     let entries = c.args.self.now in
     let place = c.entry_at-place.result.0 in
     let turned : c.turned-turned.result.items ≡ turned_to place entries = c.turned-turned.ensures ∙ ap (turned_to place) c.entries.ensures.value in
-    let run = run_of_turned entries c.entries.result.now c.turned-turned.result.items c.as_slice.result.now c.states_of.result.items c.as_slice-2.result.now place c.args.class c.open_run-run.result c.entries.ensures.value c.turned-turned.ensures c.as_slice.ensures.value c.states_of.ensures c.as_slice-2.ensures.value c.open_run-run.ensures in
+    let run = run_of_turned entries c.entries.result.now c.turned-turned.result.items c.as_slice.result.now c.states_of.result.items
+    c.as_slice-2.result.now place c.args.class c.open_run-run.result c.entries.ensures.value c.turned-turned.ensures c.as_slice.ensures.value
+    c.states_of.ensures c.as_slice-2.ensures.value c.open_run-run.ensures in
     let short = run_inside (turned_to place entries) c.args.class c.open_run-run.result run in
     let sizes = ap length turned in
     let taken = ap (λ xs. round_of (take c.open_run-run.result xs)) (c.as_slice-3.ensures.value ∙ turned) in
-    open-to_end entries c.args.class c.args.t.0 place c.entry_at-place.result.1 c.open_run-run.result c.entries.ensures.facts c.entry_at-place.ensures.in_force run _ (omega arith) (omega arith) (omega (arith, taken))
+    open-to_end entries c.args.class c.args.t.0 place c.entry_at-place.result.1 c.open_run-run.result c.entries.ensures.facts
+    c.entry_at-place.ensures.in_force run _ (omega arith) (omega arith) (omega (arith, taken))

@@ -11,6 +11,8 @@ pub returns : goal.returns
 returns c =
     let goes_by = rules_of c.self.inside.schedule c.self.inside.rate in
     let from = c.max.result in
-    let next = subst (λ (xs : List Arrival). MatchOption c.next_ready.result (NeverReady goes_by xs c.self.inside.progress.heads from) (λ t. IsNextReady goes_by xs c.self.inside.progress.heads from t.0)) c.as_slice.ensures.value c.next_ready.ensures in
+    let next = subst (λ (xs : List Arrival). MatchOption c.next_ready.result (NeverReady goes_by xs c.self.inside.progress.heads from)
+    (λ t. IsNextReady goes_by xs c.self.inside.progress.heads from t.0)) c.as_slice.ensures.value c.next_ready.ensures in
     subst (λ (p : PortState). MatchOption c.next_ready.result (StartsNoMore p) (λ t. StartsNext p t.0)) c.self.view_is
-    (starts_next goes_by c.self.inside.arrivals.items c.self.inside.reached.0 from c.self.inside.starts.items c.self.inside.progress c.self.invariant.taken c.self.invariant.abreast c.max.ensures c.next_ready.result next)
+    (starts_next goes_by c.self.inside.arrivals.items c.self.inside.reached.0 from c.self.inside.starts.items c.self.inside.progress
+    c.self.invariant.taken c.self.invariant.abreast c.max.ensures c.next_ready.result next)

@@ -13,4 +13,5 @@ invariant_of-result c =
     let kept : IsKept rules c.args.arrivals.items 0 [] c.taken_in_turn.result.0 c.taken_in_turn.result.1 =
     subst (λ (xs : List Arrival). IsKept rules xs 0 [] c.taken_in_turn.result.0 c.taken_in_turn.result.1) c.as_slice.ensures.value
     (c.taken_in_turn.ensures rules (rate_positive c.args.rate)) in
-    subst (λ (starts : List Transmission). IsKept rules c.args.arrivals.items 0 starts c.taken_in_turn.result.0 c.taken_in_turn.result.1) (sym c.new-2.ensures.items) kept
+    subst (λ (starts : List Transmission). IsKept rules c.args.arrivals.items 0 starts c.taken_in_turn.result.0 c.taken_in_turn.result.1)
+    (sym c.new-2.ensures.items) kept

@@ -7,7 +7,8 @@ use Rattle.cqf_program_plans.proofs.compile_outputs.ConfigOutput.tell.Goals as g
 
 pub returns : goal.returns
 returns g c =
-    let put = Puts-as (config_text c.self.inside.plan c.as_slice.result.now) (text_of_config c.args.self) (ap (config_text c.self.inside.plan) c.as_slice.ensures.value ∙ ap text_of_config c.self.view_is)
+    let put = Puts-as (config_text c.self.inside.plan c.as_slice.result.now) (text_of_config c.args.self)
+    (ap (config_text c.self.inside.plan) c.as_slice.ensures.value ∙ ap text_of_config c.self.view_is)
     c.put_config.ensures in
     let done : HasTold (writing g.W.Write.contents c.args.told.now c.close-told.result.now) (text_of_config c.args.self) =
     HasTold-pressed g.W.Write.contents c.args.told.now c.new-press.result c.put_config.new.press c.close-told.result.now _

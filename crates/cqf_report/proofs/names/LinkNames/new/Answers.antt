@@ -12,4 +12,5 @@ loop-link-preserved c =
     (omega (arith, c.loop-link-test.true, c.links-link-end.ensures)) c.link.ensures c.in_ok-ends.ensures.name c.in_ok-ends.ensures.plain c.loop-link.invariant)
 
 pub invariant_of-result : goal.invariant_of-result
-invariant_of-result c = first_names-all c.args.domain.now c.loop-link.link c.loop-link.names.items (omega (arith, c.loop-link-test.false, c.links-link-end.ensures)) c.loop-link.invariant
+invariant_of-result c = first_names-all c.args.domain.now c.loop-link.link c.loop-link.names.items
+    (omega (arith, c.loop-link-test.false, c.links-link-end.ensures)) c.loop-link.invariant

@@ -1,0 +1,149 @@
+-- The ports' next starts in order, one after the other.
+use Rattle.std.proofs.Common.{◌≡◌, ℕ, ◌+◌, ◌≤◌, ◌<◌, ◌⊎◌, ◌++◌, Bool, true, false, List, [], ◌∷◌, Some, None, sym, refl}
+use Rattle.std.proofs.Common.{ap, ◌∙◌, inl, inr, arith, subst, append-nil, append_assoc, get_or, length, take}
+use Rattle.std.specs.Prelude.{IsSome, cond}
+use Rattle.std.specs.BTreeMap.{BTreeMap, IsLowerBound, Updates, get, is_at}
+use Rattle.std.specs.Cmp.{ranks}
+use Rattle.std.specs.Map.{lookup}
+use Rattle.std.specs.declared.cmp.Ordering.{Ordering}
+use Rattle.std.specs.declared.cmp.Ordering.TheVariants.{Less, Equal, Greater}
+use Rattle.std.specs.Ordering.{MatchOrdering, is_eq, is_gt, nat_cmp, ordering_then}
+use Rattle.std.proofs.lemmas.Bool.{false≢true, true≢false}
+use Rattle.std.proofs.lemmas.List.{take_all, take_more}
+use Rattle.std.proofs.lemmas.List.Concat.{flat_map-append}
+use Rattle.std.proofs.lemmas.List.Elements.{Contains-append_left, Contains-push, Contains-push_cases}
+use Rattle.cqf_lists.proofs.Members.{contains_none}
+use Rattle.cqf_port.specs.NextStart.{StartsNext}
+use Rattle.cqf_bridge.specs.PortRecord.{PortRecord}
+use Rattle.cqf_bridge.specs.Quiet.{IsNextOf}
+use Rattle.cqf_plain.specs.declared.driven.Driven.{Driven}
+use Rattle.cqf_plain.specs.Due.{AreDue, HasNothing, IsAmong, IsNoted, Moment, Moments, NoneBefore, NothingComes, by_instant, ports_of}
+
+-- what compares as not greater isn't later
+not_later : (a b : ℕ) (o r : Ordering) → MatchOrdering o (a < b) (a ≡ b) (b < a) → is_gt (ordering_then o r) ≡ false → a ≤ b
+not_later a b Less r h e = omega (arith, h)
+not_later a b Equal r h e = omega (arith, h)
+not_later a b Greater r h e = absurd (true≢false e)
+
+-- what compares as equal is the same
+same_moment : (a b l m : ℕ) (o r : Ordering) → MatchOrdering o (a < b) (a ≡ b) (b < a) → MatchOrdering r (l < m) (l ≡ m) (m < l) →
+    is_eq (ordering_then o r) ≡ true → (a ≡ b) × (l ≡ m)
+same_moment a b l m Less r h k e = absurd (true≢false (sym e))
+same_moment a b l m Equal Less h k e = absurd (true≢false (sym e))
+same_moment a b l m Equal Equal h k e = (h, k)
+same_moment a b l m Equal Greater h k e = absurd (true≢false (sym e))
+same_moment a b l m Greater r h k e = absurd (true≢false (sym e))
+
+-- a number compares as equal to itself
+equal_itself : (a : ℕ) (o : Ordering) → MatchOrdering o (a < a) (a ≡ a) (a < a) → o ≡ Equal
+equal_itself a Less h = absurd (omega (arith, h))
+equal_itself a Equal h = refl
+equal_itself a Greater h = absurd (omega (arith, h))
+
+-- so does a moment
+itself : (x : Moment) → is_eq (by_instant x x) ≡ true
+itself x = ap (λ (o : Ordering). is_eq (ordering_then o (nat_cmp x.1 x.1))) (equal_itself x.0.0 (nat_cmp x.0.0 x.0.0) (ranks x.0.0 x.0.0))
+    ∙ ap is_eq (equal_itself x.1 (nat_cmp x.1 x.1) (ranks x.1 x.1))
+
+-- an answer is one of two
+either : (b : Bool) → (b ≡ true) ⊎ (b ≡ false)
+either true = inl refl
+either false = inr refl
+
+-- where the first isn't before an instant none is
+pub first_is_least : (due : BTreeMap Moment ℕ) (x : Moment) (end : ℕ) → IsLowerBound by_instant due x → end ≤ x.0.0 → NoneBefore end due.entries
+first_is_least due x end least late k among =
+    omega (arith, late, not_later x.0.0 k.0.0 (nat_cmp x.0.0 k.0.0) (nat_cmp x.1 k.1) (ranks x.0.0 k.0.0) (least k among))
+
+module _ (x : Moment) (v : ℕ) (before after : BTreeMap Moment ℕ) (updates : Updates by_instant before after x (Some v)) where
+  -- what is put in is there
+  puts_it : IsAmong after.entries x
+  puts_it = subst IsSome (sym (updates.0 x ∙ ap (λ (b : Bool). cond b (Some v) (get by_instant before x)) (itself x))) refl
+
+  -- beside what was
+  puts_beside : (k : Moment) → IsAmong before.entries k → IsAmong after.entries k
+  puts_beside k among = elim (either (is_eq (by_instant x k))) [
+    | inl e ↦ subst IsSome (sym (updates.0 k ∙ ap (λ (b : Bool). cond b (Some v) (get by_instant before k)) e)) refl
+    | inr e ↦ subst IsSome (sym (updates.0 k ∙ ap (λ (b : Bool). cond b (Some v) (get by_instant before k)) e)) among
+  ]
+
+  -- and nothing else is
+  puts_only : (k : Moment) → IsAmong after.entries k → IsAmong before.entries k ⊎ ((x.0.0 ≡ k.0.0) × (x.1 ≡ k.1))
+  puts_only k among = elim (either (is_eq (by_instant x k))) [
+    | inl e ↦ inr (same_moment x.0.0 k.0.0 x.1 k.1 (nat_cmp x.0.0 k.0.0) (nat_cmp x.1 k.1) (ranks x.0.0 k.0.0) (ranks x.1 k.1) e)
+    | inr e ↦ inl (subst IsSome (updates.0 k ∙ ap (λ (b : Bool). cond b (Some v) (get by_instant before k)) e) among)
+  ]
+
+  -- so one more is noted
+  pub one_noted : (ports : List PortRecord) (r : PortRecord) → AreDue before.entries ports → IsNextOf r (Some x) → AreDue after.entries (ports ++ r ∷ [])
+  one_noted ports r so next = record {
+    noted = λ q held. elim (Contains-push_cases ports r q held) [
+      | inl old ↦ (elim (so.noted q old) [
+        | inl none ↦ inl none
+        | inr some ↦ inr (some.0, some.1, puts_beside (some.0, q.link) some.2)
+      ])
+      | inr new ↦ subst (IsNoted after.entries) new (inr (x.0, next.0, subst (λ (l : ℕ). IsAmong after.entries (x.0, l)) next.1 puts_it))
+    ];
+    only = λ k among. elim (puts_only k among) [
+      | inl was ↦ (let w = so.only k was in (w.0, Contains-append_left ports (r ∷ []) w.0 w.1, w.2, w.3))
+      | inr same ↦ (r, Contains-push ports r, subst (λ (t : ℕ). StartsNext r.port t) same.0 next.0, sym same.1 ∙ next.1)
+    ];
+  }
+
+-- or of one that starts no more there is nothing to note
+pub none_noted : (due : Moments) (ports : List PortRecord) (r : PortRecord) → AreDue due ports → IsNextOf r None → AreDue due (ports ++ r ∷ [])
+none_noted due ports r so never = record {
+  noted = λ q held. elim (Contains-push_cases ports r q held) [
+    | inl old ↦ so.noted q old
+    | inr new ↦ subst (IsNoted due) new (inl never)
+  ];
+  only = λ k among. let w = so.only k among in (w.0, Contains-append_left ports (r ∷ []) w.0 w.1, w.2, w.3);
+}
+
+-- at first none is
+pub nothing_due : (due : Moments) → due ≡ [] → AreDue due []
+nothing_due due none = record {
+  noted = λ q held. absurd (contains_none q held);
+  only = λ k among. absurd (false≢true (subst (λ (es : Moments). IsSome (lookup (is_at (by_instant k)) es)) none among));
+}
+
+-- the ports of one bridge more
+pub ports_more : (xs : List Driven) (s : Driven) → ports_of (xs ++ s ∷ []) ≡ ports_of xs ++ s.bridge.ports
+ports_more xs s =
+    flat_map-append (λ (y : Driven). y.bridge.ports) xs (s ∷ []) ∙ ap (λ (rs : List PortRecord). ports_of xs ++ rs) (append-nil s.bridge.ports)
+
+-- the first of some
+first_of : {X : Type 0} (xs : List X) → 0 < length xs → X
+first_of [] none = absurd (omega (arith, none))
+first_of (x ∷ xs) some = x
+
+-- of a bridge, one port more
+pub next_noted : (due : Moments) (ports own : List PortRecord) (place : ℕ) → place < length own →
+    ((e : PortRecord) → AreDue due ((ports ++ take place own) ++ get_or own place e ∷ [])) → AreDue due (ports ++ take (place + 1) own)
+next_noted due ports own place inside so =
+    let e = first_of own (omega (arith, inside)) in
+    subst (AreDue due) (append_assoc ports (take place own) (get_or own place e ∷ []) ∙ ap (λ (rs : List PortRecord). ports ++ rs)
+    (sym (take_more own place e inside)))
+    (so e)
+
+-- and in the end all
+pub all_noted : (due : Moments) (ports own : List PortRecord) (place : ℕ) → length own ≤ place → AreDue due (ports ++ take place own) →
+    AreDue due (ports ++ own)
+all_noted due ports own place past so = subst (λ (rs : List PortRecord). AreDue due (ports ++ rs)) (take_all place own past) so
+
+-- those of one bridge more
+pub bridge_noted : (due : Moments) (bridges : List Driven) (place : ℕ) (s : Driven) → place < length bridges →
+    AreDue due (ports_of (take place bridges) ++ (get_or bridges place s).bridge.ports) → AreDue due (ports_of (take (place + 1) bridges))
+bridge_noted due bridges place s inside so =
+    subst (AreDue due)
+    (sym (ap ports_of (take_more bridges place s inside) ∙ ports_more (take place bridges) (get_or bridges place s))) so
+
+-- nothing comes to one bridge more
+pub nothing_more : (cycle : ℕ) (bridges : List Driven) (place : ℕ) (s : Driven) → place < length bridges → s ≡ get_or bridges place s →
+    NothingComes cycle (take place bridges) → HasNothing cycle s → NothingComes cycle (take (place + 1) bridges)
+nothing_more cycle bridges place s inside is so more =
+    subst (NothingComes cycle) (sym (take_more bridges place s inside ∙ ap (λ (x : Driven). take place bridges ++ x ∷ []) (sym is)))
+    (λ x held. elim (Contains-push_cases (take place bridges) s x held) [
+      | inl old ↦ so x old
+      | inr new ↦ subst (HasNothing cycle) new more
+    ])

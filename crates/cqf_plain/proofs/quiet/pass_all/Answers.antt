@@ -1,0 +1,21 @@
+use Rattle.std.proofs.Common.{◌≡◌, ◌∙◌, ◌<◌, arith, get_or, length, subst, sym, Contains}
+use Rattle.std.proofs.lemmas.List.Elements.{Contains-get_or}
+use Rattle.cqf_plain.specs.Due.{driven_past}
+use Rattle.cqf_plain.proofs.Turning.{next_done, next_is}
+use Rattle.cqf_plain.proofs.quiet.pass_all.Goals as goal
+
+pub pass_one-requires : goal.pass_one-requires
+pass_one-requires c =
+    let before = c.args.bridges.now.items in
+    let s = c.index_mut.result.now in
+    let inside : c.loop-place.place < length before = omega (arith, c.loop-place-test.true, c.len-place-end.ensures) in
+    let same : s ≡ get_or before c.loop-place.place s =
+    c.index_mut.ensures.value
+    ∙ next_is (driven_past c.args.cycle.0) before c.loop-place.bridges.items c.loop-place.place inside c.loop-place.invariant s in
+    c.requires s (subst (Contains before) (sym same) (Contains-get_or before c.loop-place.place s inside))
+
+pub loop-place-preserved : goal.loop-place-preserved
+loop-place-preserved c =
+    next_done (driven_past c.args.cycle.0) c.args.bridges.now.items c.loop-place.bridges.items c.loop-place.place
+    (omega (arith, c.loop-place-test.true, c.len-place-end.ensures)) c.loop-place.invariant c.index_mut.result.now c.pass_one.new.driven
+    c.index_mut.ensures.value c.in_ok-pass_one.ensures

@@ -1,0 +1,7 @@
+use Rattle.std.specs.Prelude.{◌≡◌, ◌++◌, map, take, drop}
+use Rattle.cqf_plain.specs.Due.{driven_past}
+use Rattle.cqf_plain.proofs.quiet.pass_all.Given as goal
+
+-- the first bridges have passed
+abbrev pub invariant-loop-place : goal.invariant-loop-place
+invariant-loop-place l = l.bridges.items ≡ map (driven_past l.cycle.0) (take l.place l.fn.bridges.items) ++ drop l.place l.fn.bridges.items

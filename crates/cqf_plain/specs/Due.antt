@@ -1,0 +1,59 @@
+-- When the ports of the bridges start next, and cycles in which nothing happens (profile).
+use Rattle.std.specs.Prelude.{ℕ, ◌≡◌, ◌≤◌, ◌⊎◌, List, [], Contains, IsSome}
+use Rattle.std.specs.BTreeMap.{is_at}
+use Rattle.std.specs.List.{flat_map}
+use Rattle.std.specs.Map.{lookup}
+use Rattle.std.specs.Ordering.{nat_cmp, ordering_then}
+use Rattle.std.specs.declared.cmp.Ordering.{Ordering}
+use Rattle.cqf_units.specs.declared.timing.Nanos.{Nanos}
+use Rattle.cqf_port.specs.NextStart.{StartsNext, StartsNoMore}
+use Rattle.cqf_bridge.specs.PortRecord.{PortRecord}
+use Rattle.cqf_bridge.specs.Quiet.{passed}
+use Rattle.cqf_bridge_turn.specs.Agenda.{background_at, offers_listed_at}
+use Rattle.cqf_plain.specs.declared.driven.Driven.{Driven}
+
+-- an instant, and the link on which a frame starts then
+abbrev pub Moment : Type 0
+Moment = Nanos × ℕ
+
+-- they go by instant, then link
+abbrev pub by_instant : Moment → Moment → Ordering
+by_instant a b = ordering_then (nat_cmp a.0.0 b.0.0) (nat_cmp a.1 b.1)
+
+-- the entries of a map from moments to numbers
+abbrev pub Moments : Type 0
+Moments = List (Moment × ℕ)
+
+-- a moment is among them
+abbrev pub IsAmong : Moments → Moment → Type 0
+IsAmong due k = IsSome (lookup (is_at (by_instant k)) due)
+
+-- the next start of a port is among them, or none would come
+abbrev pub IsNoted : Moments → PortRecord → Type 0
+IsNoted due r = StartsNoMore r.port ⊎ ((t : Nanos) × StartsNext r.port t.0 × IsAmong due (t, r.link))
+
+-- they are the next starts of these ports, and no others
+pub record AreDue (due : Moments) (ports : List PortRecord) : Type 0 where
+  pub noted : (r : PortRecord) → Contains ports r → IsNoted due r
+  pub only : (k : Moment) → IsAmong due k → (r : PortRecord) × Contains ports r × StartsNext r.port k.0.0 × (k.1 ≡ r.link)
+
+-- none of them is before an instant
+abbrev pub NoneBefore : ℕ → Moments → Type 0
+NoneBefore end due = (k : Moment) → IsAmong due k → end ≤ k.0.0
+
+-- the ports of all bridges
+abbrev pub ports_of : List Driven → List PortRecord
+ports_of bridges = flat_map (λ (s : Driven). s.bridge.ports) bridges
+
+-- the run has nothing for a bridge in a cycle, neither offers nor background frames
+pub record HasNothing (cycle : ℕ) (s : Driven) : Type 0 where
+  pub no_offers : offers_listed_at s.agenda cycle ≡ []
+  pub no_background : background_at s.agenda cycle ≡ []
+
+-- nor for any of the bridges
+abbrev pub NothingComes : ℕ → List Driven → Type 0
+NothingComes cycle bridges = (s : Driven) → Contains bridges s → HasNothing cycle s
+
+-- a bridge that has passed over a cycle
+abbrev pub driven_past : ℕ → Driven → Driven
+driven_past cycle s = record s { bridge = passed cycle s.bridge }

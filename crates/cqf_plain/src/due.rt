@@ -1,0 +1,66 @@
+//! When the ports of the bridges start next, in order.
+ghost use Rattle.std.specs.Prelude.{◌≡◌, ◌++◌, ◌∷◌, [], IfOk, List, OnOk, true};
+ghost use Rattle.cqf_bridge.specs.PortRecord.{PortRecord};
+ghost use Rattle.cqf_bridge.specs.Quiet.{IsNextOf};
+ghost use Rattle.cqf_plain.specs.Due.{AreDue, NoneBefore, ports_of};
+
+use crate::driven::Driven;
+use cqf_bridge::Bridge;
+use cqf_units::{Memory, Nanos};
+use std::alloc::Global;
+use std::collections::BTreeMap;
+
+/// Notes a next start, where there is one, with the number of its bridge.
+fn note(
+    next: Option<(Nanos, u8)>,
+    bridge: u8,
+    due: &mut BTreeMap<(Nanos, u8), u8>,
+) -> Result<(), Memory>
+    ensures { OnOk result ((ports : List PortRecord) (r : PortRecord) → AreDue due.old.entries ports → IsNextOf r next →
+        AreDue due.new.entries (ports ++ r ∷ [])) }
+{
+    match next {
+        Some(moment) => {
+            due.insert(moment, bridge)?;
+            Ok(())
+        }
+        None => Ok(()),
+    }
+}
+
+/// Notes when each port of a bridge starts next: by instant, then link, with the bridge's number.
+fn note_starts(bridge: &Bridge, due: &mut BTreeMap<(Nanos, u8), u8>) -> Result<(), Memory>
+    ensures { OnOk result ((ports : List PortRecord) → AreDue due.old.entries ports → AreDue due.new.entries (ports ++ bridge.now.ports)) }
+{
+    for place in 0..bridge.links() {
+        note(bridge.next_start(place), bridge.number(), due)?;
+    }
+    Ok(())
+}
+
+/// When each port of the bridges starts next, if nothing more comes to it: by instant, then link, with the bridge's number.
+pub(crate) fn next_starts(
+    alloc: Global,
+    bridges: &[Driven],
+) -> Result<BTreeMap<(Nanos, u8), u8>, Memory>
+    ensures { IfOk result (λ due. AreDue due.entries (ports_of bridges.now)) }
+{
+    let mut due = BTreeMap::new(alloc);
+    for place in 0..bridges.len() {
+        note_starts(&bridges[place].bridge, &mut due)?;
+    }
+    Ok(due)
+}
+
+/// Whether no port starts a frame before an instant: the least of their next starts isn't before it.
+pub(crate) fn none_before(due: &BTreeMap<(Nanos, u8), u8>, end: Nanos) -> bool
+    ensures { result ≡ true → NoneBefore end.0 due.now.entries }
+{
+    match due.first_key_value() {
+        Some((first, _)) => {
+            let (instant, _) = *first;
+            end.0 <= instant.0
+        }
+        None => true,
+    }
+}

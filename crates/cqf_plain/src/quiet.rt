@@ -1,0 +1,52 @@
+//! The bridges pass over a cycle in which nothing happens.
+ghost use Rattle.std.specs.Prelude.{◌≡◌, ◌+◌, Contains, OnOk, map, true};
+ghost use Rattle.cqf_bridge.specs.Quiet.{MayPass};
+ghost use Rattle.cqf_plain.specs.declared.driven.Driven.{Driven as ADriven};
+ghost use Rattle.cqf_plain.specs.Due.{HasNothing, NothingComes, driven_past};
+
+use crate::driven::Driven;
+use cqf_units::{Cycle, Memory};
+
+/// Whether the run has nothing for a bridge in a cycle: neither offers nor background frames.
+fn has_nothing(driven: &Driven, cycle: Cycle) -> bool
+    ensures { result ≡ true → HasNothing cycle.0 driven.now }
+{
+    let offers = driven.agenda.offers(cycle);
+    let background = driven.agenda.background(cycle);
+    if !offers.is_empty() {
+        return false;
+    }
+    background.is_empty()
+}
+
+/// Whether the run has nothing for any bridge in a cycle.
+pub(crate) fn nothing_comes(bridges: &[Driven], cycle: Cycle) -> bool
+    ensures { result ≡ true → NothingComes cycle.0 bridges.now }
+{
+    for place in 0..bridges.len() {
+        if !has_nothing(&bridges[place], cycle) {
+            return false;
+        }
+    }
+    true
+}
+
+/// A bridge passes over a cycle.
+fn pass_one(driven: &mut Driven, cycle: Cycle) -> Result<(), Memory>
+    requires { MayPass driven.old.bridge cycle.0 }
+    ensures { OnOk result (driven.new ≡ driven_past cycle.0 driven.old) }
+{
+    driven.bridge.pass(cycle)?;
+    Ok(())
+}
+
+/// All bridges pass over a cycle.
+pub(crate) fn pass_all(bridges: &mut Vec<Driven>, cycle: Cycle) -> Result<(), Memory>
+    requires { (s : ADriven) → Contains bridges.old.items s → MayPass s.bridge cycle.0 }
+    ensures { OnOk result (bridges.new.items ≡ map (driven_past cycle.0) bridges.old.items) }
+{
+    for place in 0..bridges.len() {
+        pass_one(&mut bridges[place], cycle)?;
+    }
+    Ok(())
+}

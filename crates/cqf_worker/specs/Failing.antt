@@ -1,0 +1,88 @@
+-- Which fault a run on threads may tell, and of what cause (profile).
+use Rattle.std.specs.Prelude.{ℕ, ◌≡◌, ◌+◌, ◌<◌, ◌⊎◌, List, [], Contains, Some, length, replicate, slice_get}
+use Rattle.cqf_model.specs.declared.frames.Background.{Background}
+use Rattle.cqf_model.specs.declared.frames.Offer.{Offer}
+use Rattle.cqf_model.specs.Domain.{Domain}
+use Rattle.cqf_model.specs.History.{Recorded}
+use Rattle.cqf_admission.specs.declared.entries.Command.{Command}
+use Rattle.cqf_book.specs.declared.faults.BookClose.{BookClose}
+use Rattle.cqf_book.specs.declared.faults.BookClose.TheVariants as book
+use Rattle.cqf_book.specs.declared.faults.PageFault.{PageFault}
+use Rattle.cqf_book.specs.Faults.{IsBookCloseFault}
+use Rattle.cqf_book.specs.Pages.{Posted}
+use Rattle.cqf_book.specs.Shares.{Own}
+use Rattle.cqf_desk.specs.declared.faults.CloseFault.{CloseFault}
+use Rattle.cqf_desk.specs.declared.faults.CloseFault.TheVariants as desk
+use Rattle.cqf_desk.specs.Closing.{IsCloseFault}
+use Rattle.cqf_desk.specs.Desk.{Counter, Sitting}
+use Rattle.cqf_laws_account.specs.Seated.{AreSeated}
+use Rattle.cqf_laws_bridge.specs.Courses.{Traffic}
+use Rattle.cqf_worker.specs.Account.{all_asked}
+use Rattle.cqf_worker_loops.specs.declared.worker.Worker.{Worker}
+use Rattle.cqf_worker_loops.specs.declared.worker.WorkerFault.{WorkerFault}
+use Rattle.cqf_worker_loops.specs.declared.worker.WorkerFault.TheVariants as working
+use Rattle.cqf_worker_loops.specs.GivingUp.{StopsFor}
+use Rattle.cqf_worker_loops.specs.Workers.{HasGoneThrough}
+use Rattle.cqf_worker_threads.specs.declared.faults.ConductFault.{ConductFault}
+use Rattle.cqf_worker_threads.specs.declared.faults.ConductFault.TheVariants as conduct
+use Rattle.cqf_worker_wires.specs.Laying.{traffic_of}
+
+-- a bridge of the domain, whose worker went through the cycles before one of so many, stops in it for this reason
+pub record StopsAt (t : Traffic) (cycles bridge : ℕ) (fault : WorkerFault) : Type 0 where
+  pub inside : bridge < length t.domain.bridges
+  pub cycle : ℕ
+  pub below : cycle < cycles
+  pub worker : Worker
+  pub gone : HasGoneThrough t bridge cycle worker
+  pub stops : StopsFor cycle worker fault
+
+-- the book refuses a page of one of the bridges, for another cause than memory
+abbrev pub RefusesPage : Traffic → ℕ → Type 0
+RefusesPage t cycles = (bridge : ℕ) × (reason : PageFault) × StopsAt t cycles bridge (working.Book reason)
+
+-- one of the administrators has commands
+abbrev pub SomeCall : List (List Command) → Type 0
+SomeCall admins = (commands : List Command) × Contains admins commands × (0 < length commands)
+
+-- the desk of a run before it begins, with a seat more than administrators, and its book
+abbrev pub desk_of_run : Domain → List Recorded → ℕ → Counter
+desk_of_run d opening admins = record { opening = record { domain = d; entries = opening }; seats = admins + 1 }
+
+abbrev pub book_of_run : Domain → ℕ → Posted
+book_of_run d cycles = record { bridges = length d.bridges; cycles = cycles; pages = replicate (length d.bridges) [] }
+
+-- all calls were made and all cycles closed, but the desk isn't closed with the seats of the run, for another cause than memory
+pub record KeepsDeskOpen (d : Domain) (opening : List Recorded) (cycles : ℕ) (admins : List (List Command)) : Type 0 where
+  pub seats : List Sitting
+  pub seated : AreSeated (all_asked admins) cycles seats
+  pub why : CloseFault
+  pub other : ¬ (why ≡ desk.Memory)
+  pub fault : IsCloseFault (desk_of_run d opening (length admins)) seats why
+
+-- shares of all bridges, by number, each with a page for each cycle
+pub record AreFull (d : Domain) (cycles : ℕ) (shares : List Own) : Type 0 where
+  pub many : length shares ≡ length d.bridges
+  pub each : (bridge : ℕ) (own : Own) → slice_get shares bridge ≡ Some own → (own.bridge ≡ bridge) × (length own.pages ≡ cycles)
+
+-- all pages were posted, but the book isn't closed with the shares of the run, for another cause than memory
+pub record KeepsBookOpen (d : Domain) (cycles : ℕ) : Type 0 where
+  pub shares : List Own
+  pub full : AreFull d cycles shares
+  pub why : BookClose
+  pub other : ¬ (why ≡ book.Memory)
+  pub fault : IsBookCloseFault (book_of_run d cycles) shares why
+
+-- which fault a run may tell: that of a bridge of its domain, with which this stops in one of its cycles, for want of memory or since it refuses
+-- to receive what it took; that the desk disagrees where a Seal or a call isn't entered, or the desk isn't closed; that the book does where it
+-- refuses a page, or isn't closed; and that an end of a pipe was lost where there are cycles to go through, but never as pipes are closed.
+-- Memory may be refused in each run, and in each there are threads to be started
+abbrev pub IsConductFault : Domain → List Recorded → List Offer → List Background → ℕ → List (List Command) → ConductFault → Type 0
+IsConductFault d opening offers background cycles admins conduct.Memory = Unit {0}
+IsConductFault d opening offers background cycles admins (conduct.Bridge bridge reason) =
+    StopsAt (traffic_of d offers background) cycles bridge (working.Bridge reason)
+IsConductFault d opening offers background cycles admins conduct.DeskDisagrees =
+    (0 < cycles) ⊎ (SomeCall admins ⊎ KeepsDeskOpen d opening cycles admins)
+IsConductFault d opening offers background cycles admins conduct.BookDisagrees =
+    RefusesPage (traffic_of d offers background) cycles ⊎ KeepsBookOpen d cycles
+IsConductFault d opening offers background cycles admins conduct.ChannelLost = 0 < cycles
+IsConductFault d opening offers background cycles admins conduct.Spawn = Unit {0}
