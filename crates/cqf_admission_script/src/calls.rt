@@ -187,7 +187,7 @@ pub fn read_orders(
             Ok(order) => order,
             Err(fault) => return Err(fault),
         };
-        orders.push(order).map_err(|_| ScriptFault::Memory)?;
+        orders.push(order)?;
         place = place.behind(line);
         left = behind;
     }

@@ -2,7 +2,8 @@
 ghost use Rattle.std.specs.Prelude.{◌≡◌, Some};
 ghost use Rattle.cqf_admission_script.specs.Faults.{script_fault_text};
 
-use std::alloc::AllocError;
+use cqf_units::Memory;
+use std::alloc::AllocFailed;
 use std::fmt;
 use thiserror::Error;
 
@@ -34,13 +35,24 @@ impl fmt::Display for ScriptFault {
     }
 }
 
-/// Want of memory, as a script's fault.
-impl From<AllocError> for ScriptFault {
-    ghost use Rattle.cqf_admission_script.specs.declared.faults.ScriptFault.TheVariants.{Memory};
+/// Want of memory, as a fault.
+impl From<Memory> for ScriptFault {
+    ghost use Rattle.cqf_admission_script.specs.declared.faults.ScriptFault.TheVariants as variant;
 
-    ghost from_gives = { λ early fault. fault ≡ Memory };
+    ghost from_gives = { λ _ fault. fault ≡ variant.Memory };
 
-    fn from(_early: AllocError) -> ScriptFault {
+    fn from(_refused: Memory) -> ScriptFault {
+        ScriptFault::Memory
+    }
+}
+
+/// Want of room for a value, likewise.
+impl<T: Drop> From<AllocFailed<T>> for ScriptFault {
+    ghost use Rattle.cqf_admission_script.specs.declared.faults.ScriptFault.TheVariants as variant;
+
+    ghost from_gives = { λ _ fault. fault ≡ variant.Memory };
+
+    fn from(_refused: AllocFailed<T>) -> ScriptFault {
         ScriptFault::Memory
     }
 }

@@ -175,12 +175,7 @@ pub(crate) fn closed(
     ensures once { IfOk result (λ book. ArePosted (with_shares opening.now shares.now)) }
     ensures fault { IfErr result (λ fault. IsBookCloseFault opening.now shares.now fault) }
 {
-    match check_shares(opening, posted, shares) {
-        Ok(()) => {}
-        Err(fault) => return Err(fault),
-    }
-    match book_of(alloc, posted, opening.bridges()) {
-        Ok(book) => Ok(book),
-        Err(_) => Err(BookClose::Memory),
-    }
+    check_shares(opening, posted, shares)?;
+    let book = book_of(alloc, posted, opening.bridges())?;
+    Ok(book)
 }

@@ -1,7 +1,8 @@
 //! Why a page isn't taken, and why a cycle book doesn't close.
-ghost use Rattle.std.specs.Prelude.{Some};
+ghost use Rattle.std.specs.Prelude.{◌≡◌, Some};
 ghost use Rattle.cqf_book.specs.Faults.{book_close_text, page_fault_text};
 
+use cqf_units::Memory;
 use std::fmt;
 use thiserror::Error;
 
@@ -54,5 +55,16 @@ impl fmt::Display for BookClose {
             BookClose::SharesDisagree(bridge) => write!(f, "SharesDisagree {bridge}"),
             BookClose::Memory => f.write_str("Memory"),
         }
+    }
+}
+
+/// Want of memory, as a fault.
+impl From<Memory> for BookClose {
+    ghost use Rattle.cqf_book.specs.declared.faults.BookClose.TheVariants as variant;
+
+    ghost from_gives = { λ _ fault. fault ≡ variant.Memory };
+
+    fn from(_refused: Memory) -> BookClose {
+        BookClose::Memory
     }
 }

@@ -1,13 +1,11 @@
 -- What becomes of a frame at a bridge, and what its stream's gate counts.
 use Rattle.std.proofs.Common.{◌≡◌, ◌≢◌, ◌+◌, ◌*◌, ◌≤◌, ◌<◌, ◌%◌, ◌⊎◌, ℕ, Bool, true, false, not, List, [], ◌∷◌, ◌++◌}
-use Rattle.std.proofs.Common.{◌∙◌, inl, inr, sym, ap, refl, arith, length, map, find, Contains, Option, Some, None}
-use Rattle.std.proofs.Common.{subst, append-nil, append_assoc, drop, get_or, set, take}
+use Rattle.std.proofs.Common.{◌∙◌, inl, inr, sym, ap, refl, arith, map, find, Contains, Option, Some, None}
+use Rattle.std.proofs.Common.{subst, append-nil}
 use Rattle.std.specs.Prelude.{◌==◌, if◌then◌else◌, nat_le, slice_get}
 use Rattle.std.specs.List.{list_any}
 use Rattle.std.specs.Option.{option_map_or}
 use Rattle.std.proofs.lemmas.Bool.{cases_eq, cond-true, eq-eqb, ne_eqb}
-use Rattle.std.proofs.Math.Seq.{get_or-append_seam, set-append_seam}
-use Rattle.std.proofs.lemmas.List.{drop_more, length-map, length-take-le, map-append, take_more}
 use Rattle.cqf_lists.proofs.Members.{contains_here, find_member}
 use Rattle.cqf_lists.proofs.Pairs.{one_of_pairs}
 use Rattle.cqf_model.specs.declared.frames.Dropped.{Dropped}
@@ -406,30 +404,3 @@ lacks_none d rows bridge cycle gates x may lacks = by_way x.way refl
 -- one row is found
 pub one_found : (a b : Row) → Some a ≡ Some b → a ≡ b
 one_found a b e = cc
-
-module _ (f : PortRecord → PortRecord) (before now : List PortRecord) (count : ℕ) (inside : count < length before)
-    (h : now ≡ map f (take count before) ++ drop count before) where
-  done_len : length (map f (take count before)) ≡ count
-  done_len = length-map (take count before) f ∙ length-take-le count before (omega (arith, inside))
-
-  seam : (r : PortRecord) → now ≡ map f (take count before) ++ get_or before count r ∷ drop (count + 1) before
-  seam r = h ∙ ap (λ (xs : List PortRecord). map f (take count before) ++ xs) (drop_more before count r inside)
-
-  -- the next is as it was
-  pub next_is : (r : PortRecord) → get_or now count r ≡ get_or before count r
-  next_is r =
-      ap (λ (xs : List PortRecord). get_or xs count r) (seam r)
-      ∙ ap (λ (n : ℕ). get_or (map f (take count before) ++ get_or before count r ∷ drop (count + 1) before) n r) (sym done_len)
-      ∙ get_or-append_seam (map f (take count before)) (get_or before count r) (drop (count + 1) before) r
-
-  -- and is done
-  pub next_done : (r after : PortRecord) → r ≡ get_or now count r → after ≡ f r → set now count after ≡ map f (take (count + 1) before)
-      ++ drop (count + 1) before
-  next_done r after is done =
-      ap (λ (xs : List PortRecord). set xs count after) (seam r)
-      ∙ ap (λ (n : ℕ). set (map f (take count before) ++ get_or before count r ∷ drop (count + 1) before) n after) (sym done_len)
-      ∙ set-append_seam (map f (take count before)) (get_or before count r) (drop (count + 1) before) after
-      ∙ ap (λ (y : PortRecord). map f (take count before) ++ y ∷ drop (count + 1) before) (done ∙ ap f (is ∙ next_is r))
-      ∙ sym (append_assoc (map f (take count before)) (f (get_or before count r) ∷ []) (drop (count + 1) before))
-      ∙ ap (λ (xs : List PortRecord). xs ++ drop (count + 1) before)
-      (sym (map-append f (take count before) (get_or before count r ∷ [])) ∙ ap (map f) (sym (take_more before count r inside)))

@@ -8,12 +8,12 @@ use Rattle.cqf_bridge.specs.BridgeState.{BridgeState, end_of_cycle}
 use Rattle.cqf_bridge.specs.PortRecord.{PortRecord}
 
 -- the next start of a port and its link, or none where none would come
-abbrev pub IsNextOf : PortRecord → Option (Nanos × ℕ) → Type 0
-IsNextOf r next = MatchOption next (StartsNoMore r.port) (λ x. StartsNext r.port x.0.0 × (x.1 ≡ r.link))
+abbrev pub IsNextStartOf : PortRecord → Option (Nanos × ℕ) → Type 0
+IsNextStartOf r next = MatchOption next (StartsNoMore r.port) (λ x. StartsNext r.port x.0.0 × (x.1 ≡ r.link))
 
 -- that of the port at a place
 abbrev pub IsNextAt : List PortRecord → ℕ → Option (Nanos × ℕ) → Type 0
-IsNextAt ports place next = (e : PortRecord) → IsNextOf (slice_index_or ports place e) next
+IsNextAt ports place next = (e : PortRecord) → IsNextStartOf (slice_index_or ports place e) next
 
 -- a port starts no frame before an instant: what it has started is legal up to it
 abbrev pub IsQuiet : ℕ → PortRecord → Type 0

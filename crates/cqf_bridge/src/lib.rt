@@ -8,7 +8,7 @@
 //! - [`police`] says what becomes of a frame that comes to a bridge, for those that have ports of their own: each
 //!   [`Incoming`] frame of a cycle, by one of the [`incoming_links`] or at the edge ([`gather_offers`]) and brought into order
 //!   ([`bring_in_order`]), has its [`Outcome`] by the [`StreamGates`].
-//! - [`Offer`] is a frame that is offered at the edge, and [`Offered`] is an offer with its number.
+//! - [`Offer`] is a frame that is offered at the edge, and [`Offered`] is an offer with its number ([`numbered_offer`]).
 //! - [`Sent`] is a frame that a link carries.
 //! - [`Started`] is a transmission and [`Dropped`] a dropped offer, with its [`Reason`]; a [`Book`] has all of a run.
 //!
@@ -37,5 +37,5 @@ pub use cqf_bridge_gates::StreamGates;
 pub use cqf_model::{Book, Dropped, Offer, Offered, Reason, Sent, Started};
 pub use faults::BridgeFault;
 pub use gathering::{Came, Incoming, bring_in_order, gather_offers};
-pub use offers::offers_of;
+pub use offers::{numbered_offer, offers_of};
 pub use policing::{Outcome, police};

@@ -19,8 +19,8 @@ fn is_offered(domain: &Domain, offer: &Offer, bridge: u8, cycle: Cycle) -> bool
     here && then
 }
 
-/// The offer at a place among all, once more, with its number.
-fn with_number(place: usize, offer: &Offer) -> Offered
+/// The offer at a place among all of a run, from 0, once more, with its number, which counts from 1 (profile).
+pub fn numbered_offer(place: usize, offer: &Offer) -> Offered
     requires { place + 1 < 2 ^ 32 }
     ensures { result ≡ record { frame = place + 1; offer = offer.now } }
 {
@@ -49,7 +49,7 @@ fn listed(
     let mut list = Vec::new(alloc);
     for (place, offer) in offers.iter().enumerate() {
         if is_offered(domain, offer, bridge, cycle) {
-            list.push(with_number(place, offer))?;
+            list.push(numbered_offer(place, offer))?;
         }
     }
     Ok(list)

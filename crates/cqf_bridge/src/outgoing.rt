@@ -6,7 +6,7 @@ ghost use Rattle.cqf_model.specs.Network.{backed_by, backed_of, sent_by, sent_of
 ghost use Rattle.cqf_model.specs.Port.{Transmission};
 ghost use Rattle.cqf_port.specs.PortState.{IsLate, IsOutOfOrder, IsPort};
 ghost use Rattle.cqf_bridge.specs.PortRecord.{RunsTo, frames_of, new_record, with_frames};
-ghost use Rattle.cqf_bridge.specs.Quiet.{IsNextOf, IsQuiet, rested};
+ghost use Rattle.cqf_bridge.specs.Quiet.{IsNextStartOf, IsQuiet, rested};
 
 use crate::Batch;
 use cqf_compile::Plan;
@@ -113,7 +113,7 @@ impl Outgoing {
 
     /// The next start of its port, and the link, if nothing more is recorded; none where none would come.
     pub(crate) fn next_start(&self) -> Option<(Nanos, u8)>
-        ensures { IsNextOf self.now result }
+        ensures { IsNextStartOf self.now result }
     {
         match self.port.next_start() {
             Some(instant) => Some((instant, self.link)),

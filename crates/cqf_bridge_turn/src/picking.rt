@@ -7,26 +7,11 @@ ghost use Rattle.cqf_laws_cycle.specs.Gathered.{IsInOrderOf};
 ghost use Rattle.cqf_bridge_turn.specs.Agenda.{instant_of_backed, instant_of_offer};
 ghost use Rattle.cqf_bridge_turn.specs.Picking.{is_backed_from, is_offered_to};
 
+use cqf_bridge::numbered_offer;
 use cqf_model::{Backed, Background, Offer, Offered};
 use cqf_topology::Domain;
 use cqf_units::Memory;
 use std::alloc::Global;
-
-/// The offer at a place among all, once more, with its number.
-fn with_number(place: usize, offer: &Offer) -> Offered
-    requires { place + 1 < 2 ^ 32 }
-    ensures { result ≡ record { frame = place + 1; offer = offer.now } }
-{
-    Offered {
-        frame: (place + 1) as u32,
-        offer: Offer {
-            at: offer.at,
-            bridge: offer.bridge,
-            stream: offer.stream.copied(),
-            octets: offer.octets,
-        },
-    }
-}
 
 /// The offers at a bridge, as they are listed.
 fn listed_offers(alloc: Global, offers: &[Offer], bridge: u8) -> Result<Vec<Offered>, Memory>
@@ -36,7 +21,7 @@ fn listed_offers(alloc: Global, offers: &[Offer], bridge: u8) -> Result<Vec<Offe
     let mut list = Vec::new(alloc);
     for (place, offer) in offers.iter().enumerate() {
         if offer.bridge == bridge {
-            list.push(with_number(place, offer))?;
+            list.push(numbered_offer(place, offer))?;
         }
     }
     Ok(list)

@@ -38,6 +38,10 @@ one_more_same xs ys k x y so_far there also same =
     take_more_same xs ys k x (slice_get_within xs k x there) (slice_get_within ys k y also) so_far
     (get_or_from_slice_get xs k x x there ∙ same ∙ sym (get_or_from_slice_get ys k y x also))
 
+-- elements at one place of the same lists are the same
+pub alike_in : {X : Type 0} (xs ys : List X) (k : ℕ) (x y : X) → slice_get xs k ≡ Some x → slice_get ys k ≡ Some y → xs ≡ ys → x ≡ y
+alike_in {X} xs ys k x y there also same = same_Some x y (sym there ∙ ap (λ (zs : List X). slice_get zs k) same ∙ also)
+
 -- lists of which the same is made compare as the same
 pub made_same : {X Y : Type 0} (E : X → X → Bool) (f : X → Y) → ((x y : X) → f x ≡ f y → E x y ≡ true) → (xs ys : List X) → map f xs
     ≡ map f ys → pointwise E xs ys ≡ true

@@ -190,33 +190,22 @@ up_to_seal followed rest front behind number n is_front is_behind same none = (
   list_any-map (λ (e : Recorded). is_seal_by number e) recorded_of behind ∙ none,
 )
 
--- what was followed is an opening part and the calls behind it
-in_parts : (history first followed : List Entry) (entries start : List Recorded) (n : ℕ) → map recorded_of history ≡ entries → first ≡ take n history →
-    followed ≡ drop n history → map recorded_of first ≡ start → entries ≡ start ++ map recorded_of followed
-in_parts history first followed entries start n is is_first is_followed begins =
-    sym is ∙ ap (map recorded_of) (sym (take-append-drop n history)) ∙ map-append recorded_of (take n history) (drop n history)
-    ∙ (λ i. map recorded_of (sym is_first i) ++ map recorded_of (sym is_followed i)) ∙ ap (λ es. es ++ map recorded_of followed) begins
-
 -- a follower of the history up to the seat's last Seal has its tables
 followed_so : ClosedTablesStay → SealsAreCounted → (f : Follower) (opening : Administration) (followed rest : List Recorded) (number : ℕ) →
-    f.first ≡ length opening.entries → f.admission.domain ≡ opening.domain → f.admission.entries ≡ opening.entries ++ followed →
-    IsUpToSeal followed rest number →
+    f.first ≡ length opening.entries → FollowerHasGone opening f.admission followed → IsUpToSeal followed rest number →
     HasFollowed f opening rest number
-followed_so stay counted f opening followed rest number first domain entries up = λ tables has.
+followed_so stay counted f opening followed rest number first gone up = λ tables has.
     let longer = length-append opening.entries followed in
     has.own
-    ∙ (λ i. tables_by (domain i) (entries i) (first i) number)
+    ∙ (λ i. tables_by (gone.domain i) (gone.entries i) (first i) number)
     ∙ sym (by_others stay counted opening.domain (opening.entries ++ followed) up.0 (length opening.entries) number (omega (arith, longer)) up.2)
     ∙ ap (λ (es : List Recorded). tables_by opening.domain es (length opening.entries) number)
     (append_assoc opening.entries followed up.0 ∙ ap (λ (es : List Recorded). opening.entries ++ es) (sym up.1))
 
--- the same of lists of entries that were compared
-pub has_followed : ClosedTablesStay → SealsAreCounted → (f : Follower) (opening : Administration) (history start first followed : List Entry)
-    (rest : List Recorded) (n number : ℕ) →
-    f.first ≡ n → n ≡ length start → map recorded_of start ≡ opening.entries → f.admission.domain ≡ opening.domain → map recorded_of history
-    ≡ f.admission.entries →
-    first ≡ take n history → followed ≡ drop n history → map recorded_of first ≡ map recorded_of start → IsUpToSeal (map recorded_of followed) rest number →
+-- the same of one that has begun with as many entries as were compared
+pub has_followed : ClosedTablesStay → SealsAreCounted → (f : Follower) (opening : Administration) (start : List Entry) (followed rest : List Recorded)
+    (number : ℕ) →
+    f.first ≡ length start → map recorded_of start ≡ opening.entries → FollowerHasGone opening f.admission followed → IsUpToSeal followed rest number →
     HasFollowed f opening rest number
-has_followed stay counted f opening history start first followed rest n number begun many starts domain is is_first is_followed same up =
-    followed_so stay counted f opening (map recorded_of followed) rest number (begun ∙ many ∙ sym (length-map start recorded_of) ∙ ap length starts) domain
-    (in_parts history first followed f.admission.entries opening.entries n is is_first is_followed (same ∙ starts)) up
+has_followed stay counted f opening start followed rest number begun starts =
+    followed_so stay counted f opening followed rest number (begun ∙ sym (length-map start recorded_of) ∙ ap length starts)

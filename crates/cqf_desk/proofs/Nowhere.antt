@@ -1,7 +1,7 @@
 -- Calls with which no legal history goes on.
 use Rattle.std.proofs.Common.{◌≡◌, ℕ, ◌+◌, ◌<◌, ◌≤◌, Bool, List, Some, [], ◌∷◌, ◌++◌, true, false, map, length, take}
 use Rattle.std.proofs.Common.{get_or, refl, ap, sym, ◌∙◌, arith, length-append, subst, if◌then◌else◌, inl, inr}
-use Rattle.std.specs.Prelude.{IfOk, Result, slice_get}
+use Rattle.std.specs.Prelude.{◌≢◌, IfOk, Result, slice_get}
 use Rattle.std.proofs.lemmas.List.{append-nil, append_assoc, length-take-le}
 use Rattle.cqf_lists.specs.Lists.{each_below}
 use Rattle.cqf_lists.proofs.EachBelow.{parted_below}
@@ -20,7 +20,7 @@ use Rattle.cqf_admission.specs.declared.entries.SealFault.{SealFault}
 use Rattle.cqf_admission.specs.Admission.{Administration, Answers, Closes, LetsGo, calls, recorded_of}
 use Rattle.cqf_admission.specs.Tables.{CycleTable}
 use Rattle.cqf_desk.specs.Again.{ComesTo, FollowerStops, GoesOnNowhere, IsAnsweredSo, IsClosedSo, next_table}
-use Rattle.cqf_desk.specs.Closing.{ClosesOthers, closed_by, is_seal_by, tables_by}
+use Rattle.cqf_desk.specs.Closing.{closed_by, is_seal_by, tables_by}
 use Rattle.cqf_desk.specs.declared.again.Made.{Made}
 use Rattle.cqf_desk.specs.declared.again.Made.TheVariants as made
 use Rattle.cqf_desk.proofs.Rests.{front_is, parts_at}
@@ -135,23 +135,23 @@ not_its_tables stay counted closing start again rest number tables next k e has 
     let many : next ≡ length (each_below f k) = sym (length-take-le next tables has.few) ∙ ap length has.closed in
     other (ap (λ ts. slice_get ts next) whole ∙ slice_get_behind (each_below f k) (next_table again) parted.0 next many)
 
--- where a step stops, the seat closes other tables, or the history isn't legal
+-- where a step stops, the seat closes other tables in a legal history
 pub stops_so : ClosedTablesStay → SealsAreCounted → SealClosesTable → (start again : Administration) (rest : List Entry) (number : ℕ)
     (tables : List CycleTable) (next k : ℕ) (e : Entry) →
     HasClosed start again rest number tables next k → k < length rest → e ≡ get_or rest k e → FollowerStops again (recorded_of e) number tables next →
-    ClosesOthers start.domain (start.entries ++ map recorded_of rest) (length start.entries) number tables
-stops_so stay counted closing start again rest number tables next k e has inside is stops = elim stops [
-  | inl nowhere ↦ inr (λ legal. not_legal start again rest k e has.gone inside is nowhere legal)
-  | inr other ↦
-      inl (λ same. not_its_tables stay counted closing start again rest number tables next k e has inside is other.0 other.1 other.2 same)
+    IsLegalHistory start.domain (start.entries ++ map recorded_of rest) →
+    tables ≢ tables_by start.domain (start.entries ++ map recorded_of rest) (length start.entries) number
+stops_so stay counted closing start again rest number tables next k e has inside is stops legal = λ same. elim stops [
+  | inl nowhere ↦ not_legal start again rest k e has.gone inside is nowhere legal
+  | inr other ↦ not_its_tables stay counted closing start again rest number tables next k e has inside is other.0 other.1 other.2 same
 ]
 
 -- where not all tables were closed, they are others
 pub too_many : (start again : Administration) (rest : List Entry) (number : ℕ) (tables : List CycleTable) (next k : ℕ) →
     HasClosed start again rest number tables next k → length rest ≡ k → (next ≡ length tables → ⊥) →
-    ClosesOthers start.domain (start.entries ++ map recorded_of rest) (length start.entries) number tables
-too_many start again rest number tables next k has through other = inl (λ same.
+    tables ≢ tables_by start.domain (start.entries ++ map recorded_of rest) (length start.entries) number
+too_many start again rest number tables next k has through other = λ same.
     let closed : take next tables ≡ tables =
     has.closed ∙ ap (each_below (λ i. closed_by start.domain (start.entries ++ map recorded_of rest) number (length start.entries + i)))
     (sym through ∙ sym (rest_length start.entries rest)) ∙ sym same in
-    other (sym (length-take-le next tables has.few) ∙ ap length closed))
+    other (sym (length-take-le next tables has.few) ∙ ap length closed)

@@ -13,7 +13,7 @@ use Rattle.cqf_lists.proofs.Any.{none_member}
 use Rattle.cqf_lists.proofs.EachBelow.{none_below}
 use Rattle.cqf_lists.proofs.Members.{contains_at}
 use Rattle.cqf_model.specs.Domain.{Domain}
-use Rattle.cqf_model.specs.History.{IsLegalHistory, Recorded, held_in, is_seal, seals, table_at}
+use Rattle.cqf_model.specs.History.{Recorded, held_in, is_seal, seals, table_at}
 use Rattle.cqf_admission.specs.declared.entries.Entry.{Entry}
 use Rattle.cqf_admission.specs.Admission.{Administration, recorded_of}
 use Rattle.cqf_admission.specs.Tables.{CycleTable}
@@ -45,14 +45,6 @@ one_made start again new rest k e gone inside is goes =
           ∙ append_assoc start.entries (map recorded_of (take k rest)) (recorded_of e ∷ [])
           ∙ ap (λ xs. start.entries ++ xs) (sym (one_more recorded_of rest k e inside is));
     }
-
--- with all of them it has the history that they make
-pub all_made : (start again : Administration) (rest : List Entry) (k : ℕ) → HasGoneOn start again rest k → length rest ≤ k →
-    IsLegalHistory again.domain again.entries →
-    IsLegalHistory start.domain (start.entries ++ map recorded_of rest)
-all_made start again rest k gone through legal =
-    let all : again.entries ≡ start.entries ++ map recorded_of rest = gone.entries ∙ ap (λ xs. start.entries ++ map recorded_of xs) (take_all k rest through) in
-    subst (λ (es : List Recorded). IsLegalHistory start.domain es) all (subst (λ (d : Domain). IsLegalHistory d again.entries) gone.domain legal)
 
 -- the tables so far are those that the seat's Seals closed among the calls so far
 pub record HasClosed (start again : Administration) (rest : List Entry) (number : ℕ) (tables : List CycleTable) (next k : ℕ) : Type 0 where

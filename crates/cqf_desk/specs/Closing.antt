@@ -1,5 +1,5 @@
 -- What a closed desk's history is to its seats (profile).
-use Rattle.std.specs.Prelude.{ℕ, Bool, ◌≡◌, ◌≢◌, ◌+◌, ◌-◌, ◌<◌, ◌≤◌, ◌⊎◌, ◌++◌, List, [], ◌∷◌, ◌==◌, ◌&&◌}
+use Rattle.std.specs.Prelude.{ℕ, Bool, ◌≡◌, ◌+◌, ◌-◌, ◌<◌, ◌⊎◌, List, [], ◌∷◌, ◌==◌, ◌&&◌}
 use Rattle.std.specs.Prelude.{if◌then◌else◌, true, Option, None, Some, Result, Ok, Err}
 use Rattle.std.specs.Prelude.{All, Contains, drop, length, map, slice_get, take}
 use Rattle.std.specs.List.{list_any}
@@ -8,7 +8,6 @@ use Rattle.cqf_lists.specs.Lists.{each_below}
 use Rattle.cqf_model.specs.Calls.{calls_by}
 use Rattle.cqf_model.specs.Domain.{Domain}
 use Rattle.cqf_model.specs.History.{IsLegalHistory, Recorded, is_seal, seals, table_at}
-use Rattle.cqf_admission.specs.declared.entries.Entry.{Entry}
 use Rattle.cqf_admission.specs.Admission.{Administration, recorded_of}
 use Rattle.cqf_admission.specs.Tables.{CycleTable}
 use Rattle.cqf_desk.specs.declared.faults.CloseFault.{CloseFault}
@@ -34,18 +33,10 @@ closed_by d entries number place =
 abbrev pub tables_by : Domain → List Recorded → ℕ → ℕ → List CycleTable
 tables_by d entries first number = each_below (λ i. closed_by d entries number (first + i)) (length entries - first)
 
--- these aren't the tables that a seat's Seals close there, or the history isn't legal
-abbrev pub ClosesOthers : Domain → List Recorded → ℕ → ℕ → List CycleTable → Type 0
-ClosesOthers d entries first number tables = (tables ≢ tables_by d entries first number) ⊎ (¬ IsLegalHistory d entries)
-
 -- the seat has just its calls of the history behind so many entries, and the tables of its Seals there
 pub record IsBorneOut (d : Domain) (entries : List Recorded) (first : ℕ) (seat : Sitting) : Type 0 where
   pub calls : seat.calls ≡ calls_by seat.number (drop first entries)
   pub tables : seat.tables ≡ tables_by d entries first seat.number
-
--- the seat hasn't, or the history isn't legal
-abbrev pub IsAgainst : Domain → List Recorded → ℕ → Sitting → Type 0
-IsAgainst d entries first seat = (¬ IsBorneOut d entries first seat) ⊎ (¬ IsLegalHistory d entries)
 
 -- as many seats as the desk has, and one of each number
 pub record AreItsSeats (count : ℕ) (seats : List Sitting) : Type 0 where
@@ -63,49 +54,44 @@ pub record IsOfSeats (opening : List Recorded) (d : Domain) (count : ℕ) (seats
 abbrev pub HasSuch : (Sitting → Type 0) → List Sitting → ℕ → Type 0
 HasSuch IsSuch seats number = (seat : Sitting) × Contains seats seat × (seat.number ≡ number) × IsSuch seat
 
--- what a comparison of the seats comes to: all are borne out; or this is the least number of a seat that isn't, or may not be where the
--- history isn't legal, and those of lesser numbers are borne out
+-- what a comparison of the seats comes to: all are borne out; or this is the least number of a seat that isn't
 abbrev pub ComesToLeast : Domain → List Recorded → ℕ → List Sitting → Option ℕ → Type 0
 ComesToLeast d entries first seats None = All (IsBorneOut d entries first) seats
 ComesToLeast d entries first seats (Some number) =
-    HasSuch (IsAgainst d entries first) seats number × All (λ (s : Sitting). s.number < number → IsBorneOut d entries first s) seats
+    HasSuch (λ (s : Sitting). ¬ IsBorneOut d entries first s) seats number × All (λ (s : Sitting). s.number < number → IsBorneOut d entries first s) seats
 
--- the seats by the history that the opening part makes with what stands behind it in this one
-abbrev pub ComesToLeastBy : List Recorded → Domain → List Recorded → List Sitting → Option ℕ → Type 0
-ComesToLeastBy opening d entries seats least = ComesToLeast d (opening ++ drop (length opening) entries) (length opening) seats least
+-- an administration has the opening part, in the desk's domain
+pub record HasOpening (opening held : Administration) : Type 0 where
+  pub domain : held.domain ≡ opening.domain
+  pub begins : take (length opening.entries) held.entries ≡ opening.entries
 
--- whom a disagreement names: the least of the seats that aren't borne out; or none of them, but how many there are, where all are borne
--- out, unless the history is shorter than the opening part, and it isn't that part with the seats' calls behind it
-abbrev pub Disagrees : List Recorded → Domain → ℕ → List Recorded → List Sitting → ℕ → Type 0
-Disagrees opening d count entries seats number =
-    ComesToLeastBy opening d entries seats (Some number)
-    ⊎ ((number ≡ count) × (length opening ≤ length entries → ComesToLeastBy opening d entries seats None) ×
-    (¬ IsOfSeats opening d count seats entries))
+-- whom a disagreement names: the least of the seats that aren't borne out; or none of them, but how many there are, where the history
+-- hasn't the opening part, or all seats are borne out, and not all calls behind that part are theirs
+abbrev pub Disagrees : Administration → ℕ → Administration → List Sitting → ℕ → Type 0
+Disagrees opening count held seats number =
+    (HasOpening opening held × ComesToLeast held.domain held.entries (length opening.entries) seats (Some number))
+    ⊎ ((number ≡ count) × ((¬ HasOpening opening held)
+    ⊎ (HasOpening opening held × ComesToLeast held.domain held.entries (length opening.entries) seats None ×
+    (¬ All (λ (e : Recorded). e.seat < count) (drop (length opening.entries) held.entries)))))
 
 -- the number of one of the seats, or how many there are
 abbrev pub IsOneOrCount : ℕ → List Sitting → ℕ → Type 0
 IsOneOrCount count seats number = (list_any (λ (s : Sitting). s.number == number) seats ≡ true) ⊎ (number ≡ count)
 
--- why a desk isn't closed: its seats aren't handed in; or this is whom the comparison with its history names. Which history it is
+-- why a desk isn't closed: its seats aren't handed in; or this is whom the comparison with its history names. Which legal history it is
 -- no clause can say, since it stands behind a lock
 abbrev pub IsCloseFault : Counter → List Sitting → CloseFault → Type 0
 IsCloseFault desk seats SeatMissing = ¬ AreItsSeats desk.seats seats
 IsCloseFault desk seats (SeatsDisagree number) =
-    AreItsSeats desk.seats seats × (entries : List Recorded) × Disagrees desk.opening.entries desk.opening.domain desk.seats entries seats number
+    AreItsSeats desk.seats seats × (held : Administration) × IsLegalHistory held.domain held.entries × Disagrees desk.opening desk.seats held seats number
 IsCloseFault desk seats Memory = AreItsSeats desk.seats seats
 
--- its parts: the opening part comes first, and the rest goes on legally by calls of so many seats
-pub record GoesOnBySeats (opening : Administration) (count : ℕ) (first rest : List Entry) : Type 0 where
-  pub begins : map recorded_of first ≡ opening.entries
-  pub known : All (λ (e : Entry). e.seat < count) rest
-  pub legal : IsLegalHistory opening.domain (opening.entries ++ map recorded_of rest)
-
 -- what a comparison comes to
-abbrev pub Settles : Administration → ℕ → List Recorded → List Sitting → Result (Unit {0}) CloseFault → Type 0
-Settles opening count entries seats (Ok done) = IsOfSeats opening.entries opening.domain count seats entries
-Settles opening count entries seats (Err SeatMissing) = ⊥
-Settles opening count entries seats (Err (SeatsDisagree seat)) = Disagrees opening.entries opening.domain count entries seats seat
-Settles opening count entries seats (Err Memory) = Unit {0}
+abbrev pub Settles : Administration → ℕ → Administration → List Sitting → Result (Unit {0}) CloseFault → Type 0
+Settles opening count held seats (Ok done) = IsOfSeats opening.entries opening.domain count seats held.entries
+Settles opening count held seats (Err SeatMissing) = ⊥
+Settles opening count held seats (Err (SeatsDisagree seat)) = Disagrees opening count held seats seat
+Settles opening count held seats (Err Memory) = Unit {0}
 
 -- what a desk is closed with, by its seats
 pub record IsClosed (desk : Counter) (seats : List Sitting) (history : History) : Type 0 where

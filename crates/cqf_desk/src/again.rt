@@ -1,9 +1,9 @@
 //! A history's calls, made once more.
-ghost use Rattle.std.specs.Prelude.{◌≡◌, ◌↔◌, ◌++◌, true, false, Some, length, map, slice_get, IfOk};
+ghost use Rattle.std.specs.Prelude.{◌≡◌, ◌≢◌, ◌↔◌, ◌++◌, true, false, Some, length, map, slice_get, IfOk};
 ghost use Rattle.cqf_model.specs.History.{IsLegalHistory};
 ghost use Rattle.cqf_admission.specs.Admission.{recorded_of};
 ghost use Rattle.cqf_desk.specs.Again.{ComesTo, FollowerComesTo, FollowerHasGone, IsAnsweredSo, IsClosedSo};
-ghost use Rattle.cqf_desk.specs.Closing.{ClosesOthers, tables_by};
+ghost use Rattle.cqf_desk.specs.Closing.{tables_by};
 
 use crate::same::is_same_table;
 use crate::seats::{enters, reply_of};
@@ -70,23 +70,6 @@ pub(crate) fn make(admission: &mut Admission, entry: &Entry) -> Made
     }
 }
 
-/// Whether an admission goes on with these calls, each with the answer that it got.
-pub(crate) fn goes_on(again: &mut Admission, rest: &[Entry]) -> Result<bool, Memory>
-    ensures { IfOk result (λ same. (same ≡ true) ↔ IsLegalHistory again.old.domain (again.old.entries ++ map recorded_of rest.now)) }
-{
-    for entry in rest {
-        match make(again, entry) {
-            Made::Answered => {}
-            Made::Closed(_table) => {}
-            Made::Otherwise => return Ok(false),
-            Made::Memory => return Err(AllocError),
-        }
-    }
-    // its history is legal: a fact
-    let _legal = again.history();
-    Ok(true)
-}
-
 /// Whether the table at a place is this one.
 fn is_at(tables: &[Table], place: usize, table: &Table) -> bool
     ensures { (result ≡ true) ↔ (slice_get tables.now place ≡ Some table.now) }
@@ -136,8 +119,8 @@ pub(crate) fn has_tables(
 ) -> Result<bool, Memory>
     ensures closes { IfOk result (λ same. same ≡ true →
         tables.now ≡ tables_by again.old.domain (again.old.entries ++ map recorded_of rest.now) (length again.old.entries) number) }
-    ensures differs { IfOk result (λ same. same ≡ false →
-        ClosesOthers again.old.domain (again.old.entries ++ map recorded_of rest.now) (length again.old.entries) number tables.now) }
+    ensures differs { IfOk result (λ same. same ≡ false → IsLegalHistory again.old.domain (again.old.entries ++ map recorded_of rest.now) →
+        tables.now ≢ tables_by again.old.domain (again.old.entries ++ map recorded_of rest.now) (length again.old.entries) number) }
     ensures goes { IfOk result (λ same. same ≡ true → FollowerHasGone again.old again.new (map recorded_of rest.now)) }
 {
     closed_tables_stay();

@@ -5,14 +5,13 @@ ghost use Rattle.std.specs.Option.{option_map_or};
 ghost use Rattle.cqf_model.specs.History.{IsLegalHistory};
 ghost use Rattle.cqf_model.specs.Calls.{calls_by};
 ghost use Rattle.cqf_admission.specs.Admission.{recorded_of};
-ghost use Rattle.cqf_desk.specs.Closing.{AreItsSeats, ClosesOthers, ComesToLeast, GoesOnBySeats, IsAgainst, IsBorneOut};
-ghost use Rattle.cqf_desk.specs.Closing.{IsClosed, IsOneOrCount, Settles, tables_by};
+ghost use Rattle.cqf_desk.specs.Closing.{AreItsSeats, ComesToLeast, IsBorneOut, IsClosed, IsOneOrCount, Settles, tables_by};
 
-use crate::again::{goes_on, has_tables};
+use crate::again::has_tables;
 use crate::faults::CloseFault;
-use crate::following::has_seal;
+use crate::following::{entries_behind, has_seal};
 use crate::history::History;
-use crate::same::{are_same_entries, is_same_entry};
+use crate::same::is_same_entry;
 use crate::seats::Seat;
 use cqf_admission::{Admission, Entry, Table};
 use cqf_units::Memory;
@@ -74,10 +73,9 @@ fn closes_tables(
     number: u16,
     tables: &[Table],
 ) -> Result<bool, Memory>
-    ensures closes { IfOk result (λ so. so ≡ true →
-        tables.now ≡ tables_by opening.now.domain (opening.now.entries ++ map recorded_of rest.now) (length opening.now.entries) number) }
-    ensures differs { IfOk result (λ so. so ≡ false →
-        ClosesOthers opening.now.domain (opening.now.entries ++ map recorded_of rest.now) (length opening.now.entries) number tables.now) }
+    requires { IsLegalHistory opening.now.domain (opening.now.entries ++ map recorded_of rest.now) }
+    ensures { IfOk result (λ so. (so ≡ true) ↔
+        (tables.now ≡ tables_by opening.now.domain (opening.now.entries ++ map recorded_of rest.now) (length opening.now.entries) number)) }
 {
     let mut again = opening.try_copy(alloc)?;
     let so = has_tables(&mut again, rest, number, tables)?;
@@ -92,10 +90,9 @@ fn has_its_tables(
     rest: &[Entry],
     seat: &Seat,
 ) -> Result<bool, Memory>
-    ensures closes { IfOk result (λ so. so ≡ true →
-        seat.now.tables ≡ tables_by opening.now.domain (opening.now.entries ++ map recorded_of rest.now) (length opening.now.entries) seat.now.number) }
-    ensures differs { IfOk result (λ so. so ≡ false →
-        ClosesOthers opening.now.domain (opening.now.entries ++ map recorded_of rest.now) (length opening.now.entries) seat.now.number seat.now.tables) }
+    requires { IsLegalHistory opening.now.domain (opening.now.entries ++ map recorded_of rest.now) }
+    ensures { IfOk result (λ so. (so ≡ true) ↔
+        (seat.now.tables ≡ tables_by opening.now.domain (opening.now.entries ++ map recorded_of rest.now) (length opening.now.entries) seat.now.number)) }
 {
     let tables = seat.tables();
     let number = seat.number();
@@ -115,10 +112,9 @@ fn bears_out(
     rest: &[Entry],
     seat: &Seat,
 ) -> Result<bool, Memory>
-    ensures borne { IfOk result (λ so. so ≡ true →
+    requires { IsLegalHistory opening.now.domain (opening.now.entries ++ map recorded_of rest.now) }
+    ensures { IfOk result (λ so. (so ≡ true) ↔
         IsBorneOut opening.now.domain (opening.now.entries ++ map recorded_of rest.now) (length opening.now.entries) seat.now) }
-    ensures against { IfOk result (λ so. so ≡ false →
-        IsAgainst opening.now.domain (opening.now.entries ++ map recorded_of rest.now) (length opening.now.entries) seat.now) }
 {
     if !has_calls(seat.calls(), rest, seat.number()) {
         return Ok(false);
@@ -133,6 +129,7 @@ fn first_against(
     rest: &[Entry],
     seats: &[Seat],
 ) -> Result<Option<u16>, Memory>
+    requires { IsLegalHistory opening.now.domain (opening.now.entries ++ map recorded_of rest.now) }
     ensures { IfOk result (ComesToLeast opening.now.domain (opening.now.entries ++ map recorded_of rest.now) (length opening.now.entries) seats.now) }
 {
     let mut least = None;
@@ -164,58 +161,28 @@ fn lesser(least: Option<u16>, number: u16) -> u16
     }
 }
 
-/// Whether an admission goes on with these calls.
-fn is_legal_behind(alloc: Global, opening: &Admission, rest: &[Entry]) -> Result<bool, Memory>
-    ensures { IfOk result (λ legal. (legal ≡ true) ↔ IsLegalHistory opening.now.domain (opening.now.entries ++ map recorded_of rest.now)) }
-{
-    let mut again = opening.try_copy(alloc)?;
-    goes_on(&mut again, rest)
-}
-
-/// Whether a history goes on legally from its opening part by calls of so many seats, and has that part.
-fn is_of_seats(
-    alloc: Global,
-    opening: &Admission,
-    count: u16,
-    first: &[Entry],
-    rest: &[Entry],
-) -> Result<bool, Memory>
-    ensures { IfOk result (λ so. (so ≡ true) ↔ GoesOnBySeats opening.now count first.now rest.now) }
-{
-    if !are_same_entries(first, opening.history()) {
-        return Ok(false);
-    }
-    if !are_known(rest, count) {
-        return Ok(false);
-    }
-    is_legal_behind(alloc, opening, rest)
-}
-
-/// Compares a history with what the seats kept, the seats first.
+/// Compares the history of an admission with what the seats kept.
 fn check(
     alloc: Global,
     opening: &Admission,
     count: u16,
-    entries: &[Entry],
+    held: &Admission,
     seats: &[Seat],
 ) -> Result<(), CloseFault>
-    ensures { Settles opening.now count (map recorded_of entries.now) seats.now result }
+    ensures { Settles opening.now count held.now seats.now result }
 {
-    let before = opening.history().len();
-    if entries.len() < before {
+    // its history is legal
+    let _legal = held.history();
+    let Some(rest) = entries_behind(opening, held) else {
+        return Err(CloseFault::SeatsDisagree(count));
+    };
+    if let Some(seat) = first_against(alloc, opening, rest, seats)? {
+        return Err(CloseFault::SeatsDisagree(seat));
+    }
+    if !are_known(rest, count) {
         return Err(CloseFault::SeatsDisagree(count));
     }
-    let (first, rest) = entries.split_at(before);
-    match first_against(alloc, opening, rest, seats) {
-        Ok(None) => {}
-        Ok(Some(seat)) => return Err(CloseFault::SeatsDisagree(seat)),
-        Err(_) => return Err(CloseFault::Memory),
-    }
-    match is_of_seats(alloc, opening, count, first, rest) {
-        Ok(true) => Ok(()),
-        Ok(false) => Err(CloseFault::SeatsDisagree(count)),
-        Err(_) => Err(CloseFault::Memory),
-    }
+    Ok(())
 }
 
 /// The history of a desk with these seats of its own, where it is what they kept.
@@ -223,19 +190,22 @@ pub(crate) fn settle(
     alloc: Global,
     opening: &Admission,
     count: u16,
-    entries: Vec<Entry>,
+    held: Admission,
     seats: &[Seat],
 ) -> Result<History, CloseFault>
     requires { AreItsSeats count seats.now }
     ensures missing { IsErrOf result CloseFault.SeatMissing → ⊥ }
     ensures named { (number : ℕ) → IsErrOf result (CloseFault.SeatsDisagree number) → IsOneOrCount count seats.now number }
     ensures closed { IfOk result (λ history. IsClosed (record { opening = opening.now; seats = count }) seats.now history) }
-    ensures fault { IfErr result (λ fault. Settles opening.now count (map recorded_of entries.items) seats.now (Err fault)) }
+    ensures legal { IsLegalHistory held.domain held.entries }
+    ensures fault { IfErr result (λ fault. Settles opening.now count held seats.now (Err fault)) }
 {
-    match check(alloc, opening, count, entries.as_slice(), seats) {
+    // its history is legal
+    let _legal = held.history();
+    match check(alloc, opening, count, &held, seats) {
         Ok(()) => Ok(History {
             opening: opening.history().len(),
-            entries,
+            entries: held.into_history(),
         }),
         Err(fault) => Err(fault),
     }

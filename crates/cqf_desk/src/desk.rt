@@ -97,10 +97,9 @@ impl Desk {
     /// replies that it got, and the tables of its Seals. It waits for nobody.
     ///
     /// Refused with `SeatMissing` where the seats aren't the desk's, one of each number; with `SeatsDisagree` and the least
-    /// number of a seat that, as one of another desk, has other calls or tables than the history has of it (or, where the
-    /// history isn't legal, perhaps another), or the number of seats where the history isn't the opening part with calls of
-    /// the desk's seats behind it; and with `Memory`, also where a seat has disagreed already. The desk and the seats are
-    /// gone then too.
+    /// number of a seat that, as one of another desk, has other calls or tables than the history has of it, or the number of
+    /// seats, where the history isn't the opening part with calls of the desk's seats behind it; and with `Memory`, also where
+    /// a seat has disagreed already. The desk and the seats are gone then too.
     pub fn close(self, seats: Vec<Seat>) -> Result<History, CloseFault>
         ensures missing { IsErrOf result CloseFault.SeatMissing ↔ (AreItsSeats self.seats seats.items → ⊥) }
         ensures named { (number : ℕ) → IsErrOf result (CloseFault.SeatsDisagree number) → IsOneOrCount self.seats seats.items number }
@@ -121,8 +120,8 @@ impl Desk {
         ensures closed { IfOk result (λ history. IsClosed self seats.now history) }
         ensures fault { IfErr result (λ fault. IsCloseFault self seats.now fault) }
     {
-        let entries = self.admission.into_inner().into_history();
-        settle(self.alloc, &self.opening, self.seats, entries, seats)
+        let held = self.admission.into_inner();
+        settle(self.alloc, &self.opening, self.seats, held, seats)
     }
 }
 

@@ -1,5 +1,5 @@
 //! Whether two domains are the same.
-ghost use Rattle.std.specs.Prelude.{◌≡◌, true};
+ghost use Rattle.std.specs.Prelude.{◌≡◌, ◌↔◌, true};
 
 use cqf_model::Link;
 use cqf_topology::Domain;
@@ -7,21 +7,21 @@ use cqf_units::Name;
 
 /// Whether two names are the same.
 fn is_same_name(one: &Name, other: &Name) -> bool
-    ensures { result ≡ true → one.now ≡ other.now }
+    ensures { (result ≡ true) ↔ (one.now ≡ other.now) }
 {
     one == other
 }
 
 /// Whether two links are the same.
 fn is_same_link(one: Link, other: Link) -> bool
-    ensures { result ≡ true → one ≡ other }
+    ensures { (result ≡ true) ↔ (one ≡ other) }
 {
     one == other
 }
 
 /// Whether two domains have the same bridges, by name and number.
 fn have_same_bridges(one: &Domain, other: &Domain) -> bool
-    ensures { result ≡ true → one.now.bridges ≡ other.now.bridges }
+    ensures { (result ≡ true) ↔ (one.now.bridges ≡ other.now.bridges) }
 {
     if one.bridges() != other.bridges() {
         return false;
@@ -36,7 +36,7 @@ fn have_same_bridges(one: &Domain, other: &Domain) -> bool
 
 /// Whether two domains have the same stations, by name and number.
 fn have_same_stations(one: &Domain, other: &Domain) -> bool
-    ensures { result ≡ true → one.now.stations ≡ other.now.stations }
+    ensures { (result ≡ true) ↔ (one.now.stations ≡ other.now.stations) }
 {
     if one.stations() != other.stations() {
         return false;
@@ -51,7 +51,7 @@ fn have_same_stations(one: &Domain, other: &Domain) -> bool
 
 /// Whether two domains have the same links, by number.
 fn have_same_links(one: &Domain, other: &Domain) -> bool
-    ensures { result ≡ true → one.now.links ≡ other.now.links }
+    ensures { (result ≡ true) ↔ (one.now.links ≡ other.now.links) }
 {
     if one.links() != other.links() {
         return false;
@@ -66,7 +66,7 @@ fn have_same_links(one: &Domain, other: &Domain) -> bool
 
 /// Whether two domains have the same times, nodes and links.
 pub(crate) fn is_same_domain(one: &Domain, other: &Domain) -> bool
-    ensures { result ≡ true → one.now ≡ other.now }
+    ensures { (result ≡ true) ↔ (one.now ≡ other.now) }
 {
     if one.cycle_time().0 != other.cycle_time().0 {
         return false;

@@ -1,7 +1,8 @@
 //! Why a desk isn't closed.
-ghost use Rattle.std.specs.Prelude.{Some};
+ghost use Rattle.std.specs.Prelude.{◌≡◌, Some};
 ghost use Rattle.cqf_desk.specs.Faults.{close_fault_text};
 
+use cqf_units::Memory;
 use std::fmt;
 use thiserror::Error;
 
@@ -11,8 +12,8 @@ use thiserror::Error;
 pub enum CloseFault {
     /// The seats that are handed in aren't those of the desk, one of each number.
     SeatMissing,
-    /// The least number of a seat whose calls or tables aren't those of the history or, where the history isn't legal, perhaps
-    /// another. It is the number of seats where the history isn't the opening part with calls of the desk's seats behind it.
+    /// The least number of a seat whose calls or tables aren't those of the history; or the number of seats, where the history
+    /// isn't the opening part with calls of the desk's seats behind it.
     SeatsDisagree(u16),
     /// A growth was refused.
     Memory,
@@ -27,5 +28,16 @@ impl fmt::Display for CloseFault {
             CloseFault::SeatsDisagree(seat) => write!(f, "SeatsDisagree {seat}"),
             CloseFault::Memory => f.write_str("Memory"),
         }
+    }
+}
+
+/// Want of memory, as a fault.
+impl From<Memory> for CloseFault {
+    ghost use Rattle.cqf_desk.specs.declared.faults.CloseFault.TheVariants as variant;
+
+    ghost from_gives = { λ _ fault. fault ≡ variant.Memory };
+
+    fn from(_refused: Memory) -> CloseFault {
+        CloseFault::Memory
     }
 }

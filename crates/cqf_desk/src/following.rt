@@ -1,8 +1,9 @@
 //! What follows the history of a desk for a seat that seals.
-ghost use Rattle.std.specs.Prelude.{ℕ, ◌≡◌, ◌++◌, List, [], ◌∷◌, Ok, true, false, drop, length, map, IfOk, IfSome};
+ghost use Rattle.std.specs.Prelude.{ℕ, ◌≡◌, ◌++◌, List, [], ◌∷◌, Ok, true, false, drop, length, map, IfOk, IfSome, MatchOption};
 ghost use Rattle.std.specs.List.{list_any};
 ghost use Rattle.cqf_admission.specs.Admission.{recorded_of};
-ghost use Rattle.cqf_desk.specs.Closing.{is_seal_by};
+ghost use Rattle.cqf_desk.specs.Again.{FollowerHasGone};
+ghost use Rattle.cqf_desk.specs.Closing.{HasOpening, is_seal_by};
 ghost use Rattle.cqf_admission.specs.Tables.{CycleTable};
 ghost use Rattle.cqf_desk.specs.Following.{AreFollowed, AreFollowedWith, ClosesOwn, FollowsSeat, HasFollowed, HasTables, IsUpToSeal, StayFollowed};
 
@@ -58,6 +59,25 @@ fn are_up_to_seal(followed: &[Entry], rest: &[Entry], number: u16) -> bool
         return false;
     }
     are_same_entries(followed, front)
+}
+
+/// The entries of an admission behind an opening part, where it has that part in the same domain.
+pub(crate) fn entries_behind<'a>(opening: &Admission, held: &'a Admission) -> Option<&'a [Entry]>
+    ensures { MatchOption result (HasOpening opening.now held.now → ⊥) (λ rest. FollowerHasGone opening.now held.now (map recorded_of rest.now)) }
+{
+    if !is_same_domain(held.domain(), opening.domain()) {
+        return None;
+    }
+    let history = held.history();
+    let start = opening.history();
+    if history.len() < start.len() {
+        return None;
+    }
+    let (first, rest) = history.split_at(start.len());
+    if !are_same_entries(first, start) {
+        return None;
+    }
+    Some(rest)
 }
 
 impl Follower {
@@ -131,19 +151,13 @@ impl Follower {
     {
         closed_tables_stay();
         state_follows_history();
-        let history = self.admission.history();
-        let start = opening.history();
-        if self.first != start.len() || history.len() < start.len() {
+        if self.first != opening.history().len() {
             return false;
         }
-        if !is_same_domain(self.admission.domain(), opening.domain()) {
-            return false;
+        match entries_behind(opening, &self.admission) {
+            Some(followed) => are_up_to_seal(followed, rest, number),
+            None => false,
         }
-        let (first, followed) = history.split_at(start.len());
-        if !are_same_entries(first, start) {
-            return false;
-        }
-        are_up_to_seal(followed, rest, number)
     }
 }
 

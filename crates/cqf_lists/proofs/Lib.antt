@@ -4,6 +4,7 @@ pub mod EachBelow
 pub mod EachOnce
 pub mod Filters
 pub mod Fronts
+pub mod InPlace
 pub mod Kept
 pub mod Keys
 pub mod Least

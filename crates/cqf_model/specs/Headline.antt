@@ -1,12 +1,18 @@
 -- The headline: all that the account of a run promises, of its history and of its book, over what was asked of those who
--- called (profile). Whoever wants to believe it reads this crate, and below it only the words for lists and for how long
--- octets are on the wire (`cqf_lists/specs/Lists.antt`, `cqf_units/specs/Timing.antt`). Its pieces, in the order in which to
--- read them:
+-- called (profile). Whoever wants to believe it reads this crate, and below it only the words for lists, for names and for how
+-- long octets are on the wire (`cqf_lists/specs/Lists.antt`, `cqf_units/specs/Name.antt` and `Timing.antt`).
+--
+-- It is promised by `conduct` of `cqf_worker` for what a run may be given, which is what that call asks for: a domain that is
+-- accepted (`IsAccepted`), an opening part that is legal and has no Seal, offers and background frames of that domain (`AreOffers`,
+-- `AreBackground`), `most_rows` of each, and `most_cycles`. An administrator asks for streams and withdrawals alone. That a run has but
+-- one network and one book, and that the book of a longer run begins with that of a shorter one, are laws (`legal_network_is_unique`,
+-- `book_is_unique`, `shorter_book_is_the_beginning` of `cqf_laws_network`). Its pieces, in the order in which to read them:
 --   `Limits`: how much there may be of each
 --   `Domain`: bridges, stations and links, and which domain is accepted (`IsAccepted`)
 --   `Run`: what a run is given, of tables, offers and background frames (`Run`, `IsOffer`, `IsBackground`)
---   `Table`: a stream's row and its tree, and what it costs of a link (`IsTree`, `is_live`, `is_held`, `link_cost`)
---   `History`: calls, the one answer that is due to each, and the table of each cycle (`reply_to`, `IsLegalHistory`, `tables_of`)
+--   `Table`: a stream's row with its tree, by whose depths frames go, and what it costs of a link (`is_live`, `is_held`, `link_cost`)
+--   `History`: calls, the one answer that is due to each, and the table of each cycle (`reply_to`, `IsLegalHistory`, `tables_of`); the
+--     row of a stream, whose tree has each branch's k-th link at depth k (`stream_by`, `tree_of`, and `NotATree`, which refuses others)
 --   `Calls`: the history of what was asked at each seat (`acts_of`, `calls_by`, `IsHistoryOf`)
 --   `GateList`, `Port`: which starts a port's gates demand (`port_list`, `AreLegal`)
 --   `StreamGate`, `Traffic`: what comes to a bridge, and what becomes of it there (`gate_passes`, `verdict_by`, `policed_before`)

@@ -6,8 +6,8 @@
 //! the data, with public fields; of a [`Row`] it also answers what bodies ask of a stream's life and way, so that none of
 //! them reads a [`Hop`]. The crate that works with a type hands it on to its users.
 //!
-//! Read the modules of `specs/` in this order: `GateList`, `Port`, `StreamGate`, `Domain`, `Table`, `Run`, `Traffic`,
-//! `Network`, `Shift`, `Book`, `History`, `Refusals`, `HistoryBook`. The value of a text stands with the crate that reads or writes it.
+//! Read `specs/Headline.antt` first, which says what all is for and in which order to read the other modules of `specs/`. The value
+//! of a text stands with the crate that reads or writes it.
 #![tactic(auto)]
 
 mod frames;

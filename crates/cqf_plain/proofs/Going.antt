@@ -31,7 +31,7 @@ use Rattle.cqf_plain.specs.declared.faults.RunFault.{RunFault}
 use Rattle.cqf_plain.specs.declared.faults.RunFault.TheVariants.{WrongTables, Inside, Memory}
 use Rattle.cqf_plain.specs.SoFar.{SoFarState, IsAt, ListsCycle, StopsRun, NoneLostBefore, drops_before}
 use Rattle.cqf_plain.specs.Driven.{AllStandBefore, FirstLoseNothing, IsCycleOf, drops_of_first}
-use Rattle.cqf_plain.specs.Due.{AreDue, ports_of}
+use Rattle.cqf_plain.specs.Due.{AreNextStarts, ports_of}
 use Rattle.cqf_plain.specs.Losing.{IsFaultInCycle}
 
 -- no offer is lost
@@ -114,7 +114,7 @@ module _ (run : Run) (net : Network) (cycle : ℕ) (of : IsCycleOf run net cycle
 
   -- the run is at the next cycle
   pub next_at : (before after : SoFarState) (mid : Contents) → IsAt run net cycle before → ListsCycle run net cycle before.book mid →
-      AllStandBefore run net (cycle + 1) after.bridges → AreDue after.due (ports_of after.bridges) → after.book.starts ≡ mid.starts →
+      AllStandBefore run net (cycle + 1) after.bridges → AreNextStarts after.due (ports_of after.bridges) → after.book.starts ≡ mid.starts →
       after.book.background ≡ mid.background → after.book.drops ≡ mid.drops ++ drops_of_first run net cycle (length run.domain.bridges) →
       FirstLoseNothing run net cycle (length run.domain.bridges) → IsAt run net (cycle + 1) after
   next_at before after mid at lists stand due starts background drops none =

@@ -15,9 +15,9 @@ use Rattle.std.proofs.lemmas.List.Elements.{Contains-append_left, Contains-push,
 use Rattle.cqf_lists.proofs.Members.{contains_none}
 use Rattle.cqf_port.specs.NextStart.{StartsNext}
 use Rattle.cqf_bridge.specs.PortRecord.{PortRecord}
-use Rattle.cqf_bridge.specs.Quiet.{IsNextOf}
+use Rattle.cqf_bridge.specs.Quiet.{IsNextStartOf}
 use Rattle.cqf_plain.specs.declared.driven.Driven.{Driven}
-use Rattle.cqf_plain.specs.Due.{AreDue, HasNothing, IsAmong, IsNoted, Moment, Moments, NoneBefore, NothingComes, by_instant, ports_of}
+use Rattle.cqf_plain.specs.Due.{AreNextStarts, HasNothing, IsAmong, IsNoted, Moment, Moments, NoneBefore, NothingComes, by_moment, ports_of}
 
 -- what compares as not greater isn't later
 not_later : (a b : ℕ) (o r : Ordering) → MatchOrdering o (a < b) (a ≡ b) (b < a) → is_gt (ordering_then o r) ≡ false → a ≤ b
@@ -41,7 +41,7 @@ equal_itself a Equal h = refl
 equal_itself a Greater h = absurd (omega (arith, h))
 
 -- so does a moment
-itself : (x : Moment) → is_eq (by_instant x x) ≡ true
+itself : (x : Moment) → is_eq (by_moment x x) ≡ true
 itself x = ap (λ (o : Ordering). is_eq (ordering_then o (nat_cmp x.1 x.1))) (equal_itself x.0.0 (nat_cmp x.0.0 x.0.0) (ranks x.0.0 x.0.0))
     ∙ ap is_eq (equal_itself x.1 (nat_cmp x.1 x.1) (ranks x.1 x.1))
 
@@ -51,31 +51,32 @@ either true = inl refl
 either false = inr refl
 
 -- where the first isn't before an instant none is
-pub first_is_least : (due : BTreeMap Moment ℕ) (x : Moment) (end : ℕ) → IsLowerBound by_instant due x → end ≤ x.0.0 → NoneBefore end due.entries
+pub first_is_least : (due : BTreeMap Moment ℕ) (x : Moment) (end : ℕ) → IsLowerBound by_moment due x → end ≤ x.0.0 → NoneBefore end due.entries
 first_is_least due x end least late k among =
     omega (arith, late, not_later x.0.0 k.0.0 (nat_cmp x.0.0 k.0.0) (nat_cmp x.1 k.1) (ranks x.0.0 k.0.0) (least k among))
 
-module _ (x : Moment) (v : ℕ) (before after : BTreeMap Moment ℕ) (updates : Updates by_instant before after x (Some v)) where
+module _ (x : Moment) (v : ℕ) (before after : BTreeMap Moment ℕ) (updates : Updates by_moment before after x (Some v)) where
   -- what is put in is there
   puts_it : IsAmong after.entries x
-  puts_it = subst IsSome (sym (updates.0 x ∙ ap (λ (b : Bool). cond b (Some v) (get by_instant before x)) (itself x))) refl
+  puts_it = subst IsSome (sym (updates.0 x ∙ ap (λ (b : Bool). cond b (Some v) (get by_moment before x)) (itself x))) refl
 
   -- beside what was
   puts_beside : (k : Moment) → IsAmong before.entries k → IsAmong after.entries k
-  puts_beside k among = elim (either (is_eq (by_instant x k))) [
-    | inl e ↦ subst IsSome (sym (updates.0 k ∙ ap (λ (b : Bool). cond b (Some v) (get by_instant before k)) e)) refl
-    | inr e ↦ subst IsSome (sym (updates.0 k ∙ ap (λ (b : Bool). cond b (Some v) (get by_instant before k)) e)) among
+  puts_beside k among = elim (either (is_eq (by_moment x k))) [
+    | inl e ↦ subst IsSome (sym (updates.0 k ∙ ap (λ (b : Bool). cond b (Some v) (get by_moment before k)) e)) refl
+    | inr e ↦ subst IsSome (sym (updates.0 k ∙ ap (λ (b : Bool). cond b (Some v) (get by_moment before k)) e)) among
   ]
 
   -- and nothing else is
   puts_only : (k : Moment) → IsAmong after.entries k → IsAmong before.entries k ⊎ ((x.0.0 ≡ k.0.0) × (x.1 ≡ k.1))
-  puts_only k among = elim (either (is_eq (by_instant x k))) [
+  puts_only k among = elim (either (is_eq (by_moment x k))) [
     | inl e ↦ inr (same_moment x.0.0 k.0.0 x.1 k.1 (nat_cmp x.0.0 k.0.0) (nat_cmp x.1 k.1) (ranks x.0.0 k.0.0) (ranks x.1 k.1) e)
-    | inr e ↦ inl (subst IsSome (updates.0 k ∙ ap (λ (b : Bool). cond b (Some v) (get by_instant before k)) e) among)
+    | inr e ↦ inl (subst IsSome (updates.0 k ∙ ap (λ (b : Bool). cond b (Some v) (get by_moment before k)) e) among)
   ]
 
   -- so one more is noted
-  pub one_noted : (ports : List PortRecord) (r : PortRecord) → AreDue before.entries ports → IsNextOf r (Some x) → AreDue after.entries (ports ++ r ∷ [])
+  pub one_noted : (ports : List PortRecord) (r : PortRecord) → AreNextStarts before.entries ports → IsNextStartOf r (Some x) →
+      AreNextStarts after.entries (ports ++ r ∷ [])
   one_noted ports r so next = record {
     noted = λ q held. elim (Contains-push_cases ports r q held) [
       | inl old ↦ (elim (so.noted q old) [
@@ -91,7 +92,8 @@ module _ (x : Moment) (v : ℕ) (before after : BTreeMap Moment ℕ) (updates : 
   }
 
 -- or of one that starts no more there is nothing to note
-pub none_noted : (due : Moments) (ports : List PortRecord) (r : PortRecord) → AreDue due ports → IsNextOf r None → AreDue due (ports ++ r ∷ [])
+pub none_noted : (due : Moments) (ports : List PortRecord) (r : PortRecord) → AreNextStarts due ports → IsNextStartOf r None →
+    AreNextStarts due (ports ++ r ∷ [])
 none_noted due ports r so never = record {
   noted = λ q held. elim (Contains-push_cases ports r q held) [
     | inl old ↦ so.noted q old
@@ -101,10 +103,10 @@ none_noted due ports r so never = record {
 }
 
 -- at first none is
-pub nothing_due : (due : Moments) → due ≡ [] → AreDue due []
+pub nothing_due : (due : Moments) → due ≡ [] → AreNextStarts due []
 nothing_due due none = record {
   noted = λ q held. absurd (contains_none q held);
-  only = λ k among. absurd (false≢true (subst (λ (es : Moments). IsSome (lookup (is_at (by_instant k)) es)) none among));
+  only = λ k among. absurd (false≢true (subst (λ (es : Moments). IsSome (lookup (is_at (by_moment k)) es)) none among));
 }
 
 -- the ports of one bridge more
@@ -119,23 +121,23 @@ first_of (x ∷ xs) some = x
 
 -- of a bridge, one port more
 pub next_noted : (due : Moments) (ports own : List PortRecord) (place : ℕ) → place < length own →
-    ((e : PortRecord) → AreDue due ((ports ++ take place own) ++ get_or own place e ∷ [])) → AreDue due (ports ++ take (place + 1) own)
+    ((e : PortRecord) → AreNextStarts due ((ports ++ take place own) ++ get_or own place e ∷ [])) → AreNextStarts due (ports ++ take (place + 1) own)
 next_noted due ports own place inside so =
     let e = first_of own (omega (arith, inside)) in
-    subst (AreDue due) (append_assoc ports (take place own) (get_or own place e ∷ []) ∙ ap (λ (rs : List PortRecord). ports ++ rs)
+    subst (AreNextStarts due) (append_assoc ports (take place own) (get_or own place e ∷ []) ∙ ap (λ (rs : List PortRecord). ports ++ rs)
     (sym (take_more own place e inside)))
     (so e)
 
 -- and in the end all
-pub all_noted : (due : Moments) (ports own : List PortRecord) (place : ℕ) → length own ≤ place → AreDue due (ports ++ take place own) →
-    AreDue due (ports ++ own)
-all_noted due ports own place past so = subst (λ (rs : List PortRecord). AreDue due (ports ++ rs)) (take_all place own past) so
+pub all_noted : (due : Moments) (ports own : List PortRecord) (place : ℕ) → length own ≤ place → AreNextStarts due (ports ++ take place own) →
+    AreNextStarts due (ports ++ own)
+all_noted due ports own place past so = subst (λ (rs : List PortRecord). AreNextStarts due (ports ++ rs)) (take_all place own past) so
 
 -- those of one bridge more
 pub bridge_noted : (due : Moments) (bridges : List Driven) (place : ℕ) (s : Driven) → place < length bridges →
-    AreDue due (ports_of (take place bridges) ++ (get_or bridges place s).bridge.ports) → AreDue due (ports_of (take (place + 1) bridges))
+    AreNextStarts due (ports_of (take place bridges) ++ (get_or bridges place s).bridge.ports) → AreNextStarts due (ports_of (take (place + 1) bridges))
 bridge_noted due bridges place s inside so =
-    subst (AreDue due)
+    subst (AreNextStarts due)
     (sym (ap ports_of (take_more bridges place s inside) ∙ ports_more (take place bridges) (get_or bridges place s))) so
 
 -- nothing comes to one bridge more

@@ -30,7 +30,7 @@ use Rattle.cqf_laws_bridge.specs.Verdicts.{LosesNothingIn, VerdictsAreTheRuns}
 use Rattle.cqf_plain.specs.declared.driven.Driven.{Driven}
 use Rattle.cqf_plain.specs.SoFar.{SoFarState, IsAt, IsQuietCycle}
 use Rattle.cqf_plain.specs.Driven.{AllStandBefore, FirstLoseNothing, IsCycleOf, StandsBeforeCycle, StandsHalfway, drops_of_first, none_yet}
-use Rattle.cqf_plain.specs.Due.{AreDue, HasNothing, IsNoted, NoneBefore, driven_past, ports_of}
+use Rattle.cqf_plain.specs.Due.{AreNextStarts, HasNothing, IsNoted, NoneBefore, driven_past, ports_of}
 use Rattle.cqf_plain.proofs.ByLink.{leaves_own}
 use Rattle.cqf_plain.proofs.Going.{next_at}
 use Rattle.cqf_plain.proofs.Resting.{batches_empty, empty_batches, halfway_past, noted_quiet, noted_rested}
@@ -234,7 +234,7 @@ module _ (run : Run) (net : Network) (cycle : ℕ) (of : IsCycleOf run net cycle
           silent taken receiving verdicts
 
       -- the next starts are what they were
-      due_past : AreDue c.due (ports_of (map (driven_past cycle) c.bridges))
+      due_past : AreNextStarts c.due (ports_of (map (driven_past cycle) c.bridges))
       due_past = record {
         noted = λ r held.
             let f = contains_from_flat (λ (x : Driven). x.bridge.ports) (map (driven_past cycle) c.bridges) r held in

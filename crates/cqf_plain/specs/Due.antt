@@ -17,8 +17,8 @@ abbrev pub Moment : Type 0
 Moment = Nanos × ℕ
 
 -- they go by instant, then link
-abbrev pub by_instant : Moment → Moment → Ordering
-by_instant a b = ordering_then (nat_cmp a.0.0 b.0.0) (nat_cmp a.1 b.1)
+abbrev pub by_moment : Moment → Moment → Ordering
+by_moment a b = ordering_then (nat_cmp a.0.0 b.0.0) (nat_cmp a.1 b.1)
 
 -- the entries of a map from moments to numbers
 abbrev pub Moments : Type 0
@@ -26,14 +26,14 @@ Moments = List (Moment × ℕ)
 
 -- a moment is among them
 abbrev pub IsAmong : Moments → Moment → Type 0
-IsAmong due k = IsSome (lookup (is_at (by_instant k)) due)
+IsAmong due k = IsSome (lookup (is_at (by_moment k)) due)
 
 -- the next start of a port is among them, or none would come
 abbrev pub IsNoted : Moments → PortRecord → Type 0
 IsNoted due r = StartsNoMore r.port ⊎ ((t : Nanos) × StartsNext r.port t.0 × IsAmong due (t, r.link))
 
 -- they are the next starts of these ports, and no others
-pub record AreDue (due : Moments) (ports : List PortRecord) : Type 0 where
+pub record AreNextStarts (due : Moments) (ports : List PortRecord) : Type 0 where
   pub noted : (r : PortRecord) → Contains ports r → IsNoted due r
   pub only : (k : Moment) → IsAmong due k → (r : PortRecord) × Contains ports r × StartsNext r.port k.0.0 × (k.1 ≡ r.link)
 

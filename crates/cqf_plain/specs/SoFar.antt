@@ -16,7 +16,7 @@ use Rattle.cqf_plain.specs.declared.driven.Driven.{Driven}
 use Rattle.cqf_plain.specs.declared.faults.RunFault.{RunFault}
 use Rattle.cqf_plain.specs.declared.faults.RunFault.TheVariants.{WrongTables, Inside, Memory}
 use Rattle.cqf_plain.specs.Driven.{AllStandBefore, AllStandHalfway, IsCycleOf, IsNewlyDriven, IsTableOf, all_of, drops_of_first}
-use Rattle.cqf_plain.specs.Due.{AreDue, Moments, NoneBefore, NothingComes, ports_of}
+use Rattle.cqf_plain.specs.Due.{AreNextStarts, Moments, NoneBefore, NothingComes, ports_of}
 use Rattle.cqf_plain.specs.Run.{LosesInside}
 use Rattle.cqf_plain.specs.Turns.{EachIs}
 
@@ -29,7 +29,7 @@ pub record SoFarState : Type 0 where
 -- a run of which nothing has happened
 pub record IsNewRun (d : Domain) (offers : List Offer) (background : List Background) (c : SoFarState) : Type 0 where
   pub bridges : EachIs (IsNewlyDriven d offers background) (length d.bridges) c.bridges
-  pub due : AreDue c.due (ports_of c.bridges)
+  pub due : AreNextStarts c.due (ports_of c.bridges)
   pub book : c.book ≡ record { starts = []; background = []; drops = [] }
 
 -- what the network sends in a cycle is listed behind what was: streams' frames and background frames, each by link
@@ -55,7 +55,7 @@ NoneLostBefore run net cycle = (bridge : ℕ) (policed : Policed) → ¬ IsLost 
 -- did before it, and nothing was lost
 pub record IsAt (run : Run) (net : Network) (cycle : ℕ) (c : SoFarState) : Type 0 where
   pub stand : AllStandBefore run net cycle c.bridges
-  pub due : AreDue c.due (ports_of c.bridges)
+  pub due : AreNextStarts c.due (ports_of c.bridges)
   pub starts : c.book.starts ≡ starts_of run.domain cycle net.carried
   pub background : c.book.background ≡ background_of run.domain cycle net.backed
   pub drops : c.book.drops ≡ drops_before run net cycle

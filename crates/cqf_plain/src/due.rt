@@ -1,8 +1,8 @@
 //! When the ports of the bridges start next, in order.
 ghost use Rattle.std.specs.Prelude.{◌≡◌, ◌++◌, ◌∷◌, [], IfOk, List, OnOk, true};
 ghost use Rattle.cqf_bridge.specs.PortRecord.{PortRecord};
-ghost use Rattle.cqf_bridge.specs.Quiet.{IsNextOf};
-ghost use Rattle.cqf_plain.specs.Due.{AreDue, NoneBefore, ports_of};
+ghost use Rattle.cqf_bridge.specs.Quiet.{IsNextStartOf};
+ghost use Rattle.cqf_plain.specs.Due.{AreNextStarts, NoneBefore, ports_of};
 
 use crate::driven::Driven;
 use cqf_bridge::Bridge;
@@ -16,8 +16,8 @@ fn note(
     bridge: u8,
     due: &mut BTreeMap<(Nanos, u8), u8>,
 ) -> Result<(), Memory>
-    ensures { OnOk result ((ports : List PortRecord) (r : PortRecord) → AreDue due.old.entries ports → IsNextOf r next →
-        AreDue due.new.entries (ports ++ r ∷ [])) }
+    ensures { OnOk result ((ports : List PortRecord) (r : PortRecord) → AreNextStarts due.old.entries ports → IsNextStartOf r next →
+        AreNextStarts due.new.entries (ports ++ r ∷ [])) }
 {
     match next {
         Some(moment) => {
@@ -30,7 +30,7 @@ fn note(
 
 /// Notes when each port of a bridge starts next: by instant, then link, with the bridge's number.
 fn note_starts(bridge: &Bridge, due: &mut BTreeMap<(Nanos, u8), u8>) -> Result<(), Memory>
-    ensures { OnOk result ((ports : List PortRecord) → AreDue due.old.entries ports → AreDue due.new.entries (ports ++ bridge.now.ports)) }
+    ensures { OnOk result ((ports : List PortRecord) → AreNextStarts due.old.entries ports → AreNextStarts due.new.entries (ports ++ bridge.now.ports)) }
 {
     for place in 0..bridge.links() {
         note(bridge.next_start(place), bridge.number(), due)?;
@@ -43,7 +43,7 @@ pub(crate) fn next_starts(
     alloc: Global,
     bridges: &[Driven],
 ) -> Result<BTreeMap<(Nanos, u8), u8>, Memory>
-    ensures { IfOk result (λ due. AreDue due.entries (ports_of bridges.now)) }
+    ensures { IfOk result (λ due. AreNextStarts due.entries (ports_of bridges.now)) }
 {
     let mut due = BTreeMap::new(alloc);
     for place in 0..bridges.len() {

@@ -1,6 +1,6 @@
 -- What was read so far.
-use Rattle.std.proofs.Common.{◌≡◌, ◌≤◌, ◌+◌, ◌++◌, ◌∙◌, ◌-◌, ℕ, List, [], Bool, false, Option, length, arith, refl, sym}
-use Rattle.std.proofs.Common.{ap, take, drop, take-append-drop, append_assoc, length-take, subst}
+use Rattle.std.proofs.Common.{◌≡◌, ◌≤◌, ◌+◌, ◌++◌, ◌∙◌, ℕ, List, [], Option, length, arith, sym}
+use Rattle.std.proofs.Common.{ap, take, drop, length-take, subst}
 use Rattle.std.proofs.Math.Seq.{take-add}
 use Rattle.std.specs.Io.KnownBytes.{Consumes}
 use Rattle.std.proofs.KnownBytes.{Consumes-nil, Consumes-trans}

@@ -1,17 +1,18 @@
 -- From what each step of a run says to what the run comes to.
-use Rattle.std.proofs.Common.{◌≡◌, ◌≢◌, ◌⊎◌, ◌≤◌, ◌∙◌, ℕ, zero, suc, List, [], ◌∷◌, Bool, true, false, Option, Some}
+use Rattle.std.proofs.Common.{◌≡◌, ◌≢◌, ◌⊎◌, ◌≤◌, ◌∙◌, ℕ, List, [], ◌∷◌, Bool, true, false, Option, Some}
 use Rattle.std.proofs.Common.{None, length, arith, codes, inl, inr, sym, subst, refl}
 use Rattle.std.specs.Str.{IsUtf8}
-use Rattle.std.specs.Io.KnownBytes.{IsAtEnd, Keeps}
+use Rattle.std.specs.Io.KnownBytes.{IsAtEnd}
 use Rattle.cqf_program_stop.specs.Stops.{EndsWith, line_of}
 use Rattle.clap.specs.Words.{Row, Text, first_of, subcommand_of}
 use Rattle.cqf_program_words.specs.Words.{EndsWords, IsJob, IsJobOf, IsNumberIn, Mean, cqf_app}
 use Rattle.cqf_program_engine.specs.Edge.{IsHeard, Marks, Reading}
-use Rattle.cqf_program_press.specs.Edge.{HasTold, Writing}
+use Rattle.cqf_program_press.specs.Edge.{Writing}
 use Rattle.cqf_program_engine.specs.Run.{first_line, input_of, version_line, words_of, AskForVersion, Ends}
 use Rattle.cqf_program_engine.specs.Run.{EndsByStatus, EndsFaulty, EndsInput, EndsRead, HandsOver, HasCause, HasFault}
-use Rattle.cqf_program_engine.specs.Run.{HasRun, IsBehindWords, IsEnd, IsFailure, IsInputFault, IsOutput, IsOutputFault}
-use Rattle.cqf_program_engine.specs.Run.{IsRefusal, EndsByRunFault, IsStopped, IsToldOutput, IsTooLongInput, IsWithin}
+use Rattle.cqf_program_engine.specs.Run.{HasRun, IsBehindWords, IsEnd, IsFailure, IsOutput}
+use Rattle.cqf_program_engine.specs.Run.{IsFailedRun, IsMisuse, IsRefusedRun}
+use Rattle.cqf_program_engine.specs.Run.{IsRefusal, IsStopped, StopsWithAnswer, IsToldOutput, IsTooLongInput, IsWithin}
 use Rattle.cqf_program_engine.specs.Run.{TellsStop, TellsFaultAlone}
 use Rattle.cqf_program_threads.specs.ThreadsOutput.{EndsThreads, IsThreadsOutput}
 use Rattle.cqf_program_press.proofs.EdgeLemmas.{Appends-whole}
@@ -21,53 +22,30 @@ use Rattle.cqf_program_engine.specs.declared.heard.Broken.TheVariants.{Memory, F
 use Rattle.cqf_program_words.specs.declared.words.Job.{Job}
 use Rattle.cqf_program_words.specs.declared.words.Job.TheVariants.{Check, Compile, Deliveries, Latency, Line, Load, Port, Report, Run}
 
--- words that mean no job, as they are given
-HasCause-given : (words : List (List ℕ)) (bytes : List ℕ) (stop : Stop) → words ≢ [] → EndsWords words stop → HasCause words bytes stop
-HasCause-given [] bytes stop some e = absurd (some refl)
-HasCause-given (word ∷ words) bytes stop some e = record {
-  answered = λ zero_is. inl (e.help zero_is);
-  refused = λ one. absurd (elim e.statuses [ inl zero_is ↦ omega arith | inr other ↦ elim other [ inl two ↦ omega arith | inr three ↦ omega arith ] ]);
-  misused = λ two. record {
-    status = two;
-    short = λ none. absurd (some none);
-    cause =
-        inr ((λ none. absurd (some none)), e.mistake two, e.no_job (λ three. omega arith));
-  };
-  memory = e.memory;
-  failed = λ four. absurd (elim e.statuses [ inl zero_is ↦ omega arith | inr other ↦ elim other [ inl two ↦ omega arith | inr three ↦ omega arith ] ]);
-}
-
--- words that mean no job stop the run before anything is read
+-- words that are given and mean no job stop the run before anything is read
 pub IsStopped-by_words : (words : List (List ℕ)) (input : Reading) (stop : Stop) → words ≢ [] → input.failed ≡ false → EndsWords words stop
     → IsStopped words input stop
-IsStopped-by_words words input stop some sound e =
-    let few : stop.status ≤ 3 = elim e.statuses [ inl zero_is ↦ omega arith | inr other ↦ elim other [ inl two ↦ omega arith | inr three ↦ omega arith ] ] in
-    record {
-      statuses = omega arith;
-      cause = λ _. HasCause-given words input.bytes stop some e;
-      fault = λ four. absurd (omega arith);
-      sound = λ _. sound;
-      whole = λ one. absurd (elim e.statuses [ inl zero_is ↦ omega arith | inr other ↦ elim other [ inl two ↦ omega arith | inr three ↦ omega arith ] ]);
-      at_end = λ none _. absurd (some none);
-    }
+IsStopped-by_words [] input stop some sound e = absurd (some refl)
+IsStopped-by_words (word ∷ words) input stop some sound e = elim e.statuses [
+  | inl zero_is ↦ inl (zero_is, record { answered = inl (e.help zero_is); at_end = λ none. absurd (some none); sound = sound })
+  | inr (inl two) ↦
+      let misused : IsMisuse (word ∷ words) input.bytes stop = record {
+        status = two;
+        short = λ none. absurd (some none);
+        cause = inr ((λ none. absurd (some none)), e.mistake two, e.no_job (λ three. omega arith));
+      } in
+      inr (inr (inl (two, record { misused = misused; at_end = λ none. absurd (some none); sound = sound })))
+  | inr (inr three) ↦ inr (inr (inr (inl (three, e.memory three))))
+]
 
 -- the version, which was asked for, stops the run before anything is read
 pub IsStopped-by_version : (words : List (List ℕ)) (input : Reading) (stop : Stop) → words ≢ [] → input.failed ≡ false → AskForVersion words
     → EndsWith 0 version_line stop → IsStopped words input stop
-IsStopped-by_version words input stop some sound asks e = record {
-  statuses = elim e.statuses [ inl zero_is ↦ omega arith | inr three ↦ omega arith ];
-  cause = λ _. record {
-    answered = λ zero_is. inr (asks, e.line_is zero_is);
-    refused = λ one. absurd (elim e.statuses [ inl zero_is ↦ omega arith | inr three ↦ omega arith ]);
-    misused = λ two. absurd (elim e.statuses [ inl zero_is ↦ omega arith | inr three ↦ omega arith ]);
-    memory = e.memory;
-    failed = λ four. absurd (elim e.statuses [ inl zero_is ↦ omega arith | inr three ↦ omega arith ]);
-  };
-  fault = λ four. absurd (elim e.statuses [ inl zero_is ↦ omega arith | inr three ↦ omega arith ]);
-  sound = λ _. sound;
-  whole = λ one. absurd (elim e.statuses [ inl zero_is ↦ omega arith | inr three ↦ omega arith ]);
-  at_end = λ none _. absurd (some none);
-}
+IsStopped-by_version words input stop some sound asks e = elim e.statuses [
+  | inl zero_is ↦
+      inl (zero_is, record { answered = inr (asks, e.line_is zero_is); at_end = λ none. absurd (some none); sound = sound })
+  | inr three ↦ inr (inr (inr (inl (three, e.memory three))))
+]
 
 -- words that mean no job end so too where the stop is told otherwise
 pub EndsWords-told : (words : List Text) (stop told : Stop) → EndsWords words stop → (told.status ≡ stop.status) ⊎ (told.status ≡ 3)
@@ -94,24 +72,24 @@ EndsWords-told words stop told e (inr three) memory = record {
 -- words of the first line that mean no job stop it too
 pub HasCause-by_line : (bytes : List ℕ) (stop : Stop) → length bytes ≤ 67108864 → IsUtf8 (first_line bytes) → EndsWords (words_of [] bytes) stop
     → HasCause [] bytes stop
-HasCause-by_line bytes stop short text e = record {
-  answered = λ zero_is. inl (e.help zero_is);
-  refused = λ one. absurd (elim e.statuses [ inl zero_is ↦ omega arith | inr other ↦ elim other [ inl two ↦ omega arith | inr three ↦ omega arith ] ]);
-  misused = λ two. record { status = two; short = λ none. short; cause = inr ((λ none. text), e.mistake two, e.no_job (λ three. omega arith)) };
-  memory = e.memory;
-  failed = λ four. absurd (elim e.statuses [ inl zero_is ↦ omega arith | inr other ↦ elim other [ inl two ↦ omega arith | inr three ↦ omega arith ] ]);
-}
+HasCause-by_line bytes stop short text e = elim e.statuses [
+  | inl zero_is ↦ inl (zero_is, inl (e.help zero_is))
+  | inr (inl two) ↦
+      inr (inr (inl (record { status = two; short = λ none. short; cause = inr ((λ none. text), e.mistake two, e.no_job (λ three. omega arith)) })))
+  | inr (inr three) ↦ inr (inr (inr (inl (three, e.memory three))))
+]
 
 -- a first line that isn't text stops it
 pub HasCause-by_bytes : (bytes : List ℕ) (stop : Stop) → length bytes ≤ 67108864 → ¬ IsUtf8 (first_line bytes)
     → EndsWith 2 (line_of (codes "cqf: words")) stop → HasCause [] bytes stop
-HasCause-by_bytes bytes stop short no_text e = record {
-  answered = λ zero_is. absurd (elim e.statuses [ inl two ↦ omega arith | inr three ↦ omega arith ]);
-  refused = λ one. absurd (elim e.statuses [ inl two ↦ omega arith | inr three ↦ omega arith ]);
-  misused = λ two. record { status = two; short = λ none. short; cause = inl (refl, no_text, e.line_is two) };
-  memory = e.memory;
-  failed = λ four. absurd (elim e.statuses [ inl two ↦ omega arith | inr three ↦ omega arith ]);
-}
+HasCause-by_bytes bytes stop short no_text e = elim e.statuses [
+  | inl two ↦ inr (inr (inl (record { status = two; short = λ none. short; cause = inl (refl, no_text, e.line_is two) })))
+  | inr three ↦ inr (inr (inr (inl (three, e.memory three))))
+]
+
+-- want of memory stops it
+pub HasCause-by_memory : (words : List (List ℕ)) (bytes : List ℕ) (stop : Stop) → stop.status ≡ 3 → stop.text.items ≡ [] → HasCause words bytes stop
+HasCause-by_memory words bytes stop three none = inr (inr (inr (inl (three, none))))
 
 -- a read that was broken off ends the input
 pub EndsInput-broken : (input : Reading) (before : Bool) (cause : Broken) (stop : Stop) → Marks before input.failed cause → EndsRead cause stop
@@ -135,59 +113,21 @@ EndsInput-long input stop long sound ended = elim ended.statuses [
 pub IsStopped-by_input : (words : List (List ℕ)) (input : Reading) (stop : Stop) → EndsInput input stop → (words ≢ [] → (job : Job) × Mean words job)
     → IsStopped words input stop
 IsStopped-by_input words input stop (inl e) means =
-    let one : stop.status ≡ 1 = e.0 in
-    record {
-      statuses = omega arith;
-      cause = λ _. record {
-        answered = λ zero_is. absurd (omega arith);
-        refused = λ _. record { status = one; length_first = inl (e.1.long, e.1.line, means) };
-        misused = λ two. absurd (omega arith);
-        memory = λ three. absurd (omega arith);
-        failed = λ four. absurd (omega arith);
-      };
-      fault = λ four. absurd (omega arith);
-      sound = λ few. e.1.sound;
-      whole = λ _. inl e.1.long;
-      at_end = λ _ either. absurd (elim either [ inl zero_is ↦ omega arith | inr two ↦ omega arith ]);
-    }
-IsStopped-by_input words input stop (inr (inl e)) means =
-    let four : stop.status ≡ 4 = e.0 in
-    record {
-      statuses = omega arith;
-      cause = λ not_four. absurd (not_four four);
-      fault = λ _. inl (e.1.failed, e.1.line);
-      sound = λ few. absurd (omega arith);
-      whole = λ one. absurd (omega arith);
-      at_end = λ _ either. absurd (elim either [ inl zero_is ↦ omega arith | inr two ↦ omega arith ]);
-    }
-IsStopped-by_input words input stop (inr (inr e)) means =
-    let three : stop.status ≡ 3 = e.0 in
-    record {
-      statuses = omega arith;
-      cause = λ _. record {
-        answered = λ zero_is. absurd (omega arith);
-        refused = λ one. absurd (omega arith);
-        misused = λ two. absurd (omega arith);
-        memory = λ _. e.1;
-        failed = λ four. absurd (omega arith);
-      };
-      fault = λ four. absurd (omega arith);
-      sound = λ few. absurd (omega arith);
-      whole = λ one. absurd (omega arith);
-      at_end = λ _ either. absurd (elim either [ inl zero_is ↦ omega arith | inr two ↦ omega arith ]);
-    }
+    let refused : IsRefusedRun words input.bytes stop = record { status = e.0; length_first = inl (e.1.long, e.1.line, means) } in
+    inr (inl (e.0, record { refused = refused; whole = inl e.1.long; sound = e.1.sound }))
+IsStopped-by_input words input stop (inr (inl e)) means = inr (inr (inr (inr (e.0, inl (e.1.failed, e.1.line)))))
+IsStopped-by_input words input stop (inr (inr e)) means = inr (inr (inr (inl e)))
 
 -- a cause stops it, once all is read
-pub IsStopped-by_cause : (words : List (List ℕ)) (input : Reading) (stop : Stop) → input.failed ≡ false → IsAtEnd input.after → stop.status ≤ 4
+pub IsStopped-by_cause : (words : List (List ℕ)) (input : Reading) (stop : Stop) → input.failed ≡ false → IsAtEnd input.after
     → HasCause words input.bytes stop → IsStopped words input stop
-IsStopped-by_cause words input stop sound at_end few cause = record {
-  statuses = few;
-  cause = λ _. cause;
-  fault = λ four. inr (sound, at_end, cause.failed four);
-  sound = λ _. sound;
-  whole = λ _. inr at_end;
-  at_end = λ _ _. at_end;
-}
+IsStopped-by_cause words input stop sound at_end (inl e) = inl (e.0, record { answered = e.1; at_end = λ _. at_end; sound = sound })
+IsStopped-by_cause words input stop sound at_end (inr (inl refused)) =
+    inr (inl (refused.status, record { refused = refused; whole = inr at_end; sound = sound }))
+IsStopped-by_cause words input stop sound at_end (inr (inr (inl misused))) =
+    inr (inr (inl (misused.status, record { misused = misused; at_end = λ _. at_end; sound = sound })))
+IsStopped-by_cause words input stop sound at_end (inr (inr (inr (inl e)))) = inr (inr (inr (inl e)))
+IsStopped-by_cause words input stop sound at_end (inr (inr (inr (inr e)))) = inr (inr (inr (inr (e.0, inr (sound, at_end, e.1)))))
 
 -- a refused input has status 1 or 3
 refusal_statuses : (job : Job) (input : List ℕ) (stop : Stop) → IsRefusal job input stop → (stop.status ≡ 1) ⊎ (stop.status ≡ 3)
@@ -226,11 +166,6 @@ failure_status (Report cycles) input stop h = absurd h
 failure_status (Deliveries cycles) input stop h = absurd h
 failure_status (Check cycles) input stop h = absurd h
 
--- a job that ends without its output has a status of at most 4
-pub end_few : (job : Job) (input : List ℕ) (stop : Stop) → IsEnd job input stop → stop.status ≤ 4
-end_few job input stop (inl h) = elim (refusal_statuses job input stop h) [ inl one ↦ omega arith | inr three ↦ omega arith ]
-end_few job input stop (inr h) = let four : stop.status ≡ 4 = failure_status job input stop h in omega arith
-
 -- the end of a run on threads is that of its job
 pub IsEnd-threads : (cycles : ℕ) (job : Job) (input : List ℕ) (stop : Stop) → job ≡ Run cycles true → EndsThreads cycles input stop → IsEnd job input stop
 IsEnd-threads cycles job input stop same e =
@@ -255,28 +190,17 @@ threads_within cycles job same h = subst (λ (j : Job). IsWithin j) same h
 -- an input that is refused stops it
 HasCause-by_refusal : (words : List (List ℕ)) (bytes : List ℕ) (job : Job) (stop : Stop) → length bytes ≤ 67108864
     → (words ≡ [] → IsUtf8 (first_line bytes)) → Mean (words_of words bytes) job → IsRefusal job (input_of words bytes) stop → HasCause words bytes stop
-HasCause-by_refusal words bytes job stop short text means h =
-    let statuses = refusal_statuses job (input_of words bytes) stop h in
-    record {
-      answered = λ zero_is. absurd (elim statuses [ inl one ↦ omega arith | inr three ↦ omega arith ]);
-      refused = λ one. record { status = one; length_first = inr (short, text, (job, means, h)) };
-      misused = λ two. absurd (elim statuses [ inl one ↦ omega arith | inr three ↦ omega arith ]);
-      memory = refusal_memory job (input_of words bytes) stop h;
-      failed = λ four. absurd (elim statuses [ inl one ↦ omega arith | inr three ↦ omega arith ]);
-    }
+HasCause-by_refusal words bytes job stop short text means h = elim (refusal_statuses job (input_of words bytes) stop h) [
+  | inl one ↦ inr (inl (record { status = one; length_first = inr (short, text, (job, means, h)) }))
+  | inr three ↦ HasCause-by_memory words bytes stop three (refusal_memory job (input_of words bytes) stop h three)
+]
 
 -- a job that fails stops it
 HasCause-by_failure : (words : List (List ℕ)) (bytes : List ℕ) (job : Job) (stop : Stop) → length bytes ≤ 67108864
     → (words ≡ [] → IsUtf8 (first_line bytes)) → Mean (words_of words bytes) job → IsFailure job (input_of words bytes) stop → HasCause words bytes stop
 HasCause-by_failure words bytes job stop short text means h =
-    let four : stop.status ≡ 4 = failure_status job (input_of words bytes) stop h in
-    record {
-      answered = λ zero_is. absurd (omega arith);
-      refused = λ one. absurd (omega arith);
-      misused = λ two. absurd (omega arith);
-      memory = λ three. absurd (omega arith);
-      failed = λ _. record { short = short; text = text; job = job; means = means; fails = h };
-    }
+    let failed : IsFailedRun words bytes stop = record { short = short; text = text; job = job; means = means; fails = h } in
+    inr (inr (inr (inr (failure_status job (input_of words bytes) stop h, failed))))
 
 -- a job that ends without its output stops it
 pub HasCause-by_end : (words : List (List ℕ)) (bytes : List ℕ) (job : Job) (stop : Stop) → length bytes ≤ 67108864
@@ -298,7 +222,7 @@ input_given (word ∷ words) bytes some = refl
 pub IsStopped-by_given : (words : List (List ℕ)) (input : Reading) (job : Job) (stop : Stop) → words ≢ [] → input.failed ≡ false → IsAtEnd input.after
     → length input.bytes ≤ 67108864 → Mean words job → IsEnd job input.bytes stop → IsStopped words input stop
 IsStopped-by_given words input job stop some sound at_end short means h =
-    IsStopped-by_cause words input stop sound at_end (end_few job input.bytes stop h)
+    IsStopped-by_cause words input stop sound at_end
     (HasCause-by_end words input.bytes job stop short (λ none. absurd (some none)) (means_given words input.bytes job some means)
     (subst (λ (bytes : List ℕ). IsEnd job bytes stop) (input_given words input.bytes some) h))
 
@@ -364,47 +288,32 @@ fault_told words input output faults stop (inl h) told = inl (record {
 })
 fault_told words input output faults stop (inr h) told = inr (inr (record { sound = h.0; at_end = h.1; stop = stop; failed = h.2; told = told }))
 
--- a status that isn't 0 or 3 is one of the other three
-statuses_of : (status : ℕ) → status ≢ 0 → status ≢ 3 → status ≤ 4 → (status ≡ 1) ⊎ ((status ≡ 2) ⊎ (status ≡ 4))
-statuses_of zero some known few = absurd (some refl)
-statuses_of (suc zero) some known few = inl refl
-statuses_of (suc (suc zero)) some known few = inr (inl refl)
-statuses_of (suc (suc (suc zero))) some known few = absurd (known refl)
-statuses_of (suc (suc (suc (suc status)))) some known few = inr (inr (omega (arith, few)))
-
 -- the one case of a run that is stopped by its own line
 barred_by_status : (words : List (List ℕ)) (input : Reading) (output faults : Writing) (stop : Stop) → IsStopped words input stop → stop.status ≢ 0
     → stop.status ≢ 3 → TellsFaultAlone stop.text.items output faults → EndsByStatus words input output faults stop.status
-barred_by_status words input output faults stop s no_help known told = elim (statuses_of stop.status no_help known s.statuses) [
-  | inl one ↦ inr (inl (
-    one,
-    record {
-      stop = stop;
-      refused = (s.cause (λ four. omega arith)).refused one;
-      told = told;
-      whole = s.whole one;
-      sound = s.sound (omega arith);
-    },
-  ))
-  | inr (inl two) ↦ inr (inr (inl (
-    two,
-    record {
-      stop = stop;
-      misused = (s.cause (λ four. omega arith)).misused two;
-      told = told;
-      at_end = λ none. s.at_end none (inr two);
-      sound = s.sound (omega arith);
-    },
-  )))
-  | inr (inr four) ↦ inr (inr (inr (inr (four, fault_told words input output faults stop (s.fault four) told))))
-]
+barred_by_status words input output faults stop (inl e) some known told = absurd (some e.0)
+barred_by_status words input output faults stop (inr (inl e)) some known told =
+    inr (inl (e.0, record { stop = stop; refused = e.1.refused; told = told; whole = e.1.whole; sound = e.1.sound }))
+barred_by_status words input output faults stop (inr (inr (inl e))) some known told =
+    inr (inr (inl (e.0, record { stop = stop; misused = e.1.misused; told = told; at_end = e.1.at_end; sound = e.1.sound })))
+barred_by_status words input output faults stop (inr (inr (inr (inl e)))) some known told = absurd (known e.0)
+barred_by_status words input output faults stop (inr (inr (inr (inr e)))) some known told =
+    inr (inr (inr (inr (e.0, fault_told words input output faults stop e.1 told))))
+
+-- the case of a run that is stopped with status 0
+answer_of : (words : List (List ℕ)) (input : Reading) (stop : Stop) → IsStopped words input stop → stop.status ≡ 0 → StopsWithAnswer words input stop
+answer_of words input stop (inl e) none = e.1
+answer_of words input stop (inr (inl e)) none = absurd (omega (arith, e.0, none))
+answer_of words input stop (inr (inr (inl e))) none = absurd (omega (arith, e.0, none))
+answer_of words input stop (inr (inr (inr (inl e)))) none = absurd (omega (arith, e.0, none))
+answer_of words input stop (inr (inr (inr (inr e)))) none = absurd (omega (arith, e.0, none))
 
 -- a run that is stopped ends as it was stopped
 pub Ends-stopped : (words : List (List ℕ)) (input : Reading) (output faults : Writing) (stop : Stop) (status : ℕ) → IsHeard input → IsBehindWords words input
     → IsStopped words input stop → TellsStop stop output faults status → Ends words input output faults status
 Ends-stopped words input output faults stop status heard behind_words s (inl t) =
-    Ends-told words input output faults stop.text.items status heard behind_words
-    (inr ((s.cause (λ four. omega (arith, t.0))).answered t.0, (λ none. s.at_end none (inl t.0)))) (s.sound (omega (arith, t.0))) t.1
+    let answer = answer_of words input stop s t.0 in
+    Ends-told words input output faults stop.text.items status heard behind_words (inr (answer.answered, answer.at_end)) answer.sound t.1
 Ends-stopped words input output faults stop status heard behind_words s (inr (inl t)) = record {
   heard = heard;
   behind_words = behind_words;

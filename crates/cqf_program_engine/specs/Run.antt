@@ -192,27 +192,45 @@ version_line = codes "cqf " ++ line_of VERSION.now
 abbrev pub IsQuestionAnswered : List (List ℕ) → List ℕ → List ℕ → Type 0
 IsQuestionAnswered words bytes text = AskForHelp (words_of words bytes) ⊎ (AskForVersion words × (text ≡ version_line))
 
--- why a run ends before it is done, where no read failed
-pub record HasCause (words : List (List ℕ)) (bytes : List ℕ) (stop : Stop) : Type 0 where
-  pub answered : stop.status ≡ 0 → IsQuestionAnswered words bytes stop.text.items
-  pub refused : stop.status ≡ 1 → IsRefusedRun words bytes stop
-  pub misused : stop.status ≡ 2 → IsMisuse words bytes stop
-  pub memory : stop.status ≡ 3 → stop.text.items ≡ []
-  pub failed : stop.status ≡ 4 → IsFailedRun words bytes stop
+-- why a run ends before it is done, where no read failed, by its status: a question is answered, the input is refused, the words mean no
+-- job, there was no memory, or a run on threads failed
+abbrev pub HasCause : List (List ℕ) → List ℕ → Stop → Type 0
+HasCause words bytes stop = ((stop.status ≡ 0) × IsQuestionAnswered words bytes stop.text.items)
+    ⊎ (IsRefusedRun words bytes stop
+    ⊎ (IsMisuse words bytes stop
+    ⊎ (((stop.status ≡ 3) × (stop.text.items ≡ []))
+    ⊎ ((stop.status ≡ 4) × IsFailedRun words bytes stop))))
 
 -- why a run ends with status 4 before it is done: the reader failed; or all was read, and a run on threads failed
 abbrev pub HasFault : List (List ℕ) → Reading → Stop → Type 0
 HasFault words input stop = ((input.failed ≡ true) × (stop.text.items ≡ line_of (codes "cqf: input fault")))
     ⊎ ((input.failed ≡ false) × IsAtEnd input.after × IsFailedRun words input.bytes stop)
 
--- how a run ends before it is done, for what its reader gave
-pub record IsStopped (words : List (List ℕ)) (input : Reading) (stop : Stop) : Type 0 where
-  pub statuses : stop.status ≤ 4
-  pub cause : stop.status ≢ 4 → HasCause words input.bytes stop
-  pub fault : stop.status ≡ 4 → HasFault words input stop
-  pub sound : stop.status ≤ 2 → input.failed ≡ false
-  pub whole : stop.status ≡ 1 → IsAll input
-  pub at_end : words ≡ [] → (stop.status ≡ 0) ⊎ (stop.status ≡ 2) → IsAtEnd input.after
+-- status 0: a question is answered, behind all of an input that has the words
+pub record StopsWithAnswer (words : List (List ℕ)) (input : Reading) (stop : Stop) : Type 0 where
+  pub answered : IsQuestionAnswered words input.bytes stop.text.items
+  pub at_end : words ≡ [] → IsAtEnd input.after
+  pub sound : input.failed ≡ false
+
+-- status 1: the input is refused, behind all that the program reads of it
+pub record StopsRefused (words : List (List ℕ)) (input : Reading) (stop : Stop) : Type 0 where
+  pub refused : IsRefusedRun words input.bytes stop
+  pub whole : IsAll input
+  pub sound : input.failed ≡ false
+
+-- status 2: the words mean no job
+pub record StopsMisused (words : List (List ℕ)) (input : Reading) (stop : Stop) : Type 0 where
+  pub misused : IsMisuse words input.bytes stop
+  pub at_end : words ≡ [] → IsAtEnd input.after
+  pub sound : input.failed ≡ false
+
+-- how a run ends before it is done, for what its reader gave: the one case of each status, where 3 is want of memory
+abbrev pub IsStopped : List (List ℕ) → Reading → Stop → Type 0
+IsStopped words input stop = ((stop.status ≡ 0) × StopsWithAnswer words input stop)
+    ⊎ (((stop.status ≡ 1) × StopsRefused words input stop)
+    ⊎ (((stop.status ≡ 2) × StopsMisused words input stop)
+    ⊎ (((stop.status ≡ 3) × (stop.text.items ≡ []))
+    ⊎ ((stop.status ≡ 4) × HasFault words input stop))))
 
 -- a run is done: all was read, and this is its output
 pub record HasRun (words : List (List ℕ)) (input : Reading) (output : List ℕ) : Type 0 where

@@ -6,7 +6,8 @@ ghost use Rattle.cqf_program_engine.specs.Edge.{HasRead};
 use crate::heard::Broken;
 use crate::inputs::MOST_BYTES;
 use crate::retries::read_again;
-use std::alloc::{AllocError, Global};
+use cqf_units::Memory;
+use std::alloc::Global;
 use std::io;
 use std::io::Read;
 use std::marker::Model;
@@ -36,7 +37,7 @@ impl Model for Filled {
 
 /// Reserves room for so many more. Behind the first step that is room for all that there may ever be, so that nothing is copied
 /// again, and where that much is refused, at least for so many.
-fn reserve(bytes: &mut Vec<u8>, more: usize) -> Result<(), AllocError>
+fn reserve(bytes: &mut Vec<u8>, more: usize) -> Result<(), Memory>
     requires { length bytes.old.items ≤ 67108865 }
     ensures { bytes.new.items ≡ bytes.old.items }
 {
@@ -48,7 +49,7 @@ fn reserve(bytes: &mut Vec<u8>, more: usize) -> Result<(), AllocError>
 }
 
 /// Makes the bytes longer by a step, or up to the most that there is room for.
-fn lengthen(bytes: &mut Vec<u8>) -> Result<(), AllocError>
+fn lengthen(bytes: &mut Vec<u8>) -> Result<(), Memory>
     requires { length bytes.old.items < 67108865 }
     ensures longer { OnOk result (length bytes.old.items < length bytes.new.items) }
     ensures front { take (length bytes.old.items) bytes.new.items ≡ bytes.old.items }
@@ -61,7 +62,7 @@ fn lengthen(bytes: &mut Vec<u8>) -> Result<(), AllocError>
 }
 
 /// Sees to it that the bytes are longer than what is filled of them.
-fn make_room(bytes: &mut Vec<u8>, filled: usize) -> Result<(), AllocError>
+fn make_room(bytes: &mut Vec<u8>, filled: usize) -> Result<(), Memory>
     requires inside { filled ≤ length bytes.old.items }
     requires few { filled < 67108865 }
     ensures room { OnOk result (filled < length bytes.new.items) }
@@ -116,9 +117,7 @@ impl Filled {
         ensures count { IfOk result (λ count. length self.new ≡ length self.old + count) }
         ensures end { IfOk result (λ count. count ≡ 0 → IsAtEnd (R.remaining reader.new)) }
     {
-        if make_room(&mut self.bytes, self.count).is_err() {
-            return Err(Broken::Memory);
-        }
+        make_room(&mut self.bytes, self.count)?;
         match read_at(reader, self.bytes.as_mut_slice(), self.count, most) {
             Ok(count) => {
                 self.count += count;

@@ -4,6 +4,7 @@ ghost use Rattle.std.specs.Io.KnownBytes.{IsAtEnd};
 ghost use Rattle.cqf_program_engine.specs.Edge.{HasRead, Marks};
 
 use crate::filled::Filled;
+use cqf_units::Memory;
 use std::alloc::Global;
 use std::io::Read;
 
@@ -14,6 +15,17 @@ pub(crate) enum Broken {
     Memory,
     /// The reader failed.
     Fault,
+}
+
+/// Want of memory, as a cause.
+impl From<Memory> for Broken {
+    ghost use Rattle.cqf_program_engine.specs.declared.heard.Broken.TheVariants as variant;
+
+    ghost from_gives = { λ _ cause. cause ≡ variant.Memory };
+
+    fn from(_refused: Memory) -> Broken {
+        Broken::Memory
+    }
 }
 
 /// A reader with all the bytes that it gave, and whether a read of it failed. Nothing but its own reads sets either. A read that a signal

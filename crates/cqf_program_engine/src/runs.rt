@@ -185,7 +185,7 @@ fn stop_of_version(alloc: Global) -> Stop
 }
 
 /// The line of the program's version.
-fn version_text(alloc: Global) -> Result<String, AllocError>
+fn version_text(alloc: Global) -> Result<String, Memory>
     ensures { IfOk result (λ text. string_bytes text ≡ version_line) }
 {
     let text = format!(in alloc; "cqf {VERSION}\n")?;
@@ -193,7 +193,7 @@ fn version_text(alloc: Global) -> Result<String, AllocError>
 }
 
 /// The words of a line, which single spaces divide.
-fn split_words(alloc: Global, line: &str) -> Result<Vec<&str>, AllocError>
+fn split_words(alloc: Global, line: &str) -> Result<Vec<&str>, Memory>
     ensures { IfOk result (λ words. map (λ word. word.now) words.items ≡ slice_split is_space line.now) }
 {
     let mut words = Vec::new(alloc);
@@ -262,7 +262,6 @@ fn run_line(
     requires { length bytes.now ≤ 67108864 }
     ensures ok { IfOk result (HasText (IsDone [] bytes.now)) }
     ensures err { IfErr result (HasCause [] bytes.now) }
-    ensures status { IfErr result (λ stop. stop.status ≤ 4) }
 {
     let (line, rest) = split_first_line(bytes);
     let Ok(line) = std::str::from_utf8(line) else {

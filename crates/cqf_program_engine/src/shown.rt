@@ -2,7 +2,8 @@
 ghost use Rattle.std.specs.Prelude.{◌≡◌, ◌⊎◌, []};
 
 use cqf_program_stop::{FAULT, Stop, USAGE};
-use std::alloc::{AllocError, Global};
+use cqf_units::Memory;
+use std::alloc::Global;
 
 /// The most characters of a text that a line shows.
 const SHOWN: usize = 200;
@@ -23,7 +24,7 @@ fn is_shown_whole(text: &str) -> bool {
 }
 
 /// Puts a character as a line shows it: an unprintable one as `\u{..}`, with its number in hexadecimal digits.
-fn show(line: &mut String, character: char) -> Result<(), AllocError> {
+fn show(line: &mut String, character: char) -> Result<(), Memory> {
     if !is_unprintable(character) {
         return line.push(character);
     }
@@ -34,7 +35,7 @@ fn show(line: &mut String, character: char) -> Result<(), AllocError> {
 }
 
 /// Puts what a line shows of a text: its first 200 characters, unprintable ones escaped, and `..` behind them where there are more.
-fn show_front(line: &mut String, text: &str) -> Result<(), AllocError> {
+fn show_front(line: &mut String, text: &str) -> Result<(), Memory> {
     for character in text.chars().take(SHOWN) {
         show(line, character)?;
     }
@@ -45,7 +46,7 @@ fn show_front(line: &mut String, text: &str) -> Result<(), AllocError> {
 }
 
 /// The line of a text that is no command.
-fn line_of_text(alloc: Global, text: &str) -> Result<String, AllocError> {
+fn line_of_text(alloc: Global, text: &str) -> Result<String, Memory> {
     let mut line = String::from_str(alloc, "cqf: the first line of the input is no command: ")?;
     show_front(&mut line, text)?;
     line.push('\n')?;
@@ -53,7 +54,7 @@ fn line_of_text(alloc: Global, text: &str) -> Result<String, AllocError> {
 }
 
 /// The line of a file that can't be read.
-fn line_of_file(alloc: Global, name: &str) -> Result<String, AllocError> {
+fn line_of_file(alloc: Global, name: &str) -> Result<String, Memory> {
     let mut line = String::from_str(alloc, "cqf: ")?;
     show_front(&mut line, name)?;
     line.push_str(": input fault\n")?;

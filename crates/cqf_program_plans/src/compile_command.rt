@@ -25,7 +25,7 @@ use cqf_program_scenario::{domain_part, streams_part, two_parts};
 use cqf_program_stop::{REFUSED, Stop};
 use cqf_topology::{Domain, Request};
 use cqf_units::{Cycle, Memory};
-use std::alloc::{AllocError, Global};
+use std::alloc::Global;
 
 /// The administrator that the streams of `compile` are admitted by.
 const SEAT: u16 = 0;
@@ -46,7 +46,7 @@ pub fn read_plan(alloc: Global, input: &[u8]) -> Result<(Domain, Vec<Request>), 
 }
 
 /// The line of a stream at a place that isn't admitted.
-fn line_of_stream(alloc: Global, place: usize, refused: Refused) -> Result<String, AllocError>
+fn line_of_stream(alloc: Global, place: usize, refused: Refused) -> Result<String, Memory>
     ensures { IfOk result (λ line. string_bytes line ≡ stream_line place refused) }
 {
     let line = format!(in alloc; "cqf: stream {place}: {refused}\n")?;

@@ -20,10 +20,10 @@ use cqf_program_press::Sheet;
 use cqf_program_stop::{REFUSED, Stop};
 use cqf_topology::{Domain, Planned, Request};
 use cqf_units::Memory;
-use std::alloc::{AllocError, Global};
+use std::alloc::Global;
 
 /// The line of a latency whose frames may miss their deadline.
-fn line_of_latency(alloc: Global, latency: &Latency) -> Result<String, AllocError>
+fn line_of_latency(alloc: Global, latency: &Latency) -> Result<String, Memory>
     requires { is_not_sure latency.now ≡ true }
     ensures { IfOk result (λ line. string_bytes line ≡ not_sure_line latency.now) }
 {

@@ -1,8 +1,8 @@
 //! Desks over the line with two seats, and the calls of administrators.
 use cqf_admission::{Admission, Receipt, Refused};
 use cqf_desk::{CloseFault, Desk, History, Seat};
-use cqf_refusing::{Told, X, admission_of, domain_of, mark, once, twice, writes};
-use cqf_test_fixtures::{Asked, line, request};
+use cqf_refusing::{Told, X, domain_of, mark, once, twice, writes};
+use cqf_test_fixtures::{Asked, admission_of, line, request};
 use cqf_topology::Request;
 use cqf_units::{Cycle, Memory};
 use std::alloc::Global;

@@ -1,8 +1,8 @@
 //! Desks whose history holds no more: what is refused for that comes before want of memory.
 use cqf_admission::{Admission, Refused, SealFault};
 use cqf_desk::{Desk, Seat};
-use cqf_refusing::{Told, admission_of, domain_of, mark, once};
-use cqf_test_fixtures::one_link;
+use cqf_refusing::{Told, domain_of, mark, once};
+use cqf_test_fixtures::{admission_of, one_link};
 use std::alloc::Global;
 use std::sync::Wait;
 

@@ -6,10 +6,10 @@ use cqf_admission::Table;
 use cqf_compile::Plan;
 use cqf_model::{Background, Book, Offer, Reason, Started};
 use cqf_plain::{RunFault, run};
-use cqf_refusing::{Told, X, admission_of, mark, once, plan_of, tables_of, twice};
+use cqf_refusing::{Told, X, mark, once, plan_of, tables_of, twice};
 use cqf_test_fixtures::{
-    Asked, Backing, Offering, are_background, are_begun, are_dropped, are_offers, background_of,
-    line, offers_of,
+    Asked, Backing, Offering, admission_of, are_background, are_begun, are_dropped, are_offers,
+    background_of, line, offers_of,
 };
 use cqf_units::{Cycle, Nanos};
 use std::alloc::Global;

@@ -128,6 +128,58 @@ pub(crate) fn later_told<R: Wait>(rt: &R, alloc: Global) -> Told {
     }
 }
 
+/// A desk whose second seat followed the history is closed, which asks for no memory.
+pub(crate) fn followed_told<R: Wait>(rt: &R, alloc: Global) -> Told {
+    match worked(rt, alloc) {
+        Some((desk, seats)) => {
+            mark(alloc);
+            let closed = desk.close(seats);
+            mark(alloc);
+            once(is_history(alloc, &closed, 1, WORKED))
+        }
+        None => Told::NotReady,
+    }
+}
+
+/// Whether the first seat asks in vain for a withdrawal, and the second one seals a cycle.
+fn refused_and_sealed<R: Wait>(rt: &R, desk: &Desk, seats: &mut [Seat]) -> bool {
+    match seats {
+        [asking, sealing] => {
+            desk.withdraw(rt, asking, "y").is_err() && desk.seal(rt, sealing).is_ok()
+        }
+        _ => false,
+    }
+}
+
+/// The second seat of a desk, with which a cycle was sealed and nothing else was done.
+fn sealed_alone<R: Wait>(rt: &R, alloc: Global) -> Option<Seat> {
+    let (desk, mut seats) = desk_with(alloc, &[X])?;
+    let mut seat = seats.pop()?;
+    if desk.seal(rt, &mut seat).is_ok() {
+        Some(seat)
+    } else {
+        None
+    }
+}
+
+/// A desk, with such a seat of another one in place of its own second. That followed another history, so its table, which is the same, is
+/// compared as the desk is closed.
+fn with_strange_seat<R: Wait>(rt: &R, alloc: Global) -> Option<DeskAndSeats> {
+    let (desk, mut seats) = desk_with(alloc, &[X])?;
+    if !refused_and_sealed(rt, &desk, seats.as_mut_slice()) {
+        return None;
+    }
+    let strange = sealed_alone(rt, alloc)?;
+    let _own = seats.pop()?;
+    match seats.push(strange) {
+        Ok(()) => Some((desk, seats)),
+        Err(_) => None,
+    }
+}
+
+/// The history of that.
+const IN_VAIN: &str = "0 admit x accepted 0 0\n0 withdraw y refused NotHeld\n1 seal\n";
+
 /// A desk is closed, or else its twin.
 fn closed(alloc: Global, made: DeskAndSeats, twin: DeskAndSeats) -> Told {
     let (desk, seats) = made;
@@ -137,21 +189,21 @@ fn closed(alloc: Global, made: DeskAndSeats, twin: DeskAndSeats) -> Told {
     mark(alloc);
     match first {
         Err(CloseFault::Memory) => {
-            twice(true, is_history(alloc, &other.close(others), 1, WORKED))
+            twice(true, is_history(alloc, &other.close(others), 1, IN_VAIN))
         }
         ended => {
             drop(other);
             drop(others);
-            once(is_history(alloc, &ended, 1, WORKED))
+            once(is_history(alloc, &ended, 1, IN_VAIN))
         }
     }
 }
 
 pub(crate) fn close_told<R: Wait>(rt: &R, alloc: Global) -> Told {
-    let Some(made) = worked(rt, alloc) else {
+    let Some(made) = with_strange_seat(rt, alloc) else {
         return Told::NotReady;
     };
-    match worked(rt, alloc) {
+    match with_strange_seat(rt, alloc) {
         Some(twin) => closed(alloc, made, twin),
         None => Told::NotReady,
     }

@@ -6,11 +6,11 @@ use crate::plain::{Given, along, make_given, may_run};
 use cqf_admission::{Admission, Entry};
 use cqf_model::{Book, Offer, Start};
 use cqf_plain::run;
-use cqf_refusing::{Told, X, admission_of, domain_of, mark, once, tables_of, twice};
+use cqf_refusing::{Told, X, domain_of, mark, once, tables_of, twice};
 use cqf_report::{
     append_book, books_are_in_order, write_book, write_history, write_links, write_starts,
 };
-use cqf_test_fixtures::{Asked, line, one_link, request};
+use cqf_test_fixtures::{Asked, admission_of, line, one_link, request};
 use cqf_topology::Domain;
 use cqf_units::{Memory, Name, Nanos, Rate};
 use std::alloc::Global;

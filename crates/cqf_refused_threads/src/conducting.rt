@@ -2,8 +2,8 @@
 use cqf_admission::{Call, Command, Entry};
 use cqf_bridge::BridgeFault;
 use cqf_model::{Book, Offer};
-use cqf_refusing::{Told, X, admission_of, domain_of, mark, once, twice, writes};
-use cqf_test_fixtures::{Begun, are_begun, are_offers, line, offers_of};
+use cqf_refusing::{Told, X, domain_of, mark, once, twice, writes};
+use cqf_test_fixtures::{Begun, admission_of, are_begun, are_offers, line, offers_of};
 use cqf_topology::Domain;
 use cqf_units::Memory;
 use cqf_worker::{Account, ConductFault, Free, conduct};

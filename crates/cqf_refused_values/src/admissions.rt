@@ -1,7 +1,7 @@
 //! Calls of admissions over the line.
 use cqf_admission::{Admission, Receipt, Refused, SealFault, Table};
-use cqf_refusing::{Told, X, admission_of, domain_of, mark, once, twice, writes};
-use cqf_test_fixtures::{Asked, line, request};
+use cqf_refusing::{Told, X, domain_of, mark, once, twice, writes};
+use cqf_test_fixtures::{Asked, admission_of, line, request};
 use cqf_topology::{Domain, Request};
 use cqf_units::{Cycle, Memory};
 use std::alloc::Global;

@@ -8,9 +8,9 @@ use cqf_admission::Table;
 use cqf_bridge::{Batch, Bridge, BridgeFault, offers_of};
 use cqf_compile::Plan;
 use cqf_model::{Dropped, Offer, Offered, Reason, Sent};
-use cqf_refusing::{Told, X, admission_of, mark, once, plan_of, tables_of, twice};
+use cqf_refusing::{Told, X, mark, once, plan_of, tables_of, twice};
 use cqf_test_fixtures::{
-    Asked, Fell, Offering, are_dropped, are_offers, line, offers_of as offers_with,
+    Asked, Fell, Offering, admission_of, are_dropped, are_offers, line, offers_of as offers_with,
 };
 use cqf_units::{Cycle, Memory, Nanos};
 use std::alloc::Global;

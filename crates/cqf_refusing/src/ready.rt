@@ -1,11 +1,8 @@
 //! What calls need, made ready.
-ghost use Rattle.std.specs.Prelude.{◌≡◌, IfSome};
-ghost use Rattle.cqf_model.specs.History.{seals};
-
 use cqf_admission::{Admission, Entry, Table};
 use cqf_compile::{Plan, compile};
 use cqf_report::write_history;
-use cqf_test_fixtures::{Asked, request};
+use cqf_test_fixtures::Asked;
 use cqf_topology::Domain;
 use std::alloc::Global;
 
@@ -25,43 +22,6 @@ pub fn plan_of(alloc: Global, text: &str) -> Option<Plan> {
     match compile(alloc, &domain_of(alloc, text)?) {
         Ok(plan) => Some(plan),
         Err(_) => None,
-    }
-}
-
-/// Whether a stream is admitted for seat 0.
-fn admits(alloc: Global, admission: &mut Admission, asked: &Asked) -> bool
-    ensures { admission.new.domain ≡ admission.old.domain }
-{
-    match request(alloc, asked) {
-        Ok(wanted) => admission.admit(0, &wanted).is_ok(),
-        Err(_) => false,
-    }
-}
-
-/// Whether all streams are.
-fn admits_all(alloc: Global, admission: &mut Admission, streams: &[Asked]) -> bool
-    ensures { admission.new.domain ≡ admission.old.domain }
-{
-    for asked in streams {
-        if !admits(alloc, admission, asked) {
-            return false;
-        }
-    }
-    true
-}
-
-/// An admission over a domain that has admitted streams for seat 0 and closed no cycle.
-pub fn admission_of(alloc: Global, domain: &Domain, streams: &[Asked]) -> Option<Admission>
-    ensures domain { IfSome result (λ admission. admission.domain ≡ domain.now) }
-    ensures unsealed { IfSome result (λ admission. seals admission.entries ≡ 0) }
-{
-    let Ok(mut admission) = Admission::new(alloc, domain) else {
-        return None;
-    };
-    if admits_all(alloc, &mut admission, streams) && admission.next_cycle().0 == 0 {
-        Some(admission)
-    } else {
-        None
     }
 }
 

@@ -12,7 +12,7 @@ use Rattle.cqf_model.specs.Limits.{most_rows}
 use Rattle.cqf_report.specs.Table.{is_header, row_then, rows_from, rows_under, with_row}
 use Rattle.cqf_report.specs.declared.tables.TableFault.{TableFault}
 use Rattle.cqf_report.specs.declared.tables.TableFault.TheVariants.{BadHeader, BadRow, OutOfOrder, TooMany}
-use Rattle.cqf_text.specs.Decimal.{decimal_in, decimal_value, within}
+use Rattle.cqf_text.specs.Decimal.{decimal_in, decimal_value, in_range}
 
 -- what holds of each row that is read holds of each row of a table
 module _ {A : Type 0} (P : A → Type 0) (read : Fields → Option A) (instant : A → ℕ) (each : (fields : Fields) (row : A) → read fields ≡ Some row → P row) where
@@ -58,7 +58,7 @@ module _ {A : Type 0} (P : A → Type 0) (read : Fields → Option A) (instant :
       by false e = cc
 
 -- a number that is read lies in its range
-within-range : (least most m n : ℕ) → within least most m ≡ Some n → (least ≤ n) × (n ≤ most)
+within-range : (least most m n : ℕ) → in_range least most m ≡ Some n → (least ≤ n) × (n ≤ most)
 within-range least most m n e = by (nat_le least m && nat_le m most) refl e
   where
     -- what is taken because it is in the range is in it
@@ -75,7 +75,7 @@ pub decimal_in-range : (least most : ℕ) (digits : List ℕ) (n : ℕ) → deci
 decimal_in-range least most digits n e = by (decimal_value digits) e
   where
     -- what the digits write, where it is taken, is in the range
-    by : (o : Option ℕ) → option_and_then (within least most) o ≡ Some n → (least ≤ n) × (n ≤ most)
+    by : (o : Option ℕ) → option_and_then (in_range least most) o ≡ Some n → (least ≤ n) × (n ≤ most)
     by None e = cc
     by (Some m) e = within-range least most m n e
 

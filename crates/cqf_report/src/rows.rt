@@ -116,9 +116,7 @@ fn read_rows<F: RowFormat, R: Read>(
             return Ok(rows);
         };
         before = F::instant(&row);
-        if rows.push(row).is_err() {
-            return Err(TableFault::Memory);
-        }
+        rows.push(row)?;
     }
     match take_record(reader, fields)? {
         Taken::End => Ok(rows),

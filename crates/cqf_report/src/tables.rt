@@ -11,7 +11,7 @@ ghost use Rattle.cqf_report.specs.Faults.{table_fault_text};
 use cqf_text::read_decimal;
 use cqf_units::Memory;
 use csv::{ByteRecord, Reader, ReaderBuilder};
-use std::alloc::Global;
+use std::alloc::{AllocFailed, Global};
 use std::fmt;
 use std::io::Read;
 use thiserror::Error;
@@ -32,13 +32,24 @@ pub enum TableFault {
     Memory,
 }
 
-/// Want of memory, as a table's fault.
+/// Want of memory, as a fault.
 impl From<Memory> for TableFault {
     ghost use Rattle.cqf_report.specs.declared.tables.TableFault.TheVariants as variant;
 
     ghost from_gives = { λ _ fault. fault ≡ variant.Memory };
 
     fn from(_refused: Memory) -> TableFault {
+        TableFault::Memory
+    }
+}
+
+/// Want of room for a value, likewise.
+impl<T: Drop> From<AllocFailed<T>> for TableFault {
+    ghost use Rattle.cqf_report.specs.declared.tables.TableFault.TheVariants as variant;
+
+    ghost from_gives = { λ _ fault. fault ≡ variant.Memory };
+
+    fn from(_refused: AllocFailed<T>) -> TableFault {
         TableFault::Memory
     }
 }

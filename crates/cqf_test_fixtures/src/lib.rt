@@ -6,15 +6,18 @@
 //! - [`are_offers`] and [`are_background`] tell what a run of a domain may be given.
 //! - [`request`], [`offers_of`] and [`background_of`] make what is asked for and offered of plain values, [`is_request`] tells
 //!   whether a request has such values, and [`are_begun`] and [`are_dropped`] whether a book has.
+//! - [`admission_of`] is an admission that has admitted some streams.
 //!
 //! All have a cycle time of 125,000 ns, and links of 1,000 Mb/s with a delay of 500 ns. The guard time is 5,000 ns.
 #![tactic(auto)]
 
+mod admitted;
 mod asked;
 mod given;
 mod offered;
 mod told;
 
+pub use admitted::admission_of;
 pub use asked::{Asked, is_request, request};
 pub use given::{are_background, are_offers};
 pub use offered::{Backing, Offering, background_of, offers_of};

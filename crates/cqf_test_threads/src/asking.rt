@@ -1,10 +1,6 @@
-//! What administrators ask for: streams that are admitted before a run, and calls that are made while it goes.
-ghost use Rattle.std.specs.Prelude.{◌≡◌, IfSome};
-ghost use Rattle.cqf_model.specs.History.{seals};
-
-use cqf_admission::{Admission, Command};
+//! What administrators ask for: calls that are made while a run goes.
+use cqf_admission::Command;
 use cqf_test_fixtures::{Asked, request};
-use cqf_topology::Domain;
 use cqf_units::Memory;
 use std::alloc::Global;
 
@@ -13,43 +9,6 @@ use std::alloc::Global;
 pub(crate) enum Ask {
     Admit(Asked),
     Withdraw(&'static str),
-}
-
-/// Whether a stream is admitted for seat 0.
-fn admits(alloc: Global, admission: &mut Admission, asked: &Asked) -> bool
-    ensures { admission.new.domain ≡ admission.old.domain }
-{
-    match request(alloc, asked) {
-        Ok(wanted) => admission.admit(0, &wanted).is_ok(),
-        Err(_) => false,
-    }
-}
-
-/// Whether all streams are.
-fn admits_all(alloc: Global, admission: &mut Admission, streams: &[Asked]) -> bool
-    ensures { admission.new.domain ≡ admission.old.domain }
-{
-    for asked in streams {
-        if !admits(alloc, admission, asked) {
-            return false;
-        }
-    }
-    true
-}
-
-/// An admission for the domain that has admitted some streams and closed no cycle, where it does.
-pub(crate) fn open(alloc: Global, domain: &Domain, streams: &[Asked]) -> Option<Admission>
-    ensures domain { IfSome result (λ admission. admission.domain ≡ domain.now) }
-    ensures unsealed { IfSome result (λ admission. seals admission.entries ≡ 0) }
-{
-    let Ok(mut admission) = Admission::new(alloc, domain) else {
-        return None;
-    };
-    if admits_all(alloc, &mut admission, streams) && admission.next_cycle().0 == 0 {
-        Some(admission)
-    } else {
-        None
-    }
 }
 
 /// A call as a command.

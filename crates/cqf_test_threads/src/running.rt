@@ -1,8 +1,8 @@
 //! Runs on threads to be made, without background frames.
-use crate::asking::{Ask, all_commands, open};
+use crate::asking::{Ask, all_commands};
 use cqf_admission::Command;
 use cqf_model::Offer;
-use cqf_test_fixtures::{Asked, are_offers};
+use cqf_test_fixtures::{Asked, admission_of, are_offers};
 use cqf_topology::Domain;
 use cqf_worker::{Account, ConductFault, Pace, conduct};
 use std::alloc::Global;
@@ -48,7 +48,7 @@ pub(crate) fn outcome_of<R: Threads + Wait + Sync, P: Pace>(
     if cycles > 100_000 || offers.len() > 1_000_000 || !are_offers(domain, offers) {
         return None;
     }
-    let admission = open(alloc, domain, streams)?;
+    let admission = admission_of(alloc, domain, streams)?;
     let outcome = conduct(
         rt,
         alloc,

@@ -12,18 +12,18 @@ use Rattle.std.proofs.lemmas.List.{length-take-le}
 use Rattle.std.proofs.lemmas.List.Folds.{list_all_more}
 use Rattle.std.proofs.lemmas.Str.{digit_value_digit}
 use Rattle.std.proofs.lemmas.Str.Parse.{IsNumeralModel, digits_value_short, numerals_by_value, digits_value-take-le}
-use Rattle.cqf_text.specs.Decimal.{is_decimal, within, decimal_in}
+use Rattle.cqf_text.specs.Decimal.{is_decimal, in_range, decimal_in}
 
 -- the test of digits and std's value of them are std's numerals
 pub own : IsNumeralModel (λ ds. list_all is_ascii_digit ds ≡ true) (digits_value 10)
 own = numerals_by_value _ (search rules)
 
 -- a number past the range is none
-past_range : (least most number : ℕ) → most < number → within least most number ≡ None
+past_range : (least most number : ℕ) → most < number → in_range least most number ≡ None
 past_range least most number large = grind (arith, common_steps)
 
 -- whatever their form is, digits that write a number past the range write none
-none_past_range : (form : Bool) (least most number : ℕ) → most < number → None ≡ option_and_then (within least most) (cond form (Some number) None)
+none_past_range : (form : Bool) (least most number : ℕ) → most < number → None ≡ option_and_then (in_range least most) (cond form (Some number) None)
 none_past_range true least most number large = sym (past_range least most number large)
 none_past_range false least most number large = refl
 

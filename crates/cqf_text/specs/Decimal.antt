@@ -14,9 +14,9 @@ abbrev pub decimal_value : List ℕ → Option ℕ
 decimal_value digits = if is_decimal digits then Some (digits_value 10 digits) else None
 
 -- the number, if it lies in the range
-abbrev pub within : ℕ → ℕ → ℕ → Option ℕ
-within least most number = if nat_le least number && nat_le number most then Some number else None
+abbrev pub in_range : ℕ → ℕ → ℕ → Option ℕ
+in_range least most number = if nat_le least number && nat_le number most then Some number else None
 
 -- the number that a text writes, if it writes one in the range
 abbrev pub decimal_in : ℕ → ℕ → List ℕ → Option ℕ
-decimal_in least most digits = option_and_then (within least most) (decimal_value digits)
+decimal_in least most digits = option_and_then (in_range least most) (decimal_value digits)

@@ -1,6 +1,6 @@
 //! Decimal numbers in texts (profile).
 ghost use Rattle.std.specs.Prelude.{◌≡◌, ◌+◌, ◌*◌, ◌^◌, ◌≤◌, ◌<◌, length, MatchOption};
-ghost use Rattle.cqf_text.specs.Decimal.{decimal_in, within};
+ghost use Rattle.cqf_text.specs.Decimal.{decimal_in, in_range};
 
 /// How many digits a number has at most, leading zeros included.
 const MOST_DIGITS: usize = 20;
@@ -18,7 +18,7 @@ fn with_digit(number: u64, digit: u8) -> Option<u64>
 
 /// The number, where it lies in the range.
 fn ranged(number: u64, least: u64, most: u64) -> Option<u64>
-    ensures { result ≡ within least most number }
+    ensures { result ≡ in_range least most number }
 {
     if least <= number && number <= most {
         Some(number)

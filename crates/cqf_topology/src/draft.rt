@@ -150,10 +150,8 @@ fn add_link(links: &mut Vec<DraftLink>, link: DraftLink) -> Result<(), TomlFault
     ensures added { OnOk result (links.new.items ≡ links.old.items ++ link ∷ []) }
     ensures fault { IsOkUnless result TomlFault.Memory }
 {
-    match links.push(link) {
-        Ok(()) => Ok(()),
-        Err(_) => Err(TomlFault::Memory),
-    }
+    links.push(link)?;
+    Ok(())
 }
 
 /// The elements of the array of links, added to the links that were read.

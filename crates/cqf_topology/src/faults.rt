@@ -5,6 +5,7 @@ ghost use Rattle.cqf_topology.specs.DomainText.{domain_fault};
 
 use cqf_topology_fields::{Key, TomlFault};
 use cqf_units::{Memory, Name as NodeName};
+use std::alloc::AllocFailed;
 use std::fmt;
 use thiserror::Error;
 
@@ -78,6 +79,17 @@ impl From<Memory> for DomainFault {
     ghost from_gives = { λ _ fault. fault ≡ variant.Memory };
 
     fn from(_refused: Memory) -> DomainFault {
+        DomainFault::Memory
+    }
+}
+
+/// Want of room for a value, likewise.
+impl<T: Drop> From<AllocFailed<T>> for DomainFault {
+    ghost use Rattle.cqf_topology.specs.declared.faults.DomainFault.TheVariants as variant;
+
+    ghost from_gives = { λ _ fault. fault ≡ variant.Memory };
+
+    fn from(_refused: AllocFailed<T>) -> DomainFault {
         DomainFault::Memory
     }
 }

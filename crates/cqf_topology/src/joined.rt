@@ -139,9 +139,7 @@ pub(crate) fn join_links(
     let mut joined = Vec::new(alloc);
     for link in links {
         let link = join_link(bridges, stations, link)?;
-        if joined.push(link).is_err() {
-            return Err(DomainFault::Memory);
-        }
+        joined.push(link)?;
     }
     Ok(joined)
 }

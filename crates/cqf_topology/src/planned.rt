@@ -61,9 +61,7 @@ fn all_planned_in(alloc: Global, values: &[Value]) -> Result<Vec<Planned>, Strea
     let mut streams = Vec::new(alloc);
     for value in values {
         let planned = planned_in(alloc, value)?;
-        if streams.push(planned).is_err() {
-            return Err(StreamsFault::Memory);
-        }
+        streams.push(planned)?;
     }
     Ok(streams)
 }

@@ -79,9 +79,7 @@ fn one_branch(alloc: Global, path: Vec<String>) -> Result<Vec<Vec<String>>, Stre
     ensures { Gives StreamsFault.Memory (λ paths. map (λ path. map string_bytes path.items) paths.items) result (Ok (map string_bytes path.items ∷ [])) }
 {
     let mut paths = Vec::new(alloc);
-    if paths.push(path).is_err() {
-        return Err(StreamsFault::Memory);
-    }
+    paths.push(path)?;
     Ok(paths)
 }
 
@@ -117,9 +115,7 @@ fn requests_in(alloc: Global, values: &[Value]) -> Result<Vec<Request>, StreamsF
     let mut requests = Vec::new(alloc);
     for value in values {
         let request = request_in(alloc, value)?;
-        if requests.push(request).is_err() {
-            return Err(StreamsFault::Memory);
-        }
+        requests.push(request)?;
     }
     Ok(requests)
 }

@@ -1,8 +1,10 @@
 //! Why a text is refused.
-ghost use Rattle.std.specs.Prelude.{Some};
+ghost use Rattle.std.specs.Prelude.{◌≡◌, Some};
 ghost use Rattle.cqf_topology_fields.specs.Faults.{toml_fault_text};
 
 use crate::Key;
+use cqf_units::Memory;
+use std::alloc::AllocFailed;
 use std::fmt;
 use thiserror::Error;
 
@@ -30,5 +32,27 @@ impl fmt::Display for TomlFault {
             TomlFault::BadValue(key) => write!(f, "BadValue {key}"),
             TomlFault::Memory => f.write_str("Memory"),
         }
+    }
+}
+
+/// Want of memory, as a fault.
+impl From<Memory> for TomlFault {
+    ghost use Rattle.cqf_topology_fields.specs.declared.faults.TomlFault.TheVariants as variant;
+
+    ghost from_gives = { λ _ fault. fault ≡ variant.Memory };
+
+    fn from(_refused: Memory) -> TomlFault {
+        TomlFault::Memory
+    }
+}
+
+/// Want of room for a value, likewise.
+impl<T: Drop> From<AllocFailed<T>> for TomlFault {
+    ghost use Rattle.cqf_topology_fields.specs.declared.faults.TomlFault.TheVariants as variant;
+
+    ghost from_gives = { λ _ fault. fault ≡ variant.Memory };
+
+    fn from(_refused: AllocFailed<T>) -> TomlFault {
+        TomlFault::Memory
     }
 }

@@ -110,9 +110,7 @@ fn names_in(alloc: Global, values: &[Value], key: Key) -> Result<Vec<Name>, Toml
     let mut names = Vec::new(alloc);
     for value in values {
         let name = name_in(value, key)?;
-        if names.push(name).is_err() {
-            return Err(TomlFault::Memory);
-        }
+        names.push(name)?;
     }
     Ok(names)
 }

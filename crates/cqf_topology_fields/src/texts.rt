@@ -15,7 +15,7 @@ fn text_in(alloc: Global, value: &Value, key: Key) -> Result<String, TomlFault>
     ensures { Gives TomlFault.Memory string_bytes result (ok_or (as_str (view value.now)) (TomlFault.BadValue key)) }
 {
     match value.as_str() {
-        Some(text) => String::from_str(alloc, text).map_err(|_| TomlFault::Memory),
+        Some(text) => Ok(String::from_str(alloc, text)?),
         None => Err(TomlFault::BadValue(key)),
     }
 }
@@ -27,9 +27,7 @@ fn texts_in(alloc: Global, values: &[Value], key: Key) -> Result<Vec<String>, To
     let mut texts = Vec::new(alloc);
     for value in values {
         let text = text_in(alloc, value, key)?;
-        if texts.push(text).is_err() {
-            return Err(TomlFault::Memory);
-        }
+        texts.push(text)?;
     }
     Ok(texts)
 }
@@ -62,9 +60,7 @@ fn text_lists_in(alloc: Global, values: &[Value], key: Key) -> Result<Vec<Vec<St
     let mut lists = Vec::new(alloc);
     for value in values {
         let texts = text_list_in(alloc, value, key)?;
-        if lists.push(texts).is_err() {
-            return Err(TomlFault::Memory);
-        }
+        lists.push(texts)?;
     }
     Ok(lists)
 }

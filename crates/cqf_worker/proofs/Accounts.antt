@@ -28,7 +28,7 @@ use Rattle.cqf_worker_loops.specs.declared.carried.Carried.TheVariants.{Item}
 use Rattle.cqf_worker.specs.declared.conducting.Prepared.{Prepared}
 use Rattle.cqf_worker_threads.specs.declared.threads.Administrator.{Administrator}
 use Rattle.cqf_worker_threads.specs.declared.threads.Ended.{Ended}
-use Rattle.cqf_worker.specs.Account.{IsAccount, IsPagedAccount, IsRunOf, all_asked, entries_of}
+use Rattle.cqf_worker.specs.Account.{IsAccount, IsPagedAccount, IsOutcomeOf, all_asked, entries_of}
 use Rattle.cqf_worker_wires.specs.Closing.{share_at}
 use Rattle.cqf_worker.specs.Conducting.{IsPrepared, IsSettled, all_seats, seat_of}
 use Rattle.cqf_worker_loops.specs.Handing.{TableEnd}
@@ -142,5 +142,5 @@ pub gathered_account : (d : Domain) (opening : List Recorded) (offers : List Off
     IsPagedAccount d opening offers background cycles admins paged → account.history ≡ paged.history →
     IsBookOfPages (pages_of paged.pages) (length d.bridges) (contents_of account.book) → IsAccount d opening offers background cycles admins account
 gathered_account d opening offers background cycles admins paged account law accepted is same gathered =
-    subst₂ (λ (history : History) (book : Contents). IsRunOf d opening offers background cycles admins history book) (sym same)
+    subst₂ (λ (history : History) (book : Contents). IsOutcomeOf d opening offers background cycles admins history book) (sym same)
     (sym (law d cycles (pages_of paged.pages) is.book (contents_of account.book) accepted is.some is.its_pages gathered)) is.run

@@ -40,7 +40,7 @@ use Rattle.cqf_worker_loops.specs.declared.worker.Worker.{Worker}
 use Rattle.cqf_worker_wires.specs.Closing.{share_at}
 use Rattle.cqf_worker_loops.specs.Handing.{TableEnd}
 use Rattle.cqf_worker_pipe.specs.PipeEnds.{PipeId}
-use Rattle.cqf_worker_loops.specs.Rows.{wire_of, wires_of}
+use Rattle.cqf_worker_loops.specs.Rows.{wire_at, wires_of}
 use Rattle.cqf_worker_wires.specs.Wires.{AreFedByWires, AreGiven, AreOn, AreWired, AreWorkersOf, BatchPort, IsBeginning, Wiring, pipe_of_tables, tables_pipe}
 use Rattle.cqf_worker_loops.specs.Workers.{HasGoneThrough, IsWorkerOf, Works, batches_at, course_of, ends_in_bridge}
 use Rattle.cqf_worker_loops.specs.Workers.{item_in, items_in, link_of, links_onward, rows_in}
@@ -88,7 +88,7 @@ items_begin taken put begin = (items_in begin.0, ap items_in begin.1 ∙ flat_ma
 -- ports that keep their wires keep their links
 kept_links : (before after : List BatchPort) → wires_of after ≡ wires_of before → map link_of after ≡ map link_of before
 kept_links before after same =
-    sym (map-map link wire_of after) ∙ ap (map link) same ∙ map-map link wire_of before
+    sym (map-map link wire_at after) ∙ ap (map link) same ∙ map-map link wire_at before
   where
     -- a wire's link
     link : ℕ × PipeId (Carried LinkBatch) → ℕ
@@ -346,9 +346,9 @@ pages_are t entries cycles workers dones ends closed law may_run of_bridges many
 -- ports that keep their wires are of the pipes on their links still
 still_on : (wiring : Wiring) (before after : List BatchPort) → wires_of after ≡ wires_of before → AreOn wiring before → AreOn wiring after
 still_on wiring before after same on p there =
-    let wire : Contains (wires_of before) (wire_of p) =
-    subst (λ (ws : List (ℕ × PipeId (Carried LinkBatch))). Contains ws (wire_of p)) same (contains_map wire_of after p there) in
-    let was = contains_from_map wire_of before (wire_of p) wire in
+    let wire : Contains (wires_of before) (wire_at p) =
+    subst (λ (ws : List (ℕ × PipeId (Carried LinkBatch))). Contains ws (wire_at p)) same (contains_map wire_at after p there) in
+    let was = contains_from_map wire_at before (wire_at p) wire in
     ap wiring (sym (ap link was.2)) ∙ on was.0 was.1 ∙ ap Some (ap pipe was.2)
   where
     -- a wire's link, and its pipe

@@ -25,7 +25,7 @@ use Rattle.cqf_bridge.specs.Receiving.{links_into}
 use Rattle.cqf_laws_bridge.specs.Courses.{Traffic}
 use Rattle.cqf_laws_bridge.proofs.LinkNumbers.{link_into, links_ascend}
 use Rattle.cqf_worker_loops.specs.declared.worker.Worker.{Worker}
-use Rattle.cqf_worker_loops.specs.Workers.{Works, ends_in_bridge, is_bridge, link_of, links_onward}
+use Rattle.cqf_worker_loops.specs.Workers.{Works, ends_in_bridge, is_bridge_node, link_of, links_onward}
 use Rattle.cqf_worker_wires.specs.Wires.{AreWorkersOf, BatchPort, count_on, ins_at, outs_at}
 use Rattle.cqf_worker.proofs.Apart.{element_at, kept_ins, kept_outs}
 
@@ -143,7 +143,7 @@ node_one : (n : Node) (a b : ℕ) → node_is n a ≡ true → node_is n b ≡ t
 node_one (Bridge c) a b at bt = sym (eqb-true c a at) ∙ eqb-true c b bt
 node_one (Station s) a b at bt = absurd (false≢true at)
 
-node_bridge : (n : Node) (a : ℕ) → node_is n a ≡ true → is_bridge n ≡ true
+node_bridge : (n : Node) (a : ℕ) → node_is n a ≡ true → is_bridge_node n ≡ true
 node_bridge (Bridge c) a at = refl
 node_bridge (Station s) a at = absurd (false≢true at)
 
@@ -171,7 +171,8 @@ module _ (d : Domain) (l : ℕ) where
       let link = link_there a here in
       let b = link.0.from in
       let onward : ends_in_bridge d l ≡ true =
-      ap (λ (o : Option Link). option_map_or (λ (link : Link). is_bridge link.to) o false) link.1 ∙ node_bridge link.0.to a (ends_there link.0 link.1 a here) in
+      ap (λ (o : Option Link). option_map_or (λ (link : Link). is_bridge_node link.to) o false) link.1
+      ∙ node_bridge link.0.to a (ends_there link.0 link.1 a here) in
       let starts : leaves d l b ≡ true =
       ap (λ (o : Option Link). option_map_or (λ (link : Link). link.from == b) o false) link.1 ∙ eq-eqb b b refl in
       let listed : Contains (links_from d b) l =

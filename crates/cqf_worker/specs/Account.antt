@@ -27,7 +27,7 @@ entries_of history = map recorded_of history.entries.items
 
 -- a history and a book say all that is promised of a run, of what the administrators' commands call for, and the history tells the number
 -- of entries in the opening part
-pub record IsRunOf (d : Domain) (opening : List Recorded) (offers : List Offer) (background : List Background) (cycles : ℕ)
+pub record IsOutcomeOf (d : Domain) (opening : List Recorded) (offers : List Offer) (background : List Background) (cycles : ℕ)
     (admins : List (List Command)) (history : History) (book : Contents) : Type 0 where
   pub opens : history.opening ≡ length opening
   pub is : IsAccountOf d opening offers background cycles (all_asked admins) (entries_of history) book
@@ -35,12 +35,12 @@ pub record IsRunOf (d : Domain) (opening : List Recorded) (offers : List Offer) 
 -- an account has such a history and such a book
 abbrev pub IsAccount : Domain → List Recorded → List Offer → List Background → ℕ → List (List Command) → Account → Type 0
 IsAccount d opening offers background cycles admins account =
-    IsRunOf d opening offers background cycles admins account.history (contents_of account.book)
+    IsOutcomeOf d opening offers background cycles admins account.history (contents_of account.book)
 
 -- and one by pages has such a history, and the pages of such a book
 pub record IsPagedAccount (d : Domain) (opening : List Recorded) (offers : List Offer) (background : List Background) (cycles : ℕ)
     (admins : List (List Command)) (account : PagedAccount) : Type 0 where
   pub book : Contents
-  pub run : IsRunOf d opening offers background cycles admins account.history book
+  pub run : IsOutcomeOf d opening offers background cycles admins account.history book
   pub some : IsSomeBook d cycles book
   pub its_pages : ArePagesOf d cycles (pages_of account.pages) book

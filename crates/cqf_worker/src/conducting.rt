@@ -87,9 +87,7 @@ fn seat_each(
             unreachable!()
         };
         let administrator = Administrator { seat, commands };
-        let Ok(()) = administrators.push(administrator) else {
-            return Err(ConductFault::Memory);
-        };
+        administrators.push(administrator)?;
     }
     let Some(conductor) = left.next() else {
         unreachable!()
@@ -125,7 +123,8 @@ fn lay_all(
     requires few_offers { length given.offers.now ≤ most_rows }
     requires background { AreBackground given.domain.now given.background.now }
     requires few_background { length given.background.now ≤ most_rows }
-    ensures ok { IfOk result (λ laid. AreLaidFor given.entry.domain.now given.entry.offers.now given.entry.background.now laid.workers.items laid.tables.items) }
+    ensures ok { IfOk result (λ laid.
+        AreLaidFor given.entry.domain.now given.entry.offers.now given.entry.background.now laid.workers.items laid.tables.items) }
     ensures err { IfErr result IsStartFault }
 {
     let plan = compile(alloc, given.domain)?;
@@ -244,9 +243,7 @@ fn settle(
     } = ended;
     let Sealed { seat, tables } = sealed;
     let shares = shut_pipes(alloc, tables, workers)?;
-    let Ok(()) = seats.push(seat) else {
-        return Err(ConductFault::Memory);
-    };
+    seats.push(seat)?;
     let history = close_desk(desk, seats);
     let closed = close_book(book, shares);
     let account = account_of(history, closed)?;

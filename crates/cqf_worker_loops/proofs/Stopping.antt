@@ -7,7 +7,7 @@ use Rattle.cqf_worker_loops.specs.declared.carried.Carried.{Carried}
 use Rattle.cqf_worker_loops.specs.declared.carried.Carried.TheVariants.{Item, Stop}
 use Rattle.cqf_worker_loops.specs.declared.link_ends.LinkEnd.{LinkEnd}
 use Rattle.cqf_worker_pipe.specs.PipeEnds.{End}
-use Rattle.cqf_worker_loops.specs.Rows.{MayGet, MayHaveGot, wire_of, wires_of, with_each, with_item_at, with_items}
+use Rattle.cqf_worker_loops.specs.Rows.{MayGet, MayHaveGot, wire_at, wires_of, with_each, with_item_at, with_items}
 use Rattle.cqf_worker_loops.specs.Stops.{AreItems, AreItemsThenStop, AreStopped}
 use Rattle.cqf_worker_loops.specs.Workers.{items_in}
 use Rattle.cqf_worker_loops.proofs.Each.{written_back}
@@ -63,11 +63,11 @@ module _ {T : Type 0} where
       )
 
   -- a port at which a Stop was put, or nothing, has its wire still
-  wire_kept : (before after : LinkEnd (End (Carried T))) → MayHaveGot Stop before after → wire_of after ≡ wire_of before
+  wire_kept : (before after : LinkEnd (End (Carried T))) → MayHaveGot Stop before after → wire_at after ≡ wire_at before
   wire_kept before after may =
       elim may [
-        | inl same ↦ ap wire_of same
-        | inr more ↦ ap wire_of more
+        | inl same ↦ ap wire_at same
+        | inr more ↦ ap wire_at more
       ]
 
   -- and each of several
@@ -76,7 +76,7 @@ module _ {T : Type 0} where
   wires_kept [] (q ∷ after) same stopped = absurd (omega (arith, same))
   wires_kept (p ∷ before) [] same stopped = absurd (omega (arith, same))
   wires_kept (p ∷ before) (q ∷ after) same stopped =
-      let first : wire_of q ≡ wire_of p = wire_kept p q (stopped 0 p (omega arith)) in
+      let first : wire_at q ≡ wire_at p = wire_kept p q (stopped 0 p (omega arith)) in
       let rest : wires_of after ≡ wires_of before = wires_kept before after (omega (arith, same))
       (λ place d below. stopped (suc place) d (omega (arith, below))) in
       λ i. first i ∷ rest i

@@ -5,11 +5,11 @@ use Rattle.cqf_worker_pipe.specs.PipeEnds.{End, PipeId}
 
 module _ {T : Type 0} where
   -- a port's link and pipe, which stay whatever is put or taken
-  abbrev pub wire_of : LinkEnd (End T) → ℕ × PipeId T
-  wire_of port = (port.link, port.pipe.pipe)
+  abbrev pub wire_at : LinkEnd (End T) → ℕ × PipeId T
+  wire_at port = (port.link, port.pipe.pipe)
 
   abbrev pub wires_of : List (LinkEnd (End T)) → List (ℕ × PipeId T)
-  wires_of ports = map wire_of ports
+  wires_of ports = map wire_at ports
 
   -- the end with these items more, and with one
   abbrev pub with_items : End T → List T → End T

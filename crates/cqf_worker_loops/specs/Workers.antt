@@ -25,12 +25,12 @@ use Rattle.cqf_worker_pipe.specs.PipeEnds.{End}
 use Rattle.cqf_worker_loops.specs.Rows.{wires_of}
 
 -- whether a link ends in a bridge, and not in a station
-abbrev pub is_bridge : Node → Bool
-is_bridge (Bridge b) = true
-is_bridge (Station s) = false
+abbrev pub is_bridge_node : Node → Bool
+is_bridge_node (Bridge b) = true
+is_bridge_node (Station s) = false
 
 abbrev pub ends_in_bridge : Domain → ℕ → Bool
-ends_in_bridge d l = option_map_or (λ (link : Link). is_bridge link.to) (slice_get d.links l) false
+ends_in_bridge d l = option_map_or (λ (link : Link). is_bridge_node link.to) (slice_get d.links l) false
 
 -- the links that leave a bridge and end in another, by number
 abbrev pub links_onward : Domain → ℕ → List ℕ

@@ -29,7 +29,7 @@ use cqf_admission::{SealFault, Table};
 use cqf_desk::{Desk, Seat};
 use cqf_units::Memory;
 use cqf_worker_pipe::PipeIn;
-use std::alloc::Global;
+use std::alloc::{AllocFailed, Global};
 use std::collections::VecDeque;
 use std::sync::Wait;
 
@@ -48,6 +48,40 @@ pub enum SealingFault {
     CyclesSpent,
     /// A worker had ended before all tables were handed to it. All cycles are closed then.
     Lost,
+}
+
+/// Want of memory, as a fault.
+impl From<Memory> for SealingFault {
+    ghost use Rattle.cqf_worker_loops.specs.declared.sealing.SealingFault.TheVariants as variant;
+
+    ghost from_gives = { λ _ fault. fault ≡ variant.Memory };
+
+    fn from(_refused: Memory) -> SealingFault {
+        SealingFault::Memory
+    }
+}
+
+/// Want of room for a value, likewise.
+impl<T: Drop> From<AllocFailed<T>> for SealingFault {
+    ghost use Rattle.cqf_worker_loops.specs.declared.sealing.SealingFault.TheVariants as variant;
+
+    ghost from_gives = { λ _ fault. fault ≡ variant.Memory };
+
+    fn from(_refused: AllocFailed<T>) -> SealingFault {
+        SealingFault::Memory
+    }
+}
+
+/// Why a Seal is refused, as a fault.
+impl From<SealFault> for SealingFault {
+    ghost from_gives = { λ refused fault. fault ≡ fault_of_seal refused };
+
+    fn from(refused: SealFault) -> SealingFault {
+        match refused {
+            SealFault::CyclesSpent => SealingFault::CyclesSpent,
+            SealFault::Memory => SealingFault::Memory,
+        }
+    }
 }
 
 /// What the conductor has in the end: its seat, and its ends of the workers' pipes for tables.
@@ -158,16 +192,6 @@ pub fn stop_tables<R: Wait>(rt: &R, tables: &mut [PipeIn<Carried<Table>>])
     }
 }
 
-/// Why the conductor gives up where a Seal is refused.
-fn fault_of(refused: SealFault) -> SealingFault
-    ensures { result ≡ fault_of_seal refused }
-{
-    match refused {
-        SealFault::CyclesSpent => SealingFault::CyclesSpent,
-        SealFault::Memory => SealingFault::Memory,
-    }
-}
-
 /// Closes the next cycle with the seat: its table.
 fn seal_one<R: Wait>(
     rt: &R,
@@ -178,17 +202,12 @@ fn seal_one<R: Wait>(
     ensures ok { IfOk result (SealsOne seat.old seat.new) }
     ensures err { IfErr result (SealsSome 1 seat.old seat.new) }
 {
-    match desk.seal(rt, seat) {
-        Ok(()) => {}
-        Err(refused) => return Err(fault_of(refused)),
-    }
+    desk.seal(rt, seat)?;
     let Some(table) = seat.last_table() else {
         unreachable!()
     };
-    match table.try_copy(alloc) {
-        Ok(copy) => Ok(copy),
-        Err(_) => Err(SealingFault::Memory),
-    }
+    let copy = table.try_copy(alloc)?;
+    Ok(copy)
 }
 
 /// Closes the next cycles with the seat, so many: their tables.
@@ -205,9 +224,7 @@ fn seal_many<R: Wait>(
     let mut tables = Vec::new(alloc);
     for _ in 0..count {
         let table = seal_one(rt, alloc, desk, seat)?;
-        let Ok(()) = tables.push(table) else {
-            return Err(SealingFault::Memory);
-        };
+        tables.push(table)?;
     }
     Ok(tables)
 }
@@ -246,10 +263,8 @@ fn seal_next<R: Wait>(
     ensures err { IfErr result (SealsSome count seat.old seat.new) }
 {
     let block = seal_block(rt, alloc, desk, count, seat)?;
-    match hand_on(rt, alloc, &block, tables) {
-        Ok(all) => Ok(all),
-        Err(_) => Err(SealingFault::Memory),
-    }
+    let all = hand_on(rt, alloc, &block, tables)?;
+    Ok(all)
 }
 
 /// Closes so many cycles to changes, one after the other, and hands the tables of all to every worker. Says whether no worker had

@@ -84,9 +84,7 @@ fn send_on<R: Wait>(
         Ok(()) => {}
         Err(fault) => return Err(WorkerFault::Bridge(fault)),
     }
-    let Ok(starts) = starts_of(alloc, batches.as_slice()) else {
-        return Err(WorkerFault::Memory);
-    };
+    let starts = starts_of(alloc, batches.as_slice())?;
     keep_onward(bridge.domain(), &mut batches);
     if put_each(rt, outs, batches) {
         Ok(starts)
@@ -105,10 +103,9 @@ fn take_batches<R: Wait>(
     ensures count { IfOk result (λ batches. length batches.items ≡ length ins.old) }
     ensures err { IfErr result (IsTakeFault ins.old ins.new) }
 {
-    match take_each(rt, alloc, ins) {
-        Ok(Some(batches)) => Ok(batches),
-        Ok(None) => Err(WorkerFault::Stopped),
-        Err(_) => Err(WorkerFault::Memory),
+    match take_each(rt, alloc, ins)? {
+        Some(batches) => Ok(batches),
+        None => Err(WorkerFault::Stopped),
     }
 }
 
@@ -183,9 +180,7 @@ pub(crate) fn work_cycle<R: Wait, P: Pace>(
         &mut worker.bridge,
         &worker.agenda,
     )?;
-    let Ok(page) = page_with(alloc, &worker.bridge, cycle, starts, drops) else {
-        return Err(WorkerFault::Memory);
-    };
+    let page = page_with(alloc, &worker.bridge, cycle, starts, drops)?;
     post_page(rt, book, &mut worker.share, page)?;
     Ok(())
 }

@@ -18,7 +18,7 @@ use cqf_book::{CycleBook, PageFault, Share};
 use cqf_bridge::{Batch, Bridge, BridgeFault};
 use cqf_bridge_turn::Agenda;
 use cqf_laws_bridge::new_bridge_follows;
-use cqf_units::Cycle;
+use cqf_units::{Cycle, Memory};
 use cqf_worker_pipe::{PipeIn, PipeOut};
 use std::alloc::Global;
 use std::sync::Wait;
@@ -50,6 +50,17 @@ pub enum WorkerFault {
     Book(PageFault),
     /// A pipe carried that nothing comes any more, or its other end was gone. It is no fault of the worker's own.
     Stopped,
+}
+
+/// Want of memory, as a fault.
+impl From<Memory> for WorkerFault {
+    ghost use Rattle.cqf_worker_loops.specs.declared.worker.WorkerFault.TheVariants as variant;
+
+    ghost from_gives = { λ _ fault. fault ≡ variant.Memory };
+
+    fn from(_refused: Memory) -> WorkerFault {
+        WorkerFault::Memory
+    }
 }
 
 /// What comes back of a worker that gives up: the number of its bridge, from 0, why, and the ends at which it put. What it put there is

@@ -8,7 +8,7 @@ use Rattle.crossbeam_channel.specs.Fifo.{Pushes, Pops, Forks, Merges, Learns}
 use Rattle.atomic_table.proofs.Lists.{at_set, at_snoc}
 use Rattle.cqf_worker_pipe.specs.declared.pipe_rule.Bundle.{Bundle}
 use Rattle.cqf_worker_pipe.specs.declared.pipe_rule.Log.{Log}
-use Rattle.cqf_worker_pipe.specs.PipeRule.{Fits, IsPut, IsRest, IsTaken, Piped, items_in, items_of, log, most_items}
+use Rattle.cqf_worker_pipe.specs.PipeRule.{FitsPass, IsPut, IsRest, IsTaken, Piped, bundle_items, items_of, log, most_items}
 
 module _ {T : Type 0} where
   -- what stands at a place of a list with one more, and stood at none before, stands at its end
@@ -37,22 +37,22 @@ module _ {T : Type 0} where
     taken = [];
     in_order = refl;
     few = omega arith;
-    each = each_set (Fits 0 0 [] []) (log true true [] [] ∷ []) 0 (log true true [] []) ((λ _. (refl, refl)), λ _. (refl, refl))
+    each = each_set (FitsPass 0 0 [] []) (log true true [] [] ∷ []) 0 (log true true [] []) ((λ _. (refl, refl)), λ _. (refl, refl))
         (λ j u other e. absurd (other (at_end [] _ u j (λ x. some-ne-none u (sym x)) e)));
   }
 
   -- one bundle more brings its items behind those of the others
-  items_snoc : (held : List (Bundle T)) (x : Bundle T) → items_of (held ++ x ∷ []) ≡ items_of held ++ items_in x
-  items_snoc [] x = append-nil (items_in x)
-  items_snoc (b ∷ bs) x = ap (λ l. items_in b ++ l) (items_snoc bs x) ∙ sym (append_assoc (items_in b) (items_of bs) (items_in x))
+  items_snoc : (held : List (Bundle T)) (x : Bundle T) → items_of (held ++ x ∷ []) ≡ items_of held ++ bundle_items x
+  items_snoc [] x = append-nil (bundle_items x)
+  items_snoc (b ∷ bs) x = ap (λ l. bundle_items b ++ l) (items_snoc bs x) ∙ sym (append_assoc (bundle_items b) (items_of bs) (bundle_items x))
 
   -- sending: a bundle more was put, and waits behind the others
   pub sends : (n pass : ℕ) (v : Log T) (x : Bundle T) → v.puts ≡ true → length v.put + length x.behind.items < most_items
       → Pushes Piped n pass v x (IsPut v x)
   sends n pass v x may room items views _ h at =
-      let w : Log T = log v.puts v.takes (v.put ++ items_in x) v.taken in
+      let w : Log T = log v.puts v.takes (v.put ++ bundle_items x) v.taken in
       let mine = h.each pass v at in
-      let put = h.put ++ items_in x in
+      let put = h.put ++ bundle_items x in
       let before : length v.put ≡ length h.put = ap length (mine.0 may).1 in (
         w,
         record {
@@ -60,11 +60,11 @@ module _ {T : Type 0} where
           taker = h.taker;
           put = put;
           taken = h.taken;
-          in_order = ap (λ l. l ++ items_in x) h.in_order ∙ append_assoc h.taken (items_of items) (items_in x)
+          in_order = ap (λ l. l ++ bundle_items x) h.in_order ∙ append_assoc h.taken (items_of items) (bundle_items x)
               ∙ ap (λ l. h.taken ++ l) (sym (items_snoc items x));
-          few = omega (arith, length-append h.put (items_in x), before, room);
-          each = each_set (Fits h.putter h.taker put h.taken) views pass w
-              ((λ _. ((mine.0 may).0, ap (λ l. l ++ items_in x) (mine.0 may).1)), mine.1)
+          few = omega (arith, length-append h.put (bundle_items x), before, room);
+          each = each_set (FitsPass h.putter h.taker put h.taken) views pass w
+              ((λ _. ((mine.0 may).0, ap (λ l. l ++ bundle_items x) (mine.0 may).1)), mine.1)
               (λ j u other e. ((λ p. absurd (other (((h.each j u e).0 p).0 ∙ sym (mine.0 may).0))), (h.each j u e).1));
         },
         refl,
@@ -73,11 +73,11 @@ module _ {T : Type 0} where
   -- receiving: the first bundle of those that wait was taken
   pub receives : (pass : ℕ) (v : Log T) → v.takes ≡ true → Pops Piped pass v (IsTaken v)
   receives pass v may x items views h at =
-      let w : Log T = log v.puts v.takes v.put (v.taken ++ items_in x) in
+      let w : Log T = log v.puts v.takes v.put (v.taken ++ bundle_items x) in
       let mine = h.each pass v at in
-      let taken = h.taken ++ items_in x in
-      let in_order : h.put ≡ taken ++ items_of items = h.in_order ∙ sym (append_assoc h.taken (items_in x) (items_of items)) in
-      let is : w.taken ≡ taken = ap (λ l. l ++ items_in x) (mine.1 may).1 in (
+      let taken = h.taken ++ bundle_items x in
+      let in_order : h.put ≡ taken ++ items_of items = h.in_order ∙ sym (append_assoc h.taken (bundle_items x) (items_of items)) in
+      let is : w.taken ≡ taken = ap (λ l. l ++ bundle_items x) (mine.1 may).1 in (
         w,
         record {
           putter = h.putter;
@@ -86,7 +86,7 @@ module _ {T : Type 0} where
           taken = taken;
           in_order = in_order;
           few = h.few;
-          each = each_set (Fits h.putter h.taker h.put taken) views pass w
+          each = each_set (FitsPass h.putter h.taker h.put taken) views pass w
               (mine.0, λ _. ((mine.1 may).0, is))
               (λ j u other e. ((h.each j u e).0, λ p. absurd (other (((h.each j u e).1 p).0 ∙ sym (mine.1 may).0))));
         },
@@ -127,7 +127,7 @@ module _ {T : Type 0} where
       let vs : List (Log T) = set views pass both in
       let was : get_elem? views other ≡ some u = ⊎_elim (λ x. absurd (two x.0)) (λ x. x.1) (at_set views pass other both u at') in
       let theirs = (h.each other u was).1 b in
-      let Now : ℕ → Log T → Type 0 = λ j y. j ≢ other → Fits h.putter pass h.put h.taken j y in
+      let Now : ℕ → Log T → Type 0 = λ j y. j ≢ other → FitsPass h.putter pass h.put h.taken j y in
       let now' : Each Now vs = each_set Now views pass both (λ _. ((λ _. mine.0 a), λ _. (refl, theirs.1)))
       (λ j y _ e apart. ((h.each j y e).0, λ p. absurd (apart (((h.each j y e).1 p).0 ∙ sym theirs.0)))) in
       record {
@@ -137,7 +137,7 @@ module _ {T : Type 0} where
         taken = h.taken;
         in_order = h.in_order;
         few = h.few;
-        each = each_set (Fits h.putter pass h.put h.taken) vs other (log false false [] [])
+        each = each_set (FitsPass h.putter pass h.put h.taken) vs other (log false false [] [])
             ((λ p. absurd (true≢false (sym p))), λ p. absurd (true≢false (sym p))) (λ j y apart e. now' j y e apart);
       }
 

@@ -27,19 +27,19 @@ module _ {T : Type 0} where
   abbrev pub put_by : Pass (Bundle T) (Log T) → List T
   put_by pass = (view pass).put
 
-  abbrev pub taken_by : Pass (Bundle T) (Log T) → List T
-  taken_by pass = (view pass).taken
+  abbrev pub items_taken : Pass (Bundle T) (Log T) → List T
+  items_taken pass = (view pass).taken
 
   -- the pass may put alone, or take alone
   abbrev pub IsPutter : Pass (Bundle T) (Log T) → Type 0
   IsPutter pass = view pass ≡ log true false (put_by pass) []
 
   abbrev pub IsTaker : Pass (Bundle T) (Log T) → Type 0
-  IsTaker pass = view pass ≡ log false true [] (taken_by pass)
+  IsTaker pass = view pass ≡ log false true [] (items_taken pass)
 
   -- of what was taken by a pass, what was handed out: all but what waits
   abbrev pub handed_by : Pass (Bundle T) (Log T) → List T → List T
-  handed_by pass waiting = take (length (taken_by pass) - length waiting) (taken_by pass)
+  handed_by pass waiting = take (length (items_taken pass) - length waiting) (items_taken pass)
 
   -- what was put is what was taken, and behind it so many items
   abbrev pub AreLeft : List T → List T → ℕ → Type 0

@@ -11,11 +11,11 @@ most_items = 1000000
 
 module _ {T : Type 0} where
   -- the items of a bundle, and of several one behind the other
-  abbrev pub items_in : Bundle T → List T
-  items_in b = b.first ∷ b.behind.items
+  abbrev pub bundle_items : Bundle T → List T
+  bundle_items b = b.first ∷ b.behind.items
 
   abbrev pub items_of : List (Bundle T) → List T
-  items_of bundles = flat_map items_in bundles
+  items_of bundles = flat_map bundle_items bundles
 
   -- a view: whether it may put and take, and what it has put and taken
   abbrev pub log : Bool → Bool → List T → List T → Log T
@@ -23,8 +23,8 @@ module _ {T : Type 0} where
 
   -- the view of a pass, by the pass's number: one that may put is the putter's and has all that was put, and one that may
   -- take is the taker's and has all that was taken
-  abbrev pub Fits : ℕ → ℕ → List T → List T → ℕ → Log T → Type 0
-  Fits putter taker put taken pass v = (v.puts ≡ true → (pass ≡ putter) × (v.put ≡ put)) × (v.takes ≡ true → (pass ≡ taker) × (v.taken ≡ taken))
+  abbrev pub FitsPass : ℕ → ℕ → List T → List T → ℕ → Log T → Type 0
+  FitsPass putter taker put taken pass v = (v.puts ≡ true → (pass ≡ putter) × (v.put ≡ put)) × (v.takes ≡ true → (pass ≡ taker) × (v.taken ≡ taken))
 
   -- what was put is what was taken and behind it what the channel holds
   pub record Piped (held : List (Bundle T)) (views : List (Log T)) : Type 0 where
@@ -34,15 +34,15 @@ module _ {T : Type 0} where
     pub taken : List T
     pub in_order : put ≡ taken ++ items_of held
     pub few : length put ≤ most_items
-    pub each : (pass : ℕ) (v : Log T) → get_elem? views pass ≡ some v → Fits putter taker put taken pass v
+    pub each : (pass : ℕ) (v : Log T) → get_elem? views pass ≡ some v → FitsPass putter taker put taken pass v
 
   -- the bundle's items were put
   abbrev pub IsPut : Log T → Bundle T → Log T → Type 0
-  IsPut v x w = w ≡ log v.puts v.takes (v.put ++ items_in x) v.taken
+  IsPut v x w = w ≡ log v.puts v.takes (v.put ++ bundle_items x) v.taken
 
   -- the bundle's items were taken, and not more than may be put
   abbrev pub IsTaken : Log T → Bundle T → Log T → Type 0
-  IsTaken v x w = (w ≡ log v.puts v.takes v.put (v.taken ++ items_in x)) × (length w.taken ≤ most_items)
+  IsTaken v x w = (w ≡ log v.puts v.takes v.put (v.taken ++ bundle_items x)) × (length w.taken ≤ most_items)
 
   -- the channel holds what was put and not taken
   abbrev pub IsRest : Log T → List (Bundle T) → Type 0

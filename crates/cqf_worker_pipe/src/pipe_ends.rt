@@ -58,15 +58,15 @@ impl<T: Drop> Model for PipeOut<T> {
     ghost use Rattle.std.specs.Prelude.{◌≡◌, ◌≤◌, ◌++◌, length};
     ghost use Rattle.crossbeam_channel.specs.Claims.{IsSeatAt};
     ghost use Rattle.crossbeam_channel.specs.Ends.{receives_on};
-    ghost use Rattle.cqf_worker_pipe.specs.PipeEnds.{End, IsTaker, handed_by, pipe_of, taken_by};
+    ghost use Rattle.cqf_worker_pipe.specs.PipeEnds.{End, IsTaker, handed_by, pipe_of, items_taken};
     ghost use Rattle.cqf_worker_pipe.specs.PipeRule.{most_items};
 
     ghost Value = { End T };
 
     ghost view = { λ s. record { pipe = pipe_of s.pass; items = handed_by s.pass s.waiting.items } };
 
-    ghost invariant = { λ s. IsSeatAt (receives_on s.receiver) s.pass × IsTaker s.pass × (length (taken_by s.pass) ≤ most_items)
-        × (taken_by s.pass ≡ handed_by s.pass s.waiting.items ++ s.waiting.items) × (s.takes ≡ length (handed_by s.pass s.waiting.items)) };
+    ghost invariant = { λ s. IsSeatAt (receives_on s.receiver) s.pass × IsTaker s.pass × (length (items_taken s.pass) ≤ most_items)
+        × (items_taken s.pass ≡ handed_by s.pass s.waiting.items ++ s.waiting.items) × (s.takes ≡ length (handed_by s.pass s.waiting.items)) };
 }
 
 /// The two ends of a pipe, at which nothing was put or taken yet. Four items can wait in it, and items that were put at once

@@ -49,13 +49,13 @@ noted_with faults (Ok sealed) = faults
 noted_with faults (Err fault) = noted faults (fault_of_conductor fault)
 
 -- what a thread gives stands behind what others gave, or memory is refused to keep it
-abbrev pub IsKept : {X : Type 0} → Faults → Faults → List X → List X → X → Type 0
-IsKept before after kept more given =
+abbrev pub KeepsGiven : {X : Type 0} → Faults → Faults → List X → List X → X → Type 0
+KeepsGiven before after kept more given =
     ((more ≡ kept ++ given ∷ []) × (after ≡ before)) ⊎ ((more ≡ kept) × (after ≡ noted before (Some conduct.Memory)))
 
 -- what a thread's answer changes: what it gives is kept; else its cause is noted
 abbrev pub NotesFault : {X Y : Type 0} → (Y → Option ConductFault) → Faults → Faults → List X → List X → Result X Y → Type 0
-NotesFault cause before after kept more (Ok given) = IsKept before after kept more given
+NotesFault cause before after kept more (Ok given) = KeepsGiven before after kept more given
 NotesFault cause before after kept more (Err why) = (more ≡ kept) × (after ≡ noted before (cause why))
 
 -- and what the answers of several do, one after the other

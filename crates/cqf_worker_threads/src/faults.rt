@@ -4,6 +4,7 @@ ghost use Rattle.cqf_worker_threads.specs.Faults.{IsClean, conduct_fault_text, f
 
 use cqf_bridge::BridgeFault;
 use cqf_units::Memory;
+use std::alloc::AllocFailed;
 use std::fmt;
 use thiserror::Error;
 
@@ -41,12 +42,24 @@ impl fmt::Display for ConductFault {
     }
 }
 
+/// Want of memory, as a fault.
 impl From<Memory> for ConductFault {
     ghost use Rattle.cqf_worker_threads.specs.declared.faults.ConductFault.TheVariants as variant;
 
     ghost from_gives = { λ _ fault. fault ≡ variant.Memory };
 
     fn from(_refused: Memory) -> ConductFault {
+        ConductFault::Memory
+    }
+}
+
+/// Want of room for a value, likewise.
+impl<T: Drop> From<AllocFailed<T>> for ConductFault {
+    ghost use Rattle.cqf_worker_threads.specs.declared.faults.ConductFault.TheVariants as variant;
+
+    ghost from_gives = { λ _ fault. fault ≡ variant.Memory };
+
+    fn from(_refused: AllocFailed<T>) -> ConductFault {
         ConductFault::Memory
     }
 }

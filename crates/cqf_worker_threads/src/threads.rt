@@ -8,7 +8,7 @@ ghost use Rattle.cqf_worker_loops.specs.declared.calling.Unmade.{Unmade};
 ghost use Rattle.cqf_worker_loops.specs.declared.worker.GaveUp.{GaveUp};
 ghost use Rattle.cqf_worker_loops.specs.declared.worker.Worker.{Worker};
 ghost use Rattle.cqf_worker_threads.specs.Faults.{IsClean, is_noted};
-ghost use Rattle.cqf_worker_threads.specs.Noting.{NotesFault, NotesAll, IsKept, fault_of_caller, fault_of_conductor, fault_of_worker, noted, noted_with};
+ghost use Rattle.cqf_worker_threads.specs.Noting.{NotesFault, NotesAll, KeepsGiven, fault_of_caller, fault_of_conductor, fault_of_worker, noted, noted_with};
 ghost use Rattle.cqf_worker_threads.specs.Running.{AnswersWorker, BreaksOff, CallAnswers, CallsOf, HasOneMore, IsEnded, IsReadyWorker, RunAnswers};
 ghost use Rattle.cqf_worker_threads.specs.Telling.{IsStartFault, MayBeTold};
 ghost use Rattle.cqf_model.specs.Limits.{most_cycles};
@@ -134,9 +134,7 @@ pub fn start_workers<'s, E, R: Threads + Wait + Sync, P: Pace>(
         ) else {
             return Err(ConductFault::Spawn);
         };
-        let Ok(()) = handles.push(handle) else {
-            return Err(ConductFault::Memory);
-        };
+        handles.push(handle)?;
     }
     Ok(handles)
 }
@@ -183,9 +181,7 @@ fn start_administrators<'s, E, R: Threads + Wait + Sync, P: Pace>(
         ) else {
             return Err(ConductFault::Spawn);
         };
-        let Ok(()) = handles.push(handle) else {
-            return Err(ConductFault::Memory);
-        };
+        handles.push(handle)?;
     }
     Ok(handles)
 }
@@ -228,7 +224,7 @@ fn note_conductor(faults: &mut Faults, fault: SealingFault)
 
 /// Keeps what a thread gave behind what others did, or notes `Memory` where it can't be kept.
 fn keep<T: Drop>(given: T, kept: &mut Vec<T>, faults: &mut Faults)
-    ensures { IsKept faults.old faults.new kept.old.items kept.new.items given }
+    ensures { KeepsGiven faults.old faults.new kept.old.items kept.new.items given }
 {
     match kept.push(given) {
         Ok(()) => {}

@@ -27,7 +27,7 @@ use Rattle.cqf_worker_wires.specs.Laying.{AreBare, AreLaidWires, ArePorts, HasIn
 use Rattle.cqf_worker_wires.specs.Laying.{LaysLink, LaysPipe, first_into, first_onward}
 use Rattle.cqf_worker_pipe.specs.PipeEnds.{End, PipeId}
 use Rattle.cqf_worker_wires.specs.Wires.{AreOn, AreWired, AreWorkersOf, BatchPort, IsOn, Wiring, pipe_of_tables, tables_pipe}
-use Rattle.cqf_worker_loops.specs.Workers.{IsUnused, IsWorkerOf, MayWork, ends_in_bridge, is_bridge, link_of}
+use Rattle.cqf_worker_loops.specs.Workers.{IsUnused, IsWorkerOf, MayWork, ends_in_bridge, is_bridge_node, link_of}
 
 -- a fact of each element and its place
 abbrev pub EachAt : {X : Type 0} → (ℕ → X → Type 0) → List X → Type 0
@@ -283,7 +283,8 @@ bridge_laid d link between to before after there ends lays t wiring is so =
     (λ n. ap (λ (e : Domain). leaves e link n) is ∙ ap (λ (o : Option Link). option_map_or (λ (l : Link). l.from == n) o false) there)
     (λ n. ap (λ (e : Domain). enters e link n) is ∙ ap (λ (o : Option Link). option_map_or (λ (l : Link). node_is l.to n) o false) there
     ∙ ap (λ e. node_is e n) ends)
-    (ap (λ (e : Domain). ends_in_bridge e link) is ∙ ap (λ (o : Option Link). option_map_or (λ (l : Link). is_bridge l.to) o false) there ∙ ap is_bridge ends)
+    (ap (λ (e : Domain). ends_in_bridge e link) is ∙ ap (λ (o : Option Link). option_map_or (λ (l : Link). is_bridge_node l.to) o false) there
+    ∙ ap is_bridge_node ends)
 
 -- a link that ends in a station
 pub station_laid : (d : Domain) (link : ℕ) (between : Link) (station : ℕ) (workers : List Worker) → slice_get d.links link ≡ Some between →
@@ -293,7 +294,8 @@ station_laid d link between station workers there ends t wiring is so =
     λ n. ap (λ (e : Domain). enters e link n) is ∙ ap (λ (o : Option Link). option_map_or (λ (l : Link). node_is l.to n) o false) there
     ∙ ap (λ e. node_is e n) ends in
     let ended : ends_in_bridge t.domain link ≡ false =
-    ap (λ (e : Domain). ends_in_bridge e link) is ∙ ap (λ (o : Option Link). option_map_or (λ (l : Link). is_bridge l.to) o false) there ∙ ap is_bridge ends in
+    ap (λ (e : Domain). ends_in_bridge e link) is ∙ ap (λ (o : Option Link). option_map_or (λ (l : Link). is_bridge_node l.to) o false) there
+    ∙ ap is_bridge_node ends in
     let all : AreLaidWires t wiring (suc link) (suc link) workers =
     λ n x below. none_wanted t wiring link n (get_or workers n x) (none n) ended (so n x below) in
     (wiring, subst (λ k. AreLaidWires t wiring k k workers) (sym (add-one link)) all)

@@ -34,6 +34,17 @@ pub enum ClosingFault {
     ChannelLost,
 }
 
+/// Want of memory, as a fault.
+impl From<Memory> for ClosingFault {
+    ghost use Rattle.cqf_worker_wires.specs.declared.closing.ClosingFault.TheVariants as variant;
+
+    ghost from_gives = { λ _ fault. fault ≡ variant.Memory };
+
+    fn from(_refused: Memory) -> ClosingFault {
+        ClosingFault::Memory
+    }
+}
+
 /// What workers had, apart: their ends on links, worker by worker, and their table ends and shares, one a worker.
 #[derive(Drop)]
 struct Parts {
@@ -160,9 +171,7 @@ pub fn close_pipes(
     ensures shares { IfOk result (λ shares. shares.items ≡ map share_at workers.items) }
     ensures lost { IsErrOf result ClosingFault.ChannelLost → LackEnds (flat_map ins_at workers.items) (flat_map outs_at workers.items) }
 {
-    let Ok(parts) = take_apart(alloc, workers) else {
-        return Err(ClosingFault::Memory);
-    };
+    let parts = take_apart(alloc, workers)?;
     let Parts {
         ins,
         outs,

@@ -52,7 +52,7 @@ loop-line-preserved c =
     line_at text left line stood.rest (omega (arith, so_far.inside, so_far.counted)) is_line in
     let good : call_of_line requests seat c.args.cycles place.line place.sealed place.called line ≡ Ok (show c.in-Ok.order) =
     ap (λ l. call_of_line requests seat c.args.cycles place.line place.sealed place.called l.now) c.in-Some.line-is ∙ c.in-Ok.ensures.value text ends in
-    let more : c.push.new.self.items ≡ orders ++ c.in-Ok.order ∷ [] = grind (arith, common_steps) in (
+    let more : c.push.new.self.items ≡ orders ++ c.in-Ok.order ∷ [] = c.in_ok-push.ensures.items in (
       read-one_more requests seat c.args.cycles text (map show orders) (map show c.push.new.self.items) place.line next.line place.sealed place.called
           next.sealed next.called left line behind (show c.in-Ok.order)
           so_far first (omega (arith, c.in-Some.ensures.shorter)) good (ap (map show) more ∙ map-append show orders (c.in-Ok.order ∷ []))

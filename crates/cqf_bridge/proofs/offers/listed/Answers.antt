@@ -11,7 +11,7 @@ loop-place-preserved c =
           one_listed c.args.domain.now c.args.offers.now c.args.bridge c.args.cycle.0 c.loop-place.place c.index-offers-place.result
           c.loop-place-test.true c.index-offers-place.is
           (sym c.is_offered.ensures ∙ w.if-is_offered.true) _ _ c.loop-place.invariant
-          (ap (λ v. v.items) w.list-is ∙ w.in_ok-push.ensures.items ∙ ap (λ (x : Offered). c.loop-place.list.items ++ x ∷ []) w.with_number.ensures)
+          (ap (λ v. v.items) w.list-is ∙ w.in_ok-push.ensures.items ∙ ap (λ (x : Offered). c.loop-place.list.items ++ x ∷ []) w.numbered_offer.ensures)
       | else-is_offered w ↦
           ap (λ v. v.items) w.list-is
           ∙ one_passed c.args.domain.now c.args.offers.now c.args.bridge c.args.cycle.0 c.loop-place.place c.index-offers-place.result

@@ -1,7 +1,7 @@
 use Rattle.std.proofs.Common.{◌≡◌, ◌∙◌, ◌<◌, arith, get_or, length, subst, sym, Contains}
 use Rattle.std.proofs.lemmas.List.Elements.{Contains-get_or}
+use Rattle.cqf_lists.proofs.InPlace.{next_done, next_is}
 use Rattle.cqf_bridge.specs.Quiet.{rested}
-use Rattle.cqf_bridge.proofs.Verdicts.{next_done, next_is}
 use Rattle.cqf_bridge.proofs.quiet.rest_ports.Goals as goal
 
 pub rest_to-requires : goal.rest_to-requires

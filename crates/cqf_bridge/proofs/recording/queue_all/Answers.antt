@@ -1,7 +1,7 @@
 use Rattle.std.proofs.Common.{◌≡◌, ◌∙◌, ◌<◌, arith, get_or, length, subst, sym, Contains}
 use Rattle.std.proofs.lemmas.List.Elements.{Contains-get_or}
+use Rattle.cqf_lists.proofs.InPlace.{next_done, next_is}
 use Rattle.cqf_bridge.specs.Taking.{queue_on}
-use Rattle.cqf_bridge.proofs.Verdicts.{next_done, next_is}
 use Rattle.cqf_bridge.proofs.recording.queue_all.Goals as goal
 
 pub queue_one-requires-clause-taken : goal.queue_one-requires-clause-taken

@@ -16,7 +16,7 @@ loop-place-preserved c =
           one_kept named (is_offered_to c.args.bridge) c.args.offers.now c.loop-place.place c.index-offers-place.result
           c.index-offers-place.result c.loop-place-test.true c.index-offers-place.is
           c.loop-place.list.items _ (eq-eqb c.index-offers-place.result.bridge c.args.bridge w.if-offer-bridge.true) c.loop-place.invariant
-          (ap (λ v. v.items) w.list-is ∙ w.in_ok-push.ensures.items ∙ ap (λ (x : Offered). c.loop-place.list.items ++ x ∷ []) w.with_number.ensures)
+          (ap (λ v. v.items) w.list-is ∙ w.in_ok-push.ensures.items ∙ ap (λ (x : Offered). c.loop-place.list.items ++ x ∷ []) w.numbered_offer.ensures)
       | else-offer-bridge w ↦
           ap (λ v. v.items) w.list-is
           ∙ one_passed named (is_offered_to c.args.bridge) c.args.offers.now c.loop-place.place c.index-offers-place.result

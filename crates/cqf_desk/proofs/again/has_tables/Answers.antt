@@ -23,7 +23,7 @@ returns-in-Ok-None-clause-differs c = λ _.
     c.in-Ok-None.field-0-is c.in-Ok-None.ensures)
 
 pub returns-clause-differs : goal.returns-clause-differs
-returns-clause-differs c = λ other.
+returns-clause-differs c = λ other legal.
     too_many c.args.again.now c.loop-entry.again c.args.rest.now c.args.number c.args.tables.now c.loop-entry.next c.loop-entry.entry-index
     c.loop-entry.invariant
     (omega (arith, c.loop-entry-test.false, c.loop-entry.auto.entry-index-end))

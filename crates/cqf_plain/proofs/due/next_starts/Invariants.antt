@@ -1,7 +1,7 @@
 use Rattle.std.specs.Prelude.{take}
-use Rattle.cqf_plain.specs.Due.{AreDue, ports_of}
+use Rattle.cqf_plain.specs.Due.{AreNextStarts, ports_of}
 use Rattle.cqf_plain.proofs.due.next_starts.Given as goal
 
 -- the ports of the first bridges are noted
 abbrev pub invariant-loop-place : goal.invariant-loop-place
-invariant-loop-place l = AreDue l.due.entries (ports_of (take l.place l.bridges))
+invariant-loop-place l = AreNextStarts l.due.entries (ports_of (take l.place l.bridges))

@@ -1,10 +1,10 @@
 use Rattle.std.proofs.Common.{◌<◌, append-nil, arith, length, subst, sym}
-use Rattle.cqf_plain.specs.Due.{AreDue}
+use Rattle.cqf_plain.specs.Due.{AreNextStarts}
 use Rattle.cqf_plain.proofs.Noted.{all_noted, next_noted}
 use Rattle.cqf_plain.proofs.due.note_starts.Goals as goal
 
 pub loop-place-init : goal.loop-place-init
-loop-place-init c = λ ports so. subst (AreDue c.args.due.now.entries) (sym (append-nil ports)) so
+loop-place-init c = λ ports so. subst (AreNextStarts c.args.due.now.entries) (sym (append-nil ports)) so
 
 pub loop-place-preserved : goal.loop-place-preserved
 loop-place-preserved c = λ ports so.

@@ -1,8 +1,8 @@
 use Rattle.std.specs.Prelude.{◌++◌, List, take}
 use Rattle.cqf_bridge.specs.PortRecord.{PortRecord}
-use Rattle.cqf_plain.specs.Due.{AreDue}
+use Rattle.cqf_plain.specs.Due.{AreNextStarts}
 use Rattle.cqf_plain.proofs.due.note_starts.Given as goal
 
 -- the first ports are noted
 abbrev pub invariant-loop-place : goal.invariant-loop-place
-invariant-loop-place l = (ports : List PortRecord) → AreDue l.fn.due.entries ports → AreDue l.due.entries (ports ++ take l.place l.bridge.ports)
+invariant-loop-place l = (ports : List PortRecord) → AreNextStarts l.fn.due.entries ports → AreNextStarts l.due.entries (ports ++ take l.place l.bridge.ports)

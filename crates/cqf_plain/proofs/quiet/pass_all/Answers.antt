@@ -1,7 +1,7 @@
 use Rattle.std.proofs.Common.{◌≡◌, ◌∙◌, ◌<◌, arith, get_or, length, subst, sym, Contains}
 use Rattle.std.proofs.lemmas.List.Elements.{Contains-get_or}
+use Rattle.cqf_lists.proofs.InPlace.{next_done, next_is}
 use Rattle.cqf_plain.specs.Due.{driven_past}
-use Rattle.cqf_plain.proofs.Turning.{next_done, next_is}
 use Rattle.cqf_plain.proofs.quiet.pass_all.Goals as goal
 
 pub pass_one-requires : goal.pass_one-requires

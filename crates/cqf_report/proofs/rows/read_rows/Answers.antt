@@ -1,5 +1,4 @@
-use Rattle.std.proofs.Common.{◌≡◌, List, Some, length, arith, rules, true}
-use Rattle.std.specs.Result.{is_ok}
+use Rattle.std.proofs.Common.{List, Some, length, arith}
 use Rattle.cqf_report.specs.Records.{Fields, StillGives}
 use Rattle.cqf_report.specs.Table.{IsFaultOf, rows_from}
 use Rattle.cqf_report.specs.declared.tables.TableFault.{TableFault}
@@ -26,16 +25,14 @@ returns-in_default-clause-ok g c =
     c.loop-number.invariant.taken (λ rest still. rw c.in_default.is at (c.in_ok-row.ensures.taken rest still))
 
 pub loop-number-preserved : goal.loop-number-preserved
-loop-number-preserved g c =
-    let good : is_ok c.push.result ≡ true = search rules in
-    record {
-      ready = rw c.in-Some.is at c.in_ok-row.ensures.ready;
-      taken = rw (c.push.ensures.items, good, c.instant-before.ensures) (
-          taken-more (length g.F.RowFormat.header)
-          (g.F.RowFormat.row_of c.args.format.now) g.F.RowFormat.instant_of g.R.Read.remaining c.args.reader.now c.loop-number.number c.loop-number.before.0
-          c.loop-number.rows.items c.loop-number.reader c.next_row.new.reader c.in-Some.row
-          c.loop-number.invariant.taken (λ rest still. rw c.in-Some.is at (c.in_ok-row.ensures.taken rest still)));
-    }
+loop-number-preserved g c = record {
+  ready = rw c.in-Some.is at c.in_ok-row.ensures.ready;
+  taken = rw (c.in_ok-push.ensures.items, c.instant-before.ensures) (
+      taken-more (length g.F.RowFormat.header)
+      (g.F.RowFormat.row_of c.args.format.now) g.F.RowFormat.instant_of g.R.Read.remaining c.args.reader.now c.loop-number.number c.loop-number.before.0
+      c.loop-number.rows.items c.loop-number.reader c.next_row.new.reader c.in-Some.row
+      c.loop-number.invariant.taken (λ rest still. rw c.in-Some.is at (c.in_ok-row.ensures.taken rest still)));
+}
 
 pub returns-in-End-clause-ok : goal.returns-in-End-clause-ok
 returns-in-End-clause-ok g c =

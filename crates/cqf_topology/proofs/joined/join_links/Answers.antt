@@ -1,4 +1,4 @@
-use Rattle.std.proofs.Common.{◌∙◌, ◌++◌, ◌∷◌, [], if◌then◌else◌, not, ap, refl, sym}
+use Rattle.std.proofs.Common.{◌∙◌, refl, sym}
 use Rattle.cqf_topology.specs.declared.faults.DomainFault.TheVariants.{Memory}
 use Rattle.cqf_topology.specs.DomainText.{joined}
 use Rattle.cqf_topology.proofs.Fronts.{read-more, read-fault, read-all}
@@ -11,10 +11,9 @@ loop-link-preserved c =
     let link = c.in_ok-link.link in
     let bridges = c.args.bridges.now.keys in
     let stations = c.args.stations.now.keys in
-    let pushed = c.is_err.ensures.negation ∙ ap not c.if-is_err.false in
     read-more _ (joined bridges stations) (λ link links. refl) c.args.links.now c.loop-link.link-index c.link-item.result c.loop-link-test.true
     c.link-item.is done link _ (sym c.in_ok-link.ensures)
-    (c.push.ensures.items ∙ ap (λ ok. if ok then done ++ link ∷ [] else done) pushed)
+    c.in_ok-push.ensures.items
     ∙ c.loop-link.invariant
 
 pub returns-in_err-link : goal.returns-in_err-link

@@ -1,4 +1,4 @@
-use Rattle.std.proofs.Common.{◌∙◌, ◌++◌, ◌∷◌, [], if◌then◌else◌, map, not, ap, refl, sym}
+use Rattle.std.proofs.Common.{◌∙◌, ◌∷◌, [], map, ap, refl, sym}
 use Rattle.toml.specs.View.{items_view}
 use Rattle.cqf_topology_fields.specs.declared.keys.Key.TheVariants.{Streams}
 use Rattle.cqf_topology_fields.specs.declared.faults.TomlFault.TheVariants.{Memory}
@@ -13,10 +13,9 @@ pub loop-value-preserved : goal.loop-value-preserved
 loop-value-preserved c =
     let done = c.loop-value.streams.items in
     let planned = c.in_ok-planned.planned in
-    let pushed = c.is_err.ensures.negation ∙ ap not c.if-is_err.false in
     read-more _ (λ values. tables_from Streams planned_from (items_view values)) (λ value values. refl) c.args.values.now c.loop-value.value-index
     c.value-item.result c.loop-value-test.true c.value-item.is (map planned_text done) (planned_text planned) _ c.in_ok-planned.ensures
-    (ap (map planned_text) (c.push.ensures.items ∙ ap (λ ok. if ok then done ++ planned ∷ [] else done) pushed) ∙ map-append planned_text done (planned ∷ []))
+    (ap (map planned_text) c.in_ok-push.ensures.items ∙ map-append planned_text done (planned ∷ []))
     ∙ c.loop-value.invariant
 
 pub returns-in_err-planned : goal.returns-in_err-planned

@@ -1,4 +1,4 @@
-use Rattle.std.proofs.Common.{◌∙◌, ◌++◌, ◌∷◌, [], if◌then◌else◌, map, not, ap, refl, sym}
+use Rattle.std.proofs.Common.{◌∙◌, ◌∷◌, [], map, ap, refl, sym}
 use Rattle.toml.specs.View.{items_view}
 use Rattle.cqf_topology_fields.specs.declared.keys.Key.TheVariants.{Streams}
 use Rattle.cqf_topology_fields.specs.declared.faults.TomlFault.TheVariants.{Memory}
@@ -13,10 +13,9 @@ pub loop-value-preserved : goal.loop-value-preserved
 loop-value-preserved c =
     let done = c.loop-value.requests.items in
     let request = c.in_ok-request.request in
-    let pushed = c.is_err.ensures.negation ∙ ap not c.if-is_err.false in
     read-more _ (λ values. tables_from Streams request_from (items_view values)) (λ value values. refl) c.args.values.now c.loop-value.value-index
     c.value-item.result c.loop-value-test.true c.value-item.is (map request_text done) (request_text request) _ c.in_ok-request.ensures
-    (ap (map request_text) (c.push.ensures.items ∙ ap (λ ok. if ok then done ++ request ∷ [] else done) pushed) ∙ map-append request_text done (request ∷ []))
+    (ap (map request_text) c.in_ok-push.ensures.items ∙ map-append request_text done (request ∷ []))
     ∙ c.loop-value.invariant
 
 pub returns-in_err-request : goal.returns-in_err-request

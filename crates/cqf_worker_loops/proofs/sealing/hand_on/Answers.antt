@@ -1,6 +1,5 @@
-use Rattle.std.proofs.Common.{◌∷◌, rules, sym, ap, ◌∙◌, arith, map, refl, inl, inr}
+use Rattle.std.proofs.Common.{◌∷◌, rules, sym, ◌∙◌, arith, map, refl, inl, inr}
 use Rattle.std.proofs.lemmas.Bool.{false≢true}
-use Rattle.cqf_worker_loops.specs.declared.carried.Carried.{Carried}
 use Rattle.cqf_worker_loops.specs.declared.carried.Carried.TheVariants.{Item}
 use Rattle.cqf_worker_loops.specs.Handing.{tables_handed}
 use Rattle.cqf_worker_loops.proofs.HandedTables.{handed_as, hands_next, hands_none, misses_next, misses_none}

@@ -1,4 +1,4 @@
-use Rattle.std.proofs.Common.{◌-◌, ◌+◌, ◌++◌, ◌≡◌, ◌≤◌, arith, drop, length, rules, subst, take, ℕ}
+use Rattle.std.proofs.Common.{◌-◌, ◌+◌, ◌++◌, ◌≡◌, arith, drop, length, rules, subst, take, ℕ}
 use Rattle.std.specs.Prelude.{◌&&◌}
 use Rattle.std.proofs.lemmas.Bool.{and_cases}
 use Rattle.cqf_worker_loops.specs.Handing.{HasClosed, LacksOne}

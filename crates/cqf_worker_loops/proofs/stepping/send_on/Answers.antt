@@ -8,8 +8,8 @@ pub returns-in-Err-clause-put : goal.returns-in-Err-clause-put
 returns-in-Err-clause-put g c = ([], sym (with_none c.args.outs.now))
 
 -- nor where there is no memory
-pub returns-in_default-clause-put : goal.returns-in_default-clause-put
-returns-in_default-clause-put g c = ([], sym (with_none c.args.outs.now))
+pub returns-in_err-starts-clause-put : goal.returns-in_err-starts-clause-put
+returns-in_err-starts-clause-put g c = ([], sym (with_none c.args.outs.now))
 
 -- there is a batch for each port
 pub put_each-requires-clause-count : goal.put_each-requires-clause-count

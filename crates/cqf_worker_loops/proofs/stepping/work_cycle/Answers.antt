@@ -41,7 +41,7 @@ returns-clause-ok g c =
       starts = c.in_ok-starts.starts.items;
       batches = c.in_ok-batches.batches.items;
       dropped = c.in_ok-drops.drops.items;
-      page = c.in-Ok.page;
+      page = c.in_ok-page.page;
       is_given = c.in_ok-table.ensures.ok;
       sends = subst
           (λ after. SendsOn c.args.cycle.0 c.args.worker.now.agenda c.args.worker.now.bridge c.send_on.new.bridge outs.items after c.in_ok-starts.starts.items)
@@ -52,7 +52,7 @@ returns-clause-ok g c =
           (λ batches. ReceivesOn c.args.cycle.0 c.args.worker.now.agenda c.in_ok-table.table batches c.send_on.new.bridge c.receive_on.new.bridge
           c.in_ok-drops.drops.items)
           c.as_slice.ensures.value c.in_ok-drops.ensures.ok;
-      page_is = c.in-Ok.ensures;
+      page_is = c.in_ok-page.ensures;
       posts = c.in_ok-post_page.ensures.ok;
       same_agenda = refl;
     }

@@ -14,4 +14,4 @@ pub returns-clause-fault : goal.returns-clause-fault
 returns-clause-fault c =
     subst (λ (desk : Counter). IfErr c.settle.result (λ fault. IsCloseFault desk c.args.seats.now fault)) c.self.view_is
     (close_faults (record { opening = c.self.inside.opening; seats = c.self.inside.seats }) c.args.seats.now _ c.settle.result
-    (subst (λ (desk : Counter). AreItsSeats desk.seats c.args.seats.now) (sym c.self.view_is) c.requires) c.settle.ensures.fault)
+    (subst (λ (desk : Counter). AreItsSeats desk.seats c.args.seats.now) (sym c.self.view_is) c.requires) c.settle.ensures.legal c.settle.ensures.fault)

@@ -1,6 +1,0 @@
--- The admission's domain stays.
-use Rattle.std.proofs.Common.{◌≡◌}
-use Rattle.cqf_refusing.proofs.ready.admits_all.Given as goal
-
-abbrev pub invariant-loop-asked : goal.invariant-loop-asked
-invariant-loop-asked l = l.admission.domain ≡ l.fn.admission.domain
