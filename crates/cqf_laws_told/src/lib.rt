@@ -1,0 +1,34 @@
+//! Laws about what is told of a plan's streams: it holds of the frames of each.
+//!
+//! Each law is a function that ends at once: its contract is a statement of `specs/` about the definitions of `cqf_model`,
+//! and its proof shows that the statement holds. A proof elsewhere uses the law by a call of the function.
+//!
+//! ```
+//! // here on, a proof knows that calls for streams of a list alone make a history that admits those alone
+//! cqf_laws_told::histories_admit_only();
+//! ```
+#![tactic(auto)]
+
+ghost use Rattle.cqf_laws_told.specs.Asking.{CallsAdmitOnly, SeatsAdmitOnly};
+ghost use Rattle.cqf_laws_told.specs.Told.{NamesTellStreams, RowsArePlanned, ToldHolds};
+
+/// Calls that ask for streams of a list alone make a history that admits those alone: made one after the other, and at seats,
+/// however the seats' calls and the Seals fall together (profile).
+pub fn histories_admit_only()
+    ensures calls { CallsAdmitOnly }
+    ensures seats { SeatsAdmitOnly }
+{}
+
+/// What is told of a listener's hop of a plan's row holds of each frame of that row's stream, in every history that admits streams
+/// of the plan alone: the row has the number of its stream, a row of its name in the history is of the same stream, and a start on
+/// the hop's link is as the verdict on any deadline says (profile).
+pub fn told_of_streams_holds()
+    ensures planned { RowsArePlanned }
+    ensures names { NamesTellStreams }
+    ensures told { ToldHolds }
+{
+    cqf_laws_history::state_follows_history();
+    cqf_laws_history::tables_are_orderly();
+    cqf_laws_latency::lists_bound_costs();
+    cqf_laws_latency::lists_bound_latencies();
+}
