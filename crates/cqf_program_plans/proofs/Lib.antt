@@ -3,10 +3,14 @@ pub mod CompileLemmas
 pub mod ConfigPieces
 mod Planned
 mod WordLemmas
+mod TcLines
+mod TcFunctions
+mod TcCallLemmas
 mod Streams
 mod Listed
 mod Fits
 mod PlanFits
+mod HeldMost
 mod Loading
 mod GrantedPlans
 pub mod Found

@@ -7,11 +7,10 @@ use Rattle.std.specs.List.{list_any}
 use Rattle.std.specs.Option.{option_map_or}
 use Rattle.std.proofs.lemmas.List.{get_or-replicate, get_or-set_other, get_or-set_same, length-set, take_more}
 use Rattle.std.proofs.lemmas.Bool.Decides.{eqb_tells}
-use Rattle.std.proofs.lemmas.List.Folds.{list_any-append, list_any_at, list_any_more}
-use Rattle.std.proofs.lemmas.Option.{same_Some, slice_get-get_or, slice_get_read, slice_get_within}
+use Rattle.std.proofs.lemmas.List.Folds.{list_any-append}
+use Rattle.std.proofs.lemmas.Option.{slice_get_read}
 use Rattle.cqf_lists.specs.Lists.{each_below}
 use Rattle.cqf_model.specs.declared.topology.Hop.{Hop}
-use Rattle.cqf_model.specs.declared.topology.Link.{Link}
 use Rattle.cqf_model.specs.declared.topology.Row.{Row}
 use Rattle.cqf_model.specs.Domain.{Domain}
 use Rattle.cqf_model.specs.Table.{same_way}
@@ -102,17 +101,3 @@ module _ (d : Domain) (bridge : ℕ) (before : List Row) (row : Row) (seen : Lis
   pub new_where_unseen : (way : Option ℕ) → ((link : ℕ) → way ≡ Some link → link < 256) → is_unseen seen way ≡ is_new d bridge before way
   new_where_unseen None range = refl
   new_where_unseen (Some link) range = ap not (now.each link (range link refl))
-
--- whether a link leaves a bridge, one link more with each step
-module _ (p : Link → Bool) (links : List Link) (k : ℕ) (link : Link) (there : slice_get links k ≡ Some link) where
-  inside : k < length links
-  inside = slice_get_within links k link there
-
-  read : get_or links k link ≡ link
-  read = same_Some _ _ (sym (slice_get-get_or links k link inside) ∙ there)
-
-  pub any_at : p link ≡ true → true ≡ list_any p links
-  any_at passes = sym (list_any_at p links k link inside (ap p read ∙ passes))
-
-  pub none_more : p link ≡ false → list_any p (take k links) ≡ false → list_any p (take (k + 1) links) ≡ false
-  none_more fails none = list_any_more p links k link inside ∙ ap (λ (b : Bool). b || p (get_or links k link)) none ∙ ap p read ∙ fails

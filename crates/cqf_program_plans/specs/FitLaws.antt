@@ -3,8 +3,9 @@ use Rattle.std.specs.Prelude.{ℕ, ◌≡◌, ◌≤◌, ◌<◌, ◌↔◌, Lis
 use Rattle.cqf_units.specs.Timing.{cost_of}
 use Rattle.cqf_model.specs.declared.topology.Row.{Row}
 use Rattle.cqf_model.specs.Domain.{Domain, budget}
-use Rattle.cqf_model.specs.History.{Asked, Recorded, held_in, refusal_of, tree_of}
-use Rattle.cqf_model.specs.Table.{link_cost, links_in}
+use Rattle.cqf_model.specs.History.{Asked, IsLegalHistory, Recorded, held_in, refusal_of, seals, tables_of, tree_of}
+use Rattle.cqf_model.specs.Table.{link_cost, links_in, table_of}
+use Rattle.cqf_laws_latency.specs.Streams.{AdmitsOnly}
 use Rattle.cqf_program_plans.specs.CompileOutput.{admitted_from}
 use Rattle.cqf_program_plans.specs.Fitting.{fits_in, fits_on}
 use Rattle.cqf_program_plans.specs.Listing.{listing_refusal}
@@ -33,3 +34,10 @@ PlanFits = (d : Domain) (streams : List Asked) (rows : List Row) → listed_from
 abbrev pub AdmittedAreListed : Type 0
 AdmittedAreListed = (d : Domain) (streams : List Asked) (entries : List Recorded) → admitted_from d [] 1 streams ≡ Ok entries →
     listed_from d [] streams ≡ Ok (held_in d entries 0)
+
+-- what is told of a link is what all streams that are listed cost of it: no table of a history that admits streams of this list alone
+-- costs more of it, also where the plan is over
+abbrev pub NoneHoldsMore : Type 0
+NoneHoldsMore = (d : Domain) (streams : List Asked) (rows : List Row) (entries : List Recorded) (cycles cycle link : ℕ) →
+    listed_from d [] streams ≡ Ok rows → IsLegalHistory d entries → cycles ≤ seals entries → AdmitsOnly streams entries →
+    link_cost (table_of (tables_of d entries cycles) cycle) link ≤ link_cost rows link

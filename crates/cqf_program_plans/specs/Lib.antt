@@ -5,8 +5,10 @@ pub mod ConfigTold
 pub mod EndNames
 pub mod TcWords
 pub mod TcBridge
+pub mod TcChecks
 pub mod TcText
 pub mod TcOutput
+pub mod TcCalls
 pub mod TcLaws
 pub mod Fitting
 pub mod Listing

@@ -1,12 +1,11 @@
 -- What a bridge does in the script, line by line (profile). Links and streams go by their numbers in variables, since a name may
 -- hold `-`.
-use Rattle.std.specs.Prelude.{ℕ, ◌+◌, ◌++◌, ◌==◌, List, [], Bool, true, false, Option, Some, None, codes, decimal, find}
+use Rattle.std.specs.Prelude.{ℕ, ◌+◌, ◌++◌, List, [], Bool, true, false, Option, Some, None, codes, decimal, find}
 use Rattle.std.specs.Prelude.{if◌then◌else◌, length, not, option_map, slice_get, take}
 use Rattle.std.specs.Option.{option_map_or}
 use Rattle.std.specs.List.{flat_map, list_any}
 use Rattle.cqf_lists.specs.Lists.{each_below}
 use Rattle.cqf_model.specs.declared.topology.Hop.{Hop}
-use Rattle.cqf_model.specs.declared.topology.Link.{Link}
 use Rattle.cqf_model.specs.declared.topology.Row.{Row}
 use Rattle.cqf_model.specs.Domain.{Domain, bridge_of, leaves}
 use Rattle.cqf_model.specs.Table.{same_way}
@@ -36,38 +35,54 @@ is_new d bridge before (Some link) = not (list_any (comes_by d bridge link) befo
 abbrev pub way_at : Domain → ℕ → List Row → Row → Option (Option ℕ × Bool)
 way_at d bridge before row = option_map (λ (hop : Hop). (hop.from, is_new d bridge before hop.from)) (first_hop d bridge row)
 
--- the lines that end the script where a variable isn't set
+-- the lines that end the script where a variable isn't set or is no good: the variable's name and value, the node that the interface
+-- leads to, where it isn't a talker, and what it is
 abbrev pub out_need : Domain → ℕ → ℕ → List ℕ
 out_need d bridge link =
-    codes "    : \"${OUT_" ++ (decimal link ++ (codes ":?interface of "
-    ++ (name_of_bridge d bridge ++ (codes " to " ++ (name_of_end d link ++ codes "}\"\n")))))
+    codes "    port OUT_"
+    ++ (decimal link
+    ++ (codes " \"${OUT_"
+    ++ (decimal link
+    ++ (codes ":-}\" "
+    ++ (name_of_end d link
+    ++ (codes " \"interface of " ++ (name_of_bridge d bridge ++ (codes " to " ++ (name_of_end d link ++ codes "\"\n")))))))))
 
 abbrev pub link_need : Domain → ℕ → ℕ → List ℕ
 link_need d bridge link =
-    codes "    : \"${IN_"
-    ++ (decimal link ++ (codes ":?interface of " ++ (name_of_bridge d bridge ++ (codes " to " ++ (name_of_bridge d (bridge_of d link) ++ codes "}\"\n")))))
+    codes "    port IN_"
+    ++ (decimal link
+    ++ (codes " \"${IN_"
+    ++ (decimal link
+    ++ (codes ":-}\" "
+    ++ (name_of_bridge d (bridge_of d link)
+    ++ (codes " \"interface of " ++ (name_of_bridge d bridge ++ (codes " to " ++ (name_of_bridge d (bridge_of d link) ++ codes "\"\n")))))))))
 
 abbrev pub way_need : Domain → ℕ → Row → Option ℕ → List ℕ
 way_need d bridge row None =
-    codes "    : \"${TALKER_"
-    ++ (decimal row.no ++ (codes ":?interface of " ++ (name_of_bridge d bridge ++ (codes " to the talker of " ++ (row.name ++ codes "}\"\n")))))
+    codes "    port TALKER_"
+    ++ (decimal row.no
+    ++ (codes " \"${TALKER_"
+    ++ (decimal row.no
+    ++ (codes ":-}\" \"\" \"interface of " ++ (name_of_bridge d bridge ++ (codes " to the talker of " ++ (row.name ++ codes "\"\n")))))))
 way_need d bridge row (Some link) = link_need d bridge link
 
 abbrev pub frame_needs : Row → List ℕ
 frame_needs row =
-    codes "    : \"${MAC_"
+    codes "    frames "
     ++ (decimal row.no
-    ++ (codes ":?destination address of "
-    ++ (row.name ++ (codes "}\"\n    : \"${VLAN_" ++ (decimal row.no ++ (codes ":?VLAN of " ++ (row.name ++ codes "}\"\n")))))))
+    ++ (codes " \"${MAC_" ++ (decimal row.no ++ (codes ":-}\" \"${VLAN_" ++ (decimal row.no ++ (codes ":-}\" " ++ (row.name ++ codes "\n")))))))
 
 -- the line that takes the gates of an earlier plan off the interface by which a stream comes
 abbrev pub way_clearing : Row → Option ℕ → List ℕ
 way_clearing row way = codes "    no_gates \"$" ++ (way_in row way ++ codes "\"\n")
 
--- the lines of a link that leaves the bridge
+-- the call that sets the list of a link that leaves the bridge
+abbrev pub link_call : ℕ → List ℕ
+link_call link = codes "    link \"$OUT_" ++ (decimal link ++ codes "\"")
+
+-- the lines of the link
 abbrev pub link_lines : Domain → ℕ → List ℕ
-link_lines d link =
-    codes "    # link " ++ (decimal link ++ (codes " " ++ (name_of_link d link ++ (codes "\n    link \"$OUT_" ++ (decimal link ++ codes "\"\n")))))
+link_lines d link = codes "    # link " ++ (decimal link ++ (codes " " ++ (name_of_link d link ++ (codes "\n" ++ (link_call link ++ codes "\n")))))
 
 -- the interfaces by which a stream leaves the bridge, in the order of its tree
 abbrev pub way_out : Domain → ℕ → Hop → List ℕ
@@ -76,19 +91,21 @@ way_out d bridge hop = if leaves d hop.link bridge then codes " OUT_" ++ decimal
 abbrev pub ways_out : Domain → ℕ → Row → List ℕ
 ways_out d bridge row = flat_map (way_out d bridge) row.tree.items
 
--- the lines of a stream that comes this way: by which interfaces it leaves, and its gate, with the octets of its reservation
-abbrev pub gate_line : Row → Option ℕ → List ℕ
-gate_line row way =
+-- the call that sets the gate of a stream that comes this way: its index, its frames, and the octets of its reservation
+abbrev pub gate_call : Row → Option ℕ → List ℕ
+gate_call row way =
     codes "    gate \"$"
     ++ (way_in row way
     ++ (codes "\" "
     ++ (decimal (row.no + 1)
-    ++ (codes " \"$MAC_" ++ (decimal row.no ++ (codes "\" \"$VLAN_" ++ (decimal row.no ++ (codes "\" " ++ (decimal row.octets ++ codes "\n")))))))))
+    ++ (codes " \"$MAC_" ++ (decimal row.no ++ (codes "\" \"$VLAN_" ++ (decimal row.no ++ (codes "\" " ++ decimal row.octets))))))))
 
+-- the lines of the stream: by which interfaces it leaves, and its gate
 abbrev pub stream_lines : Domain → ℕ → Row → Option ℕ → List ℕ
 stream_lines d bridge row way =
     codes "    # stream "
-    ++ (decimal row.no ++ (codes " " ++ (row.name ++ (codes ", leaves by" ++ (ways_out d bridge row ++ (codes "\n" ++ gate_line row way))))))
+    ++ (decimal row.no
+    ++ (codes " " ++ (row.name ++ (codes ", leaves by" ++ (ways_out d bridge row ++ (codes "\n" ++ (gate_call row way ++ codes "\n")))))))
 
 -- a text for each link that leaves the bridge, by number
 abbrev pub if_left : Domain → ℕ → (ℕ → List ℕ) → ℕ → List ℕ
@@ -122,12 +139,8 @@ stream_clearing d bridge before row = option_map_or (clearing_by row) (way_at d 
 abbrev pub stream_gates : Domain → ℕ → Row → List ℕ
 stream_gates d bridge row = option_map_or (λ (hop : Hop). stream_lines d bridge row hop.from) (first_hop d bridge row) []
 
--- what stands where no link leaves the bridge, so that it needs nothing
-abbrev pub nothing_line : Domain → ℕ → List ℕ
-nothing_line d bridge = if list_any (λ (link : Link). link.from == bridge) d.links then [] else codes "    :\n"
-
 -- the function of a bridge: each variable once, in the order in which it uses them first, so that a bridge that lacks one is left as
--- it was; the interfaces by which streams come, cleared; its links; its streams
+-- it was; the end of what is checked; the interfaces by which streams come, cleared; its links; its streams
 abbrev pub bridge_text : Domain → List Row → ℕ → List ℕ
 bridge_text d rows bridge =
     codes "bridge_"
@@ -135,8 +148,8 @@ bridge_text d rows bridge =
     ++ (codes "() {\n    # "
     ++ (name_of_bridge d bridge
     ++ (codes "\n"
-    ++ (nothing_line d bridge
     ++ (each_link d bridge (out_need d bridge)
     ++ (each_stream (stream_needs d bridge) rows
+    ++ (codes "    ready\n"
     ++ (each_stream (stream_clearing d bridge) rows
     ++ (each_link d bridge (link_lines d) ++ (flat_map (stream_gates d bridge) rows ++ codes "}\n"))))))))))

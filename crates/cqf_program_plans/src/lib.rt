@@ -9,7 +9,8 @@
 //!   [`stream_stop`] the end where one isn't.
 //! - [`tc_output`]: a POSIX shell script that sets these gates on each bridge by `tc` ([`TcOutput`]). [`write_tx_words`] and
 //!   [`write_gate_words`] have gate lists as words of `tc`, and [`scripts_hold_the_lists`] says that the words of each script
-//!   are read as the lists that are compiled.
+//!   are read as the lists that are compiled. [`scripts_call_what_is_due`] reads the script's lines back: each bridge sets these
+//!   lists at each of its links, and the gate of each stream with its octets, and no others.
 //! - [`load_output`]: what links hold of the streams, and what they have left, where streams are too many for a link as well
 //!   ([`LoadOutput`]). [`greatest_fits`] says of the column `fits` that it is the greatest reservation that would be accepted,
 //!   and [`plan_fits`] of `left` that it is nowhere below 0 just where all streams are admitted.
@@ -19,7 +20,7 @@
 //!   and that the verdicts are true.
 //!
 //! `specs/` has the value of an input (`PortOutput`, `CompileOutput`, `TcOutput`, `LoadOutput`, `LatencyInput`), and what an
-//! output tells (`PortOutput`, `ConfigTold`, `TcText` with `TcBridge` and `TcWords`, `LoadText`, `LatencyText`).
+//! output tells (`PortOutput`, `ConfigTold`, `TcText` with `TcChecks`, `TcBridge` and `TcWords`, `LoadText`, `LatencyText`).
 //!
 //! ```text
 //! port_output(alloc, 1_000_000, Rate::Mb1000,
@@ -36,7 +37,8 @@
 //! tc_output tells a script with the lines
 //!     bridge_0() {
 //!         # a
-//!         : "${OUT_0:?interface of a to s}"
+//!         port OUT_0 "${OUT_0:-}" s "interface of a to s"
+//!         ready
 //!         # link 0 a>s
 //!         link "$OUT_0"
 //!     }
@@ -70,6 +72,7 @@ mod load_told;
 mod port_command;
 mod port_outputs;
 mod tc_bridges;
+mod tc_checks;
 mod tc_command;
 mod tc_frame;
 mod tc_laws;
@@ -92,6 +95,6 @@ pub use load_outputs::LoadOutput;
 pub use port_command::port_output;
 pub use port_outputs::PortOutput;
 pub use tc_command::tc_output;
-pub use tc_laws::scripts_hold_the_lists;
+pub use tc_laws::{scripts_call_what_is_due, scripts_hold_the_lists};
 pub use tc_outputs::TcOutput;
 pub use tc_words::{write_gate_words, write_tx_words};

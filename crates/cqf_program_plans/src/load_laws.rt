@@ -1,7 +1,8 @@
 //! Laws about what still fits a link.
-ghost use Rattle.cqf_program_plans.specs.FitLaws.{AdmittedAreListed, FitsIsGreatest, OneMoreFits, PlanFits};
+ghost use Rattle.cqf_program_plans.specs.FitLaws.{AdmittedAreListed, FitsIsGreatest, NoneHoldsMore, OneMoreFits, PlanFits};
 
 use cqf_laws_history::state_follows_history;
+use cqf_laws_latency::lists_bound_costs;
 
 /// The greatest reservation that still fits is just that: a reservation, of 64 to 60,000 octets, costs no more than what is
 /// left of a link where it is no greater. So beside any streams one more, that is refused for no other reason, is accepted just
@@ -12,10 +13,13 @@ pub fn greatest_fits()
 {}
 
 /// Streams that are listed are all admitted just where no link holds more than its budget: where what is left of each is 0 or
-/// more, none is refused. And streams that are all admitted are listed, with the rows of the table of cycle 0 (profile).
+/// more, none is refused. And streams that are all admitted are listed, with the rows of the table of cycle 0. Whether or not they
+/// are, no link ever holds more than what is told of it, in any history that admits these streams alone (profile).
 pub fn plan_fits()
     ensures fits { PlanFits }
     ensures listed { AdmittedAreListed }
+    ensures most { NoneHoldsMore }
 {
     state_follows_history();
+    lists_bound_costs();
 }

@@ -1,13 +1,12 @@
 //! What a bridge does in the script.
-ghost use Rattle.std.specs.Prelude.{◌≡◌, ◌==◌, [], Some, None, if◌then◌else◌};
-ghost use Rattle.std.specs.List.{flat_map, list_any};
+ghost use Rattle.std.specs.Prelude.{◌≡◌, [], Some, None, if◌then◌else◌};
+ghost use Rattle.std.specs.List.{flat_map};
 ghost use Rattle.std.specs.Option.{option_map_or};
-ghost use Rattle.cqf_model.specs.declared.topology.Link.{Link as ALink};
 ghost use Rattle.cqf_model.specs.Domain.{bridge_of};
 ghost use Rattle.cqf_program_press.specs.Press.{Puts};
 ghost use Rattle.cqf_program_plans.specs.EndNames.{name_of_end};
 ghost use Rattle.cqf_program_plans.specs.TcBridge.{bridge_text, clearing_by, each_link, each_stream, frame_needs};
-ghost use Rattle.cqf_program_plans.specs.TcBridge.{gate_line, if_left, link_lines, link_need, needs_by, nothing_line};
+ghost use Rattle.cqf_program_plans.specs.TcBridge.{gate_call, if_left, link_call, link_lines, link_need, needs_by};
 ghost use Rattle.cqf_program_plans.specs.TcBridge.{out_need, stream_clearing, stream_gates, stream_lines, stream_needs};
 ghost use Rattle.cqf_program_plans.specs.TcBridge.{way_clearing, way_in, way_need, way_out, ways_out};
 
@@ -58,39 +57,50 @@ fn put_way<W: Write>(press: &mut Press<'_, W>, row: &Row, way: Option<u8>)
 fn put_out_need<W: Write>(press: &mut Press<'_, W>, domain: &Domain, bridge: u8, link: u8)
     ensures { Puts W.contents press.old press.new (out_need domain.now bridge link) }
 {
-    press.put(b"    : \"${OUT_");
+    press.put(b"    port OUT_");
     press.put_number(link);
-    press.put(b":?interface of ");
+    press.put(b" \"${OUT_");
+    press.put_number(link);
+    press.put(b":-}\" ");
+    put_end(press, domain, link);
+    press.put(b" \"interface of ");
     put_bridge(press, domain, bridge);
     press.put(b" to ");
     put_end(press, domain, link);
-    press.put(b"}\"\n");
+    press.put(b"\"\n");
 }
 
 /// Puts the line that wants the interface by which a stream comes from its talker.
 fn put_talker_need<W: Write>(press: &mut Press<'_, W>, domain: &Domain, bridge: u8, row: &Row)
     ensures { Puts W.contents press.old press.new (way_need domain.now bridge row.now None) }
 {
-    press.put(b"    : \"${TALKER_");
+    press.put(b"    port TALKER_");
     press.put_number(row.no);
-    press.put(b":?interface of ");
+    press.put(b" \"${TALKER_");
+    press.put_number(row.no);
+    press.put(b":-}\" \"\" \"interface of ");
     put_bridge(press, domain, bridge);
     press.put(b" to the talker of ");
     press.put(row.name.as_bytes());
-    press.put(b"}\"\n");
+    press.put(b"\"\n");
 }
 
 /// Puts the line that wants the interface by which streams come over a link.
 fn put_link_need<W: Write>(press: &mut Press<'_, W>, domain: &Domain, bridge: u8, link: u8)
     ensures { Puts W.contents press.old press.new (link_need domain.now bridge link) }
 {
-    press.put(b"    : \"${IN_");
+    let from = bridge_of(domain, link);
+    press.put(b"    port IN_");
     press.put_number(link);
-    press.put(b":?interface of ");
+    press.put(b" \"${IN_");
+    press.put_number(link);
+    press.put(b":-}\" ");
+    put_bridge(press, domain, from);
+    press.put(b" \"interface of ");
     put_bridge(press, domain, bridge);
     press.put(b" to ");
-    put_bridge(press, domain, bridge_of(domain, link));
-    press.put(b"}\"\n");
+    put_bridge(press, domain, from);
+    press.put(b"\"\n");
 }
 
 /// Puts the line that wants the interface by which a stream comes.
@@ -113,15 +123,15 @@ fn put_way_need<W: Write>(
 fn put_frame_needs<W: Write>(press: &mut Press<'_, W>, row: &Row)
     ensures { Puts W.contents press.old press.new (frame_needs row.now) }
 {
-    press.put(b"    : \"${MAC_");
+    press.put(b"    frames ");
     press.put_number(row.no);
-    press.put(b":?destination address of ");
-    press.put(row.name.as_bytes());
-    press.put(b"}\"\n    : \"${VLAN_");
+    press.put(b" \"${MAC_");
     press.put_number(row.no);
-    press.put(b":?VLAN of ");
+    press.put(b":-}\" \"${VLAN_");
+    press.put_number(row.no);
+    press.put(b":-}\" ");
     press.put(row.name.as_bytes());
-    press.put(b"}\"\n");
+    press.put(b"\n");
 }
 
 /// Puts the line that clears the interface by which a stream comes.
@@ -133,6 +143,15 @@ fn put_clearing<W: Write>(press: &mut Press<'_, W>, row: &Row, way: Option<u8>)
     press.put(b"\"\n");
 }
 
+/// Puts the call that sets the list of a link that leaves the bridge.
+fn put_link_call<W: Write>(press: &mut Press<'_, W>, link: u8)
+    ensures { Puts W.contents press.old press.new (link_call link) }
+{
+    press.put(b"    link \"$OUT_");
+    press.put_number(link);
+    press.put(b"\"");
+}
+
 /// Puts the lines of a link that leaves the bridge.
 fn put_link_lines<W: Write>(press: &mut Press<'_, W>, domain: &Domain, link: u8)
     ensures { Puts W.contents press.old press.new (link_lines domain.now link) }
@@ -141,9 +160,9 @@ fn put_link_lines<W: Write>(press: &mut Press<'_, W>, domain: &Domain, link: u8)
     press.put_number(link);
     press.put(b" ");
     put_link(press, domain, link);
-    press.put(b"\n    link \"$OUT_");
-    press.put_number(link);
-    press.put(b"\"\n");
+    press.put(b"\n");
+    put_link_call(press, link);
+    press.put(b"\n");
 }
 
 /// Puts the interface of a hop, where it leaves the bridge.
@@ -165,9 +184,9 @@ fn put_ways_out<W: Write>(press: &mut Press<'_, W>, domain: &Domain, bridge: u8,
     }
 }
 
-/// Puts the line that sets a stream's gate at the interface by which it comes.
-fn put_gate_line<W: Write>(press: &mut Press<'_, W>, row: &Row, way: Option<u8>)
-    ensures { Puts W.contents press.old press.new (gate_line row.now way) }
+/// Puts the call that sets a stream's gate at the interface by which it comes.
+fn put_gate_call<W: Write>(press: &mut Press<'_, W>, row: &Row, way: Option<u8>)
+    ensures { Puts W.contents press.old press.new (gate_call row.now way) }
 {
     press.put(b"    gate \"$");
     put_way(press, row, way);
@@ -179,7 +198,6 @@ fn put_gate_line<W: Write>(press: &mut Press<'_, W>, row: &Row, way: Option<u8>)
     press.put_number(row.no);
     press.put(b"\" ");
     press.put_number(row.octets);
-    press.put(b"\n");
 }
 
 /// Puts the lines of a stream that comes that way.
@@ -199,28 +217,8 @@ fn put_stream_lines<W: Write>(
     press.put(b", leaves by");
     put_ways_out(press, domain, bridge, row);
     press.put(b"\n");
-    put_gate_line(press, row, way);
-}
-
-/// Puts what stands where no link leaves the bridge.
-fn put_nothing<W: Write>(press: &mut Press<'_, W>, domain: &Domain, bridge: u8)
-    ensures { Puts W.contents press.old press.new (nothing_line domain.now bridge) }
-{
-    if !is_left(domain, bridge) {
-        press.put(b"    :\n");
-    }
-}
-
-/// Whether a link leaves the bridge.
-fn is_left(domain: &Domain, bridge: u8) -> bool
-    ensures { result ≡ list_any (λ (link : ALink). link.from == bridge) domain.now.links }
-{
-    for link in 0..domain.links() {
-        if domain.link(link).from == bridge {
-            return true;
-        }
-    }
-    false
+    put_gate_call(press, row, way);
+    press.put(b"\n");
 }
 
 /// Puts the line that wants the interface of a link, where it leaves the bridge.
@@ -375,9 +373,9 @@ pub(crate) fn put_bridge_function<W: Write>(
     press.put(b"() {\n    # ");
     put_bridge(press, domain, bridge);
     press.put(b"\n");
-    put_nothing(press, domain, bridge);
     put_out_needs(press, domain, bridge);
     put_needs(press, domain, bridge, rows);
+    press.put(b"    ready\n");
     put_clearings(press, domain, bridge, rows);
     put_links(press, domain, bridge);
     put_streams(press, domain, bridge, rows);

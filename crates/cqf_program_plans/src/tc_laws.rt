@@ -1,4 +1,5 @@
-//! The lists of a script are those that are compiled.
+//! The lists of a script are those that are compiled, and are set where they are due.
+ghost use Rattle.cqf_program_plans.specs.TcCalls.{ScriptsCallWhatIsDue};
 ghost use Rattle.cqf_program_plans.specs.TcLaws.{ScriptsHoldTheLists};
 
 /// The words of a script's lists, read back, are the compiled ones: those of a port the list of each port of the domain, and
@@ -6,4 +7,12 @@ ghost use Rattle.cqf_program_plans.specs.TcLaws.{ScriptsHoldTheLists};
 /// network does with them no law says.
 pub fn scripts_hold_the_lists()
     ensures { ScriptsHoldTheLists }
+{}
+
+/// The text of a script, read line by line, has for each bridge one function, which calls `link` once for each link that leaves
+/// the bridge, with that link's interface, and behind these `gate` once for each stream that leaves it, with the interface by
+/// which it comes, its index, its address and VLAN, and its octets; and it calls neither for anything else. `link` has the words
+/// of the list that each port of the domain is compiled to, and `gate` those of the list of a stream's gate (profile).
+pub fn scripts_call_what_is_due()
+    ensures { ScriptsCallWhatIsDue }
 {}

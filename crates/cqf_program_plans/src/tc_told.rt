@@ -2,11 +2,13 @@
 ghost use Rattle.cqf_program_press.specs.Edge.{HasTold, writing};
 ghost use Rattle.cqf_program_press.specs.Press.{Puts};
 ghost use Rattle.cqf_program_plans.specs.TcOutput.{AreWordsOf, text_of_tc};
-ghost use Rattle.cqf_program_plans.specs.TcText.{bridges_text, tc_text};
+ghost use Rattle.cqf_program_plans.specs.TcText.{bridges_text, functions_text, tc_text};
 
 use crate::tc_bridges::put_bridge_function;
+use crate::tc_checks::put_checks;
 use crate::tc_frame::{
-    put_choice, put_gate_function, put_given, put_link_function, put_no_gates_function, put_usage,
+    put_choice, put_gate_function, put_given, put_link_function, put_no_gates_function,
+    put_old_gates_function, put_opening, put_usage,
 };
 use crate::tc_outputs::TcOutput;
 use cqf_model::Row;
@@ -23,6 +25,23 @@ fn put_bridges<W: Write>(press: &mut Press<'_, W>, domain: &Domain, rows: &[Row]
     }
 }
 
+/// Puts the functions that bridges call, with the words of the lists of ports and of gates.
+fn put_functions<W: Write>(
+    press: &mut Press<'_, W>,
+    domain: &Domain,
+    port_words: &[u8],
+    gate_words: &[u8],
+)
+    requires { AreWordsOf domain.now port_words.now gate_words.now }
+    ensures { Puts W.contents press.old press.new (functions_text domain.now) }
+{
+    put_checks(press);
+    put_link_function(press, domain, port_words);
+    put_old_gates_function(press);
+    put_no_gates_function(press);
+    put_gate_function(press, domain, gate_words);
+}
+
 /// Puts the script of a domain and the rows of its streams, with the words of the lists of ports and of gates.
 fn put_script<W: Write>(
     press: &mut Press<'_, W>,
@@ -35,10 +54,9 @@ fn put_script<W: Write>(
     ensures { Puts W.contents press.old press.new (tc_text domain.now rows.now) }
 {
     put_usage(press, domain);
+    put_opening(press, domain);
     put_given(press, domain);
-    put_link_function(press, domain, port_words);
-    put_no_gates_function(press);
-    put_gate_function(press, domain, gate_words);
+    put_functions(press, domain, port_words, gate_words);
     put_bridges(press, domain, rows);
     put_choice(press, domain);
 }

@@ -7,10 +7,10 @@ returns g c = Puts-then _ _ c.put.ensures
     (Puts-then _ _ c.put-2.ensures
     (Puts-then _ _ c.put_bridge.ensures
     (Puts-then _ _ c.put-3.ensures
-    (Puts-then _ _ c.put_nothing.ensures
     (Puts-then _ _ c.put_out_needs.ensures
     (Puts-then _ _ c.put_needs.ensures
+    (Puts-then _ _ c.put-4.ensures
     (Puts-then _ _ c.put_clearings.ensures
     (Puts-then _ _ c.put_links.ensures
     (Puts-then _ _ c.put_streams.ensures
-    c.put-4.ensures))))))))))
+    c.put-5.ensures))))))))))

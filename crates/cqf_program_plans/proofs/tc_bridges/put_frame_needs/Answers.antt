@@ -5,9 +5,9 @@ pub returns : goal.returns
 returns g c = Puts-then _ _ c.put.ensures
     (Puts-then _ _ c.put_number.ensures
     (Puts-then _ _ c.put-2.ensures
-    (Puts-then _ _ (rw c.as_bytes.ensures.value at c.put-3.ensures)
-    (Puts-then _ _ c.put-4.ensures
     (Puts-then _ _ c.put_number-2.ensures
-    (Puts-then _ _ c.put-5.ensures
-    (Puts-then _ _ (rw c.as_bytes-2.ensures.value at c.put-6.ensures)
-    c.put-7.ensures)))))))
+    (Puts-then _ _ c.put-3.ensures
+    (Puts-then _ _ c.put_number-3.ensures
+    (Puts-then _ _ c.put-4.ensures
+    (Puts-then _ _ (rw c.as_bytes.ensures.value at c.put-5.ensures)
+    c.put-6.ensures)))))))

@@ -7,5 +7,5 @@ returns g c = Puts-then _ _ c.put.ensures
     (Puts-then _ _ c.put-2.ensures
     (Puts-then _ _ c.put_link.ensures
     (Puts-then _ _ c.put-3.ensures
-    (Puts-then _ _ c.put_number-2.ensures
+    (Puts-then _ _ c.put_link_call.ensures
     c.put-4.ensures)))))

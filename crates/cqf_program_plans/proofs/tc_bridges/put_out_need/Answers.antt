@@ -5,7 +5,11 @@ pub returns : goal.returns
 returns g c = Puts-then _ _ c.put.ensures
     (Puts-then _ _ c.put_number.ensures
     (Puts-then _ _ c.put-2.ensures
-    (Puts-then _ _ c.put_bridge.ensures
+    (Puts-then _ _ c.put_number-2.ensures
     (Puts-then _ _ c.put-3.ensures
     (Puts-then _ _ c.put_end.ensures
-    c.put-4.ensures)))))
+    (Puts-then _ _ c.put-4.ensures
+    (Puts-then _ _ c.put_bridge.ensures
+    (Puts-then _ _ c.put-5.ensures
+    (Puts-then _ _ c.put_end-2.ensures
+    c.put-6.ensures)))))))))

@@ -9,4 +9,5 @@ returns g c = Puts-then _ _ c.put.ensures
     (Puts-then _ _ c.put-4.ensures
     (Puts-then _ _ c.put_ways_out.ensures
     (Puts-then _ _ c.put-5.ensures
-    c.put_gate_line.ensures))))))
+    (Puts-then _ _ c.put_gate_call.ensures
+    c.put-6.ensures)))))))

@@ -3,8 +3,7 @@ use Rattle.cqf_program_plans.proofs.tc_frame.put_gate_function.Goals as goal
 
 pub returns : goal.returns
 returns g c = Puts-then _ _ c.put.ensures
+    (Puts-then _ _ c.put_gate_command.ensures
     (Puts-then _ _ c.put-2.ensures
     (Puts-then _ _ c.put-3.ensures
-    (Puts-then _ _ c.put-4.ensures
-    (Puts-then _ _ (rw c.requires at c.put-5.ensures)
-    c.put-6.ensures))))
+    c.put-4.ensures)))

@@ -3,9 +3,8 @@ use Rattle.cqf_program_plans.proofs.tc_told.put_script.Goals as goal
 
 pub returns : goal.returns
 returns g c = Puts-then _ _ c.put_usage.ensures
+    (Puts-then _ _ c.put_opening.ensures
     (Puts-then _ _ c.put_given.ensures
-    (Puts-then _ _ c.put_link_function.ensures
-    (Puts-then _ _ c.put_no_gates_function.ensures
-    (Puts-then _ _ c.put_gate_function.ensures
+    (Puts-then _ _ c.put_functions.ensures
     (Puts-then _ _ c.put_bridges.ensures
-    c.put_choice.ensures)))))
+    c.put_choice.ensures))))

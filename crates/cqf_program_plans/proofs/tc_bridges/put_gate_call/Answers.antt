@@ -1,7 +1,7 @@
 use Rattle.std.proofs.Common.{◌+◌, ap}
 use Rattle.std.specs.Prelude.{decimal}
 use Rattle.cqf_program_press.proofs.PressLemmas.{Puts-as, Puts-then}
-use Rattle.cqf_program_plans.proofs.tc_bridges.put_gate_line.Goals as goal
+use Rattle.cqf_program_plans.proofs.tc_bridges.put_gate_call.Goals as goal
 
 pub returns : goal.returns
 returns g c = Puts-then _ _ c.put.ensures
@@ -13,5 +13,4 @@ returns g c = Puts-then _ _ c.put.ensures
     (Puts-then _ _ c.put-4.ensures
     (Puts-then _ _ c.put_number-3.ensures
     (Puts-then _ _ c.put-5.ensures
-    (Puts-then _ _ c.put_number-4.ensures
-    c.put-6.ensures)))))))))
+    c.put_number-4.ensures))))))))
