@@ -31,7 +31,7 @@ use Rattle.cqf_program_runs.proofs.Fates.{first_passes, second_passes}
 use Rattle.cqf_program_runs.proofs.Well.{of_covered, of_uncovered}
 
 -- what is whole has come, whatever its deadline is
-come_by : (at : ℕ) (whole : Nanos) (deadline : Option ℕ) → has_come (arrival_at_listener at whole deadline) ≡ true
+pub come_by : (at : ℕ) (whole : Nanos) (deadline : Option ℕ) → has_come (arrival_at_listener at whole deadline) ≡ true
 come_by at whole None = refl
 come_by at whole (Some deadline) = either (nat_lt deadline (whole.0 - at))
   where
@@ -41,7 +41,7 @@ come_by at whole (Some deadline) = either (nat_lt deadline (whole.0 - at))
     either false = refl
 
 -- a start on a link, by its frame and link
-at_start : (starts : List Started) (frame link : ℕ) (start : Started) → start_on starts frame link ≡ Some start →
+pub at_start : (starts : List Started) (frame link : ℕ) (start : Started) → start_on starts frame link ≡ Some start →
     Contains starts start × (start.frame ≡ frame) × (start.link ≡ link)
 at_start starts frame link start is =
     let member = find_member (λ (s : Started). (s.frame == frame) && (s.link == link)) starts start is in
@@ -101,10 +101,10 @@ module _ (run : Run) (streams : List PlannedText) (book : Contents) (says : Says
       let hop = contains_from_map (delivery_to run.domain whole deadline x) (listeners_of run.domain row) delivery to in
       to_listener x row hop.0 delivery covered hop.1 hop.2 come (start_on book.starts x.frame hop.0.link) refl
   of_verdict x delivery inside within own come (DroppedFor reason) uncovered = absurd (
-      let drop = of_uncovered run streams book says x inside within reason uncovered in
-      let dropped = delivery_of run.domain x (passage.Dropped drop.0.reason) in
+      let dropped = delivery_of run.domain x (passage.Dropped reason) in
       let is : dropped ≡ delivery =
-      contains_one dropped delivery (subst (λ (ds : List Delivery). Contains ds delivery) drop.1 own) in
+      contains_one dropped delivery
+      (subst (λ (ds : List Delivery). Contains ds delivery) (of_uncovered run streams book says x inside within reason uncovered) own) in
       false≢true (ap (λ (z : Delivery). has_come (fate_of z)) is ∙ come))
   of_verdict x delivery inside within own come LacksRow never = absurd never
   of_verdict x delivery inside within own come ExceedsGate never = absurd never

@@ -9,8 +9,11 @@ pub mod ByBook
 mod PassageLines
 mod Lines
 mod Fates
+mod CallsWell
+mod RefusedInLogs
 mod Well
-mod Arrived
+pub mod Arrived
+pub mod Listeners
 mod Once
 mod Planned
 mod InTime

@@ -35,3 +35,18 @@ complaint_told frame stream bridge at complaint =
     ∙ ap (λ t. frame ++ (codes " of " ++ t)) (append_assoc stream behind_stream z
     ∙ ap (λ t. stream ++ (codes ", offered to " ++ t)) (append_assoc bridge behind_bridge z
     ∙ ap (λ t. bridge ++ (codes " at " ++ t)) (append_assoc at behind_at z)))))
+
+-- and behind why a call is refused
+pub refused_told : (number call seat refused : List ℕ) →
+    codes "cqf: check: call " ++ (number ++ (codes ", " ++ (call ++ (codes " by " ++ (seat ++ (codes ": refused " ++ (refused ++ 10 ∷ [])))))))
+    ≡ fault_line (codes "check")
+    (codes "call " ++ (number ++ (codes ", " ++ (call ++ (codes " by " ++ (seat ++ (codes ": " ++ (codes "refused " ++ refused))))))))
+refused_told number call seat refused =
+    let z : List ℕ = 10 ∷ [] in
+    let behind_seat = codes ": refused " ++ refused in
+    let behind_call = codes " by " ++ (seat ++ behind_seat) in
+    let behind_number = codes ", " ++ (call ++ behind_call) in
+    ap (λ t. codes "cqf: check: call " ++ t)
+    (sym (append_assoc number behind_number z
+    ∙ ap (λ t. number ++ (codes ", " ++ t)) (append_assoc call behind_call z
+    ∙ ap (λ t. call ++ (codes " by " ++ t)) (append_assoc seat behind_seat z))))

@@ -1,42 +1,61 @@
 -- Each offer is told of once for each of its listeners.
-use Rattle.std.proofs.Common.{◌≡◌, ◌∙◌, ◌∷◌, ◌<◌, ◌≤◌, ◌==◌, [], ℕ, AllPairs, Bool, true, false, cond, List, Option}
-use Rattle.std.proofs.Common.{Some, None, Contains, ap, arith, count_by, get_or, if◌then◌else◌, length, nat_lt, refl}
-use Rattle.std.proofs.Common.{sum_by, sym}
+use Rattle.std.proofs.Common.{◌≡◌, ◌≢◌, ◌∙◌, ◌∷◌, ◌<◌, ◌≤◌, ◌==◌, [], ℕ, AllPairs, Bool, true, false, cond, List, Option}
+use Rattle.std.proofs.Common.{Some, None, Contains, ap, ap₂, append-nil, arith, count_by, filter, get_or, if◌then◌else◌, inl, inr, length, nat_lt}
+use Rattle.std.proofs.Common.{refl, sum_by, sym}
+use Rattle.std.specs.List.{flat_map}
+use Rattle.std.proofs.lemmas.Bool.{cond-false, cond-true}
 use Rattle.std.proofs.lemmas.Bool.Decides.{nat_tests}
-use Rattle.std.proofs.lemmas.List.{length-map}
-use Rattle.std.proofs.lemmas.List.Sums.{sum_by-cons}
-use Rattle.cqf_lists.proofs.Members.{contains_from_map, contains_here, contains_later, contains_none, contains_one}
-use Rattle.cqf_lists.proofs.Sums.{sum_at_most_one, sum_flat, sum_member}
+use Rattle.std.proofs.lemmas.List.Kept.{AllPairs-filter}
+use Rattle.cqf_lists.proofs.EachBelow.{filter_none}
+use Rattle.cqf_lists.proofs.Made.{filter_made}
+use Rattle.cqf_lists.proofs.Members.{contains_cases, contains_from_filter, contains_from_map, contains_none, contains_one, find_member}
+use Rattle.cqf_lists.proofs.Pairs.{pairs_head, pairs_tail, pairs_weaker}
+use Rattle.cqf_lists.proofs.Sums.{sum_at_most_one, sum_map, sum_member}
 use Rattle.cqf_model.specs.declared.frames.Dropped.{Dropped}
 use Rattle.cqf_model.specs.declared.frames.Offered.{Offered}
+use Rattle.cqf_model.specs.declared.topology.Hop.{Hop}
 use Rattle.cqf_model.specs.declared.topology.Row.{Row}
 use Rattle.cqf_model.specs.Book.{Contents}
+use Rattle.cqf_model.specs.Domain.{Domain, end_of, is_text}
 use Rattle.cqf_model.specs.Run.{Run}
-use Rattle.cqf_model.specs.Shift.{offer_cycle, row_for}
+use Rattle.cqf_model.specs.Shift.{IsCovered, offer_cycle, row_for}
+use Rattle.cqf_model.specs.Table.{AreOrderly, IsTree, table_of}
 use Rattle.cqf_model.specs.Traffic.{numbered}
 use Rattle.cqf_model.specs.Promise.{SaysTheShift}
+use Rattle.cqf_model.proofs.Texts.{is_text_itself, is_text_same}
+use Rattle.cqf_topology.specs.DomainText.{IsDomain}
 use Rattle.cqf_topology.specs.PlannedText.{PlannedText}
-use Rattle.cqf_laws_shift.proofs.Came.{numbers_ascend, one_number}
-use Rattle.cqf_laws_report.proofs.Matched.{sum_same}
-use Rattle.cqf_program_plans.specs.LatencyText.{listeners_of}
+use Rattle.cqf_laws_shift.proofs.Came.{numbers_ascend}
+use Rattle.cqf_program_plans.specs.EndNames.{name_of_end}
+use Rattle.cqf_program_plans.specs.LatencyText.{is_station, listeners_of}
 use Rattle.cqf_program_runs.specs.declared.delivery.Passage.TheVariants as passage
 use Rattle.cqf_program_runs.specs.declared.delivery.Delivery.{Delivery}
-use Rattle.cqf_program_runs.specs.ArrivalLaws.{IsToldOnce, told_of_offer}
+use Rattle.cqf_program_runs.specs.ArrivalLaws.{IsToldOnce, goes_to, told_of_frame, told_to}
 use Rattle.cqf_program_runs.specs.Deliveries.{deadline_named, deliveries_by, deliveries_of_offer, deliveries_unless}
 use Rattle.cqf_program_runs.specs.Deliveries.{delivery_of, delivery_to, drop_of, whole_on}
-use Rattle.cqf_program_runs.proofs.Fates.{count_none}
+use Rattle.cqf_program_runs.proofs.Listeners.{one_listener}
 use Rattle.cqf_program_runs.proofs.Well.{of_covered, of_uncovered}
 
--- where each passes, all are counted
-count_all : {X : Type 0} (test : X → Bool) (xs : List X) → ((x : X) → Contains xs x → test x ≡ true) → count_by test xs ≡ length xs
-count_all test [] each = refl
-count_all {X} test (x ∷ xs) each =
-    omega (
-      arith,
-      sum_by-cons (λ (y : X). cond (test y) 1 0) x xs,
-      ap {B = ℕ} (λ (b : Bool). cond b 1 0) (each x (contains_here x xs)),
-      count_all test xs (λ y c. each y (contains_later x xs y c)),
-    )
+-- where the members that pass exclude one another, one that passes is all that is kept
+not_passing : (b : Bool) → (b ≡ true → ⊥) → b ≡ false
+not_passing true no_pass = absurd (no_pass refl)
+not_passing false no_pass = refl
+
+filter_alone : {X : Type 0} (p : X → Bool) (xs : List X) (x : X) → AllPairs (λ (a b : X). p a ≡ true → p b ≡ true → ⊥) xs → Contains xs x →
+    p x ≡ true → filter p xs ≡ x ∷ []
+filter_alone p [] x apart inside passes = absurd (contains_none x inside)
+filter_alone {X} p (y ∷ xs) x apart inside passes =
+    let excluded : X → X → Type 0 = λ (a b : X). p a ≡ true → p b ≡ true → ⊥ in
+    elim (contains_cases y xs x inside) [
+      | inl same ↦
+          let first : p y ≡ true = ap p same ∙ passes in
+          let none : filter p xs ≡ [] =
+          filter_none p xs (λ z c. not_passing (p z) (λ second. pairs_head excluded y xs z apart c first second)) in
+          cond-true (p y) (y ∷ filter p xs) (filter p xs) first ∙ ap₂ (λ (a : X) (rest : List X). a ∷ rest) same none
+      | inr behind ↦
+          cond-false (p y) (y ∷ filter p xs) (filter p xs) (not_passing (p y) (λ first. pairs_head excluded y xs x apart behind first passes))
+          ∙ filter_alone p xs x (pairs_tail excluded y xs apart) behind passes
+    ]
 
 module _ (run : Run) (streams : List PlannedText) (book : Contents) where
   -- the deliveries of an offer tell of its frame
@@ -63,25 +82,8 @@ module _ (run : Run) (streams : List PlannedText) (book : Contents) where
   frame_of : (y : Offered) (delivery : Delivery) → Contains (deliveries_of_offer run streams book y) delivery → delivery.frame ≡ y.frame
   frame_of y delivery c = frame_within y delivery (nat_lt (offer_cycle run.domain y) (length run.tables)) c
 
-  -- so as many tell of it as there are of it
+  -- so what tells of it is what there is of it
   module _ (x : Offered) (inside : Contains (numbered run.offers) x) where
-    abbrev is_of : Delivery → Bool
-    is_of delivery = delivery.frame == x.frame
-
-    abbrev own : ℕ
-    own = length (deliveries_of_offer run streams book x)
-
-    here : (y : Offered) → Contains (numbered run.offers) y → (b : Bool) → (y.frame == x.frame) ≡ b →
-        count_by is_of (deliveries_of_offer run streams book y) ≡ (if y.frame == x.frame then own else 0)
-    here y among true e =
-        let number : y.frame ≡ x.frame = grind (arith, nat_tests) in
-        count_all is_of (deliveries_of_offer run streams book y) (λ delivery c. ap (λ (n : ℕ). n == x.frame) (frame_of y delivery c) ∙ e)
-        ∙ ap (λ (z : Offered). length (deliveries_of_offer run streams book z)) (one_number run.offers y x among inside number)
-        ∙ sym (ap {B = ℕ} (λ (b : Bool). if b then own else 0) e)
-    here y among false e =
-        count_none is_of (deliveries_of_offer run streams book y) (λ delivery c. ap (λ (n : ℕ). n == x.frame) (frame_of y delivery c) ∙ e)
-        ∙ sym (ap {B = ℕ} (λ (b : Bool). if b then own else 0) e)
-
     -- no other offer has its number
     apart : AllPairs (λ (a b : Offered). (a.frame == x.frame) ≡ true → (b.frame == x.frame) ≡ true → ⊥) (numbered run.offers)
     apart i j e l in_list =
@@ -94,25 +96,56 @@ module _ (run : Run) (streams : List PlannedText) (book : Contents) where
             let two : b.frame ≡ x.frame = grind (arith, nat_tests) in
             omega (arith, less, one, two)
 
-    as_many : told_of_offer run streams book x.frame ≡ own
-    as_many =
-        let counts : Offered → ℕ = λ y. if y.frame == x.frame then own else 0 in
-        let all : told_of_offer run streams book x.frame ≡ sum_by counts (numbered run.offers) =
-        sum_flat (λ (z : Delivery). cond (is_of z) 1 0) (deliveries_of_offer run streams book) (numbered run.offers)
-        ∙ sum_same (λ (y : Offered). count_by is_of (deliveries_of_offer run streams book y)) counts (numbered run.offers)
-        (λ y among. here y among (y.frame == x.frame) refl) in
-        let most : sum_by counts (numbered run.offers) ≤ own = sum_at_most_one (λ (y : Offered). y.frame == x.frame) own (numbered run.offers) apart in
+    told_is_own : told_of_frame run streams book x.frame ≡ deliveries_of_offer run streams book x
+    told_is_own =
         let itself : (x.frame == x.frame) ≡ true = grind (arith, nat_tests) in
-        let least : counts x ≤ sum_by counts (numbered run.offers) = sum_member counts (numbered run.offers) x inside in
-        omega (arith, all, most, least, ap {B = ℕ} (λ (b : Bool). if b then own else 0) itself)
+        filter_made (deliveries_of_offer run streams book) (λ (y : Offered). y.frame == x.frame) (λ (delivery : Delivery). delivery.frame == x.frame)
+        (numbered run.offers) (λ y delivery among c. ap (λ (n : ℕ). n == x.frame) (frame_of y delivery c))
+        ∙ ap (flat_map (deliveries_of_offer run streams book)) (filter_alone (λ (y : Offered). y.frame == x.frame) (numbered run.offers) x apart inside itself)
+        ∙ append-nil (deliveries_of_offer run streams book x)
 
     pub is_told_once : SaysTheShift run book → offer_cycle run.domain x < length run.tables → IsToldOnce run streams book x
     is_told_once says within = record {
-      as_covered = λ row covered.
-          as_many
-          ∙ ap (λ (ds : List Delivery). length ds) (of_covered run streams book says x inside within row covered)
-          ∙ length-map (listeners_of run.domain row)
-          (delivery_to run.domain (whole_on run.domain book.starts x.frame) (deadline_named streams x.offer.stream) x);
-      as_dropped = λ reason uncovered.
-          as_many ∙ ap (λ (ds : List Delivery). length ds) (of_uncovered run streams book says x inside within reason uncovered).1;
+      as_covered = λ row covered. told_is_own ∙ of_covered run streams book says x inside within row covered;
+      as_dropped = λ reason uncovered. told_is_own ∙ of_uncovered run streams book says x inside within reason uncovered;
     }
+
+    -- and just one goes to each listener
+    module _ (domain : IsDomain run.domain) (orderly : AreOrderly run.domain run.tables) (says : SaysTheShift run book)
+        (within : offer_cycle run.domain x < length run.tables) (row : Row) (covered : IsCovered run x row) (hop : Hop)
+        (among : Contains (listeners_of run.domain row) hop) where
+      abbrev d : Domain
+      d = run.domain
+
+      abbrev to_it : Hop → Bool
+      to_it h = is_text (name_of_end d h.link) (name_of_end d hop.link)
+
+      -- the row goes along a tree
+      tree : IsTree d row.tree.items
+      tree =
+          let cycle = offer_cycle d x in
+          let member = find_member (λ (r : Row). is_text r.name x.offer.stream) (table_of run.tables cycle) row covered.named in
+          orderly.trees cycle row member.0
+
+      -- two hops to one listener would reach it twice
+      one_hop : AllPairs (λ (a b : Hop). to_it a ≡ true → to_it b ≡ true → ⊥) (listeners_of d row)
+      one_hop =
+          let ends : Hop → Hop → Type 0 = λ (a b : Hop). end_of d a.link ≢ end_of d b.link in
+          pairs_weaker ends (λ (a b : Hop). to_it a ≡ true → to_it b ≡ true → ⊥) (listeners_of d row)
+          (λ a b ca cb differ first second. differ (one_listener d a.link b.link domain
+          (contains_from_filter (λ (h : Hop). is_station (end_of d h.link)) row.tree.items a ca).1
+          (contains_from_filter (λ (h : Hop). is_station (end_of d h.link)) row.tree.items b cb).1
+          (is_text_same (name_of_end d a.link) (name_of_end d hop.link) first ∙ sym (is_text_same (name_of_end d b.link) (name_of_end d hop.link) second))))
+          (AllPairs-filter ends (λ (h : Hop). is_station (end_of d h.link)) row.tree.items tree.reached_once)
+
+      pub told_to_one : told_to run streams book x.frame (name_of_end d hop.link) ≡ 1
+      told_to_one =
+          let to = delivery_to d (whole_on d book.starts x.frame) (deadline_named streams x.offer.stream) x in
+          let counts : Hop → ℕ = λ h. if to_it h then 1 else 0 in
+          let told : told_to run streams book x.frame (name_of_end d hop.link) ≡ sum_by counts (listeners_of d row) =
+          ap (λ (ds : List Delivery). count_by (λ (z : Delivery). goes_to (name_of_end d hop.link) z.passage) ds)
+          ((is_told_once says within).as_covered row covered)
+          ∙ sum_map (λ (z : Delivery). cond (goes_to (name_of_end d hop.link) z.passage) 1 0) to (listeners_of d row) in
+          let most : sum_by counts (listeners_of d row) ≤ 1 = sum_at_most_one to_it 1 (listeners_of d row) one_hop in
+          let least : counts hop ≤ sum_by counts (listeners_of d row) = sum_member counts (listeners_of d row) hop among in
+          omega (arith, told, most, least, ap {B = ℕ} (λ (b : Bool). if b then 1 else 0) (is_text_itself (name_of_end d hop.link)))

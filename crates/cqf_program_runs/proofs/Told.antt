@@ -1,20 +1,26 @@
 -- What is told of the deliveries that were made is told of the input.
-use Rattle.std.proofs.Common.{◌≡◌, ◌∙◌, ℕ, List, Option, Some, None, Result, Err, ap, find, length, refl, subst, sym, count_by, nat_le}
+use Rattle.std.proofs.Common.{◌≡◌, ◌∙◌, ℕ, List, Option, Some, None, Result, Err, ap, find, length, map, option_map, refl, subst, sym, count_by, nat_le}
 use Rattle.cqf_lists.specs.Results.{refuse}
 use Rattle.cqf_lists.proofs.EachBelow.{length-singles}
 use Rattle.cqf_model.specs.declared.frames.Offered.{Offered}
-use Rattle.cqf_model.specs.History.{table_at}
+use Rattle.cqf_model.specs.Book.{Contents}
+use Rattle.cqf_model.specs.History.{Recorded, table_at}
 use Rattle.cqf_model.specs.Shift.{offer_cycle}
 use Rattle.cqf_model.specs.Traffic.{numbered}
 use Rattle.cqf_topology.specs.PlannedText.{PlannedText}
+use Rattle.cqf_admission.specs.Asking.{asked_of}
+use Rattle.cqf_admission_ledger.specs.declared.logs.Logged.{Logged}
+use Rattle.cqf_admission_ledger.specs.Ledger.{recorded_in}
+use Rattle.cqf_program_scenario.specs.declared.given.Given.{Given}
 use Rattle.cqf_program_scenario.specs.Calls.{history_of}
+use Rattle.cqf_program_scenario.specs.Ran.{IsRunOf}
 use Rattle.cqf_program_scenario.specs.Closing.{scenario_given}
 use Rattle.cqf_program_scenario.specs.Scenario.{Scenario}
 use Rattle.cqf_program_stop.specs.declared.stops.Stop.{Stop}
 use Rattle.cqf_program_stop.specs.Stops.{EndsWith, IsRefused}
 use Rattle.cqf_program_runs.specs.declared.checked.Counts.{Counts}
 use Rattle.cqf_program_runs.specs.declared.delivery.Delivery.{Delivery}
-use Rattle.cqf_program_runs.specs.Checked.{checked_by, complaint_line, counts_of, finished, is_bad, later_offers}
+use Rattle.cqf_program_runs.specs.Checked.{checked_by, checked_deliveries, complaint_line, counts_of, finished, is_bad, later_offers}
 use Rattle.cqf_program_runs.specs.Deliveries.{fate_of}
 use Rattle.cqf_program_runs.specs.DeliveriesText.{text_of_deliveries}
 use Rattle.cqf_program_runs.specs.declared.deliveries_reading.PlannedGiven.{PlannedGiven}
@@ -23,6 +29,9 @@ use Rattle.cqf_program_runs.specs.CheckOutput.{IsCheckRefusal, IsChecked, IsChec
 use Rattle.cqf_program_runs.specs.DeliveriesOutput.{IsDeliveriesOutput}
 use Rattle.cqf_program_runs.specs.PlannedScenario.{planned_scenario, run_of_scenario}
 use Rattle.cqf_program_runs.specs.DeliveriesReading.{AreDeliveries, AreDeliveriesOf, IsPlannedGiven}
+use Rattle.cqf_program_runs.specs.RefusedCalls.{first_refused, refused_call_line}
+use Rattle.cqf_program_runs.specs.RefusedInLog.{refused_from}
+use Rattle.cqf_program_runs.proofs.RefusedInLogs.{first_refused-log}
 
 -- the text of the deliveries is the output
 pub IsDeliveriesOutput-made : (cycles : ℕ) (input : List ℕ) (planned : PlannedGiven) (deliveries : List Delivery) → IsPlannedGiven cycles input planned →
@@ -39,13 +48,14 @@ IsDeliveriesOutput-made cycles input planned deliveries given are =
 
 -- what is told of them is told of the scenario
 pub IsCheckedScenario-made : (cycles : ℕ) (s : Scenario) (streams : List PlannedText) (deliveries : List Delivery) (frames later : ℕ)
-    (found : Result (List ℕ) (List ℕ)) → AreDeliveries cycles s streams deliveries → frames ≡ length s.offers →
+    (found : Result (List ℕ) (List ℕ)) → first_refused (history_of cycles s) ≡ None → AreDeliveries cycles s streams deliveries → frames ≡ length s.offers →
     later ≡ count_by (λ (x : Offered). nat_le cycles (offer_cycle s.domain x)) (numbered s.offers) →
     checked_by deliveries (counts_of frames later deliveries) ≡ found → IsCheckedScenario cycles s streams found
-IsCheckedScenario-made cycles s streams deliveries frames later found made many rest told = record {
+IsCheckedScenario-made cycles s streams deliveries frames later found granted made many rest told = record {
   book = made.book;
   is_book = made.is_book;
-  told = ap (λ (ds : List Delivery). checked_by ds (counts_of (length s.offers) (later_offers (run_of_scenario cycles s)) ds)) (sym made.are)
+  told = ap (λ (first : Option (ℕ × Recorded)). refuse first refused_call_line (checked_deliveries (run_of_scenario cycles s) streams made.book)) granted
+      ∙ ap (λ (ds : List Delivery). checked_by ds (counts_of (length s.offers) (later_offers (run_of_scenario cycles s)) ds)) (sym made.are)
       ∙ ap (λ (n : ℕ). checked_by deliveries (counts_of (length s.offers) n deliveries)) (sym (rest ∙ as_run))
       ∙ ap (λ (n : ℕ). checked_by deliveries (counts_of n later deliveries)) (sym many)
       ∙ told;
@@ -96,13 +106,15 @@ IsRefused-line found line stop is ends = record {
 }
 
 -- what is told of the deliveries that were made is told of what was read
-module _ (cycles : ℕ) (planned : PlannedGiven) (deliveries : List Delivery) (counts : Counts) (are : AreDeliveriesOf cycles planned deliveries)
+module _ (cycles : ℕ) (planned : PlannedGiven) (deliveries : List Delivery) (counts : Counts)
+    (granted : first_refused (history_of cycles (scenario_given planned.given)) ≡ None) (are : AreDeliveriesOf cycles planned deliveries)
     (counted : counts ≡ counts_of (length planned.given.offers.items)
     (count_by (λ (x : Offered). nat_le cycles (offer_cycle planned.given.domain x)) (numbered planned.given.offers.items)) deliveries) where
   pub IsCheckedGiven-made : (found : Result (List ℕ) (List ℕ)) → checked_by deliveries counts ≡ found → IsCheckedGiven cycles planned found
   IsCheckedGiven-made found told streams those =
       IsCheckedScenario-made cycles (scenario_given planned.given) streams deliveries (length planned.given.offers.items)
-      (count_by (λ (x : Offered). nat_le cycles (offer_cycle planned.given.domain x)) (numbered planned.given.offers.items)) found (are streams those) refl refl
+      (count_by (λ (x : Offered). nat_le cycles (offer_cycle planned.given.domain x)) (numbered planned.given.offers.items)) found granted
+      (are streams those) refl refl
       (ap (checked_by deliveries) (sym counted) ∙ told)
 
   pub IsRefusedGiven-made : (stop : Stop) → IsRefused (checked_by deliveries counts) stop → IsRefusedGiven cycles planned stop
@@ -111,6 +123,31 @@ module _ (cycles : ℕ) (planned : PlannedGiven) (deliveries : List Delivery) (c
     line = λ one. IsCheckedGiven-made (Err stop.text.items) (refused.line one);
     memory = refused.memory;
   }
+
+-- the first call of a log that is refused is that of the scenario's history
+pub refused_is : (cycles : ℕ) (given : Given) (log : List Logged) (book : Contents) (first : Option (ℕ × Logged)) → IsRunOf cycles given log book →
+    refused_from 1 log ≡ first → first_refused (history_of cycles (scenario_given given))
+    ≡ option_map (λ (call : ℕ × Logged). (call.0, recorded_in (map asked_of given.requests.items) given.script.items call.1)) first
+refused_is cycles given log book first ran is =
+    ap first_refused (sym ran.entries) ∙ first_refused-log (map asked_of given.requests.items) given.script.items log
+    ∙ ap (option_map (λ (call : ℕ × Logged). (call.0, recorded_in (map asked_of given.requests.items) given.script.items call.1))) is
+
+-- and its line is told of what was read
+pub IsRefusedGiven-call : (cycles : ℕ) (planned : PlannedGiven) (log : List Logged) (book : Contents) (call : ℕ × Logged) (stop : Stop) →
+    IsRunOf cycles planned.given log book → refused_from 1 log ≡ Some call →
+    EndsWith 1 (refused_call_line (call.0, recorded_in (map asked_of planned.given.requests.items) planned.given.script.items call.1)) stop →
+    IsRefusedGiven cycles planned stop
+IsRefusedGiven-call cycles planned log book call stop ran is ends = record {
+  statuses = ends.statuses;
+  line = λ one streams those. record {
+    book = book;
+    is_book = ran.is_book;
+    told = ap (λ (first : Option (ℕ × Recorded)). refuse first refused_call_line (checked_deliveries (run_of_scenario cycles (scenario_given planned.given))
+        streams book)) (refused_is cycles planned.given log book (Some call) ran is)
+        ∙ ap Err (sym (ends.line_is one));
+  };
+  memory = ends.memory;
+}
 
 -- and what is the same is refused with it
 pub IsRefused-same : {A : Type 0} (found other : Result A (List ℕ)) (stop : Stop) → found ≡ other → IsRefused other stop → IsRefused found stop

@@ -6,13 +6,13 @@ use Rattle.std.proofs.lemmas.Bool.{leb-false, lt-leb}
 use Rattle.std.proofs.lemmas.Bool.Decides.{nat_tests}
 use Rattle.cqf_lists.specs.Results.{refuse}
 use Rattle.cqf_lists.proofs.Members.{contains_flat, contains_from_flat, contains_from_map, contains_here, contains_map}
-use Rattle.cqf_model.specs.declared.frames.Dropped.{Dropped}
 use Rattle.cqf_model.specs.declared.frames.Offered.{Offered}
 use Rattle.cqf_model.specs.declared.frames.Reason.{Reason}
 use Rattle.cqf_model.specs.declared.frames.Started.{Started}
 use Rattle.cqf_model.specs.declared.topology.Hop.{Hop}
 use Rattle.cqf_model.specs.declared.topology.Row.{Row}
 use Rattle.cqf_model.specs.Book.{Contents}
+use Rattle.cqf_model.specs.History.{Recorded}
 use Rattle.cqf_model.specs.Run.{Run}
 use Rattle.cqf_model.specs.Shift.{IsCovered, IsUncovered, offer_cycle}
 use Rattle.cqf_model.specs.Traffic.{DroppedFor, ExceedsGate, LacksRow, Queued, Verdict, numbered}
@@ -26,11 +26,13 @@ use Rattle.cqf_program_runs.specs.declared.delivery.Delivery.{Delivery}
 use Rattle.cqf_program_runs.specs.declared.delivery.Fate.TheVariants as fate
 use Rattle.cqf_program_runs.specs.Checked.{checked_deliveries, checked_by, complaint_line, counts_of, finished, is_bad}
 use Rattle.cqf_program_runs.specs.Checked.{is_finished, is_under_way, later_offers, unfinished_line, well_line}
-use Rattle.cqf_program_runs.specs.CheckLaws.{AllGoWell, ComesInTime, GoesWell, IsWellExactly, line_of_well}
+use Rattle.cqf_program_runs.specs.CheckLaws.{AllOffersGoWell, ComesInTime, GoesWell, IsWellExactly, line_of_well}
 use Rattle.cqf_program_runs.specs.Deliveries.{deadline_named, deliveries_by, deliveries_of, deliveries_of_offer}
 use Rattle.cqf_program_runs.specs.Deliveries.{deliveries_to, deliveries_unless, delivery_of, delivery_to, drop_of}
 use Rattle.cqf_program_runs.specs.Deliveries.{end_of_journey, fate_of, start_on, whole_instant, whole_on}
+use Rattle.cqf_program_runs.specs.RefusedCalls.{first_refused, refused_call_line}
 use Rattle.cqf_program_runs.proofs.ByBook.{covered_no_drop, uncovered_drop}
+use Rattle.cqf_program_runs.proofs.CallsWell.{by_refused, none_is_refused, none_refused}
 use Rattle.cqf_program_runs.proofs.Fates.{count_none, first_passes, is_there, none_counted, none_found, none_passes, second_passes}
 
 -- whether all is finished
@@ -68,10 +70,11 @@ module _ (run : Run) (streams : List PlannedText) (book : Contents) (says : Says
 
   -- and of one that isn't there is its drop
   pub of_uncovered : (x : Offered) → Contains (numbered run.offers) x → offer_cycle run.domain x < length run.tables → (reason : Reason) →
-      IsUncovered run x reason → (dropped : Dropped) × (deliveries_of_offer run streams book x ≡ delivery_of run.domain x (passage.Dropped dropped.reason) ∷ [])
+      IsUncovered run x reason → deliveries_of_offer run streams book x ≡ delivery_of run.domain x (passage.Dropped reason) ∷ []
   of_uncovered x inside within reason uncovered =
       let drop = uncovered_drop run book says x inside reason within uncovered in
-      (drop.0, of_run x within ∙ ap (deliveries_unless run streams book x) drop.1)
+      of_run x within ∙ ap (deliveries_unless run streams book x) drop.1
+      ∙ ap (λ (r : Reason). delivery_of run.domain x (passage.Dropped r) ∷ []) drop.2
 
   -- the deliveries, each of which is there
   abbrev all : List Delivery
@@ -111,20 +114,19 @@ module _ (run : Run) (streams : List PlannedText) (book : Contents) (says : Says
           (start_on book.starts x.frame hop.link) refl;
     }
     by_verdict x inside (DroppedFor reason) uncovered = absurd (
-        let drop = of_uncovered x inside (within x inside) reason uncovered in
-        let delivery = delivery_of run.domain x (passage.Dropped drop.0.reason) in
+        let delivery = delivery_of run.domain x (passage.Dropped reason) in
         let own : Contains (deliveries_of_offer run streams book x) delivery =
-        subst (λ (ds : List Delivery). Contains ds delivery) (sym drop.1) (contains_here delivery []) in
-        let is : fate.Dropped drop.0.reason ≡ fate.Delivered =
+        subst (λ (ds : List Delivery). Contains ds delivery) (sym (of_uncovered x inside (within x inside) reason uncovered)) (contains_here delivery []) in
+        let is : fate.Dropped reason ≡ fate.Delivered =
         there delivery (contains_flat (deliveries_of_offer run streams book) (numbered run.offers) x delivery inside own) in cc)
     by_verdict x inside LacksRow never = absurd never
     by_verdict x inside ExceedsGate never = absurd never
 
-    goes_well : AllGoWell run streams book
+    goes_well : AllOffersGoWell run streams book
     goes_well x inside = by_verdict x inside (judged run x) (is_decided run x inside)
 
   -- where all goes well, each delivery is there
-  each_there : AllGoWell run streams book → (delivery : Delivery) → Contains all delivery → fate_of delivery ≡ fate.Delivered
+  each_there : AllOffersGoWell run streams book → (delivery : Delivery) → Contains all delivery → fate_of delivery ≡ fate.Delivered
   each_there well delivery among =
       let from = contains_from_flat (deliveries_of_offer run streams book) (numbered run.offers) delivery among in
       let x = from.0 in
@@ -143,7 +145,7 @@ module _ (run : Run) (streams : List PlannedText) (book : Contents) (says : Says
   abbrev counted : Counts
   counted = counts_of (length run.offers) (later_offers run) all
 
-  only_well : (line : List ℕ) → checked_deliveries run streams book ≡ Ok line → AllGoWell run streams book
+  only_well : (line : List ℕ) → checked_deliveries run streams book ≡ Ok line → AllOffersGoWell run streams book
   only_well line is =
       let bad : Delivery → Bool = λ delivery. is_bad (fate_of delivery) in
       let waits : Delivery → Bool = λ delivery. is_under_way (fate_of delivery) in
@@ -158,7 +160,7 @@ module _ (run : Run) (streams : List PlannedText) (book : Contents) (says : Says
       (λ delivery among. is_there (fate_of delivery) (none_passes bad all steps.0 delivery among) (none_counted waits all none_waits delivery among))
       (λ x inside. leb-false (length run.tables) (offer_cycle run.domain x) (none_counted late (numbered run.offers) none_late x inside))
 
-  where_all_well : AllGoWell run streams book → checked_deliveries run streams book ≡ Ok (line_of_well run streams book)
+  where_all_well : AllOffersGoWell run streams book → checked_deliveries run streams book ≡ Ok (line_of_well run streams book)
   where_all_well well =
       let bad : Delivery → Bool = λ delivery. is_bad (fate_of delivery) in
       let waits : Delivery → Bool = λ delivery. is_under_way (fate_of delivery) in
@@ -175,5 +177,13 @@ module _ (run : Run) (streams : List PlannedText) (book : Contents) (says : Says
       done : (a b : ℕ) → a ≡ 0 → b ≡ 0 → ((a == 0) && (b == 0)) ≡ true
       done a b first second = ap (λ (n : ℕ). (n == 0) && (b == 0)) first ∙ ap (λ (n : ℕ). (0 == 0) && (n == 0)) second
 
-  pub is_well_exactly : IsWellExactly run streams book
-  is_well_exactly = record { only = only_well; where_well = where_all_well }
+  pub is_well_exactly : (entries : List Recorded) → IsWellExactly entries run streams book
+  is_well_exactly entries = record {
+    only = λ line is.
+        let parts = by_refused (first_refused entries) (checked_deliveries run streams book) line is in
+        record { calls = none_is_refused entries parts.0; offers = only_well line parts.1 };
+    where_well = λ well.
+        ap {B = Result (List ℕ) (List ℕ)} (λ (first : Option (ℕ × Recorded)). refuse first refused_call_line (checked_deliveries run streams book))
+        (none_refused entries well.calls)
+        ∙ where_all_well well.offers;
+  }

@@ -3,16 +3,17 @@ use Rattle.std.specs.Prelude.{ℕ, ◌≡◌, ◌⊎◌, List, [], Result, Ok, E
 use Rattle.cqf_model.specs.Book.{Contents}
 use Rattle.cqf_topology.specs.PlannedText.{PlannedText}
 use Rattle.cqf_program_scenario.specs.Books.{IsBookOfScenario}
+use Rattle.cqf_program_scenario.specs.Calls.{history_of}
 use Rattle.cqf_program_scenario.specs.Scenario.{Scenario}
 use Rattle.cqf_program_stop.specs.declared.stops.Stop.{Stop}
-use Rattle.cqf_program_runs.specs.Checked.{checked_deliveries}
+use Rattle.cqf_program_runs.specs.Checked.{checked_run}
 use Rattle.cqf_program_runs.specs.PlannedScenario.{planned_scenario, run_of_scenario}
 
--- what was found is what is told of a scenario, by its one-thread book
+-- what was found is what is told of a scenario, by its history and its one-thread book
 pub record IsCheckedScenario (cycles : ℕ) (s : Scenario) (streams : List PlannedText) (found : Result (List ℕ) (List ℕ)) : Type 0 where
   pub book : Contents
   pub is_book : IsBookOfScenario cycles s book
-  pub told : checked_deliveries (run_of_scenario cycles s) streams book ≡ found
+  pub told : checked_run (history_of cycles s) (run_of_scenario cycles s) streams book ≡ found
 
 -- of what was read: of an input that is refused it is the line of the first fault
 abbrev pub IsCheckedOf : ℕ → Result (Scenario × List PlannedText) (List ℕ) → Result (List ℕ) (List ℕ) → Type 0

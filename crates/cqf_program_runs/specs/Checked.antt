@@ -1,9 +1,10 @@
--- Whether all goes well in a run, by its deliveries (profile).
+-- Whether all goes well in a run, by the calls of its history and its deliveries (profile).
 use Rattle.std.specs.Prelude.{ℕ, ◌++◌, ◌==◌, ◌&&◌, Bool, true, false, List, Result, Ok, Err, codes, count_by, decimal}
 use Rattle.std.specs.Prelude.{find, if◌then◌else◌, is_some, length, nat_le}
 use Rattle.cqf_lists.specs.Results.{refuse}
 use Rattle.cqf_model.specs.declared.frames.Offered.{Offered}
 use Rattle.cqf_model.specs.Book.{Contents}
+use Rattle.cqf_model.specs.History.{Recorded}
 use Rattle.cqf_model.specs.Run.{Run}
 use Rattle.cqf_model.specs.Shift.{offer_cycle}
 use Rattle.cqf_model.specs.Traffic.{numbered}
@@ -19,6 +20,7 @@ use Rattle.cqf_program_runs.specs.declared.delivery.Fate.{Fate}
 use Rattle.cqf_program_runs.specs.declared.delivery.Fate.TheVariants as fate
 use Rattle.cqf_program_runs.specs.Deliveries.{deliveries_of, fate_of}
 use Rattle.cqf_program_runs.specs.DeliveriesText.{text_of_listeners_latency}
+use Rattle.cqf_program_runs.specs.RefusedCalls.{first_refused, refused_call_line}
 
 -- the fates of which a check ends: a drop, and a frame that is late
 abbrev pub is_bad : Fate → Bool
@@ -98,7 +100,11 @@ checked_by deliveries counts = refuse (find (λ (delivery : Delivery). is_bad (f
 abbrev pub later_offers : Run → ℕ
 later_offers run = count_by (λ (x : Offered). nat_le (length run.tables) (offer_cycle run.domain x)) (numbered run.offers)
 
--- of a run by its book
+-- of the frames of a run, by its book
 abbrev pub checked_deliveries : Run → List PlannedText → Contents → Result (List ℕ) (List ℕ)
 checked_deliveries run streams book =
     checked_by (deliveries_of run streams book) (counts_of (length run.offers) (later_offers run) (deliveries_of run streams book))
+
+-- of a history and its run, by the run's book: where a call is refused, the line of the first; else what is told of the frames
+abbrev pub checked_run : List Recorded → Run → List PlannedText → Contents → Result (List ℕ) (List ℕ)
+checked_run entries run streams book = refuse (first_refused entries) refused_call_line (checked_deliveries run streams book)

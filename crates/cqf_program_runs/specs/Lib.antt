@@ -6,6 +6,7 @@ pub mod RunTold
 pub mod ReportOutput
 pub mod Deliveries
 pub mod DeliveriesText
+pub mod RefusedCalls
 pub mod Checked
 pub mod Arrivals
 pub mod Deadlines
@@ -20,3 +21,4 @@ pub mod CheckOutput
 pub mod ReportTelling
 pub mod DeliveriesReading
 pub mod Checking
+pub mod RefusedInLog

@@ -1,7 +1,13 @@
 //! The commands `deliveries` and `check`.
-ghost use Rattle.std.specs.Prelude.{◌≡◌, ◌≤◌, true, Ok, Err, IfErr, IfOk};
+ghost use Rattle.std.specs.Prelude.{◌≡◌, ◌≤◌, true, None, Ok, Err, IfErr, IfOk, map};
+ghost use Rattle.cqf_admission.specs.Asking.{asked_of};
+ghost use Rattle.cqf_admission_ledger.specs.Ledger.{recorded_in};
+ghost use Rattle.cqf_admission_requests.specs.Orders.{StandsIn};
+ghost use Rattle.cqf_model.specs.Book.{contents_of};
+ghost use Rattle.cqf_program_scenario.specs.Calls.{history_of};
 ghost use Rattle.cqf_program_scenario.specs.Closing.{MayBeRun, scenario_given};
 ghost use Rattle.cqf_program_scenario.specs.Logged.{HasOrders};
+ghost use Rattle.cqf_program_scenario.specs.Ran.{IsRunOf};
 ghost use Rattle.cqf_program_stop.specs.Stops.{EndsWith, IsRefused};
 ghost use Rattle.cqf_program_runs.specs.Checked.{checked_by, complaint_line, finished, is_bad, unfinished_line, well_line};
 ghost use Rattle.cqf_program_runs.specs.Deliveries.{fate_of};
@@ -10,14 +16,21 @@ ghost use Rattle.cqf_program_runs.specs.CheckOutput.{IsCheckRefusal, IsChecked};
 ghost use Rattle.cqf_program_runs.specs.Checking.{IsCheckedGiven, IsRefusedGiven};
 ghost use Rattle.cqf_program_runs.specs.DeliveriesOutput.{IsDeliveriesOutput};
 ghost use Rattle.cqf_program_runs.specs.PlannedScenario.{planned_scenario};
+ghost use Rattle.cqf_program_runs.specs.RefusedCalls.{first_refused, is_refused, refused_call_line};
 ghost use Rattle.cqf_program_runs.specs.DeliveriesReading.{AreDeliveriesOf};
 ghost use Rattle.cqf_model.specs.Limits.{most_cycles};
 
-use crate::deliveries_made::{deliveries_of_scenario, later_offers};
+use crate::deliveries_made::{
+    deliveries_of_run, deliveries_of_scenario, later_offers, run_gathered,
+};
 use crate::deliveries_outputs::DeliveriesOutput;
 use crate::deliveries_reading::{PlannedGiven, read_planned_given};
+use crate::refused_calls::{first_refused, refused_line};
 use crate::{Counts, Delivery, complaint_about, counts_of, first_bad, unfinished_line, well_line};
+use cqf_admission_ledger::Logged;
+use cqf_model::Book;
 use cqf_program_press::Sheet;
+use cqf_program_scenario::Given;
 use cqf_program_stop::{REFUSED, Stop};
 use cqf_units::Memory;
 use std::alloc::Global;
@@ -100,7 +113,7 @@ fn check_deliveries(alloc: Global, deliveries: &[Delivery], counts: Counts) -> R
     }
 }
 
-/// What is told of a scenario whose deliveries were made.
+/// What is told of a scenario whose deliveries were made, where no call of its history is refused.
 fn check_made(
     alloc: Global,
     cycles: u32,
@@ -108,6 +121,7 @@ fn check_made(
     deliveries: &[Delivery],
 ) -> Result<Vec<u8>, Stop>
     requires may { MayBeRun cycles (scenario_given planned.now.given) }
+    requires granted { first_refused (history_of cycles (scenario_given planned.now.given)) ≡ None }
     requires made { AreDeliveriesOf cycles planned.now deliveries.now }
     ensures ok { IfOk result (λ line. IsCheckedGiven cycles planned.now (Ok line.items)) }
     ensures err { IfErr result (IsRefusedGiven cycles planned.now) }
@@ -118,6 +132,60 @@ fn check_made(
     check_deliveries(alloc, deliveries, counts)
 }
 
+/// What is told of a scenario that was run, where no call of its history is refused.
+fn check_frames(
+    alloc: Global,
+    cycles: u32,
+    planned: &PlannedGiven,
+    entries: &[Logged],
+    book: &Book,
+) -> Result<Vec<u8>, Stop>
+    requires short { cycles ≤ most_cycles }
+    requires may { MayBeRun cycles (scenario_given planned.now.given) }
+    requires granted { first_refused (history_of cycles (scenario_given planned.now.given)) ≡ None }
+    requires ran { IsRunOf cycles planned.now.given entries.now (contents_of book.now) }
+    ensures ok { IfOk result (λ line. IsCheckedGiven cycles planned.now (Ok line.items)) }
+    ensures err { IfErr result (IsRefusedGiven cycles planned.now) }
+{
+    match deliveries_of_run(alloc, cycles, planned, entries, book) {
+        Ok(deliveries) => check_made(alloc, cycles, planned, deliveries.as_slice()),
+        Err(_) => Err(Stop::memory(alloc)),
+    }
+}
+
+/// The end with a call that is refused.
+fn refused_stop(alloc: Global, given: &Given, number: usize, logged: &Logged) -> Stop
+    requires there { StandsIn (map asked_of given.now.requests.items) given.now.script.items logged.now.what }
+    requires refused { is_refused logged.now.reply ≡ true }
+    ensures { EndsWith 1
+        (refused_call_line (number, recorded_in (map asked_of given.now.requests.items) given.now.script.items logged.now)) result }
+{
+    let requests = given.requests.as_slice();
+    let script = given.script.as_slice();
+    let line = refused_line(alloc, requests, script, number, logged);
+    Stop::with_text(alloc, REFUSED, line)
+}
+
+/// What is told of a scenario that was run.
+fn check_ran(
+    alloc: Global,
+    cycles: u32,
+    planned: &PlannedGiven,
+    entries: &[Logged],
+    book: &Book,
+) -> Result<Vec<u8>, Stop>
+    requires short { cycles ≤ most_cycles }
+    requires may { MayBeRun cycles (scenario_given planned.now.given) }
+    requires ran { IsRunOf cycles planned.now.given entries.now (contents_of book.now) }
+    ensures ok { IfOk result (λ line. IsCheckedGiven cycles planned.now (Ok line.items)) }
+    ensures err { IfErr result (IsRefusedGiven cycles planned.now) }
+{
+    match first_refused(entries) {
+        Some((number, logged)) => Err(refused_stop(alloc, &planned.given, number, &logged)),
+        None => check_frames(alloc, cycles, planned, entries, book),
+    }
+}
+
 /// What is told of a scenario.
 fn check_scenario(alloc: Global, cycles: u32, planned: &PlannedGiven) -> Result<Vec<u8>, Stop>
     requires short { cycles ≤ most_cycles }
@@ -126,19 +194,19 @@ fn check_scenario(alloc: Global, cycles: u32, planned: &PlannedGiven) -> Result<
     ensures ok { IfOk result (λ line. IsCheckedGiven cycles planned.now (Ok line.items)) }
     ensures err { IfErr result (IsRefusedGiven cycles planned.now) }
 {
-    match deliveries_of_scenario(alloc, cycles, planned) {
-        Ok(deliveries) => check_made(alloc, cycles, planned, deliveries.as_slice()),
+    match run_gathered(alloc, cycles, &planned.given) {
+        Ok((entries, book)) => check_ran(alloc, cycles, planned, entries.as_slice(), &book),
         Err(_) => Err(Stop::memory(alloc)),
     }
 }
 
-/// The line of `check` over so many cycles, 0 to 100,000, where all goes well: every offer is of a cycle that is run, covered, whole at
-/// every listener within the run, and within its deadline (profile).
+/// The line of `check` over so many cycles, 0 to 100,000, where all goes well: no call of the script is refused, and every offer is of a
+/// cycle that is run, covered, whole at every listener within the run, and within its deadline (profile).
 ///
 /// # Errors
-/// With status 1 and a line: of the first fault of the input, as [`deliveries_output`]; else of the first delivery that is dropped or
-/// late; else, of how many deliveries are under way and how many offers are of cycles that aren't run. And with status 3 for want of
-/// memory.
+/// With status 1 and a line: of the first fault of the input, as [`deliveries_output`]; else of the first call that is refused; else
+/// of the first delivery that is dropped or late; else, of how many deliveries are under way and how many offers are of cycles that
+/// aren't run. And with status 3 for want of memory.
 pub fn check_output(alloc: Global, cycles: u32, input: &[u8]) -> Result<Vec<u8>, Stop>
     requires { cycles ≤ most_cycles }
     ensures ok { IfOk result (λ line. IsChecked cycles input.now (Ok line.items)) }

@@ -18,13 +18,13 @@ use cqf_admission_ledger::Logged;
 use cqf_instants_coverage::cover;
 use cqf_laws_report::offers_are_judged;
 use cqf_model::{Book, Offer};
-use cqf_program_scenario::{Ran, run_given};
+use cqf_program_scenario::{Given, Ran, run_given};
 use cqf_topology::Domain;
 use cqf_units::{Memory, cycle_of};
 use std::alloc::Global;
 
 /// The deliveries of a scenario that was run over so many cycles.
-fn deliveries_of_run(
+pub(crate) fn deliveries_of_run(
     alloc: Global,
     cycles: u32,
     planned: &PlannedGiven,
@@ -62,6 +62,23 @@ fn deliveries_of_run(
     deliveries_of(alloc, &ended, &deadlines)
 }
 
+/// The log of a scenario's history over so many cycles, 0 to 100,000, and the book of that.
+pub(crate) fn run_gathered(
+    alloc: Global,
+    cycles: u32,
+    given: &Given,
+) -> Result<(Vec<Logged>, Book), Memory>
+    requires short { cycles ≤ most_cycles }
+    requires may { MayBeRun cycles (scenario_given given.now) }
+    requires stand { HasOrders given.now }
+    ensures { IfOk result (λ ran. IsRunOf cycles given.now ran.0.items (contents_of ran.1)) }
+{
+    let ran = run_given(alloc, cycles, given)?;
+    let Ran { entries, book } = ran;
+    let gathered = book.gather(alloc)?;
+    Ok((entries, gathered))
+}
+
 /// The deliveries of a scenario over so many cycles, 0 to 100,000.
 pub(crate) fn deliveries_of_scenario(
     alloc: Global,
@@ -73,11 +90,9 @@ pub(crate) fn deliveries_of_scenario(
     requires stand { HasOrders planned.now.given }
     ensures { IfOk result (λ deliveries. AreDeliveriesOf cycles planned.now deliveries.items) }
 {
-    let ran = run_given(alloc, cycles, &planned.given)?;
-    let Ran { entries, book } = ran;
-    let gathered = book.gather(alloc)?;
+    let (entries, book) = run_gathered(alloc, cycles, &planned.given)?;
     let logged = entries.as_slice();
-    deliveries_of_run(alloc, cycles, planned, logged, &gathered)
+    deliveries_of_run(alloc, cycles, planned, logged, &book)
 }
 
 /// Whether an offer is of a cycle that isn't run.

@@ -1,5 +1,5 @@
 //! What a book tells of its deliveries.
-ghost use Rattle.cqf_program_runs.specs.ArrivalLaws.{ArrivalsAreTheShift, EachIsToldOnce};
+ghost use Rattle.cqf_program_runs.specs.ArrivalLaws.{ArrivalsAreTheShift, EachIsToldOnce, EachListenerIsToldOnce};
 ghost use Rattle.cqf_program_runs.specs.BookLaws.{VerdictsTellDeliveries};
 ghost use Rattle.cqf_program_runs.specs.CheckLaws.{CheckIsWellExactly};
 
@@ -9,8 +9,8 @@ pub fn verdicts_tell_deliveries()
     ensures { VerdictsTellDeliveries }
 {}
 
-/// Where a book says the shift, a check tells that all is well exactly where each offer is of a cycle that is run, a row covers it,
-/// and its frame is whole within its deadline at each listener of that row (profile).
+/// Where a book says the shift, a check tells that all is well exactly where no call of the history is refused, each offer is of a
+/// cycle that is run, a row covers it, and its frame is whole within its deadline at each listener of that row (profile).
 pub fn check_is_well_exactly()
     ensures { CheckIsWellExactly }
 {}
@@ -21,8 +21,9 @@ pub fn arrivals_are_the_shift()
     ensures { ArrivalsAreTheShift }
 {}
 
-/// Where a book says the shift, an offer of a cycle that is run has a delivery for each listener of the row that covers it, and no
-/// other; and one that is dropped has just one (profile).
+/// Where a book says the shift, what is told of an offer of a cycle that is run is one delivery to each listener of the row that covers
+/// it, and nothing else; or its one drop. Over an accepted domain just one of them has the name of each listener (profile).
 pub fn each_is_told_once()
-    ensures { EachIsToldOnce }
+    ensures once { EachIsToldOnce }
+    ensures listeners { EachListenerIsToldOnce }
 {}

@@ -15,7 +15,7 @@
 //!   the [`Deadlines`] of the streams' frames.
 //! - [`put_deliveries`] puts their text, and [`complaint_about`], [`unfinished_line`] and [`well_line`] are the lines of a check.
 //! - [`verdicts_tell_deliveries`] is the law that ties deliveries by the verdicts on offers to those of a book.
-//!   [`arrivals_are_the_shift`] says which have come, [`each_is_told_once`] how many there are of an offer, and
+//!   [`arrivals_are_the_shift`] says which have come, [`each_is_told_once`] what is told of an offer, and
 //!   [`check_is_well_exactly`] when a check tells that all is well.
 //!
 //! `specs/` says what it is that a text is an output (`LineOutput` with `Line`, `RunOutput`, `ReportOutput`, `DeliveriesOutput`,
@@ -52,6 +52,7 @@ mod line_domain;
 mod line_given;
 mod line_outputs;
 mod made;
+mod refused_calls;
 mod report_carried;
 mod report_command;
 mod run_command;

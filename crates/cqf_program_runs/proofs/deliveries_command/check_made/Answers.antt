@@ -22,7 +22,8 @@ returns-clause-ok c =
     ∙ ap (λ (n : ℕ). counts_of (length c.as_slice-offers.result.now) n ds) c.later_offers-later.ensures
     ∙ ap (λ (os : List Offer). counts_of (length os) (late os) ds) c.as_slice-offers.ensures.value in
     IfOk-weaker c.check_deliveries.result _ _
-    (λ line told. IsCheckedGiven-made c.args.cycles c.args.planned.now ds c.counts_of-counts.result c.requires.made counted (Ok line.items) told)
+    (λ line told. IsCheckedGiven-made c.args.cycles c.args.planned.now ds c.counts_of-counts.result c.requires.granted c.requires.made counted
+    (Ok line.items) told)
     c.check_deliveries.ensures.ok
 
 pub returns-clause-err : goal.returns-clause-err
@@ -34,5 +35,5 @@ returns-clause-err c =
     ∙ ap (λ (n : ℕ). counts_of (length c.as_slice-offers.result.now) n ds) c.later_offers-later.ensures
     ∙ ap (λ (os : List Offer). counts_of (length os) (late os) ds) c.as_slice-offers.ensures.value in
     IfErr-weaker c.check_deliveries.result _ _
-    (λ stop refused. IsRefusedGiven-made c.args.cycles c.args.planned.now ds c.counts_of-counts.result c.requires.made counted stop refused)
+    (λ stop refused. IsRefusedGiven-made c.args.cycles c.args.planned.now ds c.counts_of-counts.result c.requires.granted c.requires.made counted stop refused)
     c.check_deliveries.ensures.err
