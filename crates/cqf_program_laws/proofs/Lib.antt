@@ -1,0 +1,4 @@
+pub mod Scripts
+pub mod Legal
+pub mod Deadlines
+pub mod Judged

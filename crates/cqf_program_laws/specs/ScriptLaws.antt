@@ -1,0 +1,51 @@
+-- What a script's calls ask for, and which histories they make.
+use Rattle.std.specs.Prelude.{ℕ, ◌≡◌, ◌≤◌, List, [], Ok, Contains, map}
+use Rattle.cqf_model.specs.Calls.{IsHistoryOf}
+use Rattle.cqf_model.specs.History.{Act, Asked, IsLegalHistory, Recorded}
+use Rattle.cqf_model.specs.Limits.{most_cycles}
+use Rattle.cqf_topology.specs.PlannedText.{PlannedText}
+use Rattle.cqf_topology.specs.StreamsText.{RequestText, streams_of_text}
+use Rattle.cqf_admission.specs.Asking.{asked_by}
+use Rattle.cqf_admission_script.specs.Script.{Called, script_of}
+use Rattle.cqf_laws_latency.specs.Streams.{AdmitsOnly}
+use Rattle.cqf_laws_told.specs.Asking.{AsksOnly}
+use Rattle.cqf_program_scenario.specs.Calls.{HasRoom, history_of}
+use Rattle.cqf_program_scenario.specs.Opening.{opening_history}
+use Rattle.cqf_program_scenario.specs.Parting.{AreCommandsBehind}
+use Rattle.cqf_program_scenario.specs.Parts.{RunTexts}
+use Rattle.cqf_program_scenario.specs.Scenario.{Scenario, scenario_of}
+use Rattle.cqf_program_plans.specs.LatencyInput.{asked_in}
+use Rattle.cqf_program_runs.specs.PlannedScenario.{planned_scenario}
+
+-- each of some calls asks for no stream but one of the list
+abbrev pub AskOnly : List Asked → List Called → Type 0
+AskOnly streams calls = (call : Called) → Contains calls call → AsksOnly streams call.1
+
+-- the calls of a script ask for no stream but one of the requests that it may name
+abbrev pub ScriptsAskOnly : Type 0
+ScriptsAskOnly = (requests : List Asked) (cycles : ℕ) (text : List ℕ) (calls : List Called) → script_of requests cycles text ≡ Ok calls →
+    AskOnly requests calls
+
+-- so it is with the scenario of an input's parts, whose streams text has these requests
+abbrev pub ScenariosAskOnly : Type 0
+ScenariosAskOnly = (cycles : ℕ) (texts : RunTexts) (s : Scenario) (requests : List RequestText) → scenario_of cycles texts ≡ Ok s →
+    streams_of_text texts.streams ≡ Ok requests → AskOnly (map asked_by requests) s.calls
+
+-- and with that of an input that is read with its deadlines
+abbrev pub PlannedScenariosAskOnly : Type 0
+PlannedScenariosAskOnly = (cycles : ℕ) (input : List ℕ) (s : Scenario) (streams : List PlannedText) → planned_scenario cycles input ≡ Ok (s, streams) →
+    AskOnly (asked_in streams) s.calls
+
+-- the history of such calls admits streams of the list alone, over however many cycles
+abbrev pub HistoriesAdmitOnly : Type 0
+HistoriesAdmitOnly = (cycles : ℕ) (s : Scenario) (streams : List Asked) → AskOnly streams s.calls → AdmitsOnly streams (history_of cycles s)
+
+-- and so does each history of a run on threads: of one that begins with the calls before the first Seal, and in which each
+-- administrator makes what it calls for behind that Seal
+abbrev pub AccountsAdmitOnly : Type 0
+AccountsAdmitOnly = (cycles : ℕ) (s : Scenario) (streams : List Asked) (asked : List (List Act)) (entries : List Recorded) → AskOnly streams s.calls →
+    AreCommandsBehind s.calls s.sealer asked → IsHistoryOf s.domain (opening_history s) asked cycles entries → AdmitsOnly streams entries
+
+-- where there is room for the calls, their history is legal
+abbrev pub HistoriesAreLegal : Type 0
+HistoriesAreLegal = (cycles : ℕ) (s : Scenario) → cycles ≤ most_cycles → HasRoom cycles [] s.calls → IsLegalHistory s.domain (history_of cycles s)

@@ -1,0 +1,84 @@
+-- What the verdicts of `latency` say of deliveries (profile).
+use Rattle.std.specs.Prelude.{ℕ, ◌≡◌, ◌≢◌, ◌≤◌, List, [], true, Some, Ok, Contains}
+use Rattle.cqf_units.specs.declared.timing.Nanos.{Nanos}
+use Rattle.cqf_model.specs.declared.frames.Background.{Background}
+use Rattle.cqf_model.specs.declared.frames.Offer.{Offer}
+use Rattle.cqf_model.specs.Book.{Contents}
+use Rattle.cqf_model.specs.Domain.{Domain}
+use Rattle.cqf_model.specs.Headline.{IsAccountOf}
+use Rattle.cqf_model.specs.History.{Act, IsLegalHistory, Recorded, held_in}
+use Rattle.cqf_model.specs.HistoryBook.{IsBookOfHistory, run_of_history}
+use Rattle.cqf_model.specs.Limits.{most_cycles}
+use Rattle.cqf_model.specs.Run.{AreBackground, AreOffers}
+use Rattle.cqf_topology.specs.DomainText.{IsDomain}
+use Rattle.cqf_topology.specs.PlannedText.{PlannedText}
+use Rattle.cqf_laws_latency.specs.Streams.{AdmitsOnly}
+use Rattle.cqf_program_scenario.specs.Books.{IsBookOfScenario}
+use Rattle.cqf_program_scenario.specs.Closing.{MayBeRun}
+use Rattle.cqf_program_scenario.specs.Opening.{opening_history}
+use Rattle.cqf_program_scenario.specs.Parting.{AreCommandsBehind}
+use Rattle.cqf_program_scenario.specs.Scenario.{Scenario}
+use Rattle.cqf_program_plans.specs.declared.latency_latencies.Latency.{Latency}
+use Rattle.cqf_program_plans.specs.declared.latency_latencies.Verdict.TheVariants as told
+use Rattle.cqf_program_plans.specs.CompileOutput.{admitted_from}
+use Rattle.cqf_program_plans.specs.LatencyInput.{asked_in, deadlines_in}
+use Rattle.cqf_program_plans.specs.LatencyText.{latencies_of, verdict_on_deadline}
+use Rattle.cqf_program_runs.specs.declared.delivery.Delivery.{Delivery}
+use Rattle.cqf_program_runs.specs.declared.delivery.Fate.TheVariants as fate
+use Rattle.cqf_program_runs.specs.declared.delivery.Journey.{Journey}
+use Rattle.cqf_program_runs.specs.declared.delivery.Passage.TheVariants as passage
+use Rattle.cqf_program_runs.specs.ArrivalLaws.{has_come}
+use Rattle.cqf_program_runs.specs.Deliveries.{deliveries_of, fate_of, latency_of}
+use Rattle.cqf_program_runs.specs.PlannedScenario.{planned_scenario, run_of_scenario}
+
+-- the delivery is of a frame of the stream that the latency is told of, on its way to the listener that it is told of
+pub record IsDeliveryTo (latency : Latency) (delivery : Delivery) : Type 0 where
+  pub journey : Journey
+  pub goes : delivery.passage ≡ passage.Goes journey
+  pub stream : delivery.stream ≡ latency.stream
+  pub listener : journey.listener ≡ latency.listener
+
+-- where its frame is whole within the run, it takes no less than the least that is told and no more than the most. Where the verdict is
+-- `in-time` the frame isn't late; where it is `late`, the frame is, once it has come
+pub record IsAsJudged (latency : Latency) (delivery : Delivery) : Type 0 where
+  pub within : (journey : Journey) (whole : Nanos) → delivery.passage ≡ passage.Goes journey → journey.whole ≡ Some whole →
+      (latency.least ≤ latency_of delivery.at.0 whole) × (latency_of delivery.at.0 whole ≤ latency.most)
+  pub in_time : verdict_on_deadline latency ≡ Some told.InTime → fate_of delivery ≢ fate.Late
+  pub late : verdict_on_deadline latency ≡ Some told.Late → has_come (fate_of delivery) ≡ true → fate_of delivery ≡ fate.Late
+
+-- so is each delivery of some, to a listener that is told of
+abbrev pub AreAsJudged : List Latency → List Delivery → Type 0
+AreAsJudged latencies deliveries = (latency : Latency) (delivery : Delivery) → Contains latencies latency → Contains deliveries delivery →
+    IsDeliveryTo latency delivery → IsAsJudged latency delivery
+
+-- what `latency` tells of streams with their deadlines, where this is the history of their plan
+abbrev pub latencies_told : Domain → List Recorded → List PlannedText → List Latency
+latencies_told d plan streams = latencies_of d (held_in d plan 0) (deadlines_in streams)
+
+-- where all streams of a plan are admitted, the deliveries in the book of each history that admits streams of the plan alone are as
+-- `latency` tells, whatever else is called for, whatever is offered, and beside any background
+abbrev pub VerdictsHoldOfDeliveries : Type 0
+VerdictsHoldOfDeliveries =
+    (d : Domain) (streams : List PlannedText) (plan entries : List Recorded) (offers : List Offer) (background : List Background) (cycles : ℕ)
+    (book : Contents) → IsDomain d → admitted_from d [] 1 (asked_in streams) ≡ Ok plan → IsLegalHistory d entries →
+    AdmitsOnly (asked_in streams) entries → AreOffers d offers → AreBackground d background →
+    IsBookOfHistory d entries offers background cycles book →
+    AreAsJudged (latencies_told d plan streams) (deliveries_of (run_of_history d entries offers background cycles) streams book)
+
+-- so they are in the book of a script over the plan's streams
+abbrev pub VerdictsHoldOfScripts : Type 0
+VerdictsHoldOfScripts =
+    (cycles : ℕ) (input : List ℕ) (s : Scenario) (streams : List PlannedText) (plan : List Recorded) (book : Contents) → cycles ≤ most_cycles →
+    planned_scenario cycles input ≡ Ok (s, streams) → IsDomain s.domain → MayBeRun cycles s →
+    admitted_from s.domain [] 1 (asked_in streams) ≡ Ok plan → IsBookOfScenario cycles s book →
+    AreAsJudged (latencies_told s.domain plan streams) (deliveries_of (run_of_scenario cycles s) streams book)
+
+-- and in that of each account of its run on threads
+abbrev pub VerdictsHoldOfAccounts : Type 0
+VerdictsHoldOfAccounts =
+    (cycles : ℕ) (input : List ℕ) (s : Scenario) (streams : List PlannedText) (plan entries : List Recorded) (asked : List (List Act)) (book : Contents) →
+    planned_scenario cycles input ≡ Ok (s, streams) → IsDomain s.domain → MayBeRun cycles s →
+    admitted_from s.domain [] 1 (asked_in streams) ≡ Ok plan → AreCommandsBehind s.calls s.sealer asked →
+    IsAccountOf s.domain (opening_history s) s.offers s.background cycles asked entries book →
+    AreAsJudged (latencies_told s.domain plan streams)
+    (deliveries_of (run_of_history s.domain entries s.offers s.background cycles) streams book)
