@@ -1,90 +1,225 @@
 //! The files that the words name.
 
+ghost use Rattle.std.specs.Prelude.{◌≤◌, OnOk, length};
+
 use crate::terminal::hint;
-use cqf_program_engine::{Heard, read_input, stop_of_file};
-use cqf_program_press::Told;
+use cqf_program_engine::{Heard, Texts, engine, tell};
+use cqf_program_explanations::{Source, explanation};
+use cqf_program_files::{Front, cycles_of, front_of, renumbered};
+use cqf_program_press::{Told, write_out};
 use cqf_program_stop::{FAULT, REFUSED, Stop, USAGE};
-use cqf_program_words::{Operands, composed, read_words};
-use std::alloc::Global;
+use cqf_program_words::{Job, Operands, read_words, stop_of_file};
+use std::alloc::{AllocError, Global};
 use std::fs::File;
-use std::io::{ErrorKind, Read, Write};
+use std::io::{ErrorKind, Write};
+use std::process::ExitCode;
+use std::sync::Wait;
+use std::thread::Threads;
 
 /// The name of standard input.
 const STANDARD: &str = "-";
 
-/// The text of a reader: all that it gives, or its first 67,108,865 bytes, which are too many for any input.
-fn text_of<R: Read + Drop>(alloc: Global, reader: R) -> Result<Vec<u8>, Stop> {
-    let mut heard = Heard::new(alloc, reader);
-    if let Err(stop) = read_input(alloc, &mut heard) {
-        if stop.status != REFUSED {
-            return Err(stop);
-        }
-    }
-    match Vec::from_slice(alloc, heard.bytes()) {
-        Ok(text) => Ok(text),
-        Err(_) => Err(Stop::memory(alloc)),
-    }
+/// Room for each line that the engine tells of a fault, had before it runs.
+const ROOM: usize = 65_536;
+
+/// What a run with files is given: its words, the job that they mean, and the files' texts.
+#[derive(Clone, Copy)]
+struct Given<'g> {
+    alloc: Global,
+    job: &'g Job,
+    operands: &'g Operands<'g>,
+    texts: &'g [&'g [u8]],
 }
 
-/// The text of the file of a name. `Err` with status 4 where it can't be opened or read.
-fn text_of_file(rt: &HostRuntime, alloc: Global, name: &str) -> Result<Vec<u8>, Stop> {
-    let file = match File::open(rt, name) {
+/// Reads the file of a name, as one text more. `Err` with status 4 where it can't be opened or read.
+fn read_file(rt: &HostRuntime, alloc: Global, name: &str, texts: &mut Texts) -> Result<(), Stop>
+    requires { length texts.old.bytes ≤ 67108864 }
+    ensures { OnOk result (length texts.new.bytes ≤ 67108864) }
+{
+    let mut file = match File::open(rt, name) {
         Ok(file) => file,
         Err(error) if error.kind() == ErrorKind::OutOfMemory => return Err(Stop::memory(alloc)),
         Err(_) => return Err(stop_of_file(alloc, name)),
     };
-    match text_of(alloc, file) {
+    match texts.read(alloc, &mut file) {
+        Ok(()) => Ok(()),
         Err(stop) if stop.status == FAULT => Err(stop_of_file(alloc, name)),
-        read => read,
+        Err(stop) => Err(stop),
     }
 }
 
-/// The texts of the files, read in their order.
-fn texts_of<F: Write>(
-    rt: &HostRuntime,
-    alloc: Global,
-    names: &[&str],
-    faults: &mut Told<F>,
-) -> Result<Vec<Vec<u8>>, Stop> {
-    let mut texts = Vec::new(alloc);
+/// Reads standard input, as one text more.
+fn read_standard(rt: &HostRuntime, alloc: Global, texts: &mut Texts) -> Result<(), Stop>
+    requires { length texts.old.bytes ≤ 67108864 }
+    ensures { OnOk result (length texts.new.bytes ≤ 67108864) }
+{
+    let mut faults = Told::new(rt.stderr());
+    let mut input = rt.stdin();
+    hint(&input, &mut faults);
+    texts.read(alloc, &mut input)
+}
+
+/// Reads the files, in their order. `Err` with status 1 where all their texts come to more than the program reads, and with status 4 at the
+/// first file that can't be read.
+fn read_files(rt: &HostRuntime, alloc: Global, names: &[&str]) -> Result<Texts, Stop> {
+    let mut texts = Texts::new(alloc);
     for name in names {
-        let text = if *name == STANDARD {
-            hint(&rt.stdin(), faults);
-            text_of(alloc, rt.stdin())?
+        if *name == STANDARD {
+            read_standard(rt, alloc, &mut texts)?;
         } else {
-            text_of_file(rt, alloc, name)?
-        };
-        if texts.push(text).is_err() {
-            return Err(Stop::memory(alloc));
+            read_file(rt, alloc, name, &mut texts)?;
         }
     }
     Ok(texts)
 }
 
-/// The input of a run with files. `Err` as `read_words` has it where the words without these mean no job, with status 2 where
-/// standard input is named twice, and with status 4 at the first file that can't be read.
-pub(crate) fn input_of_files<F: Write>(
+/// The end of a run before it has begun.
+pub(crate) fn end(rt: &HostRuntime, stop: &Stop) -> ExitCode {
+    let (mut output, mut faults) = (Told::new(rt.stdout()), Told::new(rt.stderr()));
+    ExitCode::from(tell(stop, &mut output, &mut faults))
+}
+
+/// The files that the words name, with their texts.
+fn sources_of<'t>(
+    alloc: Global,
+    names: &[&'t str],
+    texts: &[&'t [u8]],
+) -> Result<Vec<Source<'t>>, AllocError> {
+    let mut sources = Vec::new(alloc);
+    for place in 0..names.len().min(texts.len()) {
+        sources.push(Source {
+            name: names[place],
+            text: texts[place],
+        })?;
+    }
+    Ok(sources)
+}
+
+/// Writes what explains the line of a refusal: nothing where there is nothing to say, and where memory lacks.
+fn explain(rt: &HostRuntime, given: &Given<'_>, line: &[u8]) {
+    let Some(command) = given.operands.words().first() else {
+        return;
+    };
+    let Ok(sources) = sources_of(given.alloc, given.operands.files(), given.texts) else {
+        return;
+    };
+    let cycles = cycles_of(given.job);
+    if let Ok(text) = explanation(given.alloc, command, cycles, sources.as_slice(), line) {
+        write_out(&mut Told::new(rt.stderr()), text.as_slice());
+    }
+}
+
+/// The engine's run of what the files came to, and the line that it tells of a fault. The error is want of memory before it has begun.
+fn run(
     rt: &HostRuntime,
+    threads: &(impl Threads + Wait + Sync),
+    alloc: Global,
+    words: &[&str],
+    input: &[u8],
+) -> Result<(u8, Told<Vec<u8>>), AllocError> {
+    let mut faults = Told::new(Vec::with_capacity(alloc, ROOM)?);
+    let (mut heard, mut output) = (Heard::new(alloc, input), Told::new(rt.stdout()));
+    let status = engine(threads, alloc, words, &mut heard, &mut output, &mut faults);
+    Ok((status, faults))
+}
+
+/// What is told of a run that ended with this status: a refusal, behind which nothing was written, with the number of the line of a file of
+/// calls. The error is want of memory.
+fn line_told(
+    alloc: Global,
+    front: &Front,
+    status: u8,
+    told: Vec<u8>,
+) -> Result<Vec<u8>, AllocError> {
+    match &front.numbers {
+        Some(numbers) if status == REFUSED => {
+            renumbered(alloc, numbers.as_slice(), told.as_slice())
+        }
+        _ => Ok(told),
+    }
+}
+
+/// Runs what the files came to, and explains a refusal.
+fn run_front(
+    rt: &HostRuntime,
+    threads: &(impl Threads + Wait + Sync),
+    given: &Given<'_>,
+    front: &Front,
+) -> ExitCode {
+    let alloc = given.alloc;
+    let Ok((status, told)) = run(
+        rt,
+        threads,
+        alloc,
+        given.operands.words(),
+        front.input.as_slice(),
+    ) else {
+        return end(rt, &Stop::memory(alloc));
+    };
+    let line = line_told(alloc, front, status, told.into_writer());
+    let Ok(line) = line else {
+        return end(rt, &Stop::memory(alloc));
+    };
+    write_out(&mut Told::new(rt.stderr()), line.as_slice());
+    if status == REFUSED {
+        explain(rt, given, line.as_slice());
+    }
+    ExitCode::from(status)
+}
+
+/// The run of words that name files. Its line of a refusal is the engine's, but that a line of a file of calls has the file's number; behind
+/// it stands what explains it.
+pub(crate) fn run_files(
+    rt: &HostRuntime,
+    threads: &(impl Threads + Wait + Sync),
     alloc: Global,
     operands: &Operands<'_>,
-    faults: &mut Told<F>,
-) -> Result<Vec<u8>, Stop> {
-    let job = read_words(alloc, operands.words())?;
+) -> ExitCode {
+    let job = match read_words(alloc, operands.words()) {
+        Ok(job) => job,
+        Err(stop) => return end(rt, &stop),
+    };
     let names = operands.files();
     if names.iter().filter(|name| **name == STANDARD).count() > 1 {
-        return Err(Stop::with_line(alloc, USAGE, "cqf: words\n"));
+        return end(rt, &Stop::with_line(alloc, USAGE, "cqf: words\n"));
     }
-    let texts = texts_of(rt, alloc, names, faults)?;
-    let composed = match texts
-        .iter()
-        .map(|text| text.as_slice())
-        .collect::<Vec<&[u8]>>(alloc)
-    {
-        Ok(slices) => composed(alloc, &job, names, slices.as_slice()),
-        Err(_) => return Err(Stop::memory(alloc)),
+    let read = match read_files(rt, alloc, names) {
+        Ok(read) => read,
+        Err(stop) => return end(rt, &stop),
     };
-    match composed {
-        Ok(input) => Ok(input),
-        Err(_) => Err(Stop::memory(alloc)),
+    match read.texts(alloc) {
+        Ok(texts) => run_texts(
+            rt,
+            threads,
+            &Given {
+                alloc,
+                job: &job,
+                operands,
+                texts: texts.as_slice(),
+            },
+        ),
+        Err(_) => end(rt, &Stop::memory(alloc)),
+    }
+}
+
+/// The same, where the files were read: there are as many texts as names.
+fn run_texts(
+    rt: &HostRuntime,
+    threads: &(impl Threads + Wait + Sync),
+    given: &Given<'_>,
+) -> ExitCode {
+    let names = given.operands.files();
+    if names.len() != given.texts.len() {
+        return end(rt, &Stop::memory(given.alloc));
+    }
+    match front_of(given.alloc, given.job, names, given.texts) {
+        Ok(front) => run_front(rt, threads, given, &front),
+        Err(stop) => {
+            let ended = end(rt, &stop);
+            if stop.status == REFUSED {
+                explain(rt, given, stop.text.as_slice());
+            }
+            ended
+        }
     }
 }

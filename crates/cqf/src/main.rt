@@ -16,8 +16,8 @@
 //! - `cqf check --cycles N` reads the same, and ends with status 1 where one of them is dropped, late or not yet there.
 //!
 //! Behind the words may stand files, `-` for standard input among them. The input is then what their texts come to, one behind the
-//! other with a line `%%` between them; a first file without such a line stands twice, as the domain and as its streams, unless the
-//! second one's name ends with `.toml` or the command takes no domain.
+//! other with a line `%%` between them; where the command takes a domain, a first file without such a line stands twice, as the domain and as
+//! its streams, and several first files whose names end with `.toml` are one plant. Behind the line of a refusal stands what explains it.
 //!
 //! Without a word after the program's name the words stand in the first line of the input:
 //!
@@ -43,14 +43,13 @@
 mod files;
 mod terminal;
 
-use cqf_program_engine::{Heard, Told, engine, tell};
+use cqf_program_engine::{Heard, Told, engine};
 use cqf_program_stop::Stop;
 use cqf_program_words::operands_of;
-use files::input_of_files;
+use files::{end, run_files};
 use std::alloc::Global;
 use std::env::{Env, FillError};
 use std::io;
-use std::io::{Read, Write};
 use std::process::ExitCode;
 use std::sync::Wait;
 use std::thread::Threads;
@@ -89,28 +88,21 @@ fn arguments<R: Env>(rt: &R, alloc: Global) -> io::Result<Vec<String>> {
     Ok(words)
 }
 
-/// The run of words that name no files, over what the reader has.
-fn run<R: Read + Drop, O: Write + Drop, F: Write>(
-    rt: &(impl Threads + Wait + Sync),
-    words: &[&str],
+/// The run of words that name no files.
+fn run(
+    rt: &HostRuntime,
+    threads: &(impl Threads + Wait + Sync),
     alloc: Global,
-    reader: R,
-    writer: O,
-    faults: &mut Told<F>,
-) -> u8 {
-    let (mut input, mut output) = (Heard::new(alloc, reader), Told::new(writer));
-    engine(rt, alloc, words, &mut input, &mut output, faults)
-}
-
-/// The end of a run before it has begun.
-fn end(rt: &HostRuntime, stop: &Stop) -> ExitCode {
-    let (mut output, mut faults) = (Told::new(rt.stdout()), Told::new(rt.stderr()));
-    ExitCode::from(tell(stop, &mut output, &mut faults))
+    words: &[&str],
+) -> ExitCode {
+    let mut faults = Told::new(rt.stderr());
+    hint_of_words(alloc, words, &rt.stdin(), &mut faults);
+    let (mut input, mut output) = (Heard::new(alloc, rt.stdin()), Told::new(rt.stdout()));
+    ExitCode::from(engine(threads, alloc, words, &mut input, &mut output, &mut faults))
 }
 
 fn main(rt: HostRuntime) -> ExitCode {
     let alloc = rt.alloc();
-    let mut faults = Told::new(rt.stderr());
     let words = match arguments(&rt, alloc) {
         Ok(words) => words,
         Err(error) => return end(&rt, &Stop::without_words(alloc, &error)),
@@ -118,20 +110,9 @@ fn main(rt: HostRuntime) -> ExitCode {
     let Ok(operands) = operands_of(alloc, words.as_slice()) else {
         return end(&rt, &Stop::memory(alloc));
     };
-    let words = operands.words();
     if operands.files().is_empty() {
-        hint_of_words(alloc, words, &rt.stdin(), &mut faults);
-        return ExitCode::from(run(&rt, words, alloc, rt.stdin(), rt.stdout(), &mut faults));
-    }
-    match input_of_files(&rt, alloc, &operands, &mut faults) {
-        Ok(text) => ExitCode::from(run(
-            &rt,
-            words,
-            alloc,
-            text.as_slice(),
-            rt.stdout(),
-            &mut faults,
-        )),
-        Err(stop) => end(&rt, &stop),
+        run(&rt, &rt, alloc, operands.words())
+    } else {
+        run_files(&rt, &rt, alloc, &operands)
     }
 }

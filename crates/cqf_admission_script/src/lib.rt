@@ -2,6 +2,7 @@
 //!
 //! - [`read_script`] reads the calls of a script, each with its seat, and [`administrators`] the seat of its Seals.
 //!   [`read_orders`] reads the same without a copy of what is named, and [`calls_of`] gives the calls of such orders.
+//! - [`is_order`] and [`is_seal_line`] tell the forms that a line may have.
 //! - [`ScriptFault`] says why a script is refused, and at which line.
 //! - [`script_is_its_lines`] is a law, a function that does nothing: one call a line, or the fault of the first line that has
 //!   one.
@@ -25,3 +26,4 @@ mod lines;
 pub use calls::{administrators, calls_of, read_orders, read_script};
 pub use faults::ScriptFault;
 pub use laws::script_is_its_lines;
+pub use lines::{is_order, is_seal_line};

@@ -1,5 +1,5 @@
 //! The lines of a script.
-ghost use Rattle.std.specs.Prelude.{◌≡◌, ◌<◌, IfSome, option_map};
+ghost use Rattle.std.specs.Prelude.{◌≡◌, ◌<◌, IfSome, is_some, option_map};
 ghost use Rattle.std.specs.List.{list_all};
 ghost use Rattle.cqf_admission_script.specs.Lines.{if_word, is_seal_line, is_word, is_word_byte, order_behind, order_of_line, seat_of_digit, word_behind};
 ghost use Rattle.cqf_admission_script.specs.Written.{written};
@@ -23,8 +23,8 @@ pub(crate) struct Order<'t> {
     pub(crate) name: &'t str,
 }
 
-/// Whether the line closes a cycle to changes.
-pub(crate) fn is_seal_line(line: &[u8]) -> bool
+/// Whether the line is `seal`, which closes a cycle to changes (profile).
+pub fn is_seal_line(line: &[u8]) -> bool
     ensures { result ≡ is_seal_line line.now }
 {
     b"seal".as_slice() == line
@@ -107,4 +107,11 @@ pub(crate) fn read_order(line: &[u8]) -> Option<Order<'_>>
     let (digit, rest) = line.split_first()?;
     let seat = seat_of_digit(*digit)?;
     order_behind(rest, seat)
+}
+
+/// Whether the line is `N admit NAME` or `N withdraw NAME`, as [`read_script`](crate::read_script) reads them (profile).
+pub fn is_order(line: &[u8]) -> bool
+    ensures { result ≡ is_some (order_of_line line.now) }
+{
+    read_order(line).is_some()
 }

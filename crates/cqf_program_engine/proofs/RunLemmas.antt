@@ -1,16 +1,17 @@
 -- From what each step of a run says to what the run comes to.
-use Rattle.std.proofs.Common.{◌≡◌, ◌≢◌, ◌⊎◌, ◌≤◌, ◌∙◌, ℕ, List, [], ◌∷◌, Bool, true, false, Option, Some}
+use Rattle.std.proofs.Common.{◌≡◌, ◌≢◌, ◌⊎◌, ◌≤◌, ◌<◌, ◌∙◌, ℕ, List, [], ◌∷◌, Bool, true, false, Option, Some}
 use Rattle.std.proofs.Common.{None, length, arith, codes, inl, inr, sym, subst, refl}
 use Rattle.std.specs.Str.{IsUtf8}
 use Rattle.std.specs.Io.KnownBytes.{IsAtEnd}
 use Rattle.cqf_program_stop.specs.Stops.{EndsWith, line_of}
 use Rattle.clap.specs.Words.{Row, Text, first_of, subcommand_of}
+use Rattle.cqf_program_words.specs.Shown.{EndsShown, no_command}
 use Rattle.cqf_program_words.specs.Words.{EndsWords, IsJob, IsJobOf, IsNumberIn, Mean, cqf_app}
 use Rattle.cqf_program_engine.specs.Edge.{IsHeard, Marks, Reading}
 use Rattle.cqf_program_press.specs.Edge.{Writing}
 use Rattle.cqf_program_engine.specs.Run.{first_line, input_of, version_line, words_of, AskForVersion, Ends}
 use Rattle.cqf_program_engine.specs.Run.{EndsByStatus, EndsFaulty, EndsInput, EndsRead, HandsOver, HasCause, HasFault}
-use Rattle.cqf_program_engine.specs.Run.{HasRun, IsBehindWords, IsEnd, IsFailure, IsOutput}
+use Rattle.cqf_program_engine.specs.Run.{HasRun, HasWords, most_line, IsBehindWords, IsEnd, IsFailure, IsOutput}
 use Rattle.cqf_program_engine.specs.Run.{IsFailedRun, IsMisuse, IsRefusedRun}
 use Rattle.cqf_program_engine.specs.Run.{IsRefusal, IsStopped, StopsWithAnswer, IsToldOutput, IsTooLongInput, IsWithin}
 use Rattle.cqf_program_engine.specs.Run.{TellsStop, TellsFaultAlone}
@@ -32,7 +33,7 @@ IsStopped-by_words (word ∷ words) input stop some sound e = elim e.statuses [
       let misused : IsMisuse (word ∷ words) input.bytes stop = record {
         status = two;
         short = λ none. absurd (some none);
-        cause = inr ((λ none. absurd (some none)), e.mistake two, e.no_job (λ three. omega arith));
+        cause = inr (inr ((λ none. absurd (some none)), e.mistake two, e.no_job (λ three. omega arith)));
       } in
       inr (inr (inl (two, record { misused = misused; at_end = λ none. absurd (some none); sound = sound })))
   | inr (inr three) ↦ inr (inr (inr (inl (three, e.memory three))))
@@ -47,35 +48,13 @@ IsStopped-by_version words input stop some sound asks e = elim e.statuses [
   | inr three ↦ inr (inr (inr (inl (three, e.memory three))))
 ]
 
--- words that mean no job end so too where the stop is told otherwise
-pub EndsWords-told : (words : List Text) (stop told : Stop) → EndsWords words stop → (told.status ≡ stop.status) ⊎ (told.status ≡ 3)
-    → (told.status ≡ 3 → told.text.items ≡ []) → EndsWords words told
-EndsWords-told words stop told e (inl same) memory = record {
-  statuses = elim e.statuses [
-    | inl zero_is ↦ inl (same ∙ zero_is)
-    | inr other ↦
-        inr (elim other [ inl two ↦ inl (same ∙ two) | inr three ↦ inr (same ∙ three) ])
-  ];
-  no_job = λ known. e.no_job (λ three. known (same ∙ three));
-  help = λ zero_is. e.help (sym same ∙ zero_is);
-  mistake = λ two. e.mistake (sym same ∙ two);
-  memory = memory;
-}
-EndsWords-told words stop told e (inr three) memory = record {
-  statuses = inr (inr three);
-  no_job = λ known. absurd (known three);
-  help = λ zero_is. absurd (omega arith);
-  mistake = λ two. absurd (omega arith);
-  memory = memory;
-}
-
 -- words of the first line that mean no job stop it too
-pub HasCause-by_line : (bytes : List ℕ) (stop : Stop) → length bytes ≤ 67108864 → IsUtf8 (first_line bytes) → EndsWords (words_of [] bytes) stop
+pub HasCause-by_line : (bytes : List ℕ) (stop : Stop) → length bytes ≤ 67108864 → HasWords bytes → EndsWords (words_of [] bytes) stop
     → HasCause [] bytes stop
 HasCause-by_line bytes stop short text e = elim e.statuses [
   | inl zero_is ↦ inl (zero_is, inl (e.help zero_is))
   | inr (inl two) ↦
-      inr (inr (inl (record { status = two; short = λ none. short; cause = inr ((λ none. text), e.mistake two, e.no_job (λ three. omega arith)) })))
+      inr (inr (inl (record { status = two; short = λ none. short; cause = inr (inr ((λ none. text), e.mistake two, e.no_job (λ three. omega arith))) })))
   | inr (inr three) ↦ inr (inr (inr (inl (three, e.memory three))))
 ]
 
@@ -84,6 +63,14 @@ pub HasCause-by_bytes : (bytes : List ℕ) (stop : Stop) → length bytes ≤ 67
     → EndsWith 2 (line_of (codes "cqf: words")) stop → HasCause [] bytes stop
 HasCause-by_bytes bytes stop short no_text e = elim e.statuses [
   | inl two ↦ inr (inr (inl (record { status = two; short = λ none. short; cause = inl (refl, no_text, e.line_is two) })))
+  | inr three ↦ inr (inr (inr (inl (three, e.memory three))))
+]
+
+-- one that is too long to have words stops it
+pub HasCause-by_length : (bytes : List ℕ) (stop : Stop) → length bytes ≤ 67108864 → most_line < length (first_line bytes) → EndsShown no_command stop
+    → HasCause [] bytes stop
+HasCause-by_length bytes stop short long e = elim e.statuses [
+  | inl two ↦ inr (inr (inl (record { status = two; short = λ none. short; cause = inr (inl (refl, long, e.shows two)) })))
   | inr three ↦ inr (inr (inr (inl (three, e.memory three))))
 ]
 
@@ -189,7 +176,7 @@ threads_within cycles job same h = subst (λ (j : Job). IsWithin j) same h
 
 -- an input that is refused stops it
 HasCause-by_refusal : (words : List (List ℕ)) (bytes : List ℕ) (job : Job) (stop : Stop) → length bytes ≤ 67108864
-    → (words ≡ [] → IsUtf8 (first_line bytes)) → Mean (words_of words bytes) job → IsRefusal job (input_of words bytes) stop → HasCause words bytes stop
+    → (words ≡ [] → HasWords bytes) → Mean (words_of words bytes) job → IsRefusal job (input_of words bytes) stop → HasCause words bytes stop
 HasCause-by_refusal words bytes job stop short text means h = elim (refusal_statuses job (input_of words bytes) stop h) [
   | inl one ↦ inr (inl (record { status = one; length_first = inr (short, text, (job, means, h)) }))
   | inr three ↦ HasCause-by_memory words bytes stop three (refusal_memory job (input_of words bytes) stop h three)
@@ -197,14 +184,14 @@ HasCause-by_refusal words bytes job stop short text means h = elim (refusal_stat
 
 -- a job that fails stops it
 HasCause-by_failure : (words : List (List ℕ)) (bytes : List ℕ) (job : Job) (stop : Stop) → length bytes ≤ 67108864
-    → (words ≡ [] → IsUtf8 (first_line bytes)) → Mean (words_of words bytes) job → IsFailure job (input_of words bytes) stop → HasCause words bytes stop
+    → (words ≡ [] → HasWords bytes) → Mean (words_of words bytes) job → IsFailure job (input_of words bytes) stop → HasCause words bytes stop
 HasCause-by_failure words bytes job stop short text means h =
     let failed : IsFailedRun words bytes stop = record { short = short; text = text; job = job; means = means; fails = h } in
     inr (inr (inr (inr (failure_status job (input_of words bytes) stop h, failed))))
 
 -- a job that ends without its output stops it
 pub HasCause-by_end : (words : List (List ℕ)) (bytes : List ℕ) (job : Job) (stop : Stop) → length bytes ≤ 67108864
-    → (words ≡ [] → IsUtf8 (first_line bytes)) → Mean (words_of words bytes) job → IsEnd job (input_of words bytes) stop → HasCause words bytes stop
+    → (words ≡ [] → HasWords bytes) → Mean (words_of words bytes) job → IsEnd job (input_of words bytes) stop → HasCause words bytes stop
 HasCause-by_end words bytes job stop short text means (inl h) = HasCause-by_refusal words bytes job stop short text means h
 HasCause-by_end words bytes job stop short text means (inr h) = HasCause-by_failure words bytes job stop short text means h
 

@@ -1,5 +1,5 @@
 -- The program's edge: what a reader gave.
-use Rattle.std.specs.Prelude.{ℕ, ◌≡◌, ◌≤◌, ◌++◌, List, [], Bool, true, false, Option, length}
+use Rattle.std.specs.Prelude.{ℕ, ◌≡◌, ◌≤◌, ◌-◌, ◌&&◌, ◌∷◌, ◌++◌, List, [], Bool, true, false, Option, drop, if◌then◌else◌, length, nat_le, take}
 use Rattle.std.specs.Io.KnownBytes.{Consumes}
 use Rattle.cqf_program_engine.specs.declared.heard.Broken.{Broken}
 use Rattle.cqf_program_engine.specs.declared.heard.Broken.TheVariants.{Memory, Fault}
@@ -42,3 +42,12 @@ pub record IsUnheard {R : Type 0} (heard : Heard R) : Type 0 where
 pub record IsHeard (input : Reading) : Type 0 where
   pub taken : Consumes input.before input.after input.bytes
   pub few : length input.bytes ≤ 67108865
+
+-- the bytes from a place up to another, none where there are no such places
+abbrev pub piece_of : List ℕ → ℕ → ℕ → List ℕ
+piece_of bytes start end = if nat_le start end && nat_le end (length bytes) then take (end - start) (drop start bytes) else []
+
+-- those up to each of some places, one behind the other
+abbrev pub pieces_of : List ℕ → ℕ → List ℕ → List (List ℕ)
+pieces_of bytes start [] = []
+pieces_of bytes start (end ∷ ends) = piece_of bytes start end ∷ pieces_of bytes end ends

@@ -22,6 +22,7 @@ use Rattle.cqf_program_runs.specs.RunOutput.{IsRunOutput}
 use Rattle.cqf_program_scenario.specs.Scenario.{scenario_input}
 use Rattle.cqf_program_plans.specs.TcOutput.{tc_of_input}
 use Rattle.cqf_program_threads.specs.ThreadsOutput.{IsThreadsOutput, TellsFault}
+use Rattle.cqf_program_words.specs.Shown.{ShowsBehind, no_command}
 use Rattle.cqf_program_words.specs.Words.{AreMistaken, AskForHelp, Mean}
 use Rattle.cqf_program_stop.specs.declared.stops.Stop.{Stop}
 use Rattle.cqf_program_engine.specs.declared.runs.TheConstants.{VERSION}
@@ -94,6 +95,15 @@ first_line bytes = before_first is_line_feed bytes
 abbrev pub behind_first_line : List ℕ → List ℕ
 behind_first_line bytes = after_first is_line_feed bytes
 
+-- the most octets of a first line that has words
+abbrev pub most_line : ℕ
+most_line = 65536
+
+-- the first line has words: it is text, and not too long
+pub record HasWords (bytes : List ℕ) : Type 0 where
+  pub text : IsUtf8 (first_line bytes)
+  pub short : length (first_line bytes) ≤ most_line
+
 -- the words of the run: those that are given, or where none are, those of the input's first line, which single spaces
 -- divide
 abbrev pub words_of : List (List ℕ) → List ℕ → List (List ℕ)
@@ -112,7 +122,7 @@ IsTooLongInput bytes = 67108864 < length bytes
 -- the run is done: its words mean a job, and this is the job's output for its input
 pub record IsDone (words : List (List ℕ)) (bytes output : List ℕ) : Type 0 where
   pub short : length bytes ≤ 67108864
-  pub text : words ≡ [] → IsUtf8 (first_line bytes)
+  pub text : words ≡ [] → HasWords bytes
   pub job : Job
   pub means : Mean (words_of words bytes) job
   pub is_output : IsOutput job (input_of words bytes) output
@@ -122,20 +132,21 @@ pub record IsDone (words : List (List ℕ)) (bytes output : List ℕ) : Type 0 w
 pub record IsRefusedRun (words : List (List ℕ)) (bytes : List ℕ) (stop : Stop) : Type 0 where
   pub status : stop.status ≡ 1
   pub length_first : (IsTooLongInput bytes × (stop.text.items ≡ line_of (codes "cqf: input too long")) × (words ≢ [] → (job : Job) × Mean words job))
-      ⊎ ((length bytes ≤ 67108864) × (words ≡ [] → IsUtf8 (first_line bytes))
+      ⊎ ((length bytes ≤ 67108864) × (words ≡ [] → HasWords bytes)
       × ((job : Job) × Mean (words_of words bytes) job × IsRefusal job (input_of words bytes) stop))
 
--- the words mean no job: those of the first line aren't text; or they are a mistake. The stop has status 2
+-- the words mean no job: those of the first line aren't text; it is too long to have words; or they are a mistake. The stop has status 2
 pub record IsMisuse (words : List (List ℕ)) (bytes : List ℕ) (stop : Stop) : Type 0 where
   pub status : stop.status ≡ 2
   pub short : words ≡ [] → length bytes ≤ 67108864
   pub cause : ((words ≡ []) × ¬ IsUtf8 (first_line bytes) × (stop.text.items ≡ line_of (codes "cqf: words")))
-      ⊎ ((words ≡ [] → IsUtf8 (first_line bytes)) × AreMistaken (words_of words bytes) × ((job : Job) → ¬ Mean (words_of words bytes) job))
+      ⊎ (((words ≡ []) × (most_line < length (first_line bytes)) × ShowsBehind no_command stop.text.items)
+      ⊎ ((words ≡ [] → HasWords bytes) × AreMistaken (words_of words bytes) × ((job : Job) → ¬ Mean (words_of words bytes) job)))
 
 -- a run on threads fails: the words mean that job, and this is the line of its fault. The stop has status 4
 pub record IsFailedRun (words : List (List ℕ)) (bytes : List ℕ) (stop : Stop) : Type 0 where
   pub short : length bytes ≤ 67108864
-  pub text : words ≡ [] → IsUtf8 (first_line bytes)
+  pub text : words ≡ [] → HasWords bytes
   pub job : Job
   pub means : Mean (words_of words bytes) job
   pub fails : IsFailure job (input_of words bytes) stop
@@ -169,6 +180,14 @@ abbrev pub EndsInput : Reading → Stop → Type 0
 EndsInput input stop = ((stop.status ≡ 1) × EndsTooLong input stop)
     ⊎ (((stop.status ≡ 4) × EndsUnread input stop)
     ⊎ ((stop.status ≡ 3) × (stop.text.items ≡ [])))
+
+-- how a read of one text more ends before its end: with status 1 where all come to too many bytes, with status 4 where the reader failed, and
+-- with status 3 for want of memory
+pub record EndsText (bytes : List ℕ) (stop : Stop) : Type 0 where
+  pub statuses : (stop.status ≡ 1) ⊎ ((stop.status ≡ 4) ⊎ (stop.status ≡ 3))
+  pub long : stop.status ≡ 1 → IsTooLongInput bytes × (stop.text.items ≡ line_of (codes "cqf: input too long"))
+  pub fault : stop.status ≡ 4 → stop.text.items ≡ line_of (codes "cqf: input fault")
+  pub memory : stop.status ≡ 3 → stop.text.items ≡ []
 
 -- whether the word asks for the program's version
 abbrev pub IsVersionWord : Bool → List ℕ → Type 0

@@ -1,5 +1,6 @@
 //! The bytes that the program reads.
-ghost use Rattle.std.specs.Prelude.{◌≡◌, ◌≤◌, false, IfErr, OnOk, length};
+ghost use Rattle.std.specs.Prelude.{◌≡◌, ◌≤◌, codes, false, IfErr, OnOk, length};
+ghost use Rattle.cqf_program_stop.specs.Stops.{EndsWith, line_of};
 ghost use Rattle.std.specs.Io.KnownBytes.{IsAtEnd};
 ghost use Rattle.cqf_program_engine.specs.Edge.{IsHeard, IsUnheard, reading};
 ghost use Rattle.cqf_program_engine.specs.Run.{EndsInput, EndsRead};
@@ -14,13 +15,20 @@ use std::io::Read;
 pub const MOST_BYTES: usize = 67_108_864;
 
 /// The end of a read that was broken off.
-fn stop_of(alloc: Global, cause: Broken) -> Stop
+pub(crate) fn stop_of(alloc: Global, cause: Broken) -> Stop
     ensures { EndsRead cause result }
 {
     match cause {
         Broken::Memory => Stop::memory(alloc),
         Broken::Fault => Stop::with_line(alloc, FAULT, "cqf: input fault\n"),
     }
+}
+
+/// The end of an input that is too long.
+pub(crate) fn stop_of_length(alloc: Global) -> Stop
+    ensures { EndsWith 1 (line_of (codes "cqf: input too long")) result }
+{
+    Stop::with_line(alloc, REFUSED, "cqf: input too long\n")
 }
 
 /// Takes all that the reader gives. `Err` with status 4 where the reader fails, with status 1 where it gives more than
@@ -42,5 +50,5 @@ pub fn read_input<R: Read>(alloc: Global, input: &mut Heard<R>) -> Result<(), St
             Err(cause) => return Err(stop_of(alloc, cause)),
         }
     }
-    Err(Stop::with_line(alloc, REFUSED, "cqf: input too long\n"))
+    Err(stop_of_length(alloc))
 }

@@ -5,7 +5,7 @@
 //!   refused anything. The engine runs over these, so that its caller knows why a run ended as it did.
 //! - [`read_input`] reads all that a reader gives, and [`answer`] is the output of a job for an input, unless that is a run on
 //!   threads: the parts of a run.
-//! - [`stop_of_file`] is the end where a file can't be read.
+//! - [`Texts`] are the texts of several readers, bounded together.
 //! - [`Prepared`] is what an output is told from. All memory is had before its first byte is told.
 //!
 //! `specs/Edge.antt` says what a reader gave (`Reading`), and that of `cqf_program_press` what became of a writer (`Writing`, `HasTold`).
@@ -25,11 +25,11 @@ mod inputs;
 mod prepared;
 mod retries;
 mod runs;
-mod shown;
+mod texts;
 
 pub use cqf_program_press::Told;
 pub use heard::Heard;
 pub use inputs::{MOST_BYTES, read_input};
 pub use prepared::Prepared;
 pub use runs::{VERSION, answer, engine, tell};
-pub use shown::stop_of_file;
+pub use texts::Texts;

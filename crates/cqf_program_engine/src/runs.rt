@@ -16,13 +16,12 @@ ghost use Rattle.cqf_model.specs.Limits.{most_cycles};
 use crate::heard::Heard;
 use crate::inputs::read_input;
 use crate::prepared::Prepared;
-use crate::shown::stop_of_line;
 use cqf_program_plans::{compile_output, latency_output, load_output, port_output, tc_output};
 use cqf_program_press::{Told, write_out};
 use cqf_program_runs::{check_output, deliveries_output, line_output, report_output, run_output};
 use cqf_program_stop::{DONE, FAULT, NO_MEMORY, Stop, USAGE};
 use cqf_program_threads::threads_output;
-use cqf_program_words::{Format, Job, read_words};
+use cqf_program_words::{Format, Job, read_words, stop_of_line, stop_of_long_line};
 use cqf_text::split_line;
 use cqf_units::Memory;
 use std::alloc::{AllocError, Global};
@@ -154,6 +153,9 @@ fn output_of(
     }
 }
 
+/// The most octets of a first line that has words (profile): it is split into words that are all kept.
+const MOST_LINE: usize = 65_536;
+
 /// The version of the program.
 pub const VERSION: &str = "1.0.0";
 
@@ -267,6 +269,9 @@ fn run_line(
     let Ok(line) = std::str::from_utf8(line) else {
         return Err(Stop::with_line(alloc, USAGE, "cqf: words\n"));
     };
+    if line.len() > MOST_LINE {
+        return Err(stop_of_long_line(alloc, line));
+    }
     let Ok(words) = split_words(alloc, line) else {
         return Err(Stop::memory(alloc));
     };

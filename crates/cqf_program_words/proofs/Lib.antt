@@ -1,1 +1,2 @@
-mod WordLemmas
+pub mod WordLemmas
+pub mod Growing

@@ -165,3 +165,25 @@ Mean-by_matches app words matches job same taken has is_job =
       taken = ap (λ (a : App). fault_of a words) (sym same) ∙ taken (ap is_simple_and_free same ∙ simple);
       read = subst P rows is_job;
     }
+
+-- words that mean no job end so too where the stop is told otherwise
+pub EndsWords-told : (words : List Text) (stop told : Stop) → EndsWords words stop → (told.status ≡ stop.status) ⊎ (told.status ≡ 3)
+    → (told.status ≡ 3 → told.text.items ≡ []) → EndsWords words told
+EndsWords-told words stop told e (inl same) memory = record {
+  statuses = elim e.statuses [
+    | inl zero_is ↦ inl (same ∙ zero_is)
+    | inr other ↦
+        inr (elim other [ inl two ↦ inl (same ∙ two) | inr three ↦ inr (same ∙ three) ])
+  ];
+  no_job = λ known. e.no_job (λ three. known (same ∙ three));
+  help = λ zero_is. e.help (sym same ∙ zero_is);
+  mistake = λ two. e.mistake (sym same ∙ two);
+  memory = memory;
+}
+EndsWords-told words stop told e (inr three) memory = record {
+  statuses = inr (inr three);
+  no_job = λ known. absurd (known three);
+  help = λ zero_is. absurd (omega arith);
+  mistake = λ two. absurd (omega arith);
+  memory = memory;
+}

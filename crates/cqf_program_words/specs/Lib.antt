@@ -1,3 +1,4 @@
 pub mod Operands
 pub mod Words
 pub mod Composing
+pub mod Shown

@@ -1,5 +1,5 @@
 //! Texts of files, one behind the other (profile).
-ghost use Rattle.std.specs.Prelude.{◌≡◌, ◌++◌, IfOk, OnOk, map};
+ghost use Rattle.std.specs.Prelude.{◌≡◌, ◌∷◌, ◌++◌, IfOk, OnOk, map};
 ghost use Rattle.std.specs.List.{flat_map};
 ghost use Rattle.cqf_program_words.specs.Composing.{text_behind, closed, composed_of, first_text, is_closed, is_plant, is_toml, is_undivided, second_is_toml};
 
@@ -34,8 +34,8 @@ fn put_behind(input: &mut Vec<u8>, text: &[u8]) -> Result<(), AllocError>
     put_closed(input, text)
 }
 
-/// Whether the name is one of a TOML file.
-fn is_toml(name: &str) -> bool
+/// Whether the name is one of a TOML file: it ends with `.toml` (profile).
+pub fn is_toml(name: &str) -> bool
     ensures { result ≡ is_toml name.now }
 {
     name.as_bytes().ends_with(b".toml")
@@ -52,7 +52,7 @@ fn second_is_toml(names: &[&str]) -> bool
 }
 
 /// Whether no line of the text divides it. The error is want of memory.
-fn is_undivided(alloc: Global, text: &[u8]) -> Result<bool, Memory>
+pub fn is_undivided(alloc: Global, text: &[u8]) -> Result<bool, Memory>
     ensures { IfOk result (λ undivided. undivided ≡ is_undivided text.now) }
 {
     let found = parts(alloc, text)?;
@@ -60,7 +60,7 @@ fn is_undivided(alloc: Global, text: &[u8]) -> Result<bool, Memory>
 }
 
 /// Whether the first file is a plant, which has both the domain and its streams. The error is want of memory.
-fn is_plant(alloc: Global, job: &Job, names: &[&str], first: &[u8]) -> Result<bool, Memory>
+pub fn is_plant(alloc: Global, job: &Job, names: &[&str], first: &[u8]) -> Result<bool, Memory>
     ensures { IfOk result (λ plant. plant ≡ is_plant job.now (map (λ name. name.now) names.now) first.now) }
 {
     if !job.takes_domain() {
@@ -103,6 +103,40 @@ fn joined(alloc: Global, plant: bool, first: &[u8], rest: &[&[u8]]) -> Result<Ve
     Ok(input)
 }
 
+/// The input that a first text and others behind it come to, as [`composed`] has it. The error is want of memory.
+pub fn composed_behind(
+    alloc: Global,
+    job: &Job,
+    names: &[&str],
+    first: &[u8],
+    rest: &[&[u8]],
+) -> Result<Vec<u8>, Memory>
+    ensures { IfOk result (λ input. input.items ≡ composed_of job.now (map (λ name. name.now) names.now) (first.now ∷ map (λ text. text.now) rest.now)) }
+{
+    let plant = is_plant(alloc, job, names, first)?;
+    joined(alloc, plant, first, rest)
+}
+
+/// The input that two texts and others behind them come to, as [`composed`] has it. The error is want of memory.
+pub fn composed_between(
+    alloc: Global,
+    job: &Job,
+    names: &[&str],
+    first: &[u8],
+    second: &[u8],
+    rest: &[&[u8]],
+) -> Result<Vec<u8>, Memory>
+    ensures { IfOk result (λ input. input.items
+        ≡ composed_of job.now (map (λ name. name.now) names.now) (first.now ∷ second.now ∷ map (λ text. text.now) rest.now)) }
+{
+    let plant = is_plant(alloc, job, names, first)?;
+    let mut input = Vec::new(alloc);
+    put_first(&mut input, plant, first)?;
+    put_behind(&mut input, second)?;
+    put_rest(&mut input, rest)?;
+    Ok(input)
+}
+
 /// The input that the texts of files with these names come to, for the job: one text behind the other, with a line `%%` between them,
 /// and a line feed behind each that has none at its end and isn't empty. Where the job takes a domain, the first text has no line
 /// `%%`, and the second name doesn't end with `.toml`, the first text stands twice, as the domain and as its streams. The error is want
@@ -117,9 +151,6 @@ pub fn composed(
 {
     match *texts {
         [] => Ok(Vec::new(alloc)),
-        [first, ref rest @ ..] => {
-            let plant = is_plant(alloc, job, names, first)?;
-            joined(alloc, plant, first, rest)
-        }
+        [first, ref rest @ ..] => composed_behind(alloc, job, names, first, rest),
     }
 }

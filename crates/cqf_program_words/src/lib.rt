@@ -3,6 +3,8 @@
 //! - [`read_words`] gives the [`Job`] that some words mean, and else the end of the run: clap's text, with status 2 for a
 //!   mistake and 0 for a request for help.
 //!
+//! - [`stop_of_file`], [`stop_of_line`] and [`stop_of_long_line`] end a run with a line that shows a text that may hold anything.
+//!
 //! - [`split_operands`] tells the files that some words name from the other words.
 //!
 //! `specs/Words.antt` has the commands and their options as a value, and what it is that words `Mean` a job, are a mistake
@@ -27,8 +29,10 @@
 
 mod composing;
 mod operands;
+mod shown;
 mod words;
 
-pub use composing::composed;
+pub use composing::{composed, composed_behind, composed_between, is_plant, is_toml, is_undivided};
 pub use operands::{Operands, operands_of, split_operands};
+pub use shown::{stop_of_file, stop_of_line, stop_of_long_line};
 pub use words::{Format, Job, read_words};

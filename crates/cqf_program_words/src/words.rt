@@ -14,6 +14,7 @@ ghost use Rattle.cqf_program_words.specs.Words.{wanted_rule, IsFlagGiven, IsJob,
 ghost use Rattle.cqf_program_words.specs.Words.{EndsWords, takes_domain};
 ghost use Rattle.cqf_model.specs.Limits.{last_until, most_cycles};
 
+use crate::shown::stop_of_words;
 use clap::error::ErrorKind;
 use clap::{Arg, ArgAction, ArgMatches, Command, value_parser};
 use cqf_model::{LAST_UNTIL, MOST_CYCLES};
@@ -42,7 +43,7 @@ macro_rules! plant_input {
             r#"Standard input has two parts, which a line of %% divides:
   a domain       links = [{ from = "a", to = "s", rate = 1000, delay = 500 }]
   its streams    streams = [{ name = "x", octets = 1500, path = ["a", "s"] }]
-or they are one file with both, or two whose names end with .toml:
+or they are one file with both, or 2 to 16 whose names end with .toml:
   cqf "#,
             $command,
             " plant.toml\n  cqf ",
@@ -117,13 +118,14 @@ const RUN_INPUT: &str = r#"Standard input has four parts, which lines of %% divi
                  120000,a,s,0,1522
 or they are files, the domain and its streams in one:
   cqf run --cycles 5 plant.toml calls.txt offers.csv background.csv
+calls.txt may have empty lines, lines that begin with #, and @N alone on a line
+before what is called for in cycle N.
 
 The output is the history of the calls, a line of %%, and the book of every
-transmission and drop. A run keeps its input, the table of each cycle, all
-frames under way and its book in memory, and tells nothing before it ends: with
-100000 cycles and 6 million transmissions it takes about 10 seconds and 0.5 GB,
-with --threads 1.5 GB, and with 15 million 14 seconds and 1.1 GB. Where each of
-10000 cycles admits or withdraws beside 1000 held streams, that takes 0.1 GB.
+transmission and drop. A run keeps its input and what becomes of each offer in
+memory, and no book: 1 million offers that make 6 million transmissions take 1
+to 2 seconds and 0.14 GB, and 15 million transmissions 1 to 3 seconds and as
+much. With --threads it keeps the book: 6 million take 7 seconds and 1.5 GB.
 
 With --threads each bridge and each administrator of the script has a thread of
 its own. The lines of the script before its first seal are done before they
@@ -138,7 +140,7 @@ const REPORT_INPUT: &str =
 
 The output has a line for each link: its frames, their octets, and the most
 octets that it starts in one cycle. Background frames don't count. It runs no
-network: what makes 15 million transmissions takes about 1 second and 0.14 GB.";
+network: what makes 15 million transmissions takes half a second and 0.13 GB.";
 
 /// What the help of `deliveries` says of standard input and of its output.
 const DELIVERIES_INPUT: &str =
@@ -159,12 +161,14 @@ const CHECK_INPUT: &str =
     r"Standard input has the four or five parts of the command run, or they are files:
   cqf check --cycles 5 plant.toml calls.txt offers.csv
 
-The status is 0 where every frame is offered in a cycle that is run, none is
-dropped, and each is whole at all its listeners, at none of them later after its
-offer than its stream's deadline. The output is then one line:
+The status is 0 where no call is refused, every frame is offered in a cycle that
+is run, none is dropped, and each is whole at all its listeners, at none of them
+later after its offer than its stream's deadline. The output is then one line:
   well: frames F, deliveries D, with a deadline W
-Else the status is 1, and standard error has the first frame that is dropped or
-late:
+Else the status is 1, and standard error has the first call that is refused, by
+its place among the calls (seals are none), with the reason as run has it:
+  cqf: check: call N, admit S by ADMINISTRATOR: refused REASON (or withdraw S)
+or, where there is none, the first frame that is dropped or late:
   cqf: check: frame F of S, offered to B at AT: dropped, REASON
   cqf: check: frame F of S, offered to B at AT: late at LISTENER, LATENCY after
   its offer, deadline DEADLINE (in one line)
@@ -645,9 +649,8 @@ fn no_such_value(alloc: Global, command: &mut Command<'_>, wanted: &str) -> Stop
     }
 }
 
-/// The job that the words mean, which come without the program's name. `Err` with status 2 and clap's text where
-/// clap refuses them, with status 0 and clap's text where they ask for help, and with status 3 for want of memory.
-pub fn read_words<'a>(alloc: Global, words: &'a [&'a str]) -> Result<Job, Stop>
+/// The job that the words mean. `Err` as [`read_words`] has it, but with clap's text also where that echoes unprintable characters.
+fn read_plainly<'a>(alloc: Global, words: &'a [&'a str]) -> Result<Job, Stop>
     ensures ok { IfOk result (Mean (map (λ word. word.now) words.now)) }
     ensures err { IfErr result (EndsWords (map (λ word. word.now) words.now)) }
 {
@@ -660,5 +663,18 @@ pub fn read_words<'a>(alloc: Global, words: &'a [&'a str]) -> Result<Job, Stop>
             None => Err(no_such_value(alloc, &mut command, wanted_value(&matches))),
         },
         Err(error) => Err(stop_of(alloc, &error)),
+    }
+}
+
+/// The job that the words mean, which come without the program's name. `Err` with status 2 and clap's text where clap refuses them, or
+/// where one has a character that a terminal would not print, a line that shows them escaped; with status 0 and clap's text where they ask
+/// for help, and with status 3 for want of memory.
+pub fn read_words<'a>(alloc: Global, words: &'a [&'a str]) -> Result<Job, Stop>
+    ensures ok { IfOk result (Mean (map (λ word. word.now) words.now)) }
+    ensures err { IfErr result (EndsWords (map (λ word. word.now) words.now)) }
+{
+    match read_plainly(alloc, words) {
+        Ok(job) => Ok(job),
+        Err(stop) => Err(stop_of_words(alloc, words, stop)),
     }
 }

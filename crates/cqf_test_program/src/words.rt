@@ -196,7 +196,7 @@ const HELP: &[(&[&str], &str)] = &[
     (&["run", "--help"], "--threads "),
     (
         &["run", "--help"],
-        "100000 cycles and 6 million transmissions it takes about 10 seconds and 0.5 GB,",
+        "The output is the history of the calls, a line of %%, and the book of every\n",
     ),
     (&["report", "--help"], "Usage: cqf report --cycles <N>\n"),
     (

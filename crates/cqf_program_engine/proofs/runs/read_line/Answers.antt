@@ -1,5 +1,5 @@
 use Rattle.std.proofs.Common.{map}
-use Rattle.cqf_program_engine.proofs.RunLemmas.{EndsWords-told}
+use Rattle.cqf_program_words.proofs.WordLemmas.{EndsWords-told}
 use Rattle.cqf_program_engine.proofs.runs.read_line.Goals as goal
 
 pub returns-in-Err-clause-err : goal.returns-in-Err-clause-err

@@ -1,7 +1,7 @@
-use Rattle.std.proofs.Common.{◌≡◌, ◌∙◌, List, [], ℕ, ap, map, subst, Bor}
+use Rattle.std.proofs.Common.{◌≡◌, ◌≤◌, ◌∙◌, List, [], ℕ, ap, length, map, subst, Bor}
 use Rattle.std.specs.List.{slice_split}
 use Rattle.std.specs.Str.{IsUtf8}
-use Rattle.cqf_program_engine.specs.Run.{is_space, words_of}
+use Rattle.cqf_program_engine.specs.Run.{is_space, most_line, words_of}
 use Rattle.cqf_program_words.specs.Words.{EndsWords}
 use Rattle.cqf_program_engine.proofs.RunLemmas.{HasCause-by_line, IsWithin-means}
 use Rattle.cqf_program_engine.proofs.runs.run_line.Goals as goal
@@ -13,7 +13,7 @@ returns-in-Err-clause-err g c =
     let same : map (λ word. word.now) c.as_slice.result.now ≡ words_of [] c.args.bytes.now =
     ap texts c.as_slice.ensures.value ∙ c.in-Ok-split_words.ensures ∙ ap (slice_split is_space) line in
     HasCause-by_line c.args.bytes.now c.in-Err.stop c.requires
-    (subst IsUtf8 c.split_first_line.ensures.line c.in-Ok.ensures.cases.1)
+    (record { text = subst IsUtf8 c.split_first_line.ensures.line c.in-Ok.ensures.cases.1; short = subst (λ (text : List ℕ). length text ≤ most_line) line c.if-line-gt-MOST_LINE.false })
     (subst (λ (words : List (List ℕ)). EndsWords words c.in-Err.stop) same c.in-Err.ensures.err)
 
 pub output_of-requires-after_bounds : goal.output_of-requires-after_bounds

@@ -1,5 +1,6 @@
 //! What a line of standard error shows of a text that may hold anything.
-ghost use Rattle.std.specs.Prelude.{◌≡◌, ◌⊎◌, []};
+ghost use Rattle.std.specs.Prelude.{◌≡◌, ◌⊎◌, [], IfOk, OnOk, string_bytes};
+ghost use Rattle.cqf_program_words.specs.Shown.{EndsShown, Lengthens, ShowsBehind, no_command, no_words};
 
 use cqf_program_stop::{FAULT, Stop, USAGE};
 use cqf_units::Memory;
@@ -24,7 +25,9 @@ fn is_shown_whole(text: &str) -> bool {
 }
 
 /// Puts a character as a line shows it: an unprintable one as `\u{..}`, with its number in hexadecimal digits.
-fn show(line: &mut String, character: char) -> Result<(), Memory> {
+fn show(line: &mut String, character: char) -> Result<(), Memory>
+    ensures { OnOk result (Lengthens (string_bytes line.old) (string_bytes line.new)) }
+{
     if !is_unprintable(character) {
         return line.push(character);
     }
@@ -35,7 +38,9 @@ fn show(line: &mut String, character: char) -> Result<(), Memory> {
 }
 
 /// Puts what a line shows of a text: its first 200 characters, unprintable ones escaped, and `..` behind them where there are more.
-fn show_front(line: &mut String, text: &str) -> Result<(), Memory> {
+fn show_front(line: &mut String, text: &str) -> Result<(), Memory>
+    ensures { OnOk result (Lengthens (string_bytes line.old) (string_bytes line.new)) }
+{
     for character in text.chars().take(SHOWN) {
         show(line, character)?;
     }
@@ -46,7 +51,9 @@ fn show_front(line: &mut String, text: &str) -> Result<(), Memory> {
 }
 
 /// The line of a text that is no command.
-fn line_of_text(alloc: Global, text: &str) -> Result<String, Memory> {
+fn line_of_text(alloc: Global, text: &str) -> Result<String, Memory>
+    ensures { IfOk result (λ line. ShowsBehind no_command (string_bytes line)) }
+{
     let mut line = String::from_str(alloc, "cqf: the first line of the input is no command: ")?;
     show_front(&mut line, text)?;
     line.push('\n')?;
@@ -72,11 +79,11 @@ pub fn stop_of_file(alloc: Global, name: &str) -> Stop
 
 /// The end of a run whose first line has words that are a mistake, with `stop` for these words alone: that stop, which echoes some of them,
 /// where a line shows all of the text as it is; else with a line that shows what can be shown. Other stops stay as they are.
-pub(crate) fn stop_of_line(alloc: Global, text: &str, stop: Stop) -> Stop
+pub fn stop_of_line(alloc: Global, text: &str, stop: Stop) -> Stop
     requires { stop.status ≡ 3 → stop.text.items ≡ [] }
     ensures status { (result.status ≡ stop.status) ⊎ (result.status ≡ 3) }
     ensures memory { result.status ≡ 3 → result.text.items ≡ [] }
-    ensures other { stop.status ≡ 2 ⊎ (result ≡ stop) }
+    ensures other { (result ≡ stop) ⊎ EndsShown no_command result }
 {
     if stop.status != USAGE {
         return stop;
@@ -84,5 +91,48 @@ pub(crate) fn stop_of_line(alloc: Global, text: &str, stop: Stop) -> Stop
     if is_shown_whole(text) {
         return stop;
     }
+    Stop::with_text(alloc, USAGE, line_of_text(alloc, text))
+}
+
+/// Whether a line shows each of the words as it is, however long it is.
+fn are_printable(words: &[&str]) -> bool {
+    words.iter().all(|word| word.chars().all(|character| !is_unprintable(character)))
+}
+
+/// The line of words that are no command.
+fn line_of_words(alloc: Global, words: &[&str]) -> Result<String, Memory>
+    ensures { IfOk result (λ line. ShowsBehind no_words (string_bytes line)) }
+{
+    let mut line = String::from_str(alloc, "cqf: the words are no command:")?;
+    for word in words {
+        line.push(' ')?;
+        show_front(&mut line, word)?;
+    }
+    line.push('\n')?;
+    Ok(line)
+}
+
+/// The end of a run whose words are a mistake, with `stop` for these words: that stop, which echoes some of them, where each has only
+/// characters that a line shows as they are; else with a line that shows what can be shown. Other stops stay as they are.
+pub(crate) fn stop_of_words(alloc: Global, words: &[&str], stop: Stop) -> Stop
+    requires { stop.status ≡ 3 → stop.text.items ≡ [] }
+    ensures status { (result.status ≡ stop.status) ⊎ (result.status ≡ 3) }
+    ensures memory { result.status ≡ 3 → result.text.items ≡ [] }
+    ensures other { (result ≡ stop) ⊎ EndsShown no_words result }
+{
+    if stop.status != USAGE {
+        return stop;
+    }
+    if are_printable(words) {
+        return stop;
+    }
+    Stop::with_text(alloc, USAGE, line_of_words(alloc, words))
+}
+
+/// The end of a run whose first line is too long to have words: status 2, and a line that shows what can be shown of it; or for want of
+/// memory for it.
+pub fn stop_of_long_line(alloc: Global, text: &str) -> Stop
+    ensures { EndsShown no_command result }
+{
     Stop::with_text(alloc, USAGE, line_of_text(alloc, text))
 }

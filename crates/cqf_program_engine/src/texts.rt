@@ -1,0 +1,95 @@
+//! The texts of several readers.
+ghost use Rattle.std.specs.Prelude.{◌≡◌, ◌≤◌, ◌∷◌, [], ◌++◌, IfErr, IfOk, OnOk, length, map};
+ghost use Rattle.std.specs.Io.KnownBytes.{IsAtEnd};
+ghost use Rattle.cqf_program_engine.specs.Edge.{HasRead, piece_of, pieces_of};
+ghost use Rattle.cqf_program_engine.specs.Run.{EndsText};
+
+use crate::filled::{Filled, STEP};
+use crate::inputs::{MOST_BYTES, stop_of, stop_of_length};
+use cqf_program_stop::Stop;
+use cqf_units::Memory;
+use std::alloc::Global;
+use std::io::Read;
+
+/// The texts of several readers, bounded together: of all of them at most 67,108,865 bytes are read.
+#[derive(Drop)]
+pub struct Texts {
+    bytes: Filled,
+    ends: Vec<usize>,
+}
+
+/// The bytes from a place up to another, none where there are no such places.
+fn piece_of(bytes: &[u8], start: usize, end: usize) -> &[u8]
+    ensures { result.now ≡ piece_of bytes.now start end }
+{
+    if start <= end && end <= bytes.len() {
+        &bytes[start..end]
+    } else {
+        &[]
+    }
+}
+
+impl Texts {
+    /// None yet.
+    pub fn new(alloc: Global) -> Texts
+        ensures bytes { result.bytes ≡ [] }
+        ensures ends { result.ends.items ≡ [] }
+    {
+        Texts {
+            bytes: Filled::new(alloc),
+            ends: Vec::new(alloc),
+        }
+    }
+
+    /// Takes all that the reader gives, as one text more. `Err` with status 4 where the reader fails, with status 1 where all texts come to
+    /// more than 67,108,864 bytes, and with status 3 for want of memory.
+    pub fn read<R: Read>(&mut self, alloc: Global, reader: &mut R) -> Result<(), Stop>
+        requires { length self.old.bytes ≤ 67108864 }
+        ensures read { HasRead (R.remaining reader.old) (R.remaining reader.new) self.old.bytes self.new.bytes 67108865 }
+        ensures end { OnOk result (IsAtEnd (R.remaining reader.new)) }
+        ensures short { OnOk result (length self.new.bytes ≤ 67108864) }
+        ensures ends { OnOk result (self.new.ends.items ≡ self.old.ends.items ++ length self.new.bytes ∷ []) }
+        ensures err { IfErr result (EndsText self.new.bytes) }
+    {
+        self.fill(alloc, reader)?;
+        let end = self.bytes.as_slice().len();
+        match self.ends.push(end) {
+            Ok(()) => Ok(()),
+            Err(_) => Err(Stop::memory(alloc)),
+        }
+    }
+
+    /// Takes all that the reader gives.
+    fn fill<R: Read>(&mut self, alloc: Global, reader: &mut R) -> Result<(), Stop>
+        requires { length self.old.bytes ≤ 67108864 }
+        ensures read { HasRead (R.remaining reader.old) (R.remaining reader.new) self.old.bytes self.new.bytes 67108865 }
+        ensures end { OnOk result (IsAtEnd (R.remaining reader.new)) }
+        ensures short { OnOk result (length self.new.bytes ≤ 67108864) }
+        ensures ends { self.new.ends.items ≡ self.old.ends.items }
+        ensures err { IfErr result (EndsText self.new.bytes) }
+    {
+        while self.bytes.as_slice().len() <= MOST_BYTES {
+            let room = STEP.min(MOST_BYTES + 1 - self.bytes.as_slice().len());
+            match self.bytes.fill(reader, room) {
+                Ok(0) => return Ok(()),
+                Ok(_) => {}
+                Err(cause) => return Err(stop_of(alloc, cause)),
+            }
+        }
+        Err(stop_of_length(alloc))
+    }
+
+    /// The texts, in the order in which they were read. The error is want of memory.
+    pub fn texts(&self, alloc: Global) -> Result<Vec<&[u8]>, Memory>
+        ensures { IfOk result (λ texts. map (λ text. text.now) texts.items ≡ pieces_of self.now.bytes 0 self.now.ends.items) }
+    {
+        let bytes = self.bytes.as_slice();
+        let mut texts = Vec::new(alloc);
+        let mut start = 0;
+        for end in &self.ends {
+            texts.push(piece_of(bytes, start, *end))?;
+            start = *end;
+        }
+        Ok(texts)
+    }
+}

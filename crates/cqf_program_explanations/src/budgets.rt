@@ -1,0 +1,258 @@
+//! Streams that are refused beside those that stand before them: names that are held, and budgets (profile).
+
+use crate::given::Given;
+use crate::network::{Link, Network};
+use crate::places::Grouped;
+use crate::plant::Item;
+use crate::stream_faults::{Asked, streams_of};
+use crate::told::Told;
+use std::alloc::{AllocError, Global};
+use std::collections::BTreeMap;
+
+/// How many streams are held at once at most.
+const MOST_STREAMS: usize = 1024;
+
+/// The longest cycle time, in ns.
+const LONGEST_CYCLE: u64 = 10_000_000;
+
+/// The octets that a shortest frame of 64 octets takes with its preamble, start delimiter and gap (IEEE 802.3).
+const SHORTEST_COST: u64 = 84;
+
+/// Which streams are tried, and what is told of those that don't go.
+#[derive(Clone, Copy, Debug, PartialEq, Eq)]
+pub(crate) enum Wanted {
+    NameHeld,
+    TooManyStreams,
+    BudgetShort,
+}
+
+/// The streams placed so far, by name, and what each link holds of them.
+#[derive(Drop)]
+struct Placed<'p> {
+    network: Network<'p>,
+    streams: BTreeMap<&'p str, Item<'p>>,
+    held: Vec<u64>,
+}
+
+/// A link that has too little left for a stream.
+#[derive(Clone, Copy)]
+struct Short {
+    link: usize,
+    left: u64,
+    budget: u64,
+}
+
+/// What a reservation costs on a link, in octets (profile).
+fn cost_of(octets: u64) -> u64 {
+    let frames = octets / 64;
+    octets.saturating_add(frames.saturating_mul(20))
+}
+
+/// The greatest reservation that costs no more than this, in octets, or 0 where there is none.
+fn greatest_within(left: u64) -> u64 {
+    let (frames, rest) = (left / SHORTEST_COST, left % SHORTEST_COST);
+    let octets = frames.saturating_mul(64).saturating_add(rest.min(63));
+    if frames == 0 { 0 } else { octets.min(60_000) }
+}
+
+/// The links of a stream's tree, each once, in the order in which they first stand.
+fn tree_of(
+    alloc: Global,
+    network: &Network<'_>,
+    asked: &Asked<'_>,
+) -> Result<Vec<usize>, AllocError> {
+    let mut tree: Vec<usize> = Vec::new(alloc);
+    for path in &asked.paths {
+        let behind = path.iter().skip(1);
+        for (from, to) in path.iter().zip(behind) {
+            if let Some(link) = network.link_between(from, to) {
+                if !tree.contains(&link) {
+                    tree.push(link)?;
+                }
+            }
+        }
+    }
+    Ok(tree)
+}
+
+impl<'p> Placed<'p> {
+    /// What a link has left, with its budget.
+    fn left_on(&self, place: usize) -> Short {
+        let held = self.held.get(place).copied().unwrap_or(0);
+        let budget = match self.network.links.get(place) {
+            Some(link) => self.network.budget(link),
+            None => 0,
+        };
+        Short {
+            link: place,
+            left: budget.saturating_sub(held),
+            budget,
+        }
+    }
+
+    /// The first link of a tree that has less left than a stream costs.
+    fn short_link(&self, tree: &[usize], cost: u64) -> Option<Short> {
+        for place in tree {
+            let short = self.left_on(*place);
+            if short.left < cost {
+                return Some(short);
+            }
+        }
+        None
+    }
+
+    /// Places a stream on the links of its tree.
+    fn place(&mut self, asked: &Asked<'p>, tree: &[usize], cost: u64) -> Result<(), AllocError> {
+        self.streams.insert(asked.name, asked.item)?;
+        for place in tree {
+            if let Some(held) = self.held.get_mut(*place) {
+                *held = held.saturating_add(cost);
+            }
+        }
+        Ok(())
+    }
+
+    /// The greatest reservation that all links of a tree have room for, in octets, or 0.
+    fn greatest_on(&self, tree: &[usize]) -> u64 {
+        let mut least = u64::MAX;
+        for place in tree {
+            least = least.min(self.left_on(*place).left);
+        }
+        greatest_within(least)
+    }
+
+    /// The least cycle time at which all links of a tree have room for a cost, in ns.
+    fn least_cycle(&self, tree: &[usize], cost: u64) -> u64 {
+        let mut least: u64 = 0;
+        for place in tree {
+            let held = self.held.get(*place).copied().unwrap_or(0);
+            let octet_time = self
+                .network
+                .links
+                .get(*place)
+                .map_or(0, |link| link.octet_time());
+            let open = held.saturating_add(cost).saturating_mul(octet_time);
+            least = least.max(open.saturating_add(self.network.guard));
+        }
+        least
+    }
+}
+
+/// With what a stream would fit, in words.
+fn remedy(alloc: Global, octets: u64, cycle: u64) -> Result<String, AllocError> {
+    let (fewer, longer) = (Grouped(octets), Grouped(cycle));
+    match (octets > 0, cycle <= LONGEST_CYCLE) {
+        (true, true) => format!(in alloc;
+            "; it fits with {fewer} octets or a cycle of {longer} ns"
+        ),
+        (true, false) => format!(in alloc; "; it fits with {fewer} octets"),
+        (false, true) => format!(in alloc; "; it fits with a cycle of {longer} ns"),
+        (false, false) => Ok(String::new(alloc)),
+    }
+}
+
+/// Tells of a stream that a link has too little left for.
+fn tell_short(
+    given: &Given<'_>,
+    told: &mut Told,
+    placed: &Placed<'_>,
+    asked: &Asked<'_>,
+    tree: &[usize],
+    short: Short,
+) -> Result<(), AllocError> {
+    let Some(link) = placed.network.links.get(short.link) else {
+        return Ok(());
+    };
+    let cost = cost_of(asked.octets);
+    let remedy = remedy(
+        given.alloc,
+        placed.greatest_on(tree),
+        placed.least_cycle(tree, cost),
+    )?;
+    let (place, label) = (
+        asked.item.place_of("octets"),
+        asked.item.counted(given.alloc)?,
+    );
+    let (from, to) = (link.from, link.to);
+    let (cost, left, budget) = (Grouped(cost), Grouped(short.left), Grouped(short.budget));
+    told.tell(format!(in given.alloc;
+        "{place}: {label} needs {cost} octets a cycle on {from}>{to}, {left} are left of {budget}{remedy}"
+    )?)
+}
+
+/// Tells of a stream whose name is held.
+fn tell_held(
+    given: &Given<'_>,
+    told: &mut Told,
+    asked: &Asked<'_>,
+    first: &Item<'_>,
+) -> Result<(), AllocError> {
+    let (place, label) = (
+        asked.item.place_of("name"),
+        asked.item.counted(given.alloc)?,
+    );
+    let (number, first) = (first.number.saturating_add(1), first.place_of("name"));
+    told.tell(format!(in given.alloc;
+        "{place}: {label}: stream {number} at {first} has this name already"
+    )?)
+}
+
+/// Tells of a stream behind the most that are held at once.
+fn tell_beyond(given: &Given<'_>, told: &mut Told, asked: &Asked<'_>) -> Result<(), AllocError> {
+    let (place, label) = (asked.item.place(), asked.item.counted(given.alloc)?);
+    told.tell(format!(in given.alloc; "{place}: {label}: at most 1,024 streams are held at once")?)
+}
+
+/// Tries a stream behind those placed: places it, or tells why it doesn't go where that is asked for.
+fn try_stream<'p>(
+    given: &Given<'_>,
+    told: &mut Told,
+    placed: &mut Placed<'p>,
+    asked: &Asked<'p>,
+    wanted: Wanted,
+) -> Result<(), AllocError> {
+    if asked.form_fault(&placed.network).is_some() {
+        return Ok(());
+    }
+    let cost = cost_of(asked.octets);
+    let tree = tree_of(given.alloc, &placed.network, asked)?;
+    if let Some(first) = placed.streams.get(asked.name) {
+        if wanted == Wanted::NameHeld {
+            tell_held(given, told, asked, first)?;
+        }
+    } else if placed.streams.len() >= MOST_STREAMS {
+        if wanted == Wanted::TooManyStreams {
+            tell_beyond(given, told, asked)?;
+        }
+    } else if let Some(short) = placed.short_link(tree.as_slice(), cost) {
+        if wanted == Wanted::BudgetShort {
+            tell_short(given, told, placed, asked, tree.as_slice(), short)?;
+        }
+    } else {
+        placed.place(asked, tree.as_slice(), cost)?;
+    }
+    Ok(())
+}
+
+/// Tells of each stream that is refused beside those that stand before it, for what is asked for.
+pub(crate) fn tell_refused(
+    given: &Given<'_>,
+    told: &mut Told,
+    wanted: Wanted,
+) -> Result<(), AllocError> {
+    let streams = streams_of(&*given)?;
+    let network = given.network()?;
+    let mut held = Vec::new(given.alloc);
+    for _ in &network.links {
+        held.push(0)?;
+    }
+    let mut placed = Placed {
+        network,
+        streams: BTreeMap::new(given.alloc),
+        held,
+    };
+    for asked in &streams {
+        try_stream(given, told, &mut placed, asked, wanted)?;
+    }
+    Ok(())
+}

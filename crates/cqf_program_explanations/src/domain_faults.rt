@@ -1,0 +1,190 @@
+//! Domains that no network can be like.
+
+use crate::given::Given;
+use crate::network::{Link, Network};
+use crate::places::{Grouped, Place};
+use crate::plant::{Found, Item, Kind};
+use crate::told::Told;
+use crate::words::shortened;
+use std::alloc::{AllocError, Global};
+use std::collections::BTreeMap;
+
+/// Most bridges, stations and links of a domain.
+const MOST: [(&str, u64); 3] = [("bridges", 32), ("stations", 64), ("links", 64)];
+
+/// The octets of the gap behind a frame (IEEE 802.3).
+const GAP_OCTETS: u64 = 12;
+
+/// Tells of each name of an array that stood before, and keeps where the others stand.
+fn tell_taken<'p>(
+    given: &Given<'_>,
+    told: &mut Told,
+    firsts: &mut BTreeMap<&'p str, Place<'p>>,
+    key: &str,
+    names: &[Found<'p>],
+) -> Result<(), AllocError> {
+    for found in names {
+        let Some(name) = found.value.as_str() else {
+            continue;
+        };
+        if let Some(first) = firsts.get(name) {
+            let (place, shown) = (found.place, shortened(given.alloc, name)?);
+            told.tell(format!(in given.alloc;
+                "{place}: {key}: {shown} stands at {first} already"
+            )?)?;
+        } else {
+            firsts.insert(name, found.place)?;
+        }
+    }
+    Ok(())
+}
+
+/// Tells of each name that stood before, bridges before stations.
+pub(crate) fn tell_name_taken(given: &Given<'_>, told: &mut Told) -> Result<(), AllocError> {
+    let (bridges, stations) = (
+        given.plant.names("bridges")?,
+        given.plant.names("stations")?,
+    );
+    let mut firsts = BTreeMap::new(given.alloc);
+    tell_taken(given, told, &mut firsts, "bridges", bridges.as_slice())?;
+    tell_taken(given, told, &mut firsts, "stations", stations.as_slice())
+}
+
+/// Why a name is no bridge that a link begins at.
+fn no_beginning(alloc: Global, network: &Network<'_>, name: &str) -> Result<String, AllocError> {
+    let shown = shortened(alloc, name)?;
+    if network.is_node(name) {
+        return format!(in alloc; "{shown} is a station: a link begins at a bridge");
+    }
+    let question = network.bridge_question(alloc, name)?;
+    format!(in alloc; "no bridge {shown}{question}")
+}
+
+/// Tells what is wrong with the ends of a link.
+fn tell_ends(
+    given: &Given<'_>,
+    told: &mut Told,
+    network: &Network<'_>,
+    link: &Link<'_>,
+) -> Result<(), AllocError> {
+    let (alloc, label) = (given.alloc, link.item.label(given.alloc)?);
+    if !network.is_bridge(link.from) {
+        let (place, why) = (
+            link.item.place_of("from"),
+            no_beginning(alloc, network, link.from)?,
+        );
+        told.tell(format!(in alloc; "{place}: {label}: from: {why}")?)?;
+    }
+    let place = link.item.place_of("to");
+    if !network.is_node(link.to) {
+        let (shown, question) = (
+            shortened(alloc, link.to)?,
+            network.node_question(alloc, link.to)?,
+        );
+        told.tell(format!(in alloc;
+            "{place}: {label}: to: no bridge or station {shown}{question}"
+        )?)?;
+    } else if link.from == link.to {
+        told.tell(format!(in alloc;
+            "{place}: {label}: to: a link leads to another node than its from"
+        )?)?;
+    }
+    Ok(())
+}
+
+/// Tells of each end of a link that is no node which may stand there.
+pub(crate) fn tell_unknown_names(given: &Given<'_>, told: &mut Told) -> Result<(), AllocError> {
+    let network = given.network()?;
+    for link in &network.links {
+        tell_ends(given, told, &network, link)?;
+    }
+    Ok(())
+}
+
+/// Tells of each link whose ends are those of an earlier one.
+pub(crate) fn tell_links_twice(given: &Given<'_>, told: &mut Told) -> Result<(), AllocError> {
+    let network = given.network()?;
+    let mut firsts: BTreeMap<(&str, &str), Item<'_>> = BTreeMap::new(given.alloc);
+    for link in &network.links {
+        let ends = (link.from, link.to);
+        if let Some(first) = firsts.get(&ends) {
+            let (place, label) = (link.item.place(), link.item.label(given.alloc)?);
+            let (number, first) = (first.number, first.place());
+            told.tell(format!(in given.alloc;
+                "{place}: {label}: link {number} at {first} has these ends already"
+            )?)?;
+        } else {
+            firsts.insert(ends, link.item)?;
+        }
+    }
+    Ok(())
+}
+
+/// Tells of a guard time that isn't below the cycle time.
+pub(crate) fn tell_guard(given: &Given<'_>, told: &mut Told) -> Result<(), AllocError> {
+    let (guard, cycle) = (given.plant.number("guard"), given.plant.number("cycle"));
+    if let Some(found) = given.plant.top("guard") {
+        let (place, guard, cycle) = (found.place, Grouped(guard), Grouped(cycle));
+        told.tell(format!(in given.alloc;
+            "{place}: the guard time of {guard} ns isn't below the cycle time of {cycle} ns"
+        )?)?;
+    }
+    Ok(())
+}
+
+/// Tells of each link whose delay isn't below the guard time.
+pub(crate) fn tell_delays(given: &Given<'_>, told: &mut Told) -> Result<(), AllocError> {
+    let network = given.network()?;
+    for link in &network.links {
+        if link.delay >= network.guard {
+            let (place, label) = (link.item.place_of("delay"), link.item.label(given.alloc)?);
+            let (delay, guard) = (Grouped(link.delay), Grouped(network.guard));
+            told.tell(format!(in given.alloc;
+                "{place}: {label}: a delay of {delay} ns isn't below the guard time of {guard} ns"
+            )?)?;
+        }
+    }
+    Ok(())
+}
+
+/// Tells of each link on which the gap behind a frame takes longer than the guard time.
+pub(crate) fn tell_gaps(given: &Given<'_>, told: &mut Told) -> Result<(), AllocError> {
+    let network = given.network()?;
+    for link in &network.links {
+        let gap = link.octet_time().saturating_mul(GAP_OCTETS);
+        if gap > network.guard {
+            let (place, label) = (link.item.place_of("rate"), link.item.label(given.alloc)?);
+            let (rate, gap, guard) = (link.rate, Grouped(gap), Grouped(network.guard));
+            told.tell(format!(in given.alloc;
+                "{place}: {label}: the gap of 12 octets takes {gap} ns at {rate} Mb/s, more than the guard time of {guard} ns"
+            )?)?;
+        }
+    }
+    Ok(())
+}
+
+/// How many elements the arrays at a key of the top have together.
+fn count_of(given: &Given<'_>, key: &str) -> Result<u64, AllocError> {
+    let count = if key == "links" {
+        given.plant.items(Kind::Link)?.len()
+    } else {
+        given.plant.names(key)?.len()
+    };
+    Ok(count as u64)
+}
+
+/// Tells of which there are too many.
+pub(crate) fn tell_too_many(given: &Given<'_>, told: &mut Told) -> Result<(), AllocError> {
+    for (key, most) in &MOST {
+        let count = count_of(given, key)?;
+        if count > *most {
+            if let Some(found) = given.plant.top(key) {
+                let (place, count) = (found.place, Grouped(count));
+                told.tell(format!(in given.alloc;
+                    "{place}: {count} {key}: a domain has at most {most}"
+                )?)?;
+            }
+        }
+    }
+    Ok(())
+}

@@ -1,0 +1,142 @@
+//! The explanation of a refusal.
+ghost use Rattle.std.specs.Prelude.{IfOk};
+ghost use Rattle.cqf_program_explanations.specs.Explanations.{IsExplanation};
+
+use crate::budgets::{Wanted, tell_refused};
+use crate::domain_faults::{
+    tell_delays, tell_gaps, tell_guard, tell_links_twice, tell_name_taken, tell_too_many,
+    tell_unknown_names,
+};
+use crate::given::{Given, given_of};
+use crate::part_faults::tell_parts;
+use crate::plant_faults::{tell_key_twice, tell_long_lines, tell_unknown_keys};
+use crate::refusal::{Refusal, refusal_of};
+use crate::script_faults::{
+    tell_bad_lines, tell_too_many_lines, tell_unknown_offer, tell_unknown_streams,
+};
+use crate::stream_faults::{form_fault_of, tell_form_faults};
+use crate::table_faults::{Table, tell_table};
+use crate::told::Told;
+use crate::toml_faults::{tell_bad_value, tell_missing, tell_not_toml};
+use std::alloc::{AllocError, Global};
+
+/// A file that the words name, with its text; the name `-` is standard input.
+#[derive(Clone, Copy, Debug)]
+pub struct Source<'a> {
+    pub name: &'a str,
+    pub text: &'a [u8],
+}
+
+/// Tells why a domain or the streams are refused.
+fn tell_text(given: &Given<'_>, told: &mut Told, refusal: Refusal<'_>) -> Result<(), AllocError> {
+    match refusal.fault {
+        "NotToml" => tell_not_toml(given, told),
+        "Missing" => tell_missing(given, told, refusal.part, refusal.value),
+        "BadValue" => tell_bad_value(given, told, refusal.part, refusal.value),
+        "NameTaken" => tell_name_taken(given, told),
+        "UnknownName" => tell_unknown_names(given, told),
+        "LinkTwice" => tell_links_twice(given, told),
+        "GuardTooLong" => tell_guard(given, told),
+        "DelayTooLong" => tell_delays(given, told),
+        "GapTooLong" => tell_gaps(given, told),
+        "TooMany" => tell_too_many(given, told),
+        _ => Ok(()),
+    }
+}
+
+/// Tells why files make no plant.
+fn tell_plant(given: &Given<'_>, told: &mut Told, refusal: Refusal<'_>) -> Result<(), AllocError> {
+    match refusal.fault {
+        "UnknownKey" => tell_unknown_keys(given, told),
+        "KeyTwice" => tell_key_twice(given, told, refusal.value),
+        "StreamsTwice" => tell_key_twice(given, told, "streams"),
+        "LineTooLong" => tell_long_lines(given, told),
+        _ => Ok(()),
+    }
+}
+
+/// Tells why a script is refused.
+fn tell_script(given: &Given<'_>, told: &mut Told, refusal: Refusal<'_>) -> Result<(), AllocError> {
+    match refusal.fault {
+        "BadLine" => tell_bad_lines(given, told),
+        "UnknownStream" => tell_unknown_streams(given, told),
+        "TooMany" => tell_too_many_lines(given, told),
+        _ => Ok(()),
+    }
+}
+
+/// Tells why a stream is refused.
+fn tell_stream(given: &Given<'_>, told: &mut Told, refusal: Refusal<'_>) -> Result<(), AllocError> {
+    match refusal.fault {
+        "NameHeld" => tell_refused(given, told, Wanted::NameHeld),
+        "TooManyStreams" => tell_refused(given, told, Wanted::TooManyStreams),
+        "BudgetShort" => tell_refused(given, told, Wanted::BudgetShort),
+        fault => match form_fault_of(fault) {
+            Some(fault) => tell_form_faults(given, told, fault),
+            None => Ok(()),
+        },
+    }
+}
+
+/// Tells of the stream of a frame that is dropped because no stream has its name, as in `frame 1 of x, offered to a at 0: dropped,
+/// unknown`.
+fn tell_check(given: &Given<'_>, told: &mut Told, refusal: Refusal<'_>) -> Result<(), AllocError> {
+    if !refusal.value.ends_with(": dropped, unknown") {
+        return Ok(());
+    }
+    match refusal.value.split_once(" of ") {
+        Some((number, rest)) => match rest.split_once(", offered to ") {
+            Some((name, _)) => tell_unknown_offer(given, told, number, name),
+            None => Ok(()),
+        },
+        None => Ok(()),
+    }
+}
+
+/// Tells why an input is refused.
+fn tell_refusal(
+    given: &Given<'_>,
+    told: &mut Told,
+    refusal: Refusal<'_>,
+) -> Result<(), AllocError> {
+    match refusal.part {
+        "domain" | "streams" => tell_text(given, told, refusal),
+        "plant" => tell_plant(given, told, refusal),
+        "script" => tell_script(given, told, refusal),
+        "check" => tell_check(given, told, refusal),
+        "parts" => tell_parts(given, told),
+        part if part.starts_with("stream ") => tell_stream(given, told, refusal),
+        part => match Table::of(part) {
+            Some(table) => tell_table(given, told, table, refusal.fault),
+            None => Ok(()),
+        },
+    }
+}
+
+/// What stands behind the line of a refusal: for each thing that is wrong in this way a line, at most 20 of them, in the order of the
+/// texts, and behind these `and N more` where there are more. Each line begins with two blanks and ends with LF, and has no other byte
+/// below 32. It is empty where there is nothing to say: the line is no refusal that is known, or says all by itself, or no file is named.
+///
+/// `command` is the command's word, such as `run`. `cycles` is how many cycles are run, where the words say it. `sources` are the files
+/// that the words name, in their order. `line` is the line of the refusal with its line feed.
+///
+/// # Errors
+/// Where a growth is refused.
+pub fn explanation(
+    alloc: Global,
+    command: &str,
+    cycles: Option<u32>,
+    sources: &[Source<'_>],
+    line: &[u8],
+) -> Result<Vec<u8>, AllocError>
+    ensures { IfOk result (λ text. IsExplanation text.items) }
+{
+    let mut told = Told::new(alloc);
+    if let Some(refusal) = refusal_of(line) {
+        if !sources.is_empty() {
+            let given = given_of(alloc, command, cycles, sources)?;
+            tell_refusal(&given, &mut told, refusal)?;
+        }
+    }
+    told.text()
+}

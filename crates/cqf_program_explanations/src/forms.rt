@@ -1,0 +1,223 @@
+//! What may stand at each key of a plant (profile).
+
+use crate::lexer::before_comment;
+use crate::plant::{Found, Kind};
+use crate::words::{shortened, shown};
+use cqf_units::Name;
+use std::alloc::{AllocError, Global};
+use toml::Value;
+
+/// The form of a name, in words.
+pub(crate) const NAME_FORM: &str = "a name is 1 to 32 of a to z, 0 to 9, - and _";
+
+/// The form of a path, in words.
+const PATH_FORM: &str =
+    "a path is an array of bridges in order and then a station, as [\"a\", \"b\", \"s\"]";
+
+/// The form of several paths, in words.
+const PATHS_FORM: &str = "paths is an array of paths, as [[\"a\", \"s\"], [\"a\", \"b\", \"t\"]]";
+
+/// The form of a value.
+#[derive(Clone, Copy, Debug)]
+pub(crate) enum Form {
+    /// A whole number of a range.
+    Number(i64, i64),
+    /// 10, 100 or 1000.
+    Rate,
+    Name,
+    Text,
+    /// A name, or an array of names.
+    Ends,
+    Path,
+    Paths,
+    Boolean,
+    /// An array of names.
+    Names,
+    /// An array of tables.
+    Tables,
+}
+
+/// The form of the value at a key, and the same in words.
+pub(crate) fn form_of(kind: Kind, key: &str) -> Option<(Form, &'static str)> {
+    match kind {
+        Kind::Top => form_of_top(key),
+        Kind::Link => form_of_link(key),
+        Kind::Stream => form_of_stream(key),
+    }
+}
+
+/// The same for a key of the top.
+fn form_of_top(key: &str) -> Option<(Form, &'static str)> {
+    match key {
+        "cycle" => Some((
+            Form::Number(10_000, 10_000_000),
+            "a cycle time is a whole number, 10,000 to 10,000,000 ns",
+        )),
+        "guard" => Some((
+            Form::Number(1, 10_000_000),
+            "a guard time is a whole number, 1 to 10,000,000 ns",
+        )),
+        "bridges" => Some((Form::Names, "bridges is an array of one name or more")),
+        "stations" => Some((Form::Names, "stations is an array of names")),
+        "links" => Some((
+            Form::Tables,
+            "links is an array of tables: write [[links]] above each",
+        )),
+        "streams" => Some((
+            Form::Tables,
+            "streams is an array of tables: write [[streams]] above each",
+        )),
+        _ => None,
+    }
+}
+
+/// The same for a key of a link.
+fn form_of_link(key: &str) -> Option<(Form, &'static str)> {
+    match key {
+        "from" | "to" => Some((Form::Name, NAME_FORM)),
+        "rate" => Some((Form::Rate, "a rate is 10, 100 or 1000 (Mb/s)")),
+        "delay" => Some((
+            Form::Number(0, 10_000_000),
+            "a delay is a whole number, 0 to 10,000,000 ns",
+        )),
+        "duplex" => Some((Form::Boolean, "duplex is true or false")),
+        _ => None,
+    }
+}
+
+/// The same for a key of a stream.
+fn form_of_stream(key: &str) -> Option<(Form, &'static str)> {
+    match key {
+        "name" => Some((Form::Text, "a name is a text in quotes")),
+        "octets" => Some((
+            Form::Number(0, 4_294_967_295),
+            "a reservation is a whole number, 64 to 60,000 octets a cycle",
+        )),
+        "path" => Some((Form::Path, PATH_FORM)),
+        "paths" => Some((Form::Paths, PATHS_FORM)),
+        "deadline" => Some((
+            Form::Number(1, 4_294_967_295),
+            "a deadline is a whole number, 1 to 4,294,967,295 ns",
+        )),
+        "from" => Some((Form::Name, NAME_FORM)),
+        "to" => Some((Form::Ends, "to is a name, or an array of 1 to 64 names")),
+        _ => form_of_traffic(key),
+    }
+}
+
+/// The same for a key of a stream's traffic.
+fn form_of_traffic(key: &str) -> Option<(Form, &'static str)> {
+    match key {
+        "interval" => Some((
+            Form::Number(1, 1_000_000_000),
+            "an interval is a whole number, 1 to 1,000,000,000 ns",
+        )),
+        "frames" => Some((
+            Form::Number(1, 1000),
+            "frames is a whole number, 1 to 1,000 an interval",
+        )),
+        "size" => Some((
+            Form::Number(64, 1522),
+            "a size is a whole number, 64 to 1,522 octets",
+        )),
+        "jitter" => Some((
+            Form::Number(0, 1_000_000_000),
+            "a jitter is a whole number, 0 to 1,000,000,000 ns",
+        )),
+        "offset" => Some((
+            Form::Number(0, 1_000_000_000),
+            "an offset is a whole number, 0 to 1,000,000,000 ns",
+        )),
+        _ => None,
+    }
+}
+
+/// Whether the value is a text of the form of a name.
+pub(crate) fn is_name(value: &Value) -> bool {
+    match value.as_str() {
+        Some(text) => Name::new(text.as_bytes()).is_some(),
+        None => false,
+    }
+}
+
+/// Whether the value is an array of texts.
+fn are_texts(value: &Value) -> bool {
+    match value.as_array() {
+        Some(values) => values.iter().all(|element| element.is_str()),
+        None => false,
+    }
+}
+
+/// Whether the value is an array of names.
+fn are_names(value: &Value) -> bool {
+    match value.as_array() {
+        Some(values) => values.iter().all(is_name),
+        None => false,
+    }
+}
+
+/// Whether the value is an array of arrays of texts.
+fn are_paths(value: &Value) -> bool {
+    match value.as_array() {
+        Some(values) => values.iter().all(are_texts),
+        None => false,
+    }
+}
+
+/// Whether the value is an array of tables.
+fn are_tables(value: &Value) -> bool {
+    match value.as_array() {
+        Some(values) => values.iter().all(|element| element.is_table()),
+        None => false,
+    }
+}
+
+/// Whether the value has the form.
+pub(crate) fn fits(form: Form, value: &Value) -> bool {
+    match form {
+        Form::Number(least, most) => match value.as_integer() {
+            Some(number) => least <= number && number <= most,
+            None => false,
+        },
+        Form::Rate => matches!(value.as_integer(), Some(10 | 100 | 1000)),
+        Form::Name => is_name(value),
+        Form::Text => value.is_str(),
+        Form::Ends => is_name(value) || are_names(value),
+        Form::Path => are_texts(value),
+        Form::Paths => are_paths(value),
+        Form::Boolean => value.is_bool(),
+        Form::Names => are_names(value),
+        Form::Tables => are_tables(value),
+    }
+}
+
+/// A value as it may be written.
+pub(crate) fn told_value(alloc: Global, value: &Value) -> Result<String, AllocError> {
+    if let Some(number) = value.as_integer() {
+        return format!(in alloc; "{number}");
+    }
+    if let Some(text) = value.as_str() {
+        let text = shortened(alloc, text)?;
+        return format!(in alloc; "\"{text}\"");
+    }
+    if let Some(boolean) = value.as_bool() {
+        return format!(in alloc; "{boolean}");
+    }
+    match value.as_array() {
+        Some(values) if values.is_empty() => String::from_str(alloc, "[]"),
+        _ => {
+            let kind = value.type_str();
+            format!(in alloc; "({kind})")
+        }
+    }
+}
+
+/// What stands at a key, as written, or as it may be written where its line isn't known.
+pub(crate) fn written(alloc: Global, found: &Found<'_>) -> Result<String, AllocError> {
+    let text = before_comment(found.text).trim_ascii();
+    if text.is_empty() {
+        told_value(alloc, found.value)
+    } else {
+        shown(alloc, text)
+    }
+}

@@ -1,0 +1,48 @@
+//! What an explanation is made from.
+
+use crate::explaining::Source;
+use crate::network::{Network, network_of, smallest_network};
+use crate::parts::{Input, input_of};
+use crate::plant::Plant;
+use std::alloc::{AllocError, Global};
+
+/// The command, its files, and what they come to.
+#[derive(Drop)]
+pub(crate) struct Given<'a> {
+    pub alloc: Global,
+    pub command: &'a str,
+    /// How many cycles are run, where the words say it.
+    pub cycles: Option<u32>,
+    pub sources: &'a [Source<'a>],
+    pub input: Input<'a>,
+    pub plant: Plant<'a>,
+}
+
+/// Reads the files of a command.
+pub(crate) fn given_of<'a>(
+    alloc: Global,
+    command: &'a str,
+    cycles: Option<u32>,
+    sources: &'a [Source<'a>],
+) -> Result<Given<'a>, AllocError> {
+    let input = input_of(alloc, command, sources)?;
+    let plant = Plant::read(alloc, input.plant.as_slice())?;
+    Ok(Given {
+        alloc,
+        command,
+        cycles,
+        sources,
+        input,
+        plant,
+    })
+}
+
+impl Given<'_> {
+    /// The network of the plant, or of the command that has its own.
+    pub(crate) fn network(&self) -> Result<Network<'_>, AllocError> {
+        if self.command == "line" {
+            return smallest_network(self.alloc);
+        }
+        network_of(self.alloc, &self.plant)
+    }
+}

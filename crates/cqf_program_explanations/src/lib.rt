@@ -1,0 +1,38 @@
+//! Why an input is refused, in words: the lines that stand behind that of a refusal, which tell where it is wrong, what stands there,
+//! and what may.
+//!
+//! - [`explanation`] makes these lines from the refusal's line and the files that the words name, which are a [`Source`] each.
+//!
+//! ```text
+//! cqf: domain: BadValue rate
+//!   plant.toml:12: link 3, a>b: rate = 2500: a rate is 10, 100 or 1000 (Mb/s)
+//! ```
+//!
+//! The second line is the explanation. All things with the refusal's fault are told, at most 20, in the order of the texts. What is
+//! wrong is found anew over the texts by plain code, with the lines on which keys stand found by a scan of their own; nothing of what a
+//! command comes to hangs on it.
+#![tactic(auto)]
+
+mod budgets;
+mod domain_faults;
+mod explaining;
+mod forms;
+mod given;
+mod lexer;
+mod lines;
+mod network;
+mod outline;
+mod part_faults;
+mod parts;
+mod places;
+mod plant;
+mod plant_faults;
+mod refusal;
+mod script_faults;
+mod stream_faults;
+mod table_faults;
+mod told;
+mod toml_faults;
+mod words;
+
+pub use explaining::{Source, explanation};

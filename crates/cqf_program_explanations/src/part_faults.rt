@@ -1,0 +1,52 @@
+//! Another number of parts than a command takes.
+
+use crate::given::Given;
+use crate::parts::put_parts;
+use crate::places::called;
+use crate::told::Told;
+use std::alloc::AllocError;
+
+/// How many files are named.
+const MOST_NAMED: usize = 8;
+
+/// What a command takes.
+fn taken_by(command: &str) -> &'static str {
+    match command {
+        "port" => "a gate list and arrivals",
+        "line" => "offers",
+        "run" | "report" | "deliveries" | "check" | "summary" | "hops" => {
+            "a plant, calls, offers and background frames, if any"
+        }
+        _ => "a plant, which is a domain and its streams",
+    }
+}
+
+/// The files' names, with the number of their parts where it isn't one.
+fn names_of(given: &Given<'_>) -> Result<String, AllocError> {
+    let mut names = String::new(given.alloc);
+    for source in given.sources.iter().take(MOST_NAMED) {
+        let mut parts = Vec::new(given.alloc);
+        put_parts(given.alloc, &mut parts, *source)?;
+        let (name, count) = (called(source.name), parts.len());
+        if !names.is_empty() {
+            names.push_str(", ")?;
+        }
+        names.push_str(name)?;
+        if count > 1 {
+            let note = format!(in given.alloc; " ({count} parts)")?;
+            names.push_str(note.as_str())?;
+        }
+    }
+    if given.sources.len() > MOST_NAMED {
+        names.push_str(", ..")?;
+    }
+    Ok(names)
+}
+
+/// Tells what the command takes, and which files were given.
+pub(crate) fn tell_parts(given: &Given<'_>, told: &mut Told) -> Result<(), AllocError> {
+    let (command, takes) = (given.command, taken_by(given.command));
+    let (count, names) = (given.sources.len(), names_of(given)?);
+    let noun = if count == 1 { "file was" } else { "files were" };
+    told.tell(format!(in given.alloc; "{command} takes {takes}; {count} {noun} given: {names}")?)
+}

@@ -1,0 +1,322 @@
+//! A plant as its files have it: what is written, and where.
+
+use crate::outline::{Element, KeyLine, Outline, outline_of};
+use crate::parts::Part;
+use crate::places::Place;
+use crate::words::shortened;
+use std::alloc::{AllocError, Global};
+use toml::{Table, Value};
+
+/// A file of a plant, or a part of one.
+#[derive(Drop)]
+pub(crate) struct PlantFile<'a> {
+    pub part: Part<'a>,
+    /// What its text means, where it is TOML.
+    pub table: Option<Table>,
+    pub outline: Outline<'a>,
+}
+
+/// The files of a plant, in their order.
+#[derive(Drop)]
+pub(crate) struct Plant<'a> {
+    alloc: Global,
+    pub files: Vec<PlantFile<'a>>,
+}
+
+/// Whose key it is.
+#[derive(Clone, Copy, Debug, PartialEq, Eq)]
+pub(crate) enum Kind {
+    Top,
+    Link,
+    Stream,
+}
+
+/// A link or a stream as it is written: its number in the plant from 0, and where it stands.
+#[derive(Clone, Copy)]
+pub(crate) struct Item<'p> {
+    pub kind: Kind,
+    pub number: u64,
+    /// The place of its file in the plant.
+    pub file_number: usize,
+    pub file: &'p str,
+    pub line: Option<u64>,
+    pub keys: &'p [KeyLine<'p>],
+    pub value: &'p Value,
+}
+
+/// What stands at a key: of the top, or of a link or a stream.
+#[derive(Clone, Copy)]
+pub(crate) struct Found<'p> {
+    pub place: Place<'p>,
+    pub value: &'p Value,
+    /// What is written behind the key, where its line is known.
+    pub text: &'p [u8],
+}
+
+/// The table of a text, where it is TOML.
+fn table_of(alloc: Global, text: &[u8]) -> Result<Option<Table>, AllocError> {
+    match toml::table_from_slice(alloc, text) {
+        Ok(table) => Ok(Some(table)),
+        Err(error) if error.is_memory() => Err(AllocError),
+        Err(_) => Ok(None),
+    }
+}
+
+/// The first of the lines on which a key stands.
+pub(crate) fn line_of_key<'p>(keys: &'p [KeyLine<'p>], key: &str) -> Option<&'p KeyLine<'p>> {
+    keys.iter().find(|line| line.key == key.as_bytes())
+}
+
+/// What stands behind a key, where its line is known.
+fn text_behind<'p>(line: Option<&'p KeyLine<'p>>) -> &'p [u8] {
+    match line {
+        Some(line) => line.text,
+        None => &[],
+    }
+}
+
+impl<'a> PlantFile<'a> {
+    /// What stands at a key of the top.
+    pub(crate) fn get(&self, key: &str) -> Option<&Value> {
+        match &self.table {
+            Some(table) => table.get(key),
+            None => None,
+        }
+    }
+
+    /// The place of a line of the file.
+    pub(crate) fn at(&self, line: Option<u64>) -> Place<'a> {
+        Place {
+            file: self.part.file,
+            line,
+        }
+    }
+
+    /// Where a key of the top stands.
+    pub(crate) fn place_of(&self, key: &str) -> Place<'a> {
+        let line = line_of_key(self.outline.top.as_slice(), key);
+        self.at(line.map(|line| line.line))
+    }
+
+    /// The elements of the array at a key of the top.
+    fn values(&self, key: &str) -> &[Value] {
+        match self.get(key).and_then(Value::as_array) {
+            Some(values) => values.as_slice(),
+            None => &[],
+        }
+    }
+
+    /// What stands at a key of the top, with its place.
+    pub(crate) fn found(&self, key: &str) -> Option<Found<'_>> {
+        let value = self.get(key)?;
+        let line = line_of_key(self.outline.top.as_slice(), key);
+        Some(Found {
+            place: self.at(line.map(|line| line.line)),
+            value,
+            text: text_behind(line),
+        })
+    }
+}
+
+/// A file of a plant, read.
+fn plant_file(alloc: Global, part: Part<'_>) -> Result<PlantFile<'_>, AllocError> {
+    let table = table_of(alloc, part.text)?;
+    let outline = outline_of(alloc, part.text, part.before)?;
+    Ok(PlantFile {
+        part,
+        table,
+        outline,
+    })
+}
+
+/// Puts the links or the streams of a file behind others.
+fn put_items<'p>(
+    items: &mut Vec<Item<'p>>,
+    kind: Kind,
+    file_number: usize,
+    file: &'p PlantFile<'_>,
+) -> Result<(), AllocError> {
+    let (key, elements) = match kind {
+        Kind::Link => ("links", file.outline.links.as_slice()),
+        _ => ("streams", file.outline.streams.as_slice()),
+    };
+    for (place, value) in file.values(key).iter().enumerate() {
+        let element: Option<&Element<'_>> = elements.get(place);
+        items.push(Item {
+            kind,
+            number: items.len() as u64,
+            file_number,
+            file: file.part.file,
+            line: element.map(|element| element.line),
+            keys: element.map_or(&[], |element| element.keys.as_slice()),
+            value,
+        })?;
+    }
+    Ok(())
+}
+
+/// Puts the elements of an array of names behind others.
+fn put_names<'p>(
+    names: &mut Vec<Found<'p>>,
+    key: &str,
+    file: &'p PlantFile<'_>,
+) -> Result<(), AllocError> {
+    let lines = match key {
+        "bridges" => file.outline.bridges.as_slice(),
+        _ => file.outline.stations.as_slice(),
+    };
+    let values = file.values(key);
+    let head = line_of_key(file.outline.top.as_slice(), key).map(|line| line.line);
+    for (place, value) in values.iter().enumerate() {
+        let line = if lines.len() == values.len() {
+            lines.get(place).copied()
+        } else {
+            head
+        };
+        names.push(Found {
+            place: file.at(line),
+            value,
+            text: &[],
+        })?;
+    }
+    Ok(())
+}
+
+impl<'a> Plant<'a> {
+    /// The plant of some parts.
+    pub(crate) fn read(alloc: Global, parts: &[Part<'a>]) -> Result<Plant<'a>, AllocError> {
+        let mut files = Vec::new(alloc);
+        for part in parts {
+            files.push(plant_file(alloc, *part)?)?;
+        }
+        Ok(Plant { alloc, files })
+    }
+
+    /// What stands at a key of the top of the first file that has it.
+    pub(crate) fn top(&self, key: &str) -> Option<Found<'_>> {
+        for file in &self.files {
+            let found = file.found(key);
+            if found.is_some() {
+                return found;
+            }
+        }
+        None
+    }
+
+    /// The whole number at a key of the top, or 0.
+    pub(crate) fn number(&self, key: &str) -> u64 {
+        match self.top(key) {
+            Some(found) => number_of(found.value),
+            None => 0,
+        }
+    }
+
+    /// The links or the streams.
+    pub(crate) fn items(&self, kind: Kind) -> Result<Vec<Item<'_>>, AllocError> {
+        let mut items = Vec::new(self.alloc);
+        for (number, file) in self.files.iter().enumerate() {
+            put_items(&mut items, kind, number, file)?;
+        }
+        Ok(items)
+    }
+
+    /// The elements of an array of names of the top.
+    pub(crate) fn names(&self, key: &str) -> Result<Vec<Found<'_>>, AllocError> {
+        let mut names = Vec::new(self.alloc);
+        for file in &self.files {
+            put_names(&mut names, key, file)?;
+        }
+        Ok(names)
+    }
+}
+
+/// The whole number of a value, or 0 where it is none or is below 0.
+pub(crate) fn number_of(value: &Value) -> u64 {
+    match value.as_integer() {
+        Some(number) => u64::try_from(number).unwrap_or(0),
+        None => 0,
+    }
+}
+
+impl<'p> Item<'p> {
+    /// Where it begins.
+    pub(crate) fn place(&self) -> Place<'p> {
+        Place {
+            file: self.file,
+            line: self.line,
+        }
+    }
+
+    /// Where a key of it stands, or it begins.
+    pub(crate) fn place_of(&self, key: &str) -> Place<'p> {
+        let line = line_of_key(self.keys, key).map(|line| line.line);
+        Place {
+            file: self.file,
+            line: line.or(self.line),
+        }
+    }
+
+    /// What stands at a key.
+    pub(crate) fn get(&self, key: &str) -> Option<&'p Value> {
+        match self.value.as_table() {
+            Some(table) => table.get(key),
+            None => None,
+        }
+    }
+
+    /// What stands at a key, with its place.
+    pub(crate) fn found(&self, key: &str) -> Option<Found<'p>> {
+        let value = self.get(key)?;
+        Some(Found {
+            place: self.place_of(key),
+            value,
+            text: text_behind(line_of_key(self.keys, key)),
+        })
+    }
+
+    /// The text at a key.
+    pub(crate) fn text(&self, key: &str) -> Option<&'p str> {
+        self.get(key).and_then(Value::as_str)
+    }
+
+    /// The whole number at a key, or 0.
+    pub(crate) fn number(&self, key: &str) -> u64 {
+        match self.get(key) {
+            Some(value) => number_of(value),
+            None => 0,
+        }
+    }
+
+    /// How it is called: a link by its number and its ends, a stream by its name, or by its number from 1 where it has none.
+    pub(crate) fn label(&self, alloc: Global) -> Result<String, AllocError> {
+        let number = self.number;
+        if self.kind == Kind::Link {
+            return match (self.text("from"), self.text("to")) {
+                (Some(from), Some(to)) => {
+                    let (from, to) = (shortened(alloc, from)?, shortened(alloc, to)?);
+                    format!(in alloc; "link {number}, {from}>{to}")
+                }
+                _ => format!(in alloc; "link {number}"),
+            };
+        }
+        match self.text("name") {
+            Some(name) => shortened(alloc, name),
+            None => {
+                let place = number.saturating_add(1);
+                format!(in alloc; "stream {place}")
+            }
+        }
+    }
+
+    /// How a stream is called where a line counts it.
+    pub(crate) fn counted(&self, alloc: Global) -> Result<String, AllocError> {
+        let place = self.number.saturating_add(1);
+        match self.text("name") {
+            Some(name) => {
+                let name = shortened(alloc, name)?;
+                format!(in alloc; "{name} (stream {place})")
+            }
+            None => format!(in alloc; "stream {place}"),
+        }
+    }
+}

@@ -1,0 +1,18 @@
+//! The line of a refusal, taken apart.
+
+/// What a line says: which part is refused, for which fault, and what stands behind the fault.
+#[derive(Clone, Copy, Debug)]
+pub(crate) struct Refusal<'a> {
+    pub part: &'a str,
+    pub fault: &'a str,
+    pub value: &'a str,
+}
+
+/// The refusal of a line such as `cqf: domain: BadValue rate`, with its line feed.
+pub(crate) fn refusal_of(line: &[u8]) -> Option<Refusal<'_>> {
+    let text = std::str::from_utf8(line).ok()?;
+    let told = text.strip_prefix("cqf: ")?.strip_suffix("\n")?;
+    let (part, fault) = told.split_once(": ").unwrap_or((told, ""));
+    let (fault, value) = fault.split_once(' ').unwrap_or((fault, ""));
+    Some(Refusal { part, fault, value })
+}

@@ -1,0 +1,352 @@
+//! Lines of a script that are refused (profile).
+
+use crate::given::Given;
+use crate::lines::Lines;
+use crate::parts::Part;
+use crate::places::{Grouped, Place};
+use crate::plant::Kind;
+use crate::table_faults::place_of_offer;
+use crate::told::Told;
+use crate::words::{question, shown};
+use cqf_text::read_decimal;
+use std::alloc::{AllocError, Global};
+use std::collections::BTreeSet;
+
+/// How many calls a script has at most.
+const MOST_CALLS: u64 = 100_000;
+
+/// The last cycle that a line may tell.
+const LAST_TOLD: u64 = 4_294_967_295;
+
+/// The forms of a line.
+const LINE_FORM: &str = "a line is N admit NAME, N withdraw NAME or seal";
+
+/// A line of a script, as it is read.
+#[derive(Clone, Copy, Debug)]
+struct ScriptLine<'a> {
+    place: Place<'a>,
+    text: &'a [u8],
+    /// Whether it stands in a file of calls alone.
+    is_call: bool,
+}
+
+/// How many lines of a script seal and call so far, and the cycle that is reached.
+#[derive(Clone, Copy, Debug)]
+struct Counts {
+    seals: u64,
+    calls: u64,
+    cycle: u64,
+}
+
+/// The line as it is read in a file of calls: without the CR before its line feed.
+fn without_return(text: &[u8]) -> &[u8] {
+    text.strip_suffix(b"\r").unwrap_or(text)
+}
+
+/// The lines of a script that aren't passed over.
+fn lines_of<'a>(given: &Given<'_>, part: Part<'a>) -> Result<Vec<ScriptLine<'a>>, AllocError> {
+    let mut lines = Vec::new(given.alloc);
+    let is_call = part.is_whole && given.input.has_plant();
+    for (number, text) in Lines::of(part.text, part.before) {
+        let text = if is_call { without_return(text) } else { text };
+        let is_passed_over = is_call && (text.is_empty() || text.starts_with(b"#"));
+        if !is_passed_over {
+            lines.push(ScriptLine {
+                place: Place {
+                    file: part.file,
+                    line: Some(number),
+                },
+                text,
+                is_call,
+            })?;
+        }
+    }
+    Ok(lines)
+}
+
+/// The cycle of a line `@N`.
+fn cycle_of(line: &ScriptLine<'_>) -> Option<u64> {
+    if !line.is_call {
+        return None;
+    }
+    let number = line.text.strip_prefix(b"@")?;
+    read_decimal(number, 0, LAST_TOLD)
+}
+
+/// Whether a line is `seal`.
+fn is_seal(line: &ScriptLine<'_>) -> bool {
+    line.text == b"seal".as_slice()
+}
+
+impl Counts {
+    /// Before the first line.
+    fn none() -> Counts {
+        Counts {
+            seals: 0,
+            calls: 0,
+            cycle: 0,
+        }
+    }
+
+    /// Behind a line.
+    fn behind(self, line: &ScriptLine<'_>) -> Counts {
+        if is_seal(line) {
+            Counts {
+                seals: self.seals.saturating_add(1),
+                calls: self.calls,
+                cycle: self.cycle.saturating_add(1),
+            }
+        } else if let Some(cycle) = cycle_of(line) {
+            Counts {
+                seals: self.seals,
+                calls: self.calls,
+                cycle: self.cycle.max(cycle),
+            }
+        } else {
+            Counts {
+                seals: self.seals,
+                calls: self.calls.saturating_add(1),
+                cycle: self.cycle,
+            }
+        }
+    }
+}
+
+/// Whether a byte stands behind itself somewhere.
+fn has_twice(text: &[u8], byte: u8) -> bool {
+    let behind = text.iter().skip(1);
+    text.iter()
+        .zip(behind)
+        .any(|(a, b)| *a == byte && *b == byte)
+}
+
+/// What is wrong with a line before its words are looked at.
+fn wrong_outside(line: &ScriptLine<'_>) -> Option<&'static str> {
+    let text = line.text;
+    if text.ends_with(b"\r") {
+        Some("CR before LF: lines end with LF alone, but in a calls file of its own")
+    } else if text.is_empty() {
+        Some("the line is empty: empty lines stand in a calls file of its own")
+    } else if text.starts_with(b"#") {
+        Some("comments stand in a calls file of its own")
+    } else if text.starts_with(b"at,from,") {
+        Some("these are background frames: plant, calls, offers, background is the order")
+    } else if text.starts_with(b"at,") {
+        Some("these are offers: plant, calls, offers, background is the order")
+    } else {
+        wrong_between(line)
+    }
+}
+
+/// What is wrong with a line's beginning, its end, or between its words.
+fn wrong_between(line: &ScriptLine<'_>) -> Option<&'static str> {
+    let text = line.text;
+    if text.starts_with(b"@") {
+        Some(if line.is_call {
+            "a cycle is @ and a number up to 4,294,967,295, alone on the line"
+        } else {
+            "cycles stand in a calls file of its own"
+        })
+    } else if text.starts_with(b" ") || text.starts_with(b"\t") {
+        Some("a blank at its beginning")
+    } else if text.ends_with(b" ") || text.ends_with(b"\t") {
+        Some("a blank at its end")
+    } else if text.contains(&b'\t') {
+        Some("a tab: words are divided by one blank")
+    } else if has_twice(text, b' ') {
+        Some("two blanks: words are divided by one blank")
+    } else {
+        None
+    }
+}
+
+/// Whether a word is the digit of an administrator.
+fn is_seat(word: &[u8]) -> bool {
+    matches!(word, [b'0'..=b'7'])
+}
+
+/// Whether a word is a call's.
+fn is_verb(word: &[u8]) -> bool {
+    word == b"admit".as_slice() || word == b"withdraw".as_slice()
+}
+
+/// Whether a word may name a stream.
+fn is_word(word: &[u8]) -> bool {
+    !word.is_empty() && word.len() <= 64 && word.iter().all(|byte| byte.is_ascii_graphic())
+}
+
+/// What is wrong with a line of three words, in words.
+fn wrong_call(
+    alloc: Global,
+    seat: &[u8],
+    verb: &[u8],
+    name: &[u8],
+) -> Result<Option<String>, AllocError> {
+    let words = if !is_seat(seat) {
+        let seat = shown(alloc, seat)?;
+        format!(in alloc; "{seat}: an administrator is a digit, 0 to 7")?
+    } else if !is_verb(verb) {
+        let verb = shown(alloc, verb)?;
+        let question = question(alloc, verb.as_str(), &["admit", "withdraw"])?;
+        format!(in alloc; "{verb}: a call is admit or withdraw{question}")?
+    } else if !is_word(name) {
+        String::from_str(alloc, "a stream is called by 1 to 64 printable characters")?
+    } else {
+        return Ok(None);
+    };
+    Ok(Some(words))
+}
+
+/// What is wrong with the words of a line, in words.
+fn wrong_words(alloc: Global, text: &[u8]) -> Result<Option<String>, AllocError> {
+    let words: Vec<&[u8]> = text.split(|byte| *byte == b' ').collect(alloc)?;
+    let why = match *words.as_slice() {
+        [seat, verb, name] => return wrong_call(alloc, seat, verb, name),
+        [verb, _] if is_verb(verb) => {
+            String::from_str(
+                alloc,
+                "an administrator stands before a call, as in 0 admit NAME",
+            )?
+        }
+        [first, ..] => {
+            let first = shown(alloc, first)?;
+            let question = question(alloc, first.as_str(), &["seal"])?;
+            format!(in alloc; "{LINE_FORM}{question}")?
+        }
+        [] => String::from_str(alloc, LINE_FORM)?,
+    };
+    Ok(Some(why))
+}
+
+/// What is wrong with a line, in words.
+fn wrong_of(
+    alloc: Global,
+    line: &ScriptLine<'_>,
+    counts: Counts,
+) -> Result<Option<String>, AllocError> {
+    if is_seal(line) {
+        return Ok(None);
+    }
+    match cycle_of(line) {
+        Some(cycle) if cycle < counts.cycle => {
+            let reached = Grouped(counts.cycle);
+            Ok(Some(format!(in alloc; "cycle {reached} is reached already")?))
+        }
+        Some(_) => Ok(None),
+        None => match wrong_outside(line) {
+            Some(words) => Ok(Some(String::from_str(alloc, words)?)),
+            None => wrong_words(alloc, line.text),
+        },
+    }
+}
+
+/// Tells of each line that has no form which a line may have.
+pub(crate) fn tell_bad_lines(given: &Given<'_>, told: &mut Told) -> Result<(), AllocError> {
+    let Some(part) = given.input.rest.first() else {
+        return Ok(());
+    };
+    let mut counts = Counts::none();
+    for line in &lines_of(given, *part)? {
+        if let Some(why) = wrong_of(given.alloc, line, counts)? {
+            let (place, text) = (line.place, shown(given.alloc, line.text)?);
+            let told_line = if line.text.trim_ascii().is_empty() {
+                format!(in given.alloc; "{place}: {why}")?
+            } else {
+                format!(in given.alloc; "{place}: {text}: {why}")?
+            };
+            told.tell(told_line)?;
+        }
+        counts = counts.behind(line);
+    }
+    Ok(())
+}
+
+/// The name that a line admits.
+fn admitted<'a>(line: &ScriptLine<'a>) -> Option<&'a str> {
+    let call = line.text.get(1..)?.strip_prefix(b" admit ")?;
+    std::str::from_utf8(call).ok()
+}
+
+/// The names of the plant's streams.
+fn names_of<'p>(given: &'p Given<'_>) -> Result<Vec<&'p str>, AllocError> {
+    let mut names = Vec::new(given.alloc);
+    for item in &given.plant.items(Kind::Stream)? {
+        if let Some(name) = item.text("name") {
+            names.push(name)?;
+        }
+    }
+    Ok(names)
+}
+
+/// Tells of each line that admits a stream which the plant hasn't, but of calls of cycles that aren't run.
+pub(crate) fn tell_unknown_streams(given: &Given<'_>, told: &mut Told) -> Result<(), AllocError> {
+    let Some(part) = given.input.rest.first() else {
+        return Ok(());
+    };
+    let names = names_of(given)?;
+    let mut known = BTreeSet::new(given.alloc);
+    for name in &names {
+        known.insert(*name)?;
+    }
+    let (cycles, mut counts) = (given.cycles.map_or(u64::MAX, u64::from), Counts::none());
+    for line in &lines_of(given, *part)? {
+        let is_left_out = line.is_call && counts.cycle >= cycles;
+        counts = counts.behind(line);
+        let Some(name) = admitted(line) else {
+            continue;
+        };
+        if !is_left_out && !known.contains(name) && !told.is_counted() {
+            let (place, question) = (line.place, question(given.alloc, name, names.as_slice())?);
+            told.tell(format!(in given.alloc; "{place}: no stream {name}{question}")?)?;
+        }
+    }
+    Ok(())
+}
+
+/// Tells of an offer's name that no stream of the plant has.
+pub(crate) fn tell_unknown_offer(
+    given: &Given<'_>,
+    told: &mut Told,
+    number: &str,
+    name: &str,
+) -> Result<(), AllocError> {
+    let names = names_of(given)?;
+    if names.contains(&name) {
+        return Ok(());
+    }
+    let question = question(given.alloc, name, names.as_slice())?;
+    let line = match place_of_offer(given, number)? {
+        Some(place) => format!(in given.alloc; "{place}: no stream {name} in the plant{question}")?,
+        None => format!(in given.alloc; "no stream {name} in the plant{question}")?,
+    };
+    told.tell(line)
+}
+
+/// Tells of the first line behind which the script has too many lines.
+pub(crate) fn tell_too_many_lines(given: &Given<'_>, told: &mut Told) -> Result<(), AllocError> {
+    let Some(part) = given.input.rest.first() else {
+        return Ok(());
+    };
+    let cycles = given.cycles.map_or(u64::MAX, u64::from);
+    let (mut counts, mut first) = (Counts::none(), None);
+    for line in &lines_of(given, *part)? {
+        counts = counts.behind(line);
+        if first.is_none() && (counts.seals > cycles || counts.calls > MOST_CALLS) {
+            first = Some(line.place);
+        }
+    }
+    let Some(place) = first else {
+        return Ok(());
+    };
+    let (seals, calls, cycles) = (
+        Grouped(counts.seals),
+        Grouped(counts.calls),
+        Grouped(cycles),
+    );
+    let line = if counts.calls > MOST_CALLS {
+        format!(in given.alloc; "{place}: {calls} calls: a script has at most 100,000")?
+    } else {
+        format!(in given.alloc; "{place}: {seals} lines seal, and {cycles} cycles are run")?
+    };
+    told.tell(line)
+}

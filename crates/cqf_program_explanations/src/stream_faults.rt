@@ -1,0 +1,387 @@
+//! Streams that are refused for their own form (profile).
+
+use crate::forms::NAME_FORM;
+use crate::given::Given;
+use crate::network::Network;
+use crate::places::Place;
+use crate::plant::{Item, Kind};
+use crate::told::Told;
+use crate::words::shortened;
+use cqf_units::Name;
+use std::alloc::{AllocError, Global};
+use toml::Value;
+
+/// A stream as it is written.
+#[derive(Drop)]
+pub(crate) struct Asked<'p> {
+    pub item: Item<'p>,
+    pub name: &'p str,
+    /// What it reserves, in octets a cycle.
+    pub octets: u64,
+    /// Its paths, each its bridges in order and then a station.
+    pub paths: Vec<Vec<&'p str>>,
+}
+
+/// Why a stream is refused for its own form, in the order of the checks.
+#[derive(Clone, Copy, Debug, PartialEq, Eq)]
+pub(crate) enum FormFault {
+    BadName,
+    BadOctets,
+    UnknownNode,
+    BrokenPath,
+    LoopingPath,
+    NotATree,
+}
+
+/// The first thing that is wrong with a path.
+#[derive(Clone, Copy, Debug)]
+enum Broken<'p> {
+    Empty,
+    BeginsAtStation(&'p str),
+    NoLink(&'p str, &'p str),
+    EndsAtBridge(&'p str),
+    TooLong,
+}
+
+/// How many nodes a path has at most: 16 bridges and a station.
+const MOST_NODES: usize = 17;
+
+/// The texts of an array.
+fn texts_of<'p>(alloc: Global, value: &'p Value) -> Result<Vec<&'p str>, AllocError> {
+    let mut texts = Vec::new(alloc);
+    if let Some(values) = value.as_array() {
+        for element in values {
+            texts.push(element.as_str().unwrap_or(""))?;
+        }
+    }
+    Ok(texts)
+}
+
+/// The paths of a stream.
+fn paths_of<'p>(alloc: Global, item: &Item<'p>) -> Result<Vec<Vec<&'p str>>, AllocError> {
+    let mut paths = Vec::new(alloc);
+    if let Some(path) = item.get("path") {
+        paths.push(texts_of(alloc, path)?)?;
+    } else if let Some(values) = item.get("paths").and_then(Value::as_array) {
+        for value in values {
+            paths.push(texts_of(alloc, value)?)?;
+        }
+    }
+    Ok(paths)
+}
+
+/// A stream as it is written.
+fn asked_of<'p>(alloc: Global, item: &Item<'p>) -> Result<Asked<'p>, AllocError> {
+    Ok(Asked {
+        item: *item,
+        name: item.text("name").unwrap_or(""),
+        octets: item.number("octets"),
+        paths: paths_of(alloc, item)?,
+    })
+}
+
+/// The streams of the plant.
+pub(crate) fn streams_of<'p>(given: &'p Given<'_>) -> Result<Vec<Asked<'p>>, AllocError> {
+    let mut streams = Vec::new(given.alloc);
+    for item in &given.plant.items(Kind::Stream)? {
+        streams.push(asked_of(given.alloc, item)?)?;
+    }
+    Ok(streams)
+}
+
+/// Whether a path names no node at some place.
+fn has_unknown(network: &Network<'_>, path: &[&str]) -> bool {
+    path.iter().any(|name| !network.is_node(name))
+}
+
+/// The first step of a path for which there is no link.
+fn first_gap<'p>(network: &Network<'_>, path: &[&'p str]) -> Option<(&'p str, &'p str)> {
+    let behind = path.iter().skip(1);
+    for (from, to) in path.iter().zip(behind) {
+        if network.link_between(from, to).is_none() {
+            return Some((*from, *to));
+        }
+    }
+    None
+}
+
+/// The first thing that is wrong with a path whose nodes are there.
+fn broken_of<'p>(network: &Network<'_>, path: &[&'p str]) -> Option<Broken<'p>> {
+    let (Some(first), Some(last)) = (path.first(), path.last()) else {
+        return Some(Broken::Empty);
+    };
+    if !network.is_bridge(first) {
+        return Some(Broken::BeginsAtStation(first));
+    }
+    let within = path.get(..MOST_NODES).unwrap_or(path);
+    if let Some((from, to)) = first_gap(network, within) {
+        Some(Broken::NoLink(from, to))
+    } else if path.len() > MOST_NODES {
+        Some(Broken::TooLong)
+    } else if network.is_bridge(last) {
+        Some(Broken::EndsAtBridge(last))
+    } else {
+        None
+    }
+}
+
+/// The first node of a path that stood before, with its place and the one before, from 1.
+fn loop_of<'p>(path: &[&'p str]) -> Option<(&'p str, usize, usize)> {
+    for (place, name) in path.iter().enumerate() {
+        let first = path.iter().position(|other| other == name)?;
+        if first < place {
+            return Some((*name, first.saturating_add(1), place.saturating_add(1)));
+        }
+    }
+    None
+}
+
+/// The first node that two paths reach in two ways, behind what both begin with; `None` where they are apart there.
+fn meeting<'p>(before: &[&str], path: &[&'p str]) -> Option<&'p str> {
+    let same = path.iter().zip(before).take_while(|(a, b)| a == b).count();
+    let (rest, other) = (path.get(same..)?, before.get(same..)?);
+    rest.iter().find(|name| other.contains(name)).copied()
+}
+
+/// Why a path makes no tree with one before it.
+#[derive(Clone, Copy, Debug)]
+enum Stray<'p> {
+    /// It begins elsewhere than the one before.
+    Begins(&'p str, &'p str),
+    /// It is the one before.
+    Same,
+    /// A node is reached in two ways.
+    Meets(&'p str),
+}
+
+/// Why two good paths make no tree.
+fn stray_of<'p>(before: &[&'p str], path: &[&'p str]) -> Option<Stray<'p>> {
+    let (first, other) = (path.first()?, before.first()?);
+    if first != other {
+        return Some(Stray::Begins(first, other));
+    }
+    if before == path {
+        return Some(Stray::Same);
+    }
+    meeting(before, path).map(Stray::Meets)
+}
+
+/// Whether two of the paths make no tree.
+fn are_no_tree(paths: &[Vec<&str>]) -> bool {
+    for (place, path) in paths.iter().enumerate() {
+        for before in paths.iter().take(place) {
+            if stray_of(before.as_slice(), path.as_slice()).is_some() {
+                return true;
+            }
+        }
+    }
+    false
+}
+
+/// Whether the paths are none, or one of them is broken.
+fn are_broken(network: &Network<'_>, paths: &[Vec<&str>]) -> bool {
+    paths.is_empty()
+        || paths
+            .iter()
+            .any(|path| broken_of(network, path.as_slice()).is_some())
+}
+
+impl Asked<'_> {
+    /// Why the stream is refused for its own form.
+    pub(crate) fn form_fault(&self, network: &Network<'_>) -> Option<FormFault> {
+        let paths = self.paths.as_slice();
+        if Name::new(self.name.as_bytes()).is_none() {
+            Some(FormFault::BadName)
+        } else if self.octets < 64 || self.octets > 60_000 {
+            Some(FormFault::BadOctets)
+        } else if paths
+            .iter()
+            .any(|path| has_unknown(network, path.as_slice()))
+        {
+            Some(FormFault::UnknownNode)
+        } else if are_broken(network, paths) {
+            Some(FormFault::BrokenPath)
+        } else if paths.iter().any(|path| loop_of(path.as_slice()).is_some()) {
+            Some(FormFault::LoopingPath)
+        } else if are_no_tree(paths) {
+            Some(FormFault::NotATree)
+        } else {
+            None
+        }
+    }
+
+    /// The key of its paths.
+    fn paths_key(&self) -> &'static str {
+        if self.item.get("path").is_some() {
+            "path"
+        } else {
+            "paths"
+        }
+    }
+
+    /// Where its paths stand.
+    fn paths_place(&self) -> Place<'_> {
+        self.item.place_of(self.paths_key())
+    }
+}
+
+/// Tells of each node of a stream's paths that isn't there.
+fn tell_unknown_nodes(
+    given: &Given<'_>,
+    told: &mut Told,
+    network: &Network<'_>,
+    asked: &Asked<'_>,
+) -> Result<(), AllocError> {
+    let (place, label) = (asked.paths_place(), asked.item.counted(given.alloc)?);
+    for path in &asked.paths {
+        for name in path {
+            if !network.is_node(name) && !told.is_counted() {
+                let shown = shortened(given.alloc, name)?;
+                let question = network.node_question(given.alloc, name)?;
+                told.tell(format!(in given.alloc;
+                    "{place}: {label}: no bridge or station {shown}{question}"
+                )?)?;
+            }
+        }
+    }
+    Ok(())
+}
+
+/// What is wrong with a path, in words.
+fn broken_words(alloc: Global, broken: Broken<'_>) -> Result<String, AllocError> {
+    match broken {
+        Broken::Empty => String::from_str(
+            alloc,
+            "the path is empty: it names bridges in order and then a station",
+        ),
+        Broken::BeginsAtStation(name) => {
+            format!(in alloc; "the path begins at the station {name}: it begins at a bridge")
+        }
+        Broken::NoLink(from, to) => format!(in alloc; "no link {from}>{to}"),
+        Broken::EndsAtBridge(name) => {
+            format!(in alloc; "the path ends at the bridge {name}: a path ends at a station")
+        }
+        Broken::TooLong => String::from_str(alloc, "the path has more than 16 bridges"),
+    }
+}
+
+/// Tells of each broken path of a stream.
+fn tell_broken_paths(
+    given: &Given<'_>,
+    told: &mut Told,
+    network: &Network<'_>,
+    asked: &Asked<'_>,
+) -> Result<(), AllocError> {
+    let (place, label) = (asked.paths_place(), asked.item.counted(given.alloc)?);
+    if asked.paths.is_empty() {
+        return told.tell(format!(in given.alloc; "{place}: {label}: there is no path")?);
+    }
+    for path in &asked.paths {
+        if let Some(broken) = broken_of(network, path.as_slice()) {
+            let words = broken_words(given.alloc, broken)?;
+            told.tell(format!(in given.alloc; "{place}: {label}: {words}")?)?;
+        }
+    }
+    Ok(())
+}
+
+/// Tells of each path of a stream that comes to a node twice.
+fn tell_loops(given: &Given<'_>, told: &mut Told, asked: &Asked<'_>) -> Result<(), AllocError> {
+    let (place, label) = (asked.paths_place(), asked.item.counted(given.alloc)?);
+    for path in &asked.paths {
+        if let Some((name, first, second)) = loop_of(path.as_slice()) {
+            told.tell(format!(in given.alloc;
+                "{place}: {label}: {name} is node {second} of the path, and stood before as node {first}"
+            )?)?;
+        }
+    }
+    Ok(())
+}
+
+/// Why two paths make no tree, in words; paths are numbered from 1.
+fn stray_words(
+    alloc: Global,
+    stray: Stray<'_>,
+    first: usize,
+    second: usize,
+) -> Result<String, AllocError> {
+    let (first, second) = (first.saturating_add(1), second.saturating_add(1));
+    match stray {
+        Stray::Begins(name, other) => format!(in alloc;
+            "path {second} begins at {name} and path {first} at {other}: give each a stream"
+        ),
+        Stray::Same => format!(in alloc; "path {second} is path {first} again"),
+        Stray::Meets(name) => format!(in alloc;
+            "{name} is reached in two ways, by paths {first} and {second}: give each way a stream"
+        ),
+    }
+}
+
+/// Tells of each path of a stream that makes no tree with one before it.
+fn tell_strays(given: &Given<'_>, told: &mut Told, asked: &Asked<'_>) -> Result<(), AllocError> {
+    let (place, label) = (asked.paths_place(), asked.item.counted(given.alloc)?);
+    for (second, path) in asked.paths.iter().enumerate() {
+        for (first, before) in asked.paths.iter().take(second).enumerate() {
+            if let Some(stray) = stray_of(before.as_slice(), path.as_slice()) {
+                let words = stray_words(given.alloc, stray, first, second)?;
+                told.tell(format!(in given.alloc; "{place}: {label}: {words}")?)?;
+            }
+        }
+    }
+    Ok(())
+}
+
+/// Tells what is wrong with the form of a stream.
+fn tell_form(
+    given: &Given<'_>,
+    told: &mut Told,
+    network: &Network<'_>,
+    asked: &Asked<'_>,
+    fault: FormFault,
+) -> Result<(), AllocError> {
+    let label = asked.item.counted(given.alloc)?;
+    match fault {
+        FormFault::BadName => {
+            let place = asked.item.place_of("name");
+            told.tell(format!(in given.alloc; "{place}: {label}: {NAME_FORM}")?)
+        }
+        FormFault::BadOctets => {
+            let (place, octets) = (asked.item.place_of("octets"), asked.octets);
+            told.tell(format!(in given.alloc;
+                "{place}: {label}: octets = {octets}: a reservation is 64 to 60,000 octets a cycle"
+            )?)
+        }
+        FormFault::UnknownNode => tell_unknown_nodes(given, told, network, asked),
+        FormFault::BrokenPath => tell_broken_paths(given, told, network, asked),
+        FormFault::LoopingPath => tell_loops(given, told, asked),
+        FormFault::NotATree => tell_strays(given, told, asked),
+    }
+}
+
+/// The fault of a stream's own form that a line names.
+pub(crate) fn form_fault_of(fault: &str) -> Option<FormFault> {
+    match fault {
+        "BadName" => Some(FormFault::BadName),
+        "BadOctets" => Some(FormFault::BadOctets),
+        "UnknownNode" => Some(FormFault::UnknownNode),
+        "BrokenPath" => Some(FormFault::BrokenPath),
+        "LoopingPath" => Some(FormFault::LoopingPath),
+        "NotATree" => Some(FormFault::NotATree),
+        _ => None,
+    }
+}
+
+/// Tells of each stream that is refused for a fault of its own form.
+pub(crate) fn tell_form_faults(
+    given: &Given<'_>,
+    told: &mut Told,
+    fault: FormFault,
+) -> Result<(), AllocError> {
+    let network = given.network()?;
+    for asked in &streams_of(given)? {
+        if asked.form_fault(&network) == Some(fault) {
+            tell_form(given, told, &network, asked, fault)?;
+        }
+    }
+    Ok(())
+}

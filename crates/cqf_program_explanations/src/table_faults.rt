@@ -1,0 +1,419 @@
+//! Rows of tables that are refused: offers, background frames, arrivals (profile).
+
+use crate::forms::NAME_FORM;
+use crate::given::Given;
+use crate::lines::Lines;
+use crate::network::Network;
+use crate::parts::Part;
+use crate::places::{Grouped, Place};
+use crate::told::Told;
+use crate::words::shown;
+use cqf_text::read_decimal;
+use cqf_units::Name;
+use std::alloc::{AllocError, Global};
+
+/// A table that is read.
+#[derive(Clone, Copy, Debug, PartialEq, Eq)]
+pub(crate) enum Table {
+    Offers,
+    Background,
+    Arrivals,
+}
+
+/// What a field has to be.
+#[derive(Clone, Copy, Debug)]
+enum Field {
+    /// A number of a range.
+    Number(u64, u64),
+    Bridge,
+    Stream,
+    /// An end of a link, of which both are looked at together.
+    End,
+}
+
+/// The name of a field, its form, and this in words.
+type Column = (&'static str, Field, &'static str);
+
+const INSTANT: Column = (
+    "at",
+    Field::Number(0, 999_999_999_999),
+    "an instant is 0 to 999,999,999,999 ns",
+);
+
+const OCTETS: Column = (
+    "octets",
+    Field::Number(64, 1522),
+    "a frame has 64 to 1,522 octets",
+);
+
+const OFFER_COLUMNS: [Column; 4] = [
+    INSTANT,
+    ("bridge", Field::Bridge, ""),
+    ("stream", Field::Stream, NAME_FORM),
+    OCTETS,
+];
+
+const BACKGROUND_COLUMNS: [Column; 5] = [
+    INSTANT,
+    ("from", Field::End, ""),
+    ("to", Field::End, ""),
+    (
+        "class",
+        Field::Number(0, 5),
+        "a class of background frames is 0 to 5",
+    ),
+    OCTETS,
+];
+
+const ARRIVAL_COLUMNS: [Column; 4] = [
+    (
+        "at",
+        Field::Number(0, 100_000_000),
+        "an instant is 0 to 100,000,000 ns",
+    ),
+    ("class", Field::Number(0, 7), "a class is 0 to 7"),
+    OCTETS,
+    (
+        "frame",
+        Field::Number(0, 4_294_967_295),
+        "a frame's number is 0 to 4,294,967,295",
+    ),
+];
+
+/// How many rows a table has at most.
+const MOST_ROWS: u64 = 1_000_000;
+
+impl Table {
+    /// The table of a part's name.
+    pub(crate) fn of(part: &str) -> Option<Table> {
+        match part {
+            "offers" => Some(Table::Offers),
+            "background" => Some(Table::Background),
+            "arrivals" => Some(Table::Arrivals),
+            _ => None,
+        }
+    }
+
+    /// Its columns.
+    fn columns(self) -> &'static [Column] {
+        match self {
+            Table::Offers => &OFFER_COLUMNS,
+            Table::Background => &BACKGROUND_COLUMNS,
+            Table::Arrivals => &ARRIVAL_COLUMNS,
+        }
+    }
+
+    /// Its header.
+    fn header(self) -> &'static str {
+        match self {
+            Table::Offers => "at,bridge,stream,octets",
+            Table::Background => "at,from,to,class,octets",
+            Table::Arrivals => "at,class,octets,frame",
+        }
+    }
+
+    /// Its place among the parts behind the plant.
+    fn place(self, command: &str, rest: &[Part<'_>]) -> usize {
+        let is_third = matches!(rest, [first, ..] if first.text.starts_with(b"at,"));
+        match self {
+            Table::Offers if command == "line" || is_third => 0,
+            Table::Arrivals | Table::Offers => 1,
+            Table::Background if is_third => 1,
+            Table::Background => 2,
+        }
+    }
+}
+
+/// A record of a table, without the CR before its line feed.
+#[derive(Clone, Copy, Debug)]
+struct Record<'a> {
+    place: Place<'a>,
+    text: &'a [u8],
+}
+
+/// The records of a part, its header first. Empty lines are none.
+fn records_of(alloc: Global, part: Part<'_>) -> Result<Vec<Record<'_>>, AllocError> {
+    let mut records = Vec::new(alloc);
+    for (number, line) in Lines::of(part.text, part.before) {
+        let text = line.strip_suffix(b"\r").unwrap_or(line);
+        if !text.is_empty() {
+            let place = Place {
+                file: part.file,
+                line: Some(number),
+            };
+            records.push(Record { place, text })?;
+        }
+    }
+    Ok(records)
+}
+
+/// A field without its quotes.
+fn unquoted(field: &[u8]) -> &[u8] {
+    match field.strip_prefix(b"\"") {
+        Some(rest) => rest.strip_suffix(b"\"").unwrap_or(field),
+        None => field,
+    }
+}
+
+/// The fields of a record.
+fn fields_of<'a>(alloc: Global, text: &'a [u8]) -> Result<Vec<&'a [u8]>, AllocError> {
+    let mut fields = Vec::new(alloc);
+    for field in text.split(|byte| *byte == b',') {
+        fields.push(unquoted(field))?;
+    }
+    Ok(fields)
+}
+
+/// What is wrong with a header as it is written.
+fn header_words(text: &[u8], table: Table) -> &'static str {
+    let other = match table {
+        Table::Background => Table::Offers,
+        _ => Table::Background,
+    };
+    if text.starts_with(b"\xEF\xBB\xBF") {
+        "; a byte order mark stands before it"
+    } else if !text.contains(&b',') && text.contains(&b';') {
+        "; fields are divided by commas, not by ;"
+    } else if !text.contains(&b',') && text.contains(&b'\t') {
+        "; fields are divided by commas, not by tabs"
+    } else if text == other.header().as_bytes() {
+        "; plant, calls, offers, background is the order"
+    } else {
+        ""
+    }
+}
+
+/// Tells of a header that isn't the one that is owed.
+fn tell_header(
+    given: &Given<'_>,
+    told: &mut Told,
+    table: Table,
+    part: Part<'_>,
+) -> Result<(), AllocError> {
+    let header = table.header();
+    let records = records_of(given.alloc, part)?;
+    let Some(first) = records.first() else {
+        let place = Place {
+            file: part.file,
+            line: None,
+        };
+        return told.tell(format!(in given.alloc;
+            "{place}: there is no line: the header is {header}"
+        )?);
+    };
+    let (place, text) = (first.place, shown(given.alloc, first.text)?);
+    let words = header_words(first.text, table);
+    told.tell(format!(in given.alloc; "{place}: {text}: the header is {header}{words}")?)
+}
+
+/// What is wrong with a row.
+#[derive(Clone, Copy)]
+enum Wrong<'r> {
+    /// It has another number of fields.
+    Count(usize),
+    /// A field hasn't the form of its column.
+    Form(&'static Column, &'r [u8]),
+    /// A field names no bridge.
+    Bridge(&'r [u8]),
+    /// A field names no bridge and no station.
+    Node(&'r [u8]),
+    /// There is no link between two nodes.
+    Link(&'r [u8], &'r [u8]),
+}
+
+/// A field as a name; empty where it is no text.
+fn name_of(field: &[u8]) -> &str {
+    std::str::from_utf8(field).unwrap_or("")
+}
+
+/// What is wrong with a field.
+fn wrong_field<'r>(
+    network: &Network<'_>,
+    column: &'static Column,
+    field: &'r [u8],
+) -> Option<Wrong<'r>> {
+    let (_, form, _) = column;
+    match form {
+        Field::Number(least, most) if read_decimal(field, *least, *most).is_none() => {
+            Some(Wrong::Form(column, field))
+        }
+        Field::Stream if Name::new(field).is_none() => Some(Wrong::Form(column, field)),
+        Field::Bridge if !network.is_bridge(name_of(field)) => Some(Wrong::Bridge(field)),
+        _ => None,
+    }
+}
+
+/// What is wrong with the ends of a link.
+fn wrong_link<'r>(network: &Network<'_>, from: &'r [u8], to: &'r [u8]) -> Option<Wrong<'r>> {
+    if network.link_between(name_of(from), name_of(to)).is_some() {
+        None
+    } else if !network.is_node(name_of(from)) {
+        Some(Wrong::Bridge(from))
+    } else if !network.is_node(name_of(to)) {
+        Some(Wrong::Node(to))
+    } else {
+        Some(Wrong::Link(from, to))
+    }
+}
+
+/// The first thing that is wrong with a row.
+fn wrong_row<'r>(network: &Network<'_>, table: Table, fields: &[&'r [u8]]) -> Option<Wrong<'r>> {
+    let columns = table.columns();
+    if fields.len() != columns.len() {
+        return Some(Wrong::Count(fields.len()));
+    }
+    for (column, field) in columns.iter().zip(fields) {
+        let wrong = wrong_field(network, column, field);
+        if wrong.is_some() {
+            return wrong;
+        }
+    }
+    match *fields {
+        [_, from, to, _, _] => wrong_link(network, from, to),
+        _ => None,
+    }
+}
+
+/// Why a field names no bridge to which frames come, in words.
+fn bridge_words(alloc: Global, network: &Network<'_>, field: &[u8]) -> Result<String, AllocError> {
+    let name = shown(alloc, field)?;
+    if network.is_node(name_of(field)) {
+        return format!(in alloc; "{name} is a station: frames are offered to bridges");
+    }
+    let question = network.bridge_question(alloc, name.as_str())?;
+    format!(in alloc; "no bridge {name}{question}")
+}
+
+/// How many fields a row has, and how many it has to have, in words.
+fn count_words(
+    alloc: Global,
+    table: Table,
+    text: &[u8],
+    count: usize,
+) -> Result<String, AllocError> {
+    let (text, owed, header) = (shown(alloc, text)?, table.columns().len(), table.header());
+    let noun = if count == 1 { "field" } else { "fields" };
+    format!(in alloc; "{text}: {count} {noun}, and {owed} are owed: {header}")
+}
+
+/// What is wrong with a row, in words.
+fn wrong_words(
+    alloc: Global,
+    network: &Network<'_>,
+    table: Table,
+    text: &[u8],
+    wrong: Wrong<'_>,
+) -> Result<String, AllocError> {
+    match wrong {
+        Wrong::Count(count) => count_words(alloc, table, text, count),
+        Wrong::Form(column, field) => {
+            let (name, _, words) = column;
+            let value = shown(alloc, field)?;
+            format!(in alloc; "{name} = {value}: {words}")
+        }
+        Wrong::Bridge(field) => bridge_words(alloc, network, field),
+        Wrong::Node(field) => {
+            let name = shown(alloc, field)?;
+            let question = network.node_question(alloc, name.as_str())?;
+            format!(in alloc; "no bridge or station {name}{question}")
+        }
+        Wrong::Link(from, to) => {
+            let (from, to) = (shown(alloc, from)?, shown(alloc, to)?);
+            format!(in alloc; "no link {from}>{to}")
+        }
+    }
+}
+
+/// Tells of each row with a field that isn't as it has to be.
+fn tell_rows(
+    given: &Given<'_>,
+    told: &mut Told,
+    table: Table,
+    part: Part<'_>,
+) -> Result<(), AllocError> {
+    let network = given.network()?;
+    for record in records_of(given.alloc, part)?.iter().skip(1) {
+        let fields = fields_of(given.alloc, record.text)?;
+        let Some(wrong) = wrong_row(&network, table, fields.as_slice()) else {
+            continue;
+        };
+        if !told.is_counted() {
+            let (place, text) = (record.place, record.text);
+            let words = wrong_words(given.alloc, &network, table, text, wrong)?;
+            told.tell(format!(in given.alloc; "{place}: {words}")?)?;
+        }
+    }
+    Ok(())
+}
+
+/// Where an offer stands, by its number from 1.
+pub(crate) fn place_of_offer<'p>(
+    given: &'p Given<'_>,
+    number: &str,
+) -> Result<Option<Place<'p>>, AllocError> {
+    let rest = given.input.rest.as_slice();
+    let place = Table::Offers.place(given.command, rest);
+    let (Some(part), Some(row)) = (
+        rest.get(place),
+        read_decimal(number.as_bytes(), 1, MOST_ROWS),
+    ) else {
+        return Ok(None);
+    };
+    let records = records_of(given.alloc, *part)?;
+    Ok(records.get(row as usize).map(|record| record.place))
+}
+
+/// The instant of a record.
+fn instant_of(record: &Record<'_>) -> u64 {
+    match record.text.split(|byte| *byte == b',').next() {
+        Some(field) => read_decimal(unquoted(field), 0, u64::MAX).unwrap_or(0),
+        None => 0,
+    }
+}
+
+/// Tells of each row whose instant is before that of the row before it.
+fn tell_order(given: &Given<'_>, told: &mut Told, part: Part<'_>) -> Result<(), AllocError> {
+    let mut before: u64 = 0;
+    for record in records_of(given.alloc, part)?.iter().skip(1) {
+        let instant = instant_of(record);
+        if instant < before {
+            let (place, at, earlier) = (record.place, Grouped(instant), Grouped(before));
+            told.tell(format!(in given.alloc;
+                "{place}: {at} ns stands behind {earlier} ns; sort -s -t, -k1,1n brings rows in order"
+            )?)?;
+        }
+        before = instant;
+    }
+    Ok(())
+}
+
+/// Tells that a table has too many rows.
+fn tell_count(given: &Given<'_>, told: &mut Told, part: Part<'_>) -> Result<(), AllocError> {
+    let place = Place {
+        file: part.file,
+        line: None,
+    };
+    let rows = (records_of(given.alloc, part)?.len() as u64).saturating_sub(1);
+    let (rows, most) = (Grouped(rows), Grouped(MOST_ROWS));
+    told.tell(format!(in given.alloc; "{place}: {rows} rows: a table has at most {most}")?)
+}
+
+/// Tells why a table is refused.
+pub(crate) fn tell_table(
+    given: &Given<'_>,
+    told: &mut Told,
+    table: Table,
+    fault: &str,
+) -> Result<(), AllocError> {
+    let rest = given.input.rest.as_slice();
+    let Some(part) = rest.get(table.place(given.command, rest)) else {
+        return Ok(());
+    };
+    match fault {
+        "BadHeader" => tell_header(given, told, table, *part),
+        "BadRow" => tell_rows(given, told, table, *part),
+        "OutOfOrder" => tell_order(given, told, *part),
+        "TooMany" => tell_count(given, told, *part),
+        _ => Ok(()),
+    }
+}

@@ -1,0 +1,385 @@
+//! Texts that aren't TOML, keys that are missing, and values of another form.
+
+use crate::forms::{Form, NAME_FORM, fits, form_of, is_name, told_value, written};
+use crate::given::Given;
+use crate::outline::{Element, KeyLine, Outline};
+use crate::places::Place;
+use crate::plant::{Found, Item, Kind, PlantFile};
+use crate::told::Told;
+use crate::words::{nearest, shown};
+use cqf_program_files::{LINK, STREAM, TOP};
+use std::alloc::AllocError;
+use toml::Value;
+
+/// The keys that are known of a kind.
+pub(crate) fn known_keys(kind: Kind) -> &'static [&'static str] {
+    match kind {
+        Kind::Top => &TOP,
+        Kind::Link => &LINK,
+        Kind::Stream => &STREAM,
+    }
+}
+
+/// Whose key it is that a part lacks or has in another form.
+fn kind_of(part: &str, key: &str) -> Kind {
+    if part == "domain" {
+        if matches!(key, "from" | "to" | "rate" | "delay") {
+            Kind::Link
+        } else {
+            Kind::Top
+        }
+    } else if key == "streams" {
+        Kind::Top
+    } else {
+        Kind::Stream
+    }
+}
+
+/// What a text is that stands in a plant's place, where its beginning shows it.
+fn other_text(text: &[u8]) -> Option<&'static str> {
+    let beginning = text.trim_ascii_start();
+    if beginning.starts_with(b"at,from,") {
+        Some("background frames")
+    } else if beginning.starts_with(b"at,") {
+        Some("offers")
+    } else if beginning.starts_with(b"seal")
+        || matches!(*beginning, [b'0'..=b'7', b' ', b'a' | b'w', ..])
+    {
+        Some("calls")
+    } else {
+        None
+    }
+}
+
+/// The line and the column, both from 1, of a place in a text. A column counts characters.
+fn position_of(text: &[u8], place: usize) -> (u64, u64) {
+    let (mut line, mut column) = (1u64, 1u64);
+    for byte in text.iter().take(place) {
+        if *byte == b'\n' {
+            line = line.saturating_add(1);
+            column = 1;
+        } else if *byte & 0xC0 != 0x80 {
+            column = column.saturating_add(1);
+        }
+    }
+    (line, column)
+}
+
+/// The key on a line of some keys, and the line on which it stood before.
+fn twice_among<'p>(keys: &'p [KeyLine<'p>], line: u64) -> Option<(&'p [u8], u64)> {
+    let second = keys.iter().find(|key| key.line == line)?;
+    let first = keys.iter().find(|key| key.key == second.key)?;
+    if first.line < line {
+        Some((second.key, first.line))
+    } else {
+        None
+    }
+}
+
+/// The same among some elements.
+fn twice_within<'p>(elements: &'p [Element<'p>], line: u64) -> Option<(&'p [u8], u64)> {
+    for element in elements {
+        let found = twice_among(element.keys.as_slice(), line);
+        if found.is_some() {
+            return found;
+        }
+    }
+    None
+}
+
+/// The key on a line that stood before, and where.
+fn twice_in<'p>(outline: &'p Outline<'p>, line: u64) -> Option<(&'p [u8], u64)> {
+    twice_among(outline.top.as_slice(), line)
+        .or(twice_within(outline.links.as_slice(), line))
+        .or(twice_within(outline.streams.as_slice(), line))
+}
+
+/// Tells why a file's text isn't TOML.
+fn tell_no_toml(
+    given: &Given<'_>,
+    told: &mut Told,
+    file: &PlantFile<'_>,
+    error: &toml::de::Error,
+) -> Result<(), AllocError> {
+    if let Some(other) = other_text(file.part.text) {
+        let place = file.at(None);
+        return told.tell(format!(in given.alloc;
+            "{place}: this looks like {other}: the plant comes first"
+        )?);
+    }
+    let start = match error.span() {
+        Some(span) => span.start,
+        None => 0,
+    };
+    let (line, column) = position_of(file.part.text, start);
+    let line = line.saturating_add(file.part.before);
+    let (place, message) = (file.at(Some(line)), error.message());
+    let line = match twice_in(&file.outline, line) {
+        Some((key, first)) if message.starts_with("duplicate") => {
+            let key = shown(given.alloc, key)?;
+            format!(in given.alloc;
+                "{place}:{column}: {message}: {key} stands in line {first} already"
+            )?
+        }
+        _ => format!(in given.alloc; "{place}:{column}: {message}")?,
+    };
+    told.tell(line)
+}
+
+/// Tells of each file of the plant that isn't TOML.
+pub(crate) fn tell_not_toml(given: &Given<'_>, told: &mut Told) -> Result<(), AllocError> {
+    for file in &given.plant.files {
+        match toml::table_from_slice(given.alloc, file.part.text) {
+            Ok(_) => {}
+            Err(error) if error.is_memory() => return Err(AllocError),
+            Err(error) => tell_no_toml(given, told, file, &error)?,
+        }
+    }
+    Ok(())
+}
+
+/// Tells of a key of the top that stands in a link or a stream.
+fn tell_misplaced(
+    given: &Given<'_>,
+    told: &mut Told,
+    kind: Kind,
+    key: &str,
+) -> Result<bool, AllocError> {
+    let mut found = false;
+    for item in &given.plant.items(kind)? {
+        if item.get(key).is_some() {
+            let (place, label) = (item.place_of(key), item.label(given.alloc)?);
+            told.tell(format!(in given.alloc;
+                "{place}: {key} stands in {label}: keys of the plant stand before the first [[..]]"
+            )?)?;
+            found = true;
+        }
+    }
+    Ok(found)
+}
+
+/// Tells of a key of the top that may be meant by one that is missing there.
+fn tell_near_top(given: &Given<'_>, told: &mut Told, key: &str) -> Result<bool, AllocError> {
+    let mut found = false;
+    for file in &given.plant.files {
+        for line in &file.outline.top {
+            let written = shown(given.alloc, line.key)?;
+            let is_known = TOP.contains(&written.as_str());
+            if !is_known && nearest(given.alloc, written.as_str(), &[key])?.is_some() {
+                let place = file.at(Some(line.line));
+                told.tell(format!(in given.alloc; "{place}: {written}: did you mean {key}?")?)?;
+                found = true;
+            }
+        }
+    }
+    Ok(found)
+}
+
+/// Tells of a key that the top lacks.
+fn tell_missing_top(given: &Given<'_>, told: &mut Told, key: &str) -> Result<(), AllocError> {
+    let in_links = tell_misplaced(given, told, Kind::Link, key)?;
+    let in_streams = tell_misplaced(given, told, Kind::Stream, key)?;
+    let near = tell_near_top(given, told, key)?;
+    if in_links || in_streams || near {
+        return Ok(());
+    }
+    let words = match form_of(Kind::Top, key) {
+        Some((_, words)) => words,
+        None => "",
+    };
+    if let Some(file) = given.plant.files.first() {
+        let place = file.at(None);
+        told.tell(format!(in given.alloc; "{place}: no {key} at the top: {words}")?)?;
+    }
+    Ok(())
+}
+
+/// The key of a link or a stream, none that is known, which may mean another.
+fn near_key<'p>(
+    given: &Given<'_>,
+    item: &Item<'p>,
+    key: &str,
+) -> Result<Option<&'p str>, AllocError> {
+    let Some(table) = item.value.as_table() else {
+        return Ok(None);
+    };
+    for written in table.keys() {
+        let is_known = known_keys(item.kind).contains(&written.as_str());
+        if !is_known && nearest(given.alloc, written.as_str(), &[key])?.is_some() {
+            return Ok(Some(written.as_str()));
+        }
+    }
+    Ok(None)
+}
+
+/// Whether a link or a stream is a table that lacks a key, and what may stand in its place.
+fn lacks(item: &Item<'_>, key: &str) -> bool {
+    item.value.is_table()
+        && item.get(key).is_none()
+        && !(key == "path" && item.get("paths").is_some())
+}
+
+/// Tells of each link or stream that lacks a key.
+fn tell_missing_within(
+    given: &Given<'_>,
+    told: &mut Told,
+    kind: Kind,
+    key: &str,
+) -> Result<(), AllocError> {
+    let owed = if key == "path" {
+        "path and no paths"
+    } else {
+        key
+    };
+    for item in &given.plant.items(kind)? {
+        if !lacks(item, key) {
+            continue;
+        }
+        let label = item.label(given.alloc)?;
+        let line = match near_key(given, item, key)? {
+            Some(near) => {
+                let place = item.place_of(near);
+                format!(in given.alloc; "{place}: {label}: {near}: did you mean {key}?")?
+            }
+            None => {
+                let place = item.place();
+                format!(in given.alloc; "{place}: {label} has no {owed}")?
+            }
+        };
+        told.tell(line)?;
+    }
+    Ok(())
+}
+
+/// Tells where a key is owed that a part lacks.
+pub(crate) fn tell_missing(
+    given: &Given<'_>,
+    told: &mut Told,
+    part: &str,
+    key: &str,
+) -> Result<(), AllocError> {
+    match kind_of(part, key) {
+        Kind::Top => tell_missing_top(given, told, key),
+        kind => tell_missing_within(given, told, kind, key),
+    }
+}
+
+/// The question whether a cycle time is meant in microseconds.
+fn unit_question(given: &Given<'_>, key: &str, value: &Value) -> Result<String, AllocError> {
+    match value.as_integer() {
+        Some(number) if key == "cycle" && (10..=10_000).contains(&number) => {
+            format!(in given.alloc; "; is {number} meant as microseconds?")
+        }
+        _ => Ok(String::new(given.alloc)),
+    }
+}
+
+/// Tells of a value of the top that hasn't its form.
+fn tell_bad_top(given: &Given<'_>, told: &mut Told, key: &str) -> Result<(), AllocError> {
+    let Some((form, words)) = form_of(Kind::Top, key) else {
+        return Ok(());
+    };
+    for file in &given.plant.files {
+        let Some(found) = file.found(key) else {
+            continue;
+        };
+        let is_array = matches!(form, Form::Names | Form::Tables) && found.value.is_array();
+        if is_array || fits(form, found.value) {
+            continue;
+        }
+        let (place, question) = (found.place, unit_question(given, key, found.value)?);
+        let written = written(given.alloc, &found)?;
+        told.tell(format!(in given.alloc; "{place}: {key} = {written}: {words}{question}")?)?;
+    }
+    Ok(())
+}
+
+/// Tells of each element of an array of names that is none, or that there is no bridge.
+fn tell_bad_names(given: &Given<'_>, told: &mut Told, key: &str) -> Result<(), AllocError> {
+    let names = given.plant.names(key)?;
+    for name in &names {
+        if !is_name(name.value) {
+            let (place, value) = (name.place, told_value(given.alloc, name.value)?);
+
+            told.tell(format!(in given.alloc; "{place}: {key}: {value}: {NAME_FORM}")?)?;
+        }
+    }
+    match given.plant.top(key) {
+        Some(found) if names.is_empty() && key == "bridges" && found.value.is_array() => {
+            let place = found.place;
+            told.tell(format!(in given.alloc;
+                "{place}: bridges = []: a plant has at least one bridge"
+            )?)
+        }
+        _ => Ok(()),
+    }
+}
+
+/// Tells of each element of an array of tables that is none.
+fn tell_bad_tables(given: &Given<'_>, told: &mut Told, key: &str) -> Result<(), AllocError> {
+    let kind = if key == "links" {
+        Kind::Link
+    } else {
+        Kind::Stream
+    };
+    for item in &given.plant.items(kind)? {
+        if !item.value.is_table() {
+            let (place, label) = (item.place(), item.label(given.alloc)?);
+            let value = told_value(given.alloc, item.value)?;
+            told.tell(format!(in given.alloc;
+                "{place}: {label} = {value}: each of {key} is a table"
+            )?)?;
+        }
+    }
+    Ok(())
+}
+
+/// What is wrong with the value at a key of a link or a stream, where it has another form than it must have.
+fn bad_form<'p>(item: &Item<'p>, key: &str) -> Option<(Found<'p>, &'static str)> {
+    let found = item.found(key)?;
+    let (form, words) = form_of(item.kind, key)?;
+    if key == "paths" && item.get("path").is_some() {
+        Some((found, "give path or paths, not both"))
+    } else if fits(form, found.value) {
+        None
+    } else {
+        Some((found, words))
+    }
+}
+
+/// Tells of each link or stream in which the value at a key hasn't its form.
+fn tell_bad_within(
+    given: &Given<'_>,
+    told: &mut Told,
+    kind: Kind,
+    key: &str,
+) -> Result<(), AllocError> {
+    for item in &given.plant.items(kind)? {
+        if let Some((found, words)) = bad_form(item, key) {
+            let (place, label): (Place<'_>, String) = (found.place, item.label(given.alloc)?);
+            let written = written(given.alloc, &found)?;
+            told.tell(format!(in given.alloc; "{place}: {label}: {key} = {written}: {words}")?)?;
+        }
+    }
+    Ok(())
+}
+
+/// Tells of the values at a key that haven't their form.
+pub(crate) fn tell_bad_value(
+    given: &Given<'_>,
+    told: &mut Told,
+    part: &str,
+    key: &str,
+) -> Result<(), AllocError> {
+    match kind_of(part, key) {
+        Kind::Top => {
+            tell_bad_top(given, told, key)?;
+            match key {
+                "bridges" | "stations" => tell_bad_names(given, told, key),
+                "links" | "streams" => tell_bad_tables(given, told, key),
+                _ => Ok(()),
+            }
+        }
+        kind => tell_bad_within(given, told, kind, key),
+    }
+}

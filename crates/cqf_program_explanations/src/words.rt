@@ -1,0 +1,63 @@
+//! Words of the texts, as an explanation shows them.
+
+use std::alloc::{AllocError, Global};
+use strsim::levenshtein;
+
+/// How many characters of a text are shown.
+const MOST_SHOWN: usize = 60;
+
+/// How far apart a word and the one that was meant may be.
+const FARTHEST: usize = 2;
+
+/// The beginning of a text, with `..` behind it where there is more.
+pub(crate) fn shortened(alloc: Global, text: &str) -> Result<String, AllocError> {
+    let mut shown: String = text.chars().take(MOST_SHOWN).collect(alloc)?;
+    if shown.len() < text.len() {
+        shown.push_str("..")?;
+    }
+    Ok(shown)
+}
+
+/// The beginning of some bytes, as a text.
+pub(crate) fn shown(alloc: Global, bytes: &[u8]) -> Result<String, AllocError> {
+    match std::str::from_utf8(bytes) {
+        Ok(text) => shortened(alloc, text),
+        Err(_) => {
+            let lossy = String::from_utf8_lossy(alloc, bytes)?;
+            shortened(alloc, lossy.as_str())
+        }
+    }
+}
+
+/// Whether the lengths of two words don't rule out that one is meant by the other.
+fn may_be_near(word: &str, other: &str) -> bool {
+    word.len().abs_diff(other.len()) <= 4 * FARTHEST && word.len() <= MOST_SHOWN
+}
+
+/// The first of the words that are nearest to a word, no farther than two edits and fewer than either is long.
+pub(crate) fn nearest<'a>(
+    alloc: Global,
+    word: &str,
+    words: &[&'a str],
+) -> Result<Option<&'a str>, AllocError> {
+    let mut found = None;
+    let mut least = word.len().min(FARTHEST + 1);
+    for other in words {
+        if may_be_near(word, other) {
+            let distance = levenshtein(alloc, word, other)?;
+            if distance < least.min(other.len()) {
+                least = distance;
+                found = Some(*other);
+            }
+        }
+    }
+    Ok(found)
+}
+
+/// The question whether the nearest of the words was meant, or nothing where none is near.
+pub(crate) fn question(alloc: Global, word: &str, words: &[&str]) -> Result<String, AllocError> {
+    match nearest(alloc, word, words)? {
+        Some(meant) => format!(in alloc; "; did you mean {meant}?"),
+        None => Ok(String::new(alloc)),
+    }
+}

@@ -1,0 +1,72 @@
+-- What the texts of files come to for a job: the input that the program reads (profile).
+use Rattle.std.specs.Prelude.{ℕ, ◌≡◌, ◌-◌, ◌&&◌, Bool, true, false, List, [], ◌∷◌, Option, Some, None, Vec, drop, if◌then◌else◌, option_and_then, option_map}
+use Rattle.std.specs.declared.alloc.Global.{Global}
+use Rattle.cqf_program_stop.specs.declared.stops.Stop.{Stop}
+use Rattle.cqf_program_words.specs.declared.words.Job.{Job}
+use Rattle.cqf_program_words.specs.declared.words.Job.TheVariants as job
+use Rattle.cqf_program_words.specs.Composing.{composed_of, is_plant, is_undivided}
+use Rattle.cqf_program_words.specs.Words.{takes_domain}
+use Rattle.cqf_program_files.specs.declared.front.Front.{Front}
+use Rattle.cqf_program_files.specs.Calls.{numbers_of_script, script_of_calls, text_of_script}
+use Rattle.cqf_program_files.specs.Plants.{EndsFor, EndsPlant, IsCheckedPlant, leading}
+
+-- the cycles of a job that reads a script
+abbrev pub cycles_of : Job → Option ℕ
+cycles_of (job.Run cycles threads) = Some cycles
+cycles_of (job.Report cycles) = Some cycles
+cycles_of (job.Deliveries cycles) = Some cycles
+cycles_of (job.Check cycles) = Some cycles
+cycles_of other = None
+
+-- the file of calls, where there is one: it stands right behind a plant, and no line divides it
+abbrev pub called_script : Job → List (List ℕ) → List ℕ → List ℕ → ℕ → Option (List (ℕ × List ℕ))
+called_script it names first second cycles =
+    if is_plant it names first && is_undivided second then Some (script_of_calls cycles second) else None
+
+abbrev pub script_at : Job → List (List ℕ) → List ℕ → List (List ℕ) → Option (List (ℕ × List ℕ))
+script_at it names first [] = None
+script_at it names first (second ∷ more) = option_and_then (called_script it names first second) (cycles_of it)
+
+-- the texts behind the first, with that file's script in its place
+abbrev pub with_first : List (List ℕ) → List ℕ → List (List ℕ)
+with_first [] script = []
+with_first (second ∷ more) script = script ∷ more
+
+abbrev pub called_texts : List (List ℕ) → Option (List (ℕ × List ℕ)) → List (List ℕ)
+called_texts texts None = texts
+called_texts texts (Some script) = with_first texts (text_of_script script)
+
+-- a script's text and its numbers
+abbrev pub parts_of_script : List (ℕ × List ℕ) → List ℕ × List ℕ
+parts_of_script lines = (text_of_script lines, numbers_of_script lines)
+
+-- what a first text and others behind it come to
+pub record IsGathered (it : Job) (names : List (List ℕ)) (first : List ℕ) (rest : List (List ℕ)) (front : Front) : Type 0 where
+  pub input : front.input.items ≡ composed_of it names (first ∷ called_texts rest (script_at it names first rest))
+  pub numbers : option_map (λ (numbers : Vec ℕ Global). numbers.items) front.numbers ≡ option_map numbers_of_script (script_at it names first rest)
+
+-- where the first names are those of one plant, it has the last of these
+abbrev pub joint_names : List (List ℕ) → List (List ℕ)
+joint_names names = drop (leading names - 1) names
+
+-- what texts come to whose first are those of one plant with this text, if any; no texts come to nothing
+abbrev pub IsGatheredWith : Job → List (List ℕ) → List (List ℕ) → Option (List ℕ) → Front → Type 0
+IsGatheredWith it names texts (Some plant) front = IsGathered it (joint_names names) plant (drop (leading names) texts) front
+IsGatheredWith it names (first ∷ rest) None front = IsGathered it names first rest front
+IsGatheredWith it names [] None front = front.input.items ≡ []
+
+-- the files of a job that takes a domain are checked, and several that are one plant have its text; those of another job aren't looked at
+abbrev pub IsJointFor : Bool → List (List ℕ) → List (List ℕ) → Option (List ℕ) → Type 0
+IsJointFor true names texts plant = IsCheckedPlant names texts plant
+IsJointFor false names texts plant = plant ≡ None
+
+-- what files come to for a job
+pub record IsFrontOf (it : Job) (names texts : List (List ℕ)) (front : Front) : Type 0 where
+  pub plant : Option (List ℕ)
+  pub is_joint : IsJointFor (takes_domain it) names texts plant
+  pub gathered : IsGatheredWith it names texts plant front
+
+-- how it ends where they are refused: only those of a job that takes a domain are, and else there was no memory
+abbrev pub EndsFront : Bool → List (List ℕ) → List (List ℕ) → Stop → Type 0
+EndsFront true names texts stop = EndsPlant names texts stop
+EndsFront false names texts stop = EndsFor (λ line. ⊥) stop

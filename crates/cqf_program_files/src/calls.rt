@@ -1,0 +1,201 @@
+//! Files of calls.
+ghost use Rattle.std.specs.Prelude.{◌≡◌, ◌+◌, ◌≤◌, ◌^◌, ◌∷◌, [], IfOk, OnOk, codes, replicate};
+ghost use Rattle.cqf_program_files.specs.Calls.{HasPut, bare, cycle_told, is_silent, last_told, lines_called, lines_for, lines_told, numbered};
+ghost use Rattle.cqf_program_files.specs.Calls.{numbers_of_script, reached_behind, script_of_calls, seals_between, text_of_script, told_behind};
+
+use cqf_admission_script::{is_order, is_seal_line};
+use cqf_text::{read_decimal, split_line};
+use cqf_units::Memory;
+use std::alloc::Global;
+
+/// The script of a file of calls, with the number of the file's line that each of its lines is for.
+#[derive(Debug, Drop)]
+pub struct CallsScript {
+    pub(crate) text: Vec<u8>,
+    pub(crate) numbers: Vec<u64>,
+}
+
+/// The last cycle that a line may tell, up to which cycles are counted (profile).
+const LAST_TOLD: u64 = 4_294_967_295;
+
+/// A line without the carriage return before its line feed.
+fn bare(line: &[u8]) -> &[u8]
+    ensures { result.now ≡ bare line.now }
+{
+    if line.ends_with(b"\r") {
+        &line[..line.len() - 1]
+    } else {
+        line
+    }
+}
+
+/// Whether the line says nothing: it is empty, or a comment.
+fn is_silent(line: &[u8]) -> bool
+    ensures { result ≡ is_silent line.now }
+{
+    match line {
+        [] => true,
+        [first, ..] => *first == b'#',
+    }
+}
+
+/// The cycle that a line `@N` tells.
+fn cycle_told(line: &[u8]) -> Option<u64>
+    ensures { result ≡ cycle_told line.now }
+{
+    match line {
+        [b'@', digits @ ..] => read_decimal(digits, 0, LAST_TOLD),
+        _ => None,
+    }
+}
+
+/// How many Seals there are of a run of so many cycles from a cycle on, up to another.
+fn seals_between(cycles: u64, reached: u64, cycle: u64) -> u64
+    ensures value { result ≡ seals_between cycles reached cycle }
+    ensures few { result ≤ cycles }
+{
+    cycle.min(cycles).saturating_sub(reached)
+}
+
+/// The cycle that is reached behind a line.
+fn reached_behind(reached: u64, line: &[u8]) -> u64
+    requires { reached ≤ last_told }
+    ensures value { result ≡ reached_behind reached line.now }
+    ensures counted { result ≤ last_told }
+{
+    let behind = if is_seal_line(line) {
+        reached + 1
+    } else {
+        told_behind(reached, cycle_told(line))
+    };
+    LAST_TOLD.min(behind)
+}
+
+/// The cycle that is reached behind a line that tells one, or none.
+fn told_behind(reached: u64, told: Option<u64>) -> u64
+    ensures { result ≡ told_behind reached told }
+{
+    match told {
+        None => reached,
+        Some(cycle) => reached.max(cycle),
+    }
+}
+
+impl CallsScript {
+    /// Puts a line, which is for the file's line of this number. The error is want of memory.
+    fn put(&mut self, number: u64, line: &[u8]) -> Result<(), Memory>
+        ensures { OnOk result (HasPut self.old self.new ((number, line.now) ∷ [])) }
+    {
+        self.text.extend_from_slice(line)?;
+        self.text.push(b'\n')?;
+        self.numbers.push(number)?;
+        Ok(())
+    }
+
+    /// Puts so many Seals. The error is want of memory.
+    fn put_seals(&mut self, number: u64, count: u64) -> Result<(), Memory>
+        ensures { OnOk result (HasPut self.old self.new (numbered number (replicate count (codes "seal")))) }
+    {
+        for _seal in 0..count {
+            self.put(number, b"seal")?;
+        }
+        Ok(())
+    }
+
+    /// Puts what stands for a line that tells a cycle. The error is want of memory.
+    fn put_told(&mut self, place: Place, line: &[u8], cycle: u64) -> Result<(), Memory>
+        ensures { OnOk result (HasPut self.old self.new (numbered place.number (lines_told place.cycles place.reached line.now cycle))) }
+    {
+        if cycle < place.reached {
+            return self.put(place.number, line);
+        }
+        self.put_seals(
+            place.number,
+            seals_between(place.cycles, place.reached, cycle),
+        )
+    }
+
+    /// Puts what stands for a line that is neither a Seal nor tells a cycle. The error is want of memory.
+    fn put_called(&mut self, place: Place, line: &[u8]) -> Result<(), Memory>
+        ensures { OnOk result (HasPut self.old self.new (numbered place.number (lines_called place.cycles place.reached line.now))) }
+    {
+        if place.cycles <= place.reached && is_order(line) {
+            return Ok(());
+        }
+        self.put(place.number, line)
+    }
+
+    /// Puts what stands for a line. The error is want of memory.
+    fn put_for(&mut self, place: Place, line: &[u8]) -> Result<(), Memory>
+        requires { place.reached ≤ last_told }
+        ensures { OnOk result (HasPut self.old self.new (numbered place.number (lines_for place.cycles place.reached line.now))) }
+    {
+        if is_silent(line) {
+            return Ok(());
+        }
+        if is_seal_line(line) {
+            let count = seals_between(place.cycles, place.reached, place.reached + 1);
+            return self.put_seals(place.number, count);
+        }
+        match cycle_told(line) {
+            None => self.put_called(place, line),
+            Some(cycle) => self.put_told(place, line, cycle),
+        }
+    }
+}
+
+/// Where a line stands: its number, from 1, the cycle that is reached before it, and how many cycles are run.
+#[derive(Clone, Copy, Debug)]
+struct Place {
+    cycles: u64,
+    number: u64,
+    reached: u64,
+}
+
+impl Place {
+    /// Where the next line stands.
+    fn behind(self, line: &[u8]) -> Place
+        requires number { self.number ≤ 2 ^ 63 }
+        requires reached { self.reached ≤ last_told }
+        ensures cycles { result.cycles ≡ self.cycles }
+        ensures number { result.number ≡ self.number + 1 }
+        ensures reached { result.reached ≡ reached_behind self.reached line.now }
+        ensures counted { result.reached ≤ last_told }
+    {
+        Place {
+            cycles: self.cycles,
+            number: self.number + 1,
+            reached: reached_behind(self.reached, line),
+        }
+    }
+}
+
+/// The script of a file of calls, for a run of so many cycles: empty lines and those that begin with `#` are left out, so is a carriage
+/// return before a line feed; `@N` alone on a line says that what follows is called for in cycle N, and stands for as many Seals as that
+/// takes; Seals and calls of cycles that aren't run are left out. Every other line stays as it is, also one that no script may have,
+/// such as `@N` where N is before the cycle reached (profile). Time and memory grow with the text and the cycles.
+///
+/// # Errors
+/// Where a growth is refused.
+pub fn script_of_calls(alloc: Global, cycles: u32, text: &[u8]) -> Result<CallsScript, Memory>
+    ensures text { IfOk result (λ script. script.text.items ≡ text_of_script (script_of_calls cycles text.now)) }
+    ensures numbers { IfOk result (λ script. script.numbers.items ≡ numbers_of_script (script_of_calls cycles text.now)) }
+{
+    let mut script = CallsScript {
+        text: Vec::new(alloc),
+        numbers: Vec::new(alloc),
+    };
+    let mut place = Place {
+        cycles: u64::from(cycles),
+        number: 1,
+        reached: 0,
+    };
+    let mut left = text;
+    while let Some((line, behind)) = split_line(left) {
+        let line = bare(line);
+        script.put_for(place, line)?;
+        place = place.behind(line);
+        left = behind;
+    }
+    Ok(script)
+}

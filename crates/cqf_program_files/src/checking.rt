@@ -1,0 +1,266 @@
+//! The files of a plant, checked, and made one.
+ghost use Rattle.std.specs.Prelude.{◌≡◌, ◌++◌, IfOk, IfErr, None, OnOk, length, map, option_map, string_bytes, take};
+ghost use Rattle.toml.specs.View.{table_view};
+ghost use Rattle.cqf_program_stop.specs.Stops.{EndsWith};
+ghost use Rattle.cqf_program_files.specs.Keys.{strange_key};
+ghost use Rattle.cqf_program_files.specs.Plants.{EndsBy, EndsPlant, EndsTogether, EndsUnwritten, IsCheckedPlant, IsPlantText, IsTextOf};
+ghost use Rattle.cqf_program_files.specs.Plants.{first_long_among, first_strange_among, joint_refusal, most_shown, plant_fault_line};
+ghost use Rattle.cqf_program_files.specs.Plants.{shown_key, shown_octet, strange_in, table_of, tables_of, tables_refusal, texts_refusal, toml_text, toml_texts};
+
+use crate::faults::PlantFault;
+use crate::keys::strange_key;
+use crate::lines::first_long_line;
+use crate::plants::{are_several, key_twice, leading, plant_of, streams_twice};
+use cqf_program_stop::Stop;
+use cqf_program_words::is_toml;
+use cqf_units::Memory;
+use std::alloc::{AllocError, Global};
+use toml::Table;
+
+/// The most octets of a key that a line shows.
+const MOST_SHOWN: usize = 64;
+
+/// The table of a text, where it is TOML. The error is want of memory.
+fn table_of(alloc: Global, text: &[u8]) -> Result<Option<Table>, Memory>
+    ensures { IfOk result (λ table. option_map table_view table ≡ table_of text.now) }
+{
+    match toml::table_from_slice(alloc, text) {
+        Ok(table) => Ok(Some(table)),
+        Err(error) => {
+            if error.is_memory() {
+                Err(AllocError)
+            } else {
+                Ok(None)
+            }
+        }
+    }
+}
+
+/// The tables of some texts, where each is TOML. The error is want of memory.
+fn tables_of(alloc: Global, texts: &[&[u8]]) -> Result<Option<Vec<Table>>, Memory>
+    ensures { IfOk result (λ tables. option_map (λ tables. map table_view tables.items) tables ≡ tables_of (map (λ text. text.now) texts.now)) }
+{
+    let mut tables = Vec::new(alloc);
+    for text in texts {
+        let Some(table) = table_of(alloc, text)? else {
+            return Ok(None);
+        };
+        tables.push(table)?;
+    }
+    Ok(Some(tables))
+}
+
+/// An octet of a key as a line shows it: `?` where it isn't a printable one of ASCII.
+fn shown_octet(octet: u8) -> u8
+    ensures { result ≡ shown_octet octet }
+{
+    if 33 <= octet && octet <= 126 {
+        octet
+    } else {
+        b'?'
+    }
+}
+
+/// The octets of a key that a line shows.
+fn shown_front(octets: &[u8]) -> &[u8]
+    ensures { result.now ≡ take most_shown octets.now }
+{
+    if octets.len() <= MOST_SHOWN {
+        octets
+    } else {
+        &octets[..MOST_SHOWN]
+    }
+}
+
+/// Octets as a line shows them. The error is want of memory.
+fn shown(alloc: Global, octets: &[u8]) -> Result<String, Memory>
+    ensures { IfOk result (λ shown. string_bytes shown ≡ map shown_octet octets.now) }
+{
+    let mut text = String::new(alloc);
+    for octet in octets {
+        text.push(char::from(shown_octet(*octet)))?;
+    }
+    Ok(text)
+}
+
+/// A key as a line shows it. The error is want of memory.
+fn shown_key(alloc: Global, key: &str) -> Result<String, Memory>
+    ensures { IfOk result (λ shown. string_bytes shown ≡ shown_key key.now) }
+{
+    let mut text = shown(alloc, shown_front(key.as_bytes()))?;
+    if key.len() > MOST_SHOWN {
+        text.push_str("..")?;
+    }
+    Ok(text)
+}
+
+/// Puts the text of a file behind others where its name is that of a TOML file. The error is want of memory.
+fn put_toml<'t>(found: &mut Vec<&'t [u8]>, name: &str, text: &'t [u8]) -> Result<(), Memory>
+    ensures { OnOk result (map (λ text. text.now) found.new.items ≡ map (λ text. text.now) found.old.items ++ toml_text name.now text.now) }
+{
+    if is_toml(name) {
+        found.push(text)?;
+    }
+    Ok(())
+}
+
+/// The texts of the files whose names are those of TOML files. The error is want of memory.
+fn toml_texts<'t>(
+    alloc: Global,
+    names: &[&str],
+    texts: &[&'t [u8]],
+) -> Result<Vec<&'t [u8]>, Memory>
+    requires { length names.now ≡ length texts.now }
+    ensures { IfOk result (λ found. map (λ text. text.now) found.items
+        ≡ toml_texts (map (λ name. name.now) names.now) (map (λ text. text.now) texts.now)) }
+{
+    let mut found = Vec::new(alloc);
+    for place in 0..names.len() {
+        put_toml(&mut found, names[place], texts[place])?;
+    }
+    Ok(found)
+}
+
+/// The number of the first line that is too long of the first text that has one.
+fn first_long_among(texts: &[&[u8]]) -> Option<u64>
+    ensures { result ≡ first_long_among (map (λ text. text.now) texts.now) }
+{
+    for text in texts {
+        let line = first_long_line(text);
+        if line.is_some() {
+            return line;
+        }
+    }
+    None
+}
+
+/// The first key that no command knows of a text that is TOML, as a line shows it. The error is want of memory.
+fn strange_in(alloc: Global, text: &[u8]) -> Result<Option<String>, Memory>
+    ensures { IfOk result (λ shown. option_map string_bytes shown ≡ option_map shown_key (strange_in text.now)) }
+{
+    let Some(table) = table_of(alloc, text)? else {
+        return Ok(None);
+    };
+    let Some(key) = strange_key(&table) else {
+        return Ok(None);
+    };
+    let shown = shown_key(alloc, key)?;
+    Ok(Some(shown))
+}
+
+/// The same of the first text that has one. The error is want of memory.
+fn first_strange_among(alloc: Global, texts: &[&[u8]]) -> Result<Option<String>, Memory>
+    ensures { IfOk result (λ shown. option_map string_bytes shown ≡ option_map shown_key (first_strange_among (map (λ text. text.now) texts.now))) }
+{
+    for text in texts {
+        if let Some(shown) = strange_in(alloc, text)? {
+            return Ok(Some(shown));
+        }
+    }
+    Ok(None)
+}
+
+/// The fault of a plant's texts by themselves, where there is one. The error is want of memory.
+fn texts_refusal(alloc: Global, texts: &[&[u8]]) -> Result<Option<PlantFault>, Memory>
+    ensures { IfOk result (λ found. option_map plant_fault_line found ≡ texts_refusal (map (λ text. text.now) texts.now)) }
+{
+    if let Some(line) = first_long_among(texts) {
+        return Ok(Some(PlantFault::LineTooLong(line)));
+    }
+    match first_strange_among(alloc, texts)? {
+        Some(key) => Ok(Some(PlantFault::UnknownKey(key))),
+        None => Ok(None),
+    }
+}
+
+/// The fault of several tables that are one plant, where there is one.
+fn tables_refusal(tables: &[Table]) -> Option<PlantFault>
+    ensures { option_map plant_fault_line result ≡ tables_refusal (map table_view tables.now) }
+{
+    if streams_twice(tables) {
+        return Some(PlantFault::StreamsTwice);
+    }
+    match key_twice(tables) {
+        Some(key) => Some(PlantFault::KeyTwice(key)),
+        None => None,
+    }
+}
+
+/// The end where a plant's files are refused: status 1 and the fault's line, or want of memory for it.
+fn stop_of(alloc: Global, fault: &PlantFault) -> Stop
+    ensures { EndsWith 1 (plant_fault_line fault.now) result }
+{
+    match fault {
+        PlantFault::NotToml => Stop::refused(alloc, "domain", fault),
+        _ => Stop::refused(alloc, "plant", fault),
+    }
+}
+
+/// The text of a table. `Err` where it has a date that no text writes, and for want of memory.
+fn text_of(alloc: Global, plant: &Table) -> Result<String, Stop>
+    ensures ok { IfOk result (λ text. IsTextOf (table_view plant.now) (string_bytes text)) }
+    ensures err { IfErr result (EndsUnwritten (table_view plant.now)) }
+{
+    match toml::table_to_string(alloc, plant) {
+        Ok(text) => Ok(text),
+        Err(toml::ser::Error::DateInvalid) => Err(stop_of(alloc, &PlantFault::NotToml)),
+        Err(toml::ser::Error::OutOfMemory) => Err(Stop::memory(alloc)),
+    }
+}
+
+/// The text of the plant of several texts. `Err` where they are refused, and for want of memory.
+fn joined(alloc: Global, texts: &[&[u8]]) -> Result<String, Stop>
+    ensures sound { OnOk result (joint_refusal (tables_of (map (λ text. text.now) texts.now)) ≡ None) }
+    ensures ok { IfOk result (λ text. IsPlantText (map (λ text. text.now) texts.now) (string_bytes text)) }
+    ensures err { IfErr result (EndsTogether (map (λ text. text.now) texts.now)) }
+{
+    let tables = match tables_of(alloc, texts) {
+        Ok(Some(tables)) => tables,
+        Ok(None) => return Err(stop_of(alloc, &PlantFault::NotToml)),
+        Err(_) => return Err(Stop::memory(alloc)),
+    };
+    if let Some(fault) = tables_refusal(tables.as_slice()) {
+        return Err(stop_of(alloc, &fault));
+    }
+    match plant_of(alloc, tables.as_slice()) {
+        Ok(plant) => text_of(alloc, &plant),
+        Err(_) => Err(Stop::memory(alloc)),
+    }
+}
+
+/// Looks at the texts of the TOML files by themselves. `Err` where one is refused, and for want of memory.
+fn check_texts(alloc: Global, names: &[&str], texts: &[&[u8]]) -> Result<(), Stop>
+    requires { length names.now ≡ length texts.now }
+    ensures ok { OnOk result (texts_refusal (toml_texts (map (λ name. name.now) names.now) (map (λ text. text.now) texts.now)) ≡ None) }
+    ensures err { IfErr result (EndsBy (texts_refusal (toml_texts (map (λ name. name.now) names.now) (map (λ text. text.now) texts.now)))) }
+{
+    let Ok(found) = toml_texts(alloc, names, texts) else {
+        return Err(Stop::memory(alloc));
+    };
+    match texts_refusal(alloc, found.as_slice()) {
+        Ok(None) => Ok(()),
+        Ok(Some(fault)) => Err(stop_of(alloc, &fault)),
+        Err(_) => Err(Stop::memory(alloc)),
+    }
+}
+
+/// Checks the files of a plant: the text of their one plant, where the first of them are 2 to 16 TOML files. `Err` with status 1 and the
+/// line of the first fault, and with status 3 for want of memory.
+pub(crate) fn check_plant(
+    alloc: Global,
+    names: &[&str],
+    texts: &[&[u8]],
+) -> Result<Option<String>, Stop>
+    requires { length names.now ≡ length texts.now }
+    ensures ok { IfOk result (λ text. IsCheckedPlant (map (λ name. name.now) names.now) (map (λ text. text.now) texts.now) (option_map string_bytes text)) }
+    ensures err { IfErr result (EndsPlant (map (λ name. name.now) names.now) (map (λ text. text.now) texts.now)) }
+{
+    check_texts(alloc, names, texts)?;
+    if !are_several(names) {
+        return Ok(None);
+    }
+    match joined(alloc, &texts[..leading(names)]) {
+        Ok(text) => Ok(Some(text)),
+        Err(stop) => Err(stop),
+    }
+}

@@ -1,0 +1,203 @@
+//! What the texts of files come to.
+ghost use Rattle.std.specs.Prelude.{◌≡◌, ◌∷◌, IfOk, IfErr, Some, length, map, option_map, string_bytes};
+ghost use Rattle.cqf_program_words.specs.Composing.{composed_of};
+ghost use Rattle.cqf_program_words.specs.Words.{takes_domain};
+ghost use Rattle.cqf_program_files.specs.Front.{EndsFront, IsFrontOf, IsGathered, IsGatheredWith, IsJointFor, called_script, cycles_of, joint_names};
+ghost use Rattle.cqf_program_files.specs.Front.{parts_of_script, script_at, with_first};
+
+use crate::calls::{CallsScript, script_of_calls};
+use crate::checking::check_plant;
+use crate::plants::leading;
+use cqf_program_stop::Stop;
+use cqf_program_words::{Job, composed_behind, composed_between, is_plant, is_undivided};
+use cqf_units::Memory;
+use std::alloc::Global;
+
+/// What the texts of files come to: the input, and where one of them is a file of calls, the number of its line that each line of the
+/// input's script is for.
+#[derive(Debug, Drop)]
+pub struct Front {
+    pub input: Vec<u8>,
+    pub numbers: Option<Vec<u64>>,
+}
+
+/// The cycles of a job that reads a script: of `run`, `report`, `deliveries` and `check`.
+pub fn cycles_of(job: &Job) -> Option<u32>
+    ensures { result ≡ cycles_of job.now }
+{
+    match *job {
+        Job::Run { cycles, .. }
+        | Job::Report { cycles }
+        | Job::Deliveries { cycles }
+        | Job::Check { cycles } => Some(cycles),
+        _ => None,
+    }
+}
+
+/// The script of the second text, where it is a file of calls behind a plant. The error is want of memory.
+fn called_script(
+    alloc: Global,
+    job: &Job,
+    names: &[&str],
+    first: &[u8],
+    second: &[u8],
+    cycles: u32,
+) -> Result<Option<CallsScript>, Memory>
+    ensures { IfOk result (λ found. option_map (λ script. (script.text.items, script.numbers.items)) found
+        ≡ option_map parts_of_script (called_script job.now (map (λ name. name.now) names.now) first.now second.now cycles)) }
+{
+    if !is_plant(alloc, job, names, first)? {
+        return Ok(None);
+    }
+    if !is_undivided(alloc, second)? {
+        return Ok(None);
+    }
+    let script = script_of_calls(alloc, cycles, second)?;
+    Ok(Some(script))
+}
+
+/// The script of the file of calls, where there is one. The error is want of memory.
+fn script_at(
+    alloc: Global,
+    job: &Job,
+    names: &[&str],
+    first: &[u8],
+    rest: &[&[u8]],
+) -> Result<Option<CallsScript>, Memory>
+    ensures { IfOk result (λ found. option_map (λ script. (script.text.items, script.numbers.items)) found
+        ≡ option_map parts_of_script (script_at job.now (map (λ name. name.now) names.now) first.now (map (λ text. text.now) rest.now))) }
+{
+    let Some(cycles) = cycles_of(job) else {
+        return Ok(None);
+    };
+    match *rest {
+        [second, ..] => called_script(alloc, job, names, first, second, cycles),
+        [] => Ok(None),
+    }
+}
+
+/// What a first text and others come to. The error is want of memory.
+fn gathered(
+    alloc: Global,
+    job: &Job,
+    names: &[&str],
+    first: &[u8],
+    rest: &[&[u8]],
+) -> Result<Front, Memory>
+    ensures { IfOk result (IsGathered job.now (map (λ name. name.now) names.now) first.now (map (λ text. text.now) rest.now)) }
+{
+    match script_at(alloc, job, names, first, rest)? {
+        None => {
+            let input = composed_behind(alloc, job, names, first, rest)?;
+            Ok(Front {
+                input,
+                numbers: None,
+            })
+        }
+        Some(script) => called(alloc, job, names, first, rest, script),
+    }
+}
+
+/// The same with a script in the place of the text behind the first. The error is want of memory.
+fn called(
+    alloc: Global,
+    job: &Job,
+    names: &[&str],
+    first: &[u8],
+    rest: &[&[u8]],
+    script: CallsScript,
+) -> Result<Front, Memory>
+    ensures input { IfOk result (λ front. front.input.items
+        ≡ composed_of job.now (map (λ name. name.now) names.now) (first.now ∷ with_first (map (λ text. text.now) rest.now) script.text.items)) }
+    ensures numbers { IfOk result (λ front. option_map (λ numbers. numbers.items) front.numbers ≡ Some script.numbers.items) }
+{
+    let CallsScript { text, numbers } = script;
+    let input = match *rest {
+        [] => composed_behind(alloc, job, names, first, rest)?,
+        [_, ref more @ ..] => composed_between(alloc, job, names, first, text.as_slice(), more)?,
+    };
+    Ok(Front {
+        input,
+        numbers: Some(numbers),
+    })
+}
+
+/// The names, where the first of them are those of one plant: it has the last of their names.
+fn joint_names<'n>(names: &'n [&'n str]) -> &'n [&'n str]
+    ensures { map (λ name. name.now) result.now ≡ joint_names (map (λ name. name.now) names.now) }
+{
+    let count = leading(names);
+    &names[count.saturating_sub(1)..]
+}
+
+/// What texts come to, where the first of them are those of one plant with this text, if any. The error is want of memory.
+fn gathered_with(
+    alloc: Global,
+    job: &Job,
+    names: &[&str],
+    texts: &[&[u8]],
+    plant: Option<&str>,
+) -> Result<Front, Memory>
+    requires { length names.now ≡ length texts.now }
+    ensures { IfOk result (IsGatheredWith job.now (map (λ name. name.now) names.now) (map (λ text. text.now) texts.now)
+        (option_map (λ plant. plant.now) plant.entry)) }
+{
+    match (plant, texts) {
+        (Some(plant), _) => gathered(
+            alloc,
+            job,
+            joint_names(names),
+            plant.as_bytes(),
+            &texts[leading(names)..],
+        ),
+        (None, [first, rest @ ..]) => gathered(alloc, job, names, first, rest),
+        (None, []) => Ok(Front {
+            input: Vec::new(alloc),
+            numbers: None,
+        }),
+    }
+}
+
+/// The text of the plant of the first files, where they are several. `Err` where they are refused, and for want of memory.
+fn joint_plant(
+    alloc: Global,
+    job: &Job,
+    names: &[&str],
+    texts: &[&[u8]],
+) -> Result<Option<String>, Stop>
+    requires { length names.now ≡ length texts.now }
+    ensures ok { IfOk result (λ plant. IsJointFor (takes_domain job.now) (map (λ name. name.now) names.now) (map (λ text. text.now) texts.now)
+        (option_map string_bytes plant)) }
+    ensures err { IfErr result (EndsFront (takes_domain job.now) (map (λ name. name.now) names.now) (map (λ text. text.now) texts.now)) }
+{
+    if job.takes_domain() {
+        check_plant(alloc, names, texts)
+    } else {
+        Ok(None)
+    }
+}
+
+/// What the texts of files with these names come to, for a job.
+///
+/// Where the job takes a domain, the first 2 to 16 names that end with `.toml` are those of one plant: its text has all that commands
+/// know of these texts, arrays one behind the other. Where the job reads a script, a text right behind a plant is a file of calls, which
+/// [`script_of_calls`] reads. The rest goes as [`cqf_program_words::composed`] has it (profile).
+///
+/// # Errors
+/// Where the job takes a domain, status 1 and the line of the first fault: a line of a file whose name ends with `.toml` that is too long to
+/// be parsed, a key that no command knows, and of several files that are one plant one that isn't TOML, streams in the first two, `cycle` or
+/// `guard` in two. Status 3 for want of memory.
+pub fn front_of(alloc: Global, job: &Job, names: &[&str], texts: &[&[u8]]) -> Result<Front, Stop>
+    requires { length names.now ≡ length texts.now }
+    ensures ok { IfOk result (IsFrontOf job.now (map (λ name. name.now) names.now) (map (λ text. text.now) texts.now)) }
+    ensures err { IfErr result (EndsFront (takes_domain job.now) (map (λ name. name.now) names.now) (map (λ text. text.now) texts.now)) }
+{
+    let plant = match joint_plant(alloc, job, names, texts) {
+        Ok(plant) => plant,
+        Err(stop) => return Err(stop),
+    };
+    match gathered_with(alloc, job, names, texts, plant.as_deref()) {
+        Ok(front) => Ok(front),
+        Err(_) => Err(Stop::memory(alloc)),
+    }
+}

@@ -1,0 +1,158 @@
+//! Lines that are too long to be parsed.
+ghost use Rattle.std.specs.Prelude.{◌≡◌, ◌≤◌, ◌<◌, ◌+◌, ◌^◌, length};
+ghost use Rattle.cqf_program_files.specs.Lines.{first_long_line, is_divider, is_quote, is_too_long, seen_of, with_octet, with_open, with_dot, with_quoted};
+
+use cqf_text::split_line;
+
+/// The most octets of a line (profile).
+pub const MOST_OCTETS: usize = 4096;
+
+/// The most parts of a key, which dots divide (profile).
+pub const MOST_PARTS: u8 = 16;
+
+/// The most dots between two dividers: a key of so many has one part more.
+const MOST_DOTS: u8 = MOST_PARTS - 1;
+
+/// What was seen of a line so far.
+#[derive(Clone, Copy, Debug, PartialEq, Eq)]
+pub struct Seen {
+    /// The quote that is open.
+    quote: Option<u8>,
+    /// Whether a comment has begun.
+    comment: bool,
+    /// The dots since the last divider, at most [`MOST_DOTS`].
+    dots: u8,
+    /// Whether there were more.
+    long: bool,
+}
+
+/// Whether the octet is a quote.
+fn is_quote(octet: u8) -> bool
+    ensures { result ≡ is_quote octet }
+{
+    octet == b'"' || octet == b'\''
+}
+
+/// Whether the octet stands between keys and values.
+fn is_divider(octet: u8) -> bool
+    ensures { result ≡ is_divider octet }
+{
+    octet == b'='
+        || octet == b','
+        || octet == b'{'
+        || octet == b'}'
+        || octet == b'['
+        || octet == b']'
+}
+
+impl Seen {
+    /// One dot more.
+    fn with_dot(self) -> Seen
+        ensures { result ≡ with_dot self }
+    {
+        if self.dots < MOST_DOTS {
+            Seen {
+                dots: self.dots + 1,
+                ..self
+            }
+        } else {
+            Seen { long: true, ..self }
+        }
+    }
+
+    /// One octet more, where no quote is open and no comment has begun.
+    fn with_open(self, octet: u8) -> Seen
+        ensures { result ≡ with_open self octet }
+    {
+        if is_quote(octet) {
+            return Seen {
+                quote: Some(octet),
+                ..self
+            };
+        }
+        if octet == b'#' {
+            return Seen {
+                comment: true,
+                ..self
+            };
+        }
+        if octet == b'.' {
+            return self.with_dot();
+        }
+        if is_divider(octet) {
+            return Seen { dots: 0, ..self };
+        }
+        self
+    }
+
+    /// One octet more within a quote.
+    fn with_quoted(self, quote: u8, octet: u8) -> Seen
+        ensures { result ≡ with_quoted self quote octet }
+    {
+        if quote == octet {
+            Seen {
+                quote: None,
+                ..self
+            }
+        } else {
+            self
+        }
+    }
+
+    /// One octet more.
+    fn with(self, octet: u8) -> Seen
+        ensures { result ≡ with_octet self octet }
+    {
+        if self.comment {
+            return self;
+        }
+        match self.quote {
+            None => self.with_open(octet),
+            Some(quote) => self.with_quoted(quote, octet),
+        }
+    }
+}
+
+/// What is seen of a line.
+fn seen_of(line: &[u8]) -> Seen
+    ensures { result ≡ seen_of line.now }
+{
+    let mut seen = Seen {
+        quote: None,
+        comment: false,
+        dots: 0,
+        long: false,
+    };
+    for octet in line {
+        seen = seen.with(*octet);
+    }
+    seen
+}
+
+/// Whether the line has more octets, or more parts in a row, than are parsed.
+fn is_too_long(line: &[u8]) -> bool
+    ensures { result ≡ is_too_long line.now }
+{
+    if line.len() > MOST_OCTETS {
+        return true;
+    }
+    seen_of(line).long
+}
+
+/// The number of the text's first line that has more than 4,096 octets, or a key of more than 16 parts, from 1. Time grows with the
+/// text, and no memory is asked for (profile).
+pub fn first_long_line(text: &[u8]) -> Option<u64>
+    requires { length text.now < 2 ^ 63 }
+    ensures { result ≡ first_long_line text.now }
+{
+    let mut number: u64 = 1;
+    let mut left = text;
+    while let Some((line, behind)) = split_line(left) {
+        if is_too_long(line) {
+            return Some(number);
+        }
+        number += 1;
+        left = behind;
+    }
+    None
+}

@@ -1,0 +1,168 @@
+//! Files that are one plant.
+ghost use Rattle.std.specs.Prelude.{◌≡◌, ◌≤◌, IfOk, OnOk, Some, is_some, length, map, option_map};
+ghost use Rattle.toml.specs.Data.{get_member};
+ghost use Rattle.toml.specs.View.{items_view, table_view, view};
+ghost use Rattle.cqf_program_files.specs.Plants.{append_items, are_several, behind_items, joined_at, joined_values, key_twice};
+ghost use Rattle.cqf_program_files.specs.Plants.{leading, plant_by, plant_of, put_found, stands_twice, streams_twice};
+
+use crate::keys::{TOP, value_at};
+use cqf_program_words::is_toml;
+use cqf_units::Memory;
+use std::alloc::Global;
+use toml::{Table, Value};
+
+/// The most files that are one plant (profile).
+pub const MOST_FILES: usize = 16;
+
+/// How many of the first names are those of TOML files.
+pub(crate) fn leading(names: &[&str]) -> usize
+    ensures value { result ≡ leading (map (λ name. name.now) names.now) }
+    ensures inside { result ≤ length names.now }
+{
+    let mut count = 0;
+    for name in names {
+        if !is_toml(name) {
+            return count;
+        }
+        count += 1;
+    }
+    count
+}
+
+/// Whether the first of the names are those of 2 to 16 TOML files, which are one plant.
+pub(crate) fn are_several(names: &[&str]) -> bool
+    ensures { result ≡ are_several (map (λ name. name.now) names.now) }
+{
+    let count = leading(names);
+    2 <= count && count <= MOST_FILES
+}
+
+/// Whether something stands at the key.
+fn has(table: &Table, key: &str) -> bool
+    ensures { result ≡ is_some (get_member key.now (table_view table.now)) }
+{
+    value_at(table, key).is_some()
+}
+
+/// Whether something stands at the key in two of the tables.
+fn stands_twice(tables: &[Table], key: &str) -> bool
+    ensures { result ≡ stands_twice (map table_view tables.now) key.now }
+{
+    tables.iter().filter(|table| has(table, key)).count() >= 2
+}
+
+/// The first of the keys that may stand once, `cycle` and `guard`, that stands in two of the tables.
+pub(crate) fn key_twice(tables: &[Table]) -> Option<&'static str>
+    ensures { option_map (λ key. key.now) result ≡ key_twice (map table_view tables.now) }
+{
+    if stands_twice(tables, "cycle") {
+        return Some("cycle");
+    }
+    if stands_twice(tables, "guard") {
+        return Some("guard");
+    }
+    None
+}
+
+/// Whether the first of the tables has streams, and the second too.
+pub(crate) fn streams_twice(tables: &[Table]) -> bool
+    ensures { result ≡ streams_twice (map table_view tables.now) }
+{
+    match tables {
+        [first, second, ..] => {
+            if !has(first, "streams") {
+                return false;
+            }
+            has(second, "streams")
+        }
+        _ => false,
+    }
+}
+
+/// Puts copies of the values behind the items. The error is want of memory.
+fn put_behind(mut items: Vec<Value>, more: &[Value]) -> Result<Vec<Value>, Memory>
+    ensures { IfOk result (λ all. items_view all.items ≡ append_items (items_view items.items) (items_view more.now)) }
+{
+    for value in more {
+        let copy = value.clone()?;
+        items.push(copy)?;
+    }
+    Ok(items)
+}
+
+/// An array with a copy of what stands at the same key behind it. The error is want of memory.
+fn behind_items(items: Vec<Value>, value: &Value) -> Result<Value, Memory>
+    ensures { IfOk result (λ all. view all ≡ behind_items (items_view items.items) (view value.now)) }
+{
+    match value {
+        Value::Array(more) => {
+            let all = put_behind(items, more.as_slice())?;
+            Ok(Value::Array(all))
+        }
+        other => {
+            let copy = other.clone()?;
+            Ok(copy)
+        }
+    }
+}
+
+/// What stands at a key, with a copy of what stands there in one table more. The error is want of memory.
+fn joined(found: Option<Value>, value: &Value) -> Result<Value, Memory>
+    ensures { IfOk result (λ all. Some (view all) ≡ joined_values (option_map view found) (Some (view value.now))) }
+{
+    match found {
+        None => {
+            let copy = value.clone()?;
+            Ok(copy)
+        }
+        Some(Value::Array(items)) => behind_items(items, value),
+        Some(other) => Ok(other),
+    }
+}
+
+/// What stands at a key of a plant of several tables: a copy. The error is want of memory.
+fn joined_at(key: &str, tables: &[Table]) -> Result<Option<Value>, Memory>
+    ensures { IfOk result (λ found. option_map view found ≡ joined_at key.now (map table_view tables.now)) }
+{
+    let mut found = None;
+    for table in tables {
+        if let Some(value) = value_at(table, key) {
+            let all = joined(found, value)?;
+            found = Some(all);
+        }
+    }
+    Ok(found)
+}
+
+/// Puts what stands at a key of several tables into the table of their plant. The error is want of memory.
+fn put_found(alloc: Global, plant: &mut Table, key: &str, tables: &[Table]) -> Result<(), Memory>
+    ensures { OnOk result (table_view plant.new ≡ put_found key.now (joined_at key.now (map table_view tables.now)) (table_view plant.old)) }
+{
+    match joined_at(key, tables)? {
+        None => Ok(()),
+        Some(value) => {
+            let name = String::from_str(alloc, key)?;
+            let _before = plant.insert(name, value)?;
+            Ok(())
+        }
+    }
+}
+
+/// Puts what stands at each of the keys into the table of a plant. The error is want of memory.
+fn put_each(alloc: Global, keys: &[&str], tables: &[Table]) -> Result<Table, Memory>
+    ensures { IfOk result (λ plant. table_view plant ≡ plant_by (map table_view tables.now) (map (λ key. key.now) keys.now)) }
+{
+    let mut plant = Table::new(alloc);
+    for key in keys {
+        put_found(alloc, &mut plant, key, tables)?;
+    }
+    Ok(plant)
+}
+
+/// The table of a plant of several tables: at each key that commands know, copies of what stands there in each, arrays one behind the
+/// other. The error is want of memory.
+pub(crate) fn plant_of(alloc: Global, tables: &[Table]) -> Result<Table, Memory>
+    ensures { IfOk result (λ plant. table_view plant ≡ plant_of (map table_view tables.now)) }
+{
+    put_each(alloc, &TOP, tables)
+}
