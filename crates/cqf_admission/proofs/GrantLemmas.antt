@@ -20,11 +20,19 @@ use Rattle.cqf_model.specs.Domain.{Domain, is_text, node_named}
 use Rattle.cqf_lists.specs.Lists.{least, or_else}
 use Rattle.cqf_model.specs.History.{Asked, broken_place, first_place, is_loop_at, is_stray, refusal_of, refused_at, refused_if, tree_of, withdraw_row}
 use Rattle.cqf_model.proofs.Texts.{is_text_same}
+use Rattle.cqf_model.specs.Limits.{most_streams}
 use Rattle.cqf_model.specs.Table.{row_named}
 use Rattle.cqf_laws_history.specs.StateLaws.{granted_row}
 use Rattle.cqf_admission.specs.Grants.{HaveNames}
-use Rattle.cqf_admission.specs.Judging.{form_refusal, short_refusal, state_refusal}
+use Rattle.cqf_admission.specs.Judging.{form_refusal, short_refusal}
 use Rattle.cqf_admission_trees.specs.Branches.{tree_refusal}
+
+-- why a request of good form is refused: for what is held
+abbrev pub state_refusal : Domain → List Row → Asked → Option Refused
+state_refusal d rows asked =
+    or_else (refused_if (list_any (λ (row : Row). is_text row.name asked.name) rows) NameHeld)
+    (or_else (refused_if (nat_le most_streams (length rows)) TooManyStreams)
+    (short_refusal d rows (cost_of asked.octets) (tree_of d asked.paths)))
 
 -- the first of seven refusals, in two groups
 or_else_assoc : (a b c e f g rest : Option Refused) → or_else a (or_else b (or_else c (or_else e (or_else f (or_else g rest)))))

@@ -1,7 +1,7 @@
 -- Rows that are found by the numbers of their names.
 use Rattle.std.proofs.Common.{◌≡◌, ◌∙◌, ℕ, Bool, ◌-◌, ◌<◌, ◌≤◌, ◌++◌, List, [], ◌∷◌, Some, None, true, cond, All}
 use Rattle.std.proofs.Common.{length, get_or, take, position, nat_eq, refl, ap, sym, subst, arith, inl, inr}
-use Rattle.std.specs.Prelude.{if◌then◌else◌, nat_lt, remove, slice_get, suc, zero}
+use Rattle.std.specs.Prelude.{if◌then◌else◌, map, nat_lt, remove, slice_get, suc, zero}
 use Rattle.std.specs.List.{IsDistinct, position_or_len}
 use Rattle.std.specs.Cmp.Lexicographic.{pointwise}
 use Rattle.std.proofs.lemmas.Bool.{both_ways, cases_Bool, cases_lt, le-leb, ltb-false, ltb-true}
@@ -14,9 +14,13 @@ use Rattle.std.proofs.lemmas.Option.{slice_get-get_or}
 use Rattle.cqf_units.specs.declared.reservations.Cycle.{Cycle}
 use Rattle.cqf_model.proofs.Texts.{is_text_itself, is_text_same, pointwise-is_text}
 use Rattle.cqf_model.specs.declared.topology.Row.{Row}
-use Rattle.cqf_admission.specs.Numbers.{AreNumbered, IsNumbered, NumberList, names_of, number_at, numbers_of}
+use Rattle.cqf_admission.specs.Numbers.{AreNumbered, IsNumbered, NumberList, names_of, number_at}
 use Rattle.cqf_admission.specs.Rows.{ended_at}
 use Rattle.cqf_admission.proofs.HeldLemmas.{length-ended_at}
+
+-- the numbers of rows' streams
+abbrev pub numbers_of : List Row → List ℕ
+numbers_of rows = map (λ (row : Row). row.no) rows
 
 -- where no two have one name, the place of a row's name is that of the row
 place_of_own : (names : List (List ℕ)) (rows : List Row) → names ≡ names_of rows → IsDistinct (pointwise nat_eq) names → (k : ℕ) (d : Row) → k < length rows →

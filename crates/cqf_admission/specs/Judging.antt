@@ -24,13 +24,6 @@ form_refusal d asked =
 abbrev pub short_refusal : Domain → List Row → ℕ → List Hop → Option Refused
 short_refusal d rows cost tree = refused_at (λ l. BudgetShort l (left_on d rows l)) (short_link d rows cost tree)
 
--- why a request of good form is refused: for what is held
-abbrev pub state_refusal : Domain → List Row → Asked → Option Refused
-state_refusal d rows asked =
-    or_else (refused_if (list_any (λ (row : Row). is_text row.name asked.name) rows) NameHeld)
-    (or_else (refused_if (nat_le most_streams (length rows)) TooManyStreams)
-    (short_refusal d rows (cost_of asked.octets) (tree_of d asked.paths)))
-
 -- a request of good form
 pub record IsOfGoodForm (d : Domain) (asked : Asked) (judged : Judged) : Type 0 where
   pub none : form_refusal d asked ≡ None

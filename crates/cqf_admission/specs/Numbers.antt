@@ -5,12 +5,9 @@ use Rattle.cqf_model.specs.declared.topology.Row.{Row}
 use Rattle.cqf_model.specs.Domain.{is_text}
 use Rattle.cqf_model.specs.Table.{row_of}
 
--- the names of rows' streams, and their numbers
+-- the names of rows' streams
 abbrev pub names_of : List Row → List (List ℕ)
 names_of rows = map (λ (row : Row). row.name) rows
-
-abbrev pub numbers_of : List Row → List ℕ
-numbers_of rows = map (λ (row : Row). row.no) rows
 
 -- names of streams, and beside each the number of its stream
 pub record NumberList : Type 0 where

@@ -1,7 +1,8 @@
 -- The figures are those of the streams.
 use Rattle.std.proofs.Common.{◌≡◌, ℕ, ◌+◌, ◌<◌, ◌≤◌, Bool, true, false, cond, not, List, [], ◌∷◌, map, filter, get_or}
 use Rattle.std.proofs.Common.{length, refl, sym, ap, ◌∙◌, arith, inl, inr, zero, suc}
-use Rattle.std.specs.Prelude.{if◌then◌else◌, ◌&&◌}
+use Rattle.std.specs.Prelude.{if◌then◌else◌, slice_index_or, Contains, ◌&&◌, ◌==◌}
+use Rattle.std.specs.List.{list_any}
 use Rattle.std.proofs.lemmas.Bool.{both_ways, cases_Bool}
 use Rattle.std.proofs.lemmas.List.{get_or-map, length-map}
 use Rattle.std.proofs.lemmas.List.Elements.{Contains-get_or}
@@ -15,8 +16,33 @@ use Rattle.cqf_laws_history.proofs.Sound.{held_less}
 use Rattle.cqf_laws_history.specs.LedgerLaws.{ends_in}
 use Rattle.cqf_laws_history.proofs.Ends.{next_by_end}
 use Rattle.cqf_admission_ledger.specs.declared.holdings.Stand.{Stand}
-use Rattle.cqf_admission_ledger.specs.Holdings.{held_cost, held_one, held_part, let_go_if, released}
-use Rattle.cqf_admission_ledger.specs.Streams.{HeldCostIsLinkCost, HeldCountIsLength, LetGoIsNextCycle, stand_of}
+use Rattle.cqf_admission_ledger.specs.Holdings.{AreLetGo, held_cost, held_count, held_one, held_part, let_go_if, released}
+use Rattle.cqf_admission_ledger.specs.Streams.{stand_of}
+
+-- what the held ones cost, and how many they are, is what the rows cost that are held, and how many these are
+abbrev pub HeldCostIsLinkCost : Type 0
+HeldCostIsLinkCost =
+    (number : List ℕ → ℕ) (mask : Row → ℕ) (rows : List Row) (cycle l : ℕ) →
+    ((row : Row) → Contains rows row → part_on (mask row) (cost_of row.octets) l ≡ cost_on row l) →
+    held_cost (map (stand_of number mask cycle) rows) l ≡ link_cost (filter (λ (row : Row). is_held row cycle) rows) l
+
+abbrev pub HeldCountIsLength : Type 0
+HeldCountIsLength =
+    (number : List ℕ → ℕ) (mask : Row → ℕ) (rows : List Row) (cycle : ℕ) →
+    held_count (map (stand_of number mask cycle) rows) ≡ length (filter (λ (row : Row). is_held row cycle) rows)
+
+-- the list of numbers has just the streams that are held in a cycle and end in the next one
+abbrev pub ListsEnds : List Row → ℕ → List ℕ → Type 0
+ListsEnds rows cycle slot =
+    (number : ℕ) (d : Row) → number < length rows →
+    list_any (λ other. other == number) slot ≡ (is_held (slice_index_or rows number d) cycle && ends_in (cycle + 1) (slice_index_or rows number d))
+
+-- so to let go of these is to go on to the next cycle
+abbrev pub LetGoIsNextCycle : Type 0
+LetGoIsNextCycle =
+    (number : List ℕ → ℕ) (mask : Row → ℕ) (rows : List Row) (cycle : ℕ) (slot : List ℕ) (after : List Stand) →
+    ((row : Row) → Contains rows row → row.admitted.0 ≤ cycle) → ListsEnds rows cycle slot → AreLetGo slot (map (stand_of number mask cycle) rows) after →
+    after ≡ map (stand_of number mask (cycle + 1)) rows
 
 pub held_cost_is_link_cost : HeldCostIsLinkCost
 held_cost_is_link_cost number mask [] cycle l parts = refl

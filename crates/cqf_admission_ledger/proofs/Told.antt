@@ -15,7 +15,7 @@ use Rattle.cqf_model.specs.Domain.{Domain, budget, is_text}
 use Rattle.cqf_model.specs.History.{Asked, Recorded, held_in, left_on, refused_at, refused_if, seals, streams_of, tree_of}
 use Rattle.cqf_model.specs.Table.{is_held, link_cost, links_in}
 use Rattle.cqf_topology.specs.declared.streams.Request.{Request}
-use Rattle.cqf_admission.specs.Judging.{short_refusal, state_refusal}
+use Rattle.cqf_admission.specs.Judging.{short_refusal}
 use Rattle.cqf_admission.specs.Rows.{mask_of}
 use Rattle.cqf_admission.proofs.ColumnLemmas.{mask_tells}
 use Rattle.cqf_admission_ledger.specs.declared.holdings.Stand.{Stand}
@@ -25,6 +25,7 @@ use Rattle.cqf_admission_ledger.specs.Running.{stands_in}
 use Rattle.cqf_admission_ledger.specs.Streams.{stand_of}
 use Rattle.cqf_admission_ledger.proofs.Names.{number_tells}
 use Rattle.cqf_admission_ledger.proofs.Streams.{held_cost_is_link_cost, held_count_is_length}
+use Rattle.cqf_admission.proofs.GrantLemmas.{state_refusal}
 
 -- tests that agree on each element find alike
 any_alike : {X : Type 0} (p q : X → Bool) (xs : List X) → ((x : X) → Contains xs x → p x ≡ q x) → list_any p xs ≡ list_any q xs

@@ -1,7 +1,7 @@
 -- The ring of a history's streams.
 use Rattle.std.proofs.Common.{◌≡◌, ℕ, ◌+◌, ◌<◌, ◌%◌, Bool, true, false, List, Option, Some, None, map, get_or, length}
 use Rattle.std.proofs.Common.{refl, sym, ap, ◌∙◌, arith, mod-lt, inl, inr}
-use Rattle.std.specs.Prelude.{Contains, ◌==◌, ◌&&◌}
+use Rattle.std.specs.Prelude.{Contains, slice_index_or, slice_set, ◌++◌, ◌∷◌, [], ◌==◌, ◌&&◌}
 use Rattle.std.specs.Option.{option_map_or}
 use Rattle.std.proofs.lemmas.Bool.{cases_Bool}
 use Rattle.std.proofs.lemmas.List.{get_or-map, length-map}
@@ -14,9 +14,31 @@ use Rattle.cqf_model.specs.History.{IsLegalHistory, Recorded, held_in, next_numb
 use Rattle.cqf_model.specs.Table.{is_held, residence}
 use Rattle.cqf_laws_history.specs.LedgerLaws.{end_from, ends_in}
 use Rattle.cqf_laws_history.proofs.Ends.{ends_are_soon, slot_tells}
-use Rattle.cqf_admission_ledger.specs.Ring.{in_slot}
-use Rattle.cqf_admission_ledger.specs.Streams.{RingListsEnds, RingStaysSealed, RingStaysWithdrawn, stand_of}
+use Rattle.cqf_admission_ledger.specs.declared.holdings.Stand.{Stand}
+use Rattle.cqf_admission_ledger.specs.Holdings.{AreLetGo, IsHeldAt, holding_ended}
+use Rattle.cqf_admission_ledger.specs.Ring.{IsRing, in_slot}
+use Rattle.cqf_admission_ledger.specs.Streams.{stand_of}
 use Rattle.cqf_admission_ledger.proofs.Ring.{ring_sealed, ring_withdrawn}
+use Rattle.cqf_admission_ledger.proofs.Streams.{ListsEnds}
+
+-- the ring of a legal history's streams has, in the slot of the next cycle, just those that end in it
+abbrev pub RingListsEnds : Type 0
+RingListsEnds =
+    (number : List ℕ → ℕ) (mask : Row → ℕ) (d : Domain) (entries : List Recorded) (slots : List (List ℕ)) → IsLegalHistory d entries →
+    IsRing (map (stand_of number mask (seals entries)) (streams_of d entries)) slots →
+    ListsEnds (streams_of d entries) (seals entries) (slice_index_or slots ((seals entries + 1) % 32) [])
+
+-- it is a ring yet, with a slot emptied and its streams let go of, and with a held stream withdrawn and listed
+abbrev pub RingStaysSealed : Type 0
+RingStaysSealed =
+    (stands after : List Stand) (slots : List (List ℕ)) (slot : ℕ) → IsRing stands slots → slot < 32 → AreLetGo (slice_index_or slots slot []) stands after →
+    IsRing after (slice_set slots slot [])
+
+abbrev pub RingStaysWithdrawn : Type 0
+RingStaysWithdrawn =
+    (stands : List Stand) (slots : List (List ℕ)) (number slot : ℕ) (cycle : Cycle) (stand : Stand) → IsRing stands slots → IsHeldAt stands number →
+    ((d : Stand) → slice_index_or stands number d ≡ stand) → stand.withdrawn ≡ None → slot ≡ (cycle.0 + stand.residence) % 32 → slot < 32 →
+    IsRing (slice_set stands number (holding_ended stand cycle)) (slice_set slots slot (slice_index_or slots slot [] ++ number ∷ []))
 
 -- a held row stands in the slot of the next cycle if it ends there
 slot_is_end : (number : List ℕ → ℕ) (mask : Row → ℕ) (d : Domain) (entries : List Recorded) (row : Row) → IsLegalHistory d entries →

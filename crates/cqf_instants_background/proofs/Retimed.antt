@@ -10,7 +10,10 @@ use Rattle.cqf_model.specs.Turn.{is_streams}
 use Rattle.cqf_lists.proofs.Members.{contains_from_map, contains_map}
 use Rattle.cqf_lists.proofs.Pairs.{one_of_pairs, pairs_map}
 use Rattle.cqf_laws_cycle.specs.OnePort.{BackgroundAt, StreamsAt}
-use Rattle.cqf_instants_background.specs.Feeding.{retimed}
+
+-- an arrival that comes at another instant
+abbrev pub retimed : ℕ → Arrival → Arrival
+retimed t x = record { at = record { 0 = t }; class = x.class; octets = x.octets; frame = x.frame }
 
 -- a list has the background frames of another, and its streams' frames that started, each at the instant of its start: the
 -- background frames at the places of one function, the streams' frames by their instants at those of another

@@ -25,11 +25,12 @@ use Rattle.cqf_laws_cycle.specs.Beside.{IsToldByClass, is_start_of_streams}
 use Rattle.cqf_laws_cycle.specs.Compiled.{PortListSends, open_class}
 use Rattle.cqf_laws_cycle.specs.OnePort.{BackgroundAt, StreamsAt}
 use Rattle.cqf_port.specs.PortState.{start_of}
-use Rattle.cqf_instants_background.specs.Feeding.{arrival_of_sent, backs_among, fed, is_background, retimed}
+use Rattle.cqf_instants_background.specs.Feeding.{arrival_of_sent, backs_among, fed, is_background}
 use Rattle.cqf_instants_background.specs.Sending.{Backs, PortStartsTheBackground, is_low}
 use Rattle.cqf_instants_background.proofs.Counted.{many_at, many_before, stands_behind}
 use Rattle.cqf_instants_background.proofs.Kept.{flat_filter, map_flat}
 use Rattle.cqf_instants_background.proofs.Retimed.{AreFedWith, legal_there, moved_by, place_by}
+use Rattle.cqf_instants_background.proofs.Retimed.{retimed}
 
 -- an arrival is of no stream
 abbrev is_other : Arrival → Bool

@@ -11,10 +11,6 @@ use Rattle.cqf_model.specs.Network.{QueuedFrame, arrivals_of, backed_frame}
 use Rattle.cqf_laws_cycle.specs.Beside.{is_of_stream}
 use Rattle.cqf_laws_cycle.specs.Compiled.{open_class}
 
--- an arrival that comes at another instant
-abbrev pub retimed : ℕ → Arrival → Arrival
-retimed t x = record { at = record { 0 = t }; class = x.class; octets = x.octets; frame = x.frame }
-
 -- a stream's frame that comes when it starts, with the class that its cycle sends
 abbrev pub arrival_of_start : Started → Arrival
 arrival_of_start s = record { at = s.start; class = open_class s.cycle.0; octets = s.octets; frame = s.frame }

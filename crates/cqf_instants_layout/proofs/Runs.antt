@@ -51,8 +51,9 @@ use Rattle.cqf_instants_coverage.proofs.Covers.{numbered_at}
 use Rattle.cqf_instants_layout.specs.declared.layout.Layout.{Layout}
 use Rattle.cqf_instants_layout.specs.Entered.{AreEntered, entering_by, group_for, group_until}
 use Rattle.cqf_instants_layout.specs.History.{IsLaidOutHistoryOf, IsLayoutOf, SomeHistory}
-use Rattle.cqf_instants_layout.specs.Laid.{AreHopsOf, AreLaid, HaveLowLinks, no_group, while_live}
+use Rattle.cqf_instants_layout.specs.Laid.{AreHopsOf, AreLaid, HaveLowLinks, no_group}
 use Rattle.cqf_instants_layout.proofs.Streams.{few_streams, in_table, live_as, live_below}
+use Rattle.cqf_instants_layout.proofs.Streams.{while_live}
 
 abbrev no_row : Row
 no_row = record { no = 0; name = []; octets = 0; tree = record { items = [] }; admitted = record { 0 = 0 }; withdrawn = None }

@@ -21,7 +21,12 @@ use Rattle.cqf_laws_history.proofs.Places.{admitted_at, admitted_before, sealed-
 use Rattle.cqf_laws_report.specs.Rows.{RowsSayTheTables, as_of, end_as_of}
 use Rattle.cqf_laws_report.proofs.Rows.{all_streams}
 use Rattle.cqf_instants_coverage.proofs.Covers.{live_held}
-use Rattle.cqf_instants_layout.specs.Laid.{is_live_below, while_live}
+use Rattle.cqf_instants_layout.specs.Laid.{is_live_below}
+
+-- a row as the tables of the cycles in which its stream is live have it: an end is not yet known
+abbrev pub while_live : Row → Row
+while_live row =
+    record { no = row.no; name = row.name; octets = row.octets; tree = row.tree; admitted = row.admitted; withdrawn = None }
 
 -- an entry is a Seal, or admits one stream at most
 one_or_seal : (d : Domain) (entries : List Recorded) (effect : ℕ) (act : Act) (reply : Reply) →

@@ -8,11 +8,6 @@ use Rattle.cqf_instants.specs.Lanes.{branch_at}
 use Rattle.cqf_instants_branches.specs.declared.laying.Group.{Group}
 use Rattle.cqf_instants_branches.specs.Laid.{IsLaidBranch, StandBehind, behind_at, group_at, is_of_tree}
 
--- a row as the tables of the cycles in which its stream is live have it: an end is not yet known
-abbrev pub while_live : Row → Row
-while_live row =
-    record { no = row.no; name = row.name; octets = row.octets; tree = row.tree; admitted = row.admitted; withdrawn = None }
-
 -- whether a stream is live in one of the first cycles: the first in which it may be is the one in which it is admitted
 abbrev pub is_live_below : ℕ → Row → Bool
 is_live_below cycles row = nat_lt row.admitted.0 cycles && is_live row row.admitted.0

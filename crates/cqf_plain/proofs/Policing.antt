@@ -18,7 +18,14 @@ use Rattle.cqf_model.specs.Traffic.{Policed, Received, police, police_all}
 use Rattle.cqf_model.proofs.Policing.{police_more}
 use Rattle.cqf_bridge_gates.specs.declared.gates.KeptGate.{KeptGate}
 use Rattle.cqf_bridge_gates.specs.Gates.{AreKept, HaveCounted}
-use Rattle.cqf_plain.specs.Losing.{IsFirstLost, IsPolicing, NoneIsLost}
+use Rattle.cqf_plain.specs.Losing.{IsFirstLost, NoneIsLost}
+
+-- frames that were policed, none of which is lost: the gates have counted them, and each was called no later than the next frame
+pub record IsPolicing (d : Domain) (bridge cycle : ℕ) (rows : List Row) (frames : List Received) (count : ℕ) (gates : List KeptGate) : Type 0 where
+  pub kept : (t : ℕ) → ((y : Received) → Contains (take count frames) y → y.at ≤ t) → AreKept d.cycle_time (t + 1) gates
+  pub counted : (tables : List (List Row)) → table_of tables cycle ≡ rows →
+      HaveCounted d.cycle_time cycle rows (police_all d tables bridge [] (take count frames)) gates
+  pub none_lost : (tables : List (List Row)) → table_of tables cycle ≡ rows → NoneIsLost (police_all d tables bridge [] (take count frames))
 
 -- gates that have seen no frame have counted none
 none_counted : (cycle_time cycle : ℕ) (rows : List Row) → HaveCounted cycle_time cycle rows [] []

@@ -29,8 +29,8 @@ use Rattle.cqf_plain.specs.declared.faults.RunFault.TheVariants.{WrongTables, In
 use Rattle.cqf_plain.specs.Driven.{AllStandBefore, AllStandHalfway, FirstLoseNothing, HasCome, IsCycleOf, IsTableOf}
 use Rattle.cqf_plain.specs.Driven.{ReceivesOne, StandsBeforeCycle, StandsHalfway, all_of, drops_of_first}
 use Rattle.cqf_plain.specs.Losing.{IsFaultAtBridge, IsFaultInCycle}
-use Rattle.cqf_plain.specs.Turns.{AreTurned}
 use Rattle.cqf_plain.proofs.Turning.{all_turned, next_was, none_turned, one_turned}
+use Rattle.cqf_plain.proofs.Turning.{AreTurned}
 
 -- a refused call leaves the bridge's domain and number
 pub same_bridge : (run : Run) (before after : BridgeState) (cycle : ℕ) (handed : Handed) (f : BridgeFault) → IsReceiveFault run before after cycle handed f →

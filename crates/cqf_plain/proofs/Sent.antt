@@ -16,8 +16,8 @@ use Rattle.cqf_laws_bridge.specs.Follows.{batches_from}
 use Rattle.cqf_laws_bridge.specs.NoFaults.{SendsButForMemory}
 use Rattle.cqf_plain.specs.declared.driven.Driven.{Driven}
 use Rattle.cqf_plain.specs.Driven.{AllStandBefore, HaveAllSentCycle, IsCycleOf, StandsBeforeCycle, StandsHalfway, none_yet, sent_by_first}
-use Rattle.cqf_plain.specs.Turns.{AreTurned}
 use Rattle.cqf_plain.proofs.Turning.{all_turned, next_was, none_turned, one_turned}
+use Rattle.cqf_plain.proofs.Turning.{AreTurned}
 
 module _ (run : Run) (net : Network) (cycle : ℕ) (of : IsCycleOf run net cycle) where
   module _ (bridge : ℕ) (s : Driven) (st : StandsBeforeCycle run net cycle bridge s) (given : List Backed) (is : given ≡ background_at s.agenda cycle) where

@@ -1,9 +1,16 @@
 -- What holds of each of a list's elements by its place, one after the other.
 use Rattle.std.proofs.Common.{◌≡◌, ℕ, ◌+◌, ◌<◌, ◌≤◌, ◌++◌, List, [], ◌∷◌, get_or, length, length-append, set, sym, ap}
 use Rattle.std.proofs.Common.{◌∙◌, arith, inl, inr, subst}
+use Rattle.std.specs.Prelude.{slice_index_or}
 use Rattle.std.proofs.lemmas.Bool.{cases_eq, cases_lt}
 use Rattle.std.proofs.lemmas.List.{get_or-set_other, get_or-set_same, get_or_append_left, get_or_push, length-set}
-use Rattle.cqf_plain.specs.Turns.{AreTurned, EachIs}
+use Rattle.cqf_plain.specs.Turns.{EachIs}
+
+-- of the first ones the second holds, and of the others still the first
+pub record AreTurned {X : Type 0} (Was Is : ℕ → X → Type 0) (count turned : ℕ) (xs : List X) : Type 0 where
+  pub one_each : length xs ≡ count
+  pub first : (k : ℕ) (e : X) → k < turned → k < count → Is k (slice_index_or xs k e)
+  pub others : (k : ℕ) (e : X) → turned ≤ k → k < count → Was k (slice_index_or xs k e)
 
 -- one more behind the others
 pub one_pushed : {X : Type 0} (Is : ℕ → X → Type 0) (count : ℕ) (xs after : List X) (x : X) → EachIs Is count xs → Is count x → after ≡ xs ++ x ∷ [] →

@@ -27,13 +27,6 @@ abbrev pub IsLossFound : List Policed → Option ℕ → Type 0
 IsLossFound policed None = NoneIsLost policed
 IsLossFound policed (Some frame) = IsFirstLost policed frame
 
--- frames that were policed, none of which is lost: the gates have counted them, and each was called no later than the next frame
-pub record IsPolicing (d : Domain) (bridge cycle : ℕ) (rows : List Row) (frames : List Received) (count : ℕ) (gates : List KeptGate) : Type 0 where
-  pub kept : (t : ℕ) → ((y : Received) → Contains (take count frames) y → y.at ≤ t) → AreKept d.cycle_time (t + 1) gates
-  pub counted : (tables : List (List Row)) → table_of tables cycle ≡ rows →
-      HaveCounted d.cycle_time cycle rows (police_all d tables bridge [] (take count frames)) gates
-  pub none_lost : (tables : List (List Row)) → table_of tables cycle ≡ rows → NoneIsLost (police_all d tables bridge [] (take count frames))
-
 -- the frame is lost in the cycle at the bridge, which loses none before it
 abbrev pub IsLostAt : Run → Network → ℕ → ℕ → ℕ → Type 0
 IsLostAt run net cycle bridge frame = IsFirstLost (policed_of run net.carried bridge cycle) frame

@@ -5,9 +5,3 @@ use Rattle.std.specs.Prelude.{ℕ, ◌≡◌, ◌≤◌, ◌<◌, List, length, 
 pub record EachIs {X : Type 0} (Is : ℕ → X → Type 0) (count : ℕ) (xs : List X) : Type 0 where
   pub one_each : length xs ≡ count
   pub each : (k : ℕ) (e : X) → k < count → Is k (slice_index_or xs k e)
-
--- of the first ones the second holds, and of the others still the first
-pub record AreTurned {X : Type 0} (Was Is : ℕ → X → Type 0) (count turned : ℕ) (xs : List X) : Type 0 where
-  pub one_each : length xs ≡ count
-  pub first : (k : ℕ) (e : X) → k < turned → k < count → Is k (slice_index_or xs k e)
-  pub others : (k : ℕ) (e : X) → turned ≤ k → k < count → Was k (slice_index_or xs k e)

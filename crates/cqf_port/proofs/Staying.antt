@@ -5,6 +5,11 @@ use Rattle.cqf_model.specs.GateList.{Entry, InForce, IsOpen, IsOpenThrough, roun
 use Rattle.cqf_laws_network.specs.GateLaws.{StatesAreOfTheEntry, RoundTakesTime, SomeEntryIsInForce}
 use Rattle.cqf_port.specs.Spans.{IsSpan, AreSpansAt, AreSpans, AreLess}
 
+-- the class was closed at each instant from the first one up to and without the last
+pub record WasClosed (entries : List Entry) (class first last : ℕ) : Type 0 where
+  pub in_order : first ≤ last
+  pub closed : (t : ℕ) → first ≤ t → t < last → ¬ IsOpen entries class t
+
 -- a closed class stays open for no time
 pub span_closed : (entries : List Entry) (class t bound : ℕ) → ¬ IsOpen entries class t → IsSpan entries class t bound 0
 span_closed entries class t bound closed need some small = (λ through. absurd (closed (through t (omega arith) (omega arith))), λ fits. absurd (omega arith))

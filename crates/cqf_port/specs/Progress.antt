@@ -1,7 +1,6 @@
 -- How a port remembers where it stands, so that it needn't look through its starts again.
 use Rattle.std.specs.Prelude.{ℕ, ◌≡◌, ◌≢◌, ◌+◌, ◌^◌, ◌≤◌, ◌<◌, ◌++◌, List, [], length, Option, Some, None, slice_index_or, Contains}
 use Rattle.cqf_model.specs.declared.ports.Arrival.{Arrival}
-use Rattle.cqf_model.specs.GateList.{Entry, IsOpen}
 use Rattle.cqf_model.specs.Port.{Transmission, PortRules, AreLegal, IsEligible, IsIdle, instant_of, class_of, octets_of}
 use Rattle.cqf_units.specs.Timing.{idle_after}
 use Rattle.cqf_units.specs.declared.timing.Nanos.{Nanos}
@@ -116,8 +115,3 @@ pub record IsKept (rules : PortRules) (arrivals : List Arrival) (reached : ℕ) 
 -- what a port at instant 0 is by its fields, whatever its rules
 abbrev pub IsKeptByAll : List Arrival → Progress → List Nanos → Type 0
 IsKeptByAll arrivals progress newest = (rules : PortRules) → 0 < rules.octet_time → IsKept rules arrivals 0 [] progress newest
-
--- the class was closed at each instant from the first one up to and without the last
-pub record WasClosed (entries : List Entry) (class first last : ℕ) : Type 0 where
-  pub in_order : first ≤ last
-  pub closed : (t : ℕ) → first ≤ t → t < last → ¬ IsOpen entries class t

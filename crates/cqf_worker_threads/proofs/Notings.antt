@@ -28,8 +28,9 @@ use Rattle.cqf_worker_threads.specs.declared.threads.Ready.{Ready}
 use Rattle.cqf_worker_threads.specs.Faults.{IsClean, first_noted, is_before, is_noted, told_of}
 use Rattle.cqf_worker_threads.specs.Noting.{NotesFault, NotesAll, fault_in_bridge, fault_in_call, fault_of_caller}
 use Rattle.cqf_worker_threads.specs.Noting.{fault_of_conductor, fault_of_worker, noted, noted_with}
-use Rattle.cqf_worker_threads.specs.Running.{AnswersWorker, BreaksOff, CallAnswers, HasOneMore}
+use Rattle.cqf_worker_threads.specs.Running.{AnswersWorker, BreaksOff, CallAnswers}
 use Rattle.cqf_worker_threads.specs.Telling.{IsStartFault, MayBeTold}
+use Rattle.cqf_worker_threads.proofs.Zipped.{HasOneMore}
 
 -- where something is noted, something has gone wrong
 not_clean : (faults : Faults) (cause : Option ConductFault) → IsClean (noted faults cause) → ⊥

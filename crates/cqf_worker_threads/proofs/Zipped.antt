@@ -4,7 +4,10 @@ use Rattle.std.specs.List.{AllZip}
 use Rattle.std.proofs.lemmas.List.{map-append}
 use Rattle.std.proofs.lemmas.List.Elements.{All-head, All-push, All-tail}
 use Rattle.std.proofs.lemmas.Slice.Zip.{all_zipped_more}
-use Rattle.cqf_worker_threads.specs.Running.{HasOneMore}
+
+-- one more of which this holds stands behind the others
+abbrev pub HasOneMore : {X : Type 0} → (X → Type 0) → List X → List X → Type 0
+HasOneMore {X} P before after = (x : X) × (after ≡ before ++ x ∷ []) × P x
 
 -- what holds of each element holds of the first
 pub holds_of_first : {A : Type 0} (P : A → Type 0) (x : A) (xs all : List A) → all ≡ x ∷ xs → All P all → P x

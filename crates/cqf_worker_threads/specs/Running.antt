@@ -23,10 +23,6 @@ use Rattle.cqf_model.specs.Limits.{most_cycles}
 abbrev pub AnswersWorker : ℕ → Worker → Result Worker GaveUp → Type 0
 AnswersWorker cycles w answer = IfOk answer (Works cycles w) × IfErr answer (HasGivenUp cycles w)
 
--- one more of which this holds stands behind the others
-abbrev pub HasOneMore : {X : Type 0} → (X → Type 0) → List X → List X → Type 0
-HasOneMore {X} P before after = (x : X) × (after ≡ before ++ x ∷ []) × P x
-
 -- an administrator's seat with which all of its commands were made
 abbrev pub CallsOf : Administrator → Sitting → Type 0
 CallsOf a done = HasCalled a.commands.items a.seat done

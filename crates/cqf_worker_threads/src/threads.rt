@@ -9,7 +9,7 @@ ghost use Rattle.cqf_worker_loops.specs.declared.worker.GaveUp.{GaveUp};
 ghost use Rattle.cqf_worker_loops.specs.declared.worker.Worker.{Worker};
 ghost use Rattle.cqf_worker_threads.specs.Faults.{IsClean, is_noted};
 ghost use Rattle.cqf_worker_threads.specs.Noting.{NotesFault, NotesAll, KeepsGiven, fault_of_caller, fault_of_conductor, fault_of_worker, noted, noted_with};
-ghost use Rattle.cqf_worker_threads.specs.Running.{AnswersWorker, BreaksOff, CallAnswers, CallsOf, HasOneMore, IsEnded, IsReadyWorker, RunAnswers};
+ghost use Rattle.cqf_worker_threads.specs.Running.{AnswersWorker, BreaksOff, CallAnswers, CallsOf, IsEnded, IsReadyWorker, RunAnswers};
 ghost use Rattle.cqf_worker_threads.specs.Telling.{IsStartFault, MayBeTold};
 ghost use Rattle.cqf_model.specs.Limits.{most_cycles};
 

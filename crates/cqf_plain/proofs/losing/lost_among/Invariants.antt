@@ -1,7 +1,7 @@
 use Rattle.std.specs.Prelude.{map}
 use Rattle.cqf_bridge.specs.Taking.{received_as}
-use Rattle.cqf_plain.specs.Losing.{IsPolicing}
 use Rattle.cqf_plain.proofs.losing.lost_among.Given as goal
+use Rattle.cqf_plain.proofs.Policing.{IsPolicing}
 
 -- none of the frames so far is lost
 abbrev pub invariant-loop-frame : goal.invariant-loop-frame

@@ -1,6 +1,6 @@
 use Rattle.std.proofs.Common.{◌-◌}
-use Rattle.cqf_port.specs.Progress.{WasClosed}
 use Rattle.cqf_port.proofs.late.was_open.Given as goal
+use Rattle.cqf_port.proofs.Staying.{WasClosed}
 
 -- the class was closed at each instant that has been looked at
 abbrev pub invariant-loop-t : goal.invariant-loop-t

@@ -5,10 +5,11 @@ use Rattle.std.specs.List.{IsDistinct}
 use Rattle.std.proofs.lemmas.List.{length-map}
 use Rattle.std.proofs.lemmas.List.Elements.{same_from_all_zip}
 use Rattle.cqf_model.specs.declared.topology.Row.{Row}
-use Rattle.cqf_admission.specs.Numbers.{AreNumbered, NumberList, numbers_of}
+use Rattle.cqf_admission.specs.Numbers.{AreNumbered, NumberList}
 use Rattle.cqf_admission.proofs.MappedRows.{mapped_all}
 use Rattle.cqf_admission.proofs.NumberedRows.{all_numbered}
 use Rattle.cqf_admission.proofs.numbers.Numbers.new.Goals as goal
+use Rattle.cqf_admission.proofs.NumberedRows.{numbers_of}
 
 pub returns : goal.returns
 returns c =
