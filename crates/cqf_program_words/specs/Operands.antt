@@ -1,5 +1,5 @@
 -- Which words of a command line name files (profile).
-use Rattle.std.specs.Prelude.{◌==◌, ◌||◌, ◌++◌, Bool, true, false, List, [], ◌∷◌, if◌then◌else◌, bytes_eq, codes, fold, map}
+use Rattle.std.specs.Prelude.{◌==◌, ◌||◌, ◌++◌, Bool, true, false, List, [], ◌∷◌, if◌then◌else◌, bytes_eq, codes, count_by, fold, map, nat_le}
 use Rattle.clap.specs.Words.{Text}
 use Rattle.cqf_program_words.specs.declared.operands.Place.{Place}
 use Rattle.cqf_program_words.specs.declared.operands.Place.TheVariants.{Start, Free, Value, Behind, Other}
@@ -68,3 +68,10 @@ split_so_far operands = record {
   files = map (λ word. word.now) operands.files.items;
   place = operands.place;
 }
+
+-- the file is standard input, and two of some are
+abbrev pub is_standard : Text → Bool
+is_standard file = bytes_eq file (codes "-")
+
+abbrev pub is_standard_twice : List Text → Bool
+is_standard_twice files = nat_le 2 (count_by is_standard files)

@@ -1,7 +1,35 @@
 -- Lines of the program's own that show a text which may hold anything (profile).
-use Rattle.std.specs.Prelude.{ℕ, ◌≡◌, ◌⊎◌, ◌++◌, List, [], codes}
+use Rattle.std.specs.Prelude.{ℕ, ◌≡◌, ◌⊎◌, ◌++◌, ◌&&◌, ◌||◌, Bool, false, List, [], codes, length, nat_le, not}
+use Rattle.std.specs.Char.{is_control}
+use Rattle.std.specs.List.{list_all}
+use Rattle.std.specs.Str.{chars}
+use Rattle.clap.specs.Words.{Text}
 use Rattle.cqf_program_stop.specs.Stops.{line_of}
 use Rattle.cqf_program_stop.specs.declared.stops.Stop.{Stop}
+
+-- the character is one from the first of two to the last
+abbrev pub is_among : ℕ → ℕ → ℕ → Bool
+is_among first last character = nat_le first character && nat_le character last
+
+-- a character that isn't seen, joins, divides lines, or turns the direction of the text
+abbrev pub is_unseen : ℕ → Bool
+is_unseen character = is_among 8203 8207 character || (is_among 8232 8238 character || (is_among 8288 8303 character
+    || (is_among 65279 65279 character || (is_among 65529 65531 character || is_among 917504 917631 character))))
+
+-- one with which a terminal would do something else than print it: such a one, or a control character
+abbrev pub is_unprintable : ℕ → Bool
+is_unprintable character = is_control character || is_unseen character
+
+-- a text without such a character, and such texts
+abbrev pub is_printable : Text → Bool
+is_printable text = list_all (λ character. not (is_unprintable character)) (chars text)
+
+abbrev pub are_printable : List Text → Bool
+are_printable words = list_all is_printable words
+
+-- a text that a line shows as it is: it is printable, and has no more than 200 characters
+abbrev pub is_shown_whole : Text → Bool
+is_shown_whole text = is_printable text && nat_le (length (chars text)) 200
 
 -- something stands behind what was there
 pub record Lengthens (old new : List ℕ) : Type 0 where
@@ -25,3 +53,11 @@ pub record EndsShown (start : List ℕ) (stop : Stop) : Type 0 where
   pub statuses : (stop.status ≡ 2) ⊎ (stop.status ≡ 3)
   pub shows : stop.status ≡ 2 → ShowsBehind start stop.text.items
   pub memory : stop.status ≡ 3 → stop.text.items ≡ []
+
+-- a mistake in words that aren't all printable is told by such a line, which shows them escaped. Of others the text is clap's
+abbrev pub ShowsWords : List Text → Stop → Type 0
+ShowsWords words stop = stop.status ≡ 2 → are_printable words ≡ false → ShowsBehind no_words stop.text.items
+
+-- and so is one in a first line of the input that isn't shown as it is
+abbrev pub ShowsLine : Text → Stop → Type 0
+ShowsLine line stop = stop.status ≡ 2 → is_shown_whole line ≡ false → ShowsBehind no_command stop.text.items

@@ -5,7 +5,7 @@
 //!
 //! - [`stop_of_file`], [`stop_of_line`] and [`stop_of_long_line`] end a run with a line that shows a text that may hold anything.
 //!
-//! - [`split_operands`] tells the files that some words name from the other words.
+//! - [`split_operands`] tells the files that some words name from the other words; [`check_files`] refuses standard input that is named twice.
 //!
 //! `specs/Words.antt` has the commands and their options as a value, and what it is that words `Mean` a job, are a mistake
 //! or ask for help.
@@ -33,6 +33,6 @@ mod shown;
 mod words;
 
 pub use composing::{composed, composed_behind, composed_between, is_plant, is_toml, is_undivided};
-pub use operands::{Operands, operands_of, split_operands};
+pub use operands::{Operands, STANDARD, check_files, operands_of, split_operands};
 pub use shown::{stop_of_file, stop_of_line, stop_of_long_line};
 pub use words::{Format, Job, read_words};

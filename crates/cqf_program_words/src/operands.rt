@@ -1,8 +1,10 @@
 //! The files that the words of a command line name (profile).
-ghost use Rattle.std.specs.Prelude.{◌≡◌, IfOk, OnOk, map, string_bytes};
-ghost use Rattle.cqf_program_words.specs.Operands.{behind_word, ends_options, is_command, is_option, names_file};
+ghost use Rattle.std.specs.Prelude.{◌≡◌, IfErr, IfOk, OnErr, OnOk, codes, false, map, string_bytes, true};
+ghost use Rattle.cqf_program_stop.specs.Stops.{EndsWith, line_of};
+ghost use Rattle.cqf_program_words.specs.Operands.{behind_word, ends_options, is_command, is_option, is_standard, is_standard_twice, names_file};
 ghost use Rattle.cqf_program_words.specs.Operands.{no_words, split_of, split_so_far, wants_value, with_word};
 
+use cqf_program_stop::{Stop, USAGE};
 use std::alloc::{AllocError, Global};
 
 /// What the next word is read as.
@@ -149,4 +151,34 @@ pub fn operands_of(alloc: Global, words: &[String]) -> Result<Operands<'_>, Allo
         texts.push(word.as_str())?;
     }
     split_operands(alloc, texts.as_slice())
+}
+
+/// The name of a file that stands for standard input.
+pub const STANDARD: &str = "-";
+
+/// Whether the file is standard input.
+fn is_standard(file: &str) -> bool
+    ensures { result ≡ is_standard file.now }
+{
+    file == STANDARD
+}
+
+/// Whether two of the files are standard input.
+fn is_standard_twice(files: &[&str]) -> bool
+    ensures { result ≡ is_standard_twice (map (λ file. file.now) files.now) }
+{
+    files.iter().filter(|file| is_standard(file)).count() >= 2
+}
+
+/// Nothing where at most one of the files is standard input, whose text can be read once. `Err` with status 2 and the line `cqf: words` where
+/// two are (profile).
+pub fn check_files(alloc: Global, files: &[&str]) -> Result<(), Stop>
+    ensures ok { OnOk result (is_standard_twice (map (λ file. file.now) files.now) ≡ false) }
+    ensures twice { OnErr result (is_standard_twice (map (λ file. file.now) files.now) ≡ true) }
+    ensures err { IfErr result (EndsWith 2 (line_of (codes "cqf: words"))) }
+{
+    if is_standard_twice(files) {
+        return Err(Stop::with_line(alloc, USAGE, "cqf: words\n"));
+    }
+    Ok(())
 }

@@ -1,6 +1,9 @@
 //! What a line of standard error shows of a text that may hold anything.
-ghost use Rattle.std.specs.Prelude.{◌≡◌, ◌⊎◌, [], IfOk, OnOk, string_bytes};
-ghost use Rattle.cqf_program_words.specs.Shown.{EndsShown, Lengthens, ShowsBehind, no_command, no_words};
+ghost use Rattle.std.specs.Prelude.{◌≡◌, ◌≢◌, ◌⊎◌, [], IfOk, OnOk, false, length, map, string_bytes, true};
+ghost use Rattle.std.specs.List.{list_all};
+ghost use Rattle.std.specs.Str.{chars};
+ghost use Rattle.cqf_program_words.specs.Shown.{EndsShown, Lengthens, ShowsBehind, ShowsLine, ShowsWords, are_printable, is_among, is_printable};
+ghost use Rattle.cqf_program_words.specs.Shown.{is_shown_whole, is_unprintable, is_unseen, no_command, no_words};
 
 use cqf_program_stop::{FAULT, Stop, USAGE};
 use cqf_units::Memory;
@@ -9,19 +12,53 @@ use std::alloc::Global;
 /// The most characters of a text that a line shows.
 const SHOWN: usize = 200;
 
+/// Whether the character is one from the first of two to the last.
+fn is_among(first: u32, last: u32, character: char) -> bool
+    ensures { result ≡ is_among first last character }
+{
+    let code = u32::from(character);
+    first <= code && code <= last
+}
+
+/// Whether the character isn't seen, joins, divides lines, or turns the direction of the text.
+fn is_unseen(character: char) -> bool
+    ensures { result ≡ is_unseen character }
+{
+    is_among(0x200b, 0x200f, character)
+        || is_among(0x2028, 0x202e, character)
+        || is_among(0x2060, 0x206f, character)
+        || is_among(0xfeff, 0xfeff, character)
+        || is_among(0xfff9, 0xfffb, character)
+        || is_among(0xe0000, 0xe007f, character)
+}
+
 /// Whether a terminal would do something else than print the character: a control character, or one that turns the direction of the text,
 /// joins, divides lines or isn't seen.
-fn is_unprintable(character: char) -> bool {
-    character.is_control()
-        || matches!(
-            character,
-            '\u{200b}'..='\u{200f}' | '\u{2028}'..='\u{202e}' | '\u{2060}'..='\u{206f}' | '\u{feff}' | '\u{fff9}'..='\u{fffb}' | '\u{e0000}'..='\u{e007f}'
-        )
+fn is_unprintable(character: char) -> bool
+    ensures { result ≡ is_unprintable character }
+{
+    character.is_control() || is_unseen(character)
+}
+
+/// Whether a terminal prints each character of the text.
+fn is_printable(text: &str) -> bool
+    ensures { result ≡ is_printable text.now }
+{
+    text.chars().all(|character| !is_unprintable(character))
+}
+
+/// How many characters the text has.
+fn count_of(text: &str) -> usize
+    ensures { result ≡ length (chars text.now) }
+{
+    text.chars().count()
 }
 
 /// Whether a line shows the whole text as it is.
-fn is_shown_whole(text: &str) -> bool {
-    text.chars().all(|character| !is_unprintable(character)) && text.chars().count() <= SHOWN
+fn is_shown_whole(text: &str) -> bool
+    ensures { result ≡ is_shown_whole text.now }
+{
+    is_printable(text) && count_of(text) <= SHOWN
 }
 
 /// Puts a character as a line shows it: an unprintable one as `\u{..}`, with its number in hexadecimal digits.
@@ -44,7 +81,7 @@ fn show_front(line: &mut String, text: &str) -> Result<(), Memory>
     for character in text.chars().take(SHOWN) {
         show(line, character)?;
     }
-    if text.chars().count() > SHOWN {
+    if count_of(text) > SHOWN {
         line.push_str("..")?;
     }
     Ok(())
@@ -83,7 +120,10 @@ pub fn stop_of_line(alloc: Global, text: &str, stop: Stop) -> Stop
     requires { stop.status ≡ 3 → stop.text.items ≡ [] }
     ensures status { (result.status ≡ stop.status) ⊎ (result.status ≡ 3) }
     ensures memory { result.status ≡ 3 → result.text.items ≡ [] }
-    ensures other { (result ≡ stop) ⊎ EndsShown no_command result }
+    ensures other { stop.status ≢ 2 → result ≡ stop }
+    ensures whole { is_shown_whole text.now ≡ true → result ≡ stop }
+    ensures own { stop.status ≡ 2 → is_shown_whole text.now ≡ false → EndsShown no_command result }
+    ensures shows { ShowsLine text.now result }
 {
     if stop.status != USAGE {
         return stop;
@@ -94,9 +134,18 @@ pub fn stop_of_line(alloc: Global, text: &str, stop: Stop) -> Stop
     Stop::with_text(alloc, USAGE, line_of_text(alloc, text))
 }
 
+/// The same, of the words themselves.
+fn are_all_printable(words: &[&str]) -> bool
+    ensures { result ≡ list_all (λ word. is_printable word.now) words.now }
+{
+    words.iter().all(|word| is_printable(word))
+}
+
 /// Whether a line shows each of the words as it is, however long it is.
-fn are_printable(words: &[&str]) -> bool {
-    words.iter().all(|word| word.chars().all(|character| !is_unprintable(character)))
+fn are_printable(words: &[&str]) -> bool
+    ensures { result ≡ are_printable (map (λ word. word.now) words.now) }
+{
+    are_all_printable(words)
 }
 
 /// The line of words that are no command.
@@ -118,7 +167,10 @@ pub(crate) fn stop_of_words(alloc: Global, words: &[&str], stop: Stop) -> Stop
     requires { stop.status ≡ 3 → stop.text.items ≡ [] }
     ensures status { (result.status ≡ stop.status) ⊎ (result.status ≡ 3) }
     ensures memory { result.status ≡ 3 → result.text.items ≡ [] }
-    ensures other { (result ≡ stop) ⊎ EndsShown no_words result }
+    ensures other { stop.status ≢ 2 → result ≡ stop }
+    ensures printable { are_printable (map (λ word. word.now) words.now) ≡ true → result ≡ stop }
+    ensures own { stop.status ≡ 2 → are_printable (map (λ word. word.now) words.now) ≡ false → EndsShown no_words result }
+    ensures shows { ShowsWords (map (λ word. word.now) words.now) result }
 {
     if stop.status != USAGE {
         return stop;

@@ -11,6 +11,7 @@ ghost use Rattle.cqf_program_words.specs.Words.{compile_app, deliveries_app, fir
 ghost use Rattle.cqf_program_words.specs.Words.{named_app, port_app, report_app, run_app, default_rule, flag_rule};
 ghost use Rattle.cqf_program_words.specs.Words.{format_rule, format_text, number_rule, rate_rule, rate_text};
 ghost use Rattle.cqf_program_words.specs.Words.{wanted_rule, IsFlagGiven, IsJob, IsJobOf, IsNumberIn, Mean, EndsBy};
+ghost use Rattle.cqf_program_words.specs.Shown.{ShowsWords};
 ghost use Rattle.cqf_program_words.specs.Words.{EndsWords, takes_domain};
 ghost use Rattle.cqf_model.specs.Limits.{last_until, most_cycles};
 
@@ -672,6 +673,7 @@ fn read_plainly<'a>(alloc: Global, words: &'a [&'a str]) -> Result<Job, Stop>
 pub fn read_words<'a>(alloc: Global, words: &'a [&'a str]) -> Result<Job, Stop>
     ensures ok { IfOk result (Mean (map (λ word. word.now) words.now)) }
     ensures err { IfErr result (EndsWords (map (λ word. word.now) words.now)) }
+    ensures own { IfErr result (ShowsWords (map (λ word. word.now) words.now)) }
 {
     match read_plainly(alloc, words) {
         Ok(job) => Ok(job),
