@@ -1,19 +1,19 @@
 //! What is said at a terminal.
 
-use cqf_program_press::{Told, write_out};
+use cqf_program_press::{Sink, Told, write_out};
 use cqf_program_words::read_words;
 use std::alloc::Global;
-use std::io::{IsTerminal, Write};
+use std::io::IsTerminal;
 
 /// Where standard input is a terminal, says that it is read now.
-pub(crate) fn hint<I: IsTerminal, F: Write>(input: &I, faults: &mut Told<F>) {
+pub(crate) fn hint<I: IsTerminal, F: Sink>(input: &I, faults: &mut Told<F>) {
     if input.is_terminal() {
         write_out(faults, b"cqf: reading standard input to its end\n");
     }
 }
 
 /// The same before words without files are run, if they are none, or mean a job: else nothing is read.
-pub(crate) fn hint_of_words<I: IsTerminal, F: Write>(
+pub(crate) fn hint_of_words<I: IsTerminal, F: Sink>(
     alloc: Global,
     words: &[&str],
     input: &I,

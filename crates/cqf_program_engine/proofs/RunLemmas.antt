@@ -2,19 +2,22 @@
 use Rattle.std.proofs.Common.{◌≡◌, ◌≢◌, ◌⊎◌, ◌≤◌, ◌<◌, ◌∙◌, ℕ, List, [], ◌∷◌, Bool, true, false, Option, Some}
 use Rattle.std.proofs.Common.{None, length, arith, codes, inl, inr, sym, subst, refl}
 use Rattle.std.specs.Str.{IsUtf8}
+use Rattle.std.specs.declared.io.ErrorKind.{ErrorKind}
 use Rattle.std.specs.Io.KnownBytes.{IsAtEnd}
+use Rattle.std.proofs.Math.Logic.{∥∥₁_elim}
 use Rattle.cqf_program_stop.specs.Stops.{EndsWith, line_of}
 use Rattle.clap.specs.Words.{Row, Text, first_of, subcommand_of}
 use Rattle.cqf_program_words.specs.Shown.{EndsShown, no_command}
 use Rattle.cqf_program_words.specs.Words.{EndsWords, IsJob, IsJobOf, IsNumberIn, Mean, cqf_app}
 use Rattle.cqf_program_engine.specs.Edge.{IsHeard, Marks, Reading}
 use Rattle.cqf_program_press.specs.Edge.{Writing}
+use Rattle.cqf_program_press.specs.Kinds.{NoKind, SomeKind}
 use Rattle.cqf_program_engine.specs.Run.{first_line, input_of, version_line, words_of, AskForVersion, Ends}
 use Rattle.cqf_program_engine.specs.Run.{EndsByStatus, EndsFaulty, EndsInput, EndsRead, HandsOver, HasCause, HasFault}
 use Rattle.cqf_program_engine.specs.Run.{HasRun, HasWords, most_line, IsBehindWords, IsEnd, IsFailure, IsOutput}
 use Rattle.cqf_program_engine.specs.Run.{IsFailedRun, IsMisuse, IsRefusedRun}
 use Rattle.cqf_program_engine.specs.Run.{IsRefusal, IsStopped, StopsWithAnswer, IsToldOutput, IsTooLongInput, IsWithin}
-use Rattle.cqf_program_engine.specs.Run.{TellsStop, TellsFaultAlone}
+use Rattle.cqf_program_engine.specs.Run.{FaultIsOfThreads, FaultIsOfThreadsOrOutput, TellsStop, TellsFaultAlone}
 use Rattle.cqf_program_threads.specs.ThreadsOutput.{EndsThreads, IsThreadsOutput}
 use Rattle.cqf_program_press.proofs.EdgeLemmas.{Appends-whole}
 use Rattle.cqf_program_stop.specs.declared.stops.Stop.{Stop}
@@ -228,65 +231,6 @@ HasRun-given words input output job some sound at_end short means h = record {
   sound = sound;
 }
 
--- a run that hands over what it has for its output ends with that, or with the output's fault
-Ends-told : (words : List (List ℕ)) (input : Reading) (output faults : Writing) (text : List ℕ) (status : ℕ) → IsHeard input → IsBehindWords words input
-    → IsToldOutput words input text → input.failed ≡ false → HandsOver text output faults status → Ends words input output faults status
-Ends-told words input output faults text status heard behind_words is_output sound h = record {
-  heard = heard;
-  behind_words = behind_words;
-  by_status = elim h.statuses [
-    | inl none ↦ inl (
-      none,
-      record {
-        text = text;
-        is_output = is_output;
-        written = Appends-whole output text h.told (h.done none).0;
-        clean = (h.done none).1;
-        sound = sound;
-        accepted = (h.done none).0;
-      },
-    )
-    | inr four ↦ inr (inr (inr (inr (
-      four,
-      inr (inl (record {
-        refused = (h.fault four).0;
-        sound = sound;
-        text = text;
-        is_output = is_output;
-        told = h.told;
-        line = (h.fault four).1;
-      })),
-    ))))
-  ];
-}
-
--- a run that is done ends with its output
-pub Ends-ran : (words : List (List ℕ)) (input : Reading) (output faults : Writing) (text : List ℕ) (status : ℕ) → IsHeard input → IsBehindWords words input
-    → HasRun words input text → HandsOver text output faults status → Ends words input output faults status
-Ends-ran words input output faults text status heard behind_words ran h =
-    Ends-told words input output faults text status heard behind_words (inl (ran.is_done, ran.at_end)) ran.sound h
-
--- a run that is stopped with status 4 ends with the fault of the reader, or of the run
-fault_told : (words : List (List ℕ)) (input : Reading) (output faults : Writing) (stop : Stop) → HasFault words input stop
-    → TellsFaultAlone stop.text.items output faults → EndsFaulty words input output faults
-fault_told words input output faults stop (inl h) told = inl (record {
-  failed = h.0;
-  told = subst (λ text. TellsFaultAlone text output faults) h.1 told;
-})
-fault_told words input output faults stop (inr h) told = inr (inr (record { sound = h.0; at_end = h.1; stop = stop; failed = h.2; told = told }))
-
--- the one case of a run that is stopped by its own line
-barred_by_status : (words : List (List ℕ)) (input : Reading) (output faults : Writing) (stop : Stop) → IsStopped words input stop → stop.status ≢ 0
-    → stop.status ≢ 3 → TellsFaultAlone stop.text.items output faults → EndsByStatus words input output faults stop.status
-barred_by_status words input output faults stop (inl e) some known told = absurd (some e.0)
-barred_by_status words input output faults stop (inr (inl e)) some known told =
-    inr (inl (e.0, record { stop = stop; refused = e.1.refused; told = told; whole = e.1.whole; sound = e.1.sound }))
-barred_by_status words input output faults stop (inr (inr (inl e))) some known told =
-    inr (inr (inl (e.0, record { stop = stop; misused = e.1.misused; told = told; at_end = e.1.at_end; sound = e.1.sound })))
-barred_by_status words input output faults stop (inr (inr (inr (inl e)))) some known told = absurd (known e.0)
-barred_by_status words input output faults stop (inr (inr (inr (inr e)))) some known told =
-    inr (inr (inr (inr (e.0, fault_told words input output faults stop e.1 told))))
-
 -- the case of a run that is stopped with status 0
 answer_of : (words : List (List ℕ)) (input : Reading) (stop : Stop) → IsStopped words input stop → stop.status ≡ 0 → StopsWithAnswer words input stop
 answer_of words input stop (inl e) none = e.1
@@ -295,22 +239,114 @@ answer_of words input stop (inr (inr (inl e))) none = absurd (omega (arith, e.0,
 answer_of words input stop (inr (inr (inr (inl e)))) none = absurd (omega (arith, e.0, none))
 answer_of words input stop (inr (inr (inr (inr e)))) none = absurd (omega (arith, e.0, none))
 
--- a run that is stopped ends as it was stopped
-pub Ends-stopped : (words : List (List ℕ)) (input : Reading) (output faults : Writing) (stop : Stop) (status : ℕ) → IsHeard input → IsBehindWords words input
-    → IsStopped words input stop → TellsStop stop output faults status → Ends words input output faults status
-Ends-stopped words input output faults stop status heard behind_words s (inl t) =
-    let answer = answer_of words input stop s t.0 in
-    Ends-told words input output faults stop.text.items status heard behind_words (inr (answer.answered, answer.at_end)) answer.sound t.1
-Ends-stopped words input output faults stop status heard behind_words s (inr (inl t)) = record {
-  heard = heard;
-  behind_words = behind_words;
-  by_status = inr (inr (inr (inl (t.1, t.2))));
-}
-Ends-stopped words input output faults stop status heard behind_words s (inr (inr t)) = record {
-  heard = heard;
-  behind_words = behind_words;
-  by_status = subst (λ (given : ℕ). EndsByStatus words input output faults given) (sym t.2) (barred_by_status words input output faults stop s t.0 t.1 t.3);
-}
+-- a run over a reader and an output that fail and refuse only for such kinds of error
+module _ (fails refuses : ErrorKind → Type 0) (words : List (List ℕ)) (input : Reading) (output faults : Writing)
+    (may_fail : input.failed ≡ true → SomeKind fails) (may_refuse : output.refused ≡ true → SomeKind refuses) where
+  -- a run that hands over what it has for its output ends with that, or with the output's fault
+  Ends-told : (text : List ℕ) (status : ℕ) → IsHeard input → IsBehindWords words input → IsToldOutput words input text → input.failed ≡ false
+      → HandsOver text output faults status → Ends fails refuses words input output faults status
+  Ends-told text status heard behind_words is_output sound h = record {
+    heard = heard;
+    behind_words = behind_words;
+    by_status = elim h.statuses [
+      | inl none ↦ inl (
+        none,
+        record {
+          text = text;
+          is_output = is_output;
+          written = Appends-whole output text h.told (h.done none).0;
+          clean = (h.done none).1;
+          sound = sound;
+          accepted = (h.done none).0;
+        },
+      )
+      | inr four ↦ inr (inr (inr (inr (
+        four,
+        inr (inl (record {
+          refused = (h.fault four).0;
+          may = may_refuse (h.fault four).0;
+          sound = sound;
+          text = text;
+          is_output = is_output;
+          told = h.told;
+          line = (h.fault four).1;
+        })),
+      ))))
+    ];
+  }
+
+  -- a run that is done ends with its output
+  pub Ends-ran : (text : List ℕ) (status : ℕ) → IsHeard input → IsBehindWords words input → HasRun words input text → HandsOver text output faults status
+      → Ends fails refuses words input output faults status
+  Ends-ran text status heard behind_words ran h = Ends-told text status heard behind_words (inl (ran.is_done, ran.at_end)) ran.sound h
+
+  -- a run that is stopped with status 4 ends with the fault of the reader, or of the run
+  fault_told : (stop : Stop) → HasFault words input stop → TellsFaultAlone stop.text.items output faults
+      → EndsFaulty fails refuses words input output faults
+  fault_told stop (inl h) told = inl (record {
+    failed = h.0;
+    may = may_fail h.0;
+    told = subst (λ text. TellsFaultAlone text output faults) h.1 told;
+  })
+  fault_told stop (inr h) told = inr (inr (record { sound = h.0; at_end = h.1; stop = stop; failed = h.2; told = told }))
+
+  -- the one case of a run that is stopped by its own line
+  barred_by_status : (stop : Stop) → IsStopped words input stop → stop.status ≢ 0 → stop.status ≢ 3 → TellsFaultAlone stop.text.items output faults
+      → EndsByStatus fails refuses words input output faults stop.status
+  barred_by_status stop (inl e) some known told = absurd (some e.0)
+  barred_by_status stop (inr (inl e)) some known told =
+      inr (inl (e.0, record { stop = stop; refused = e.1.refused; told = told; whole = e.1.whole; sound = e.1.sound }))
+  barred_by_status stop (inr (inr (inl e))) some known told =
+      inr (inr (inl (e.0, record { stop = stop; misused = e.1.misused; told = told; at_end = e.1.at_end; sound = e.1.sound })))
+  barred_by_status stop (inr (inr (inr (inl e)))) some known told = absurd (known e.0)
+  barred_by_status stop (inr (inr (inr (inr e)))) some known told = inr (inr (inr (inr (e.0, fault_told stop e.1 told))))
+
+  -- a run that is stopped ends as it was stopped
+  pub Ends-stopped : (stop : Stop) (status : ℕ) → IsHeard input → IsBehindWords words input → IsStopped words input stop
+      → TellsStop stop output faults status → Ends fails refuses words input output faults status
+  Ends-stopped stop status heard behind_words s (inl t) =
+      let answer = answer_of words input stop s t.0 in
+      Ends-told stop.text.items status heard behind_words (inr (answer.answered, answer.at_end)) answer.sound t.1
+  Ends-stopped stop status heard behind_words s (inr (inl t)) = record {
+    heard = heard;
+    behind_words = behind_words;
+    by_status = inr (inr (inr (inl (t.1, t.2))));
+  }
+  Ends-stopped stop status heard behind_words s (inr (inr t)) = record {
+    heard = heard;
+    behind_words = behind_words;
+    by_status = subst (λ (given : ℕ). EndsByStatus fails refuses words input output faults given) (sym t.2) (barred_by_status stop s t.0 t.1 t.3);
+  }
+
+-- there is no kind of error where there is none
+none_of : (may : ErrorKind → Type 0) → NoKind may → SomeKind may → ⊥
+none_of may none some = ∥∥₁_elim some (λ p q. absurd p) (λ found. none found.0 found.1)
+
+-- an end with status 4 is a fault
+faulty_of : (fails refuses : ErrorKind → Type 0) (words : List (List ℕ)) (input : Reading) (output faults : Writing)
+    → Ends fails refuses words input output faults 4 → EndsFaulty fails refuses words input output faults
+faulty_of fails refuses words input output faults e = elim e.by_status [
+  | inl zero_is ↦ absurd (omega (arith, zero_is.0))
+  | inr (inl one) ↦ absurd (omega (arith, one.0))
+  | inr (inr (inl two)) ↦ absurd (omega (arith, two.0))
+  | inr (inr (inr (inl three))) ↦ absurd (omega (arith, three.0))
+  | inr (inr (inr (inr four))) ↦ four.1
+]
+
+-- it is one of threads or of the output, where reads never fail
+pub faults-read : (fails refuses : ErrorKind → Type 0) → NoKind fails → FaultIsOfThreadsOrOutput fails refuses
+faults-read fails refuses none words input output faults e = elim (faulty_of fails refuses words input output faults e) [
+  | inl read ↦ absurd (none_of fails none read.may)
+  | inr (inl told) ↦ inr told
+  | inr (inr run) ↦ inl run
+]
+
+-- and one of threads, where the output refuses nothing
+pub faults-told : (fails refuses : ErrorKind → Type 0) → NoKind fails → NoKind refuses → FaultIsOfThreads fails refuses
+faults-told fails refuses none nothing words input output faults e = elim (faults-read fails refuses none words input output faults e) [
+  | inl run ↦ run
+  | inr told ↦ absurd (none_of refuses nothing told.may)
+]
 
 -- a number that a text writes is at most the greatest
 number_within : (least most number : ℕ) (text : Option Text) → IsNumberIn least most number text → number ≤ most

@@ -1,9 +1,13 @@
 -- The program's edge: what a reader gave.
-use Rattle.std.specs.Prelude.{ℕ, ◌≡◌, ◌≤◌, ◌-◌, ◌&&◌, ◌∷◌, ◌++◌, List, [], Bool, true, false, Option, drop, if◌then◌else◌, length, nat_le, take}
+use Rattle.std.specs.Prelude.{ℕ, ◌≡◌, ◌≤◌, ◌-◌, ◌&&◌, ◌∷◌, ◌++◌, List, [], Bool, true, false, Option, ⊤, drop, if◌then◌else◌, length, nat_le, take}
 use Rattle.std.specs.Io.KnownBytes.{Consumes}
+use Rattle.std.specs.declared.io.ErrorKind.{ErrorKind}
+use Rattle.std.specs.declared.io.traits.Read as read
+use Rattle.cqf_program_press.specs.Kinds.{SomeKind}
 use Rattle.cqf_program_engine.specs.declared.heard.Broken.{Broken}
 use Rattle.cqf_program_engine.specs.declared.heard.Broken.TheVariants.{Memory, Fault}
 use Rattle.cqf_program_engine.specs.declared.heard.Heard.{Heard}
+use Rattle.cqf_program_engine.specs.declared.sources.Source as source
 
 -- reads gave some bytes, which stand behind those that were there: no more than so many in all
 pub record HasRead (before after : Option (List ℕ)) (old new : List ℕ) (most : ℕ) : Type 0 where
@@ -17,6 +21,11 @@ abbrev pub Marks : Bool → Bool → Broken → Type 0
 Marks old new Memory = new ≡ old
 Marks old new Fault = new ≡ true
 
+-- what may break a read off: want of memory, or a failure of a reader that may fail for these kinds of error
+abbrev pub MayBreak : (ErrorKind → Type 0) → Broken → Type 0
+MayBreak fails Memory = ⊤
+MayBreak fails Fault = SomeKind fails
+
 -- what a reader gave: the bytes that are known of it before and after, those that it gave, and whether a read failed
 pub record Reading : Type 0 where
   pub before : Option (List ℕ)
@@ -25,7 +34,7 @@ pub record Reading : Type 0 where
   pub failed : Bool
 
 -- that of a reader, before and after it was heard
-abbrev pub reading : {R : Type 0} → (R → Option (List ℕ)) → Heard R → Heard R → Reading
+abbrev pub reading : {R : Type 0} {s : source.Ghosts R} {r : read.Ghosts R} → (R → Option (List ℕ)) → Heard R s r → Heard R s r → Reading
 reading remaining old new = record {
   before = remaining old.reader;
   after = remaining new.reader;
@@ -34,7 +43,7 @@ reading remaining old new = record {
 }
 
 -- no read of it was tried yet, as far as it is remembered
-pub record IsUnheard {R : Type 0} (heard : Heard R) : Type 0 where
+pub record IsUnheard {R : Type 0} {s : source.Ghosts R} {r : read.Ghosts R} (heard : Heard R s r) : Type 0 where
   pub nothing : heard.bytes ≡ []
   pub sound : heard.failed ≡ false
 

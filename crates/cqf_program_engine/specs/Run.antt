@@ -3,11 +3,13 @@ use Rattle.std.specs.Prelude.{ℕ, ◌≡◌, ◌≢◌, ◌⊎◌, ◌≤◌, �
 use Rattle.std.specs.Io.KnownBytes.{Appends, IsAtEnd, Keeps}
 use Rattle.std.specs.List.{slice_split, before_first, after_first}
 use Rattle.std.specs.Str.{IsUtf8}
+use Rattle.std.specs.declared.io.ErrorKind.{ErrorKind}
 use Rattle.cqf_text.specs.Lines.{is_line_feed}
 use Rattle.cqf_program_engine.specs.declared.heard.Broken.{Broken}
 use Rattle.cqf_program_engine.specs.declared.heard.Broken.TheVariants.{Memory, Fault}
 use Rattle.cqf_program_engine.specs.Edge.{IsHeard, Reading}
 use Rattle.cqf_program_press.specs.Edge.{HasTold, Writing}
+use Rattle.cqf_program_press.specs.Kinds.{SomeKind}
 use Rattle.cqf_program_plans.specs.CompileOutput.{compiled_input}
 use Rattle.cqf_program_runs.specs.CheckOutput.{IsChecked, IsCheckRefusal}
 use Rattle.cqf_program_runs.specs.DeliveriesOutput.{IsDeliveriesOutput}
@@ -181,12 +183,13 @@ EndsInput input stop = ((stop.status ≡ 1) × EndsTooLong input stop)
     ⊎ (((stop.status ≡ 4) × EndsUnread input stop)
     ⊎ ((stop.status ≡ 3) × (stop.text.items ≡ [])))
 
--- how a read of one text more ends before its end: with status 1 where all come to too many bytes, with status 4 where the reader failed, and
--- with status 3 for want of memory
-pub record EndsText (bytes : List ℕ) (stop : Stop) : Type 0 where
+-- how a read of one text more ends before its end: with status 1 where all come to too many bytes, with status 4 where the reader failed, which
+-- it may for these kinds of error, and with status 3 for want of memory
+pub record EndsText (fails : ErrorKind → Type 0) (bytes : List ℕ) (stop : Stop) : Type 0 where
   pub statuses : (stop.status ≡ 1) ⊎ ((stop.status ≡ 4) ⊎ (stop.status ≡ 3))
   pub long : stop.status ≡ 1 → IsTooLongInput bytes × (stop.text.items ≡ line_of (codes "cqf: input too long"))
   pub fault : stop.status ≡ 4 → stop.text.items ≡ line_of (codes "cqf: input fault")
+  pub may : stop.status ≡ 4 → SomeKind fails
   pub memory : stop.status ≡ 3 → stop.text.items ≡ []
 
 -- whether the word asks for the program's version
@@ -288,14 +291,17 @@ TellsStop stop output faults status = ((stop.status ≡ 0) × HandsOver stop.tex
     ⊎ (((stop.status ≡ 3) × (status ≡ 3) × TellsFaultAlone (line_of (codes "cqf: out of memory")) output faults)
     ⊎ ((stop.status ≢ 0) × (stop.status ≢ 3) × (status ≡ stop.status) × TellsFaultAlone stop.text.items output faults))
 
--- the reader failed: nothing is on the output, and the line that tells so is on the writer of faults
-pub record IsInputFault (input : Reading) (output faults : Writing) : Type 0 where
+-- the reader failed, which it may for these kinds of error: nothing is on the output, and the line that tells so is on the writer of faults
+pub record IsInputFault (fails : ErrorKind → Type 0) (input : Reading) (output faults : Writing) : Type 0 where
   pub failed : input.failed ≡ true
+  pub may : SomeKind fails
   pub told : TellsFaultAlone (line_of (codes "cqf: input fault")) output faults
 
--- the output was refused: a front of it was written, and the line that tells so is on the writer of faults
-pub record IsOutputFault (words : List (List ℕ)) (input : Reading) (output faults : Writing) : Type 0 where
+-- the output was refused, which it may be for these kinds of error: a front of it was written, and the line that tells so is on the writer of
+-- faults
+pub record IsOutputFault (refuses : ErrorKind → Type 0) (words : List (List ℕ)) (input : Reading) (output faults : Writing) : Type 0 where
   pub refused : output.refused ≡ true
+  pub may : SomeKind refuses
   pub sound : input.failed ≡ false
   pub text : List ℕ
   pub is_output : IsToldOutput words input text
@@ -341,19 +347,30 @@ abbrev pub EndsForMemory : Writing → Writing → Type 0
 EndsForMemory output faults = TellsFaultAlone (line_of (codes "cqf: out of memory")) output faults
 
 -- status 4: the reader failed, or the output refused a write, or a run on threads failed
-abbrev pub EndsFaulty : List (List ℕ) → Reading → Writing → Writing → Type 0
-EndsFaulty words input output faults = IsInputFault input output faults ⊎ (IsOutputFault words input output faults ⊎ EndsByRunFault words input output faults)
+abbrev pub EndsFaulty : (ErrorKind → Type 0) → (ErrorKind → Type 0) → List (List ℕ) → Reading → Writing → Writing → Type 0
+EndsFaulty fails refuses words input output faults = IsInputFault fails input output faults
+    ⊎ (IsOutputFault refuses words input output faults ⊎ EndsByRunFault words input output faults)
 
 -- the one case of each status
-abbrev pub EndsByStatus : List (List ℕ) → Reading → Writing → Writing → ℕ → Type 0
-EndsByStatus words input output faults status = ((status ≡ 0) × EndsDone words input output faults)
+abbrev pub EndsByStatus : (ErrorKind → Type 0) → (ErrorKind → Type 0) → List (List ℕ) → Reading → Writing → Writing → ℕ → Type 0
+EndsByStatus fails refuses words input output faults status = ((status ≡ 0) × EndsDone words input output faults)
     ⊎ (((status ≡ 1) × EndsRefused words input output faults)
     ⊎ (((status ≡ 2) × EndsMisused words input output faults)
     ⊎ (((status ≡ 3) × EndsForMemory output faults)
-    ⊎ ((status ≡ 4) × EndsFaulty words input output faults))))
+    ⊎ ((status ≡ 4) × EndsFaulty fails refuses words input output faults))))
 
--- what the engine leaves: what was read, and what its status stands for
-pub record Ends (words : List (List ℕ)) (input : Reading) (output faults : Writing) (status : ℕ) : Type 0 where
+-- what the engine leaves: what was read, and what its status stands for, where reads may fail and the output may refuse for these kinds of error
+pub record Ends (fails refuses : ErrorKind → Type 0) (words : List (List ℕ)) (input : Reading) (output faults : Writing) (status : ℕ) : Type 0 where
   pub heard : IsHeard input
   pub behind_words : IsBehindWords words input
-  pub by_status : EndsByStatus words input output faults status
+  pub by_status : EndsByStatus fails refuses words input output faults status
+
+-- status 4 is that of a run on threads, or of the output, which refused a write
+abbrev pub FaultIsOfThreadsOrOutput : (ErrorKind → Type 0) → (ErrorKind → Type 0) → Type 0
+FaultIsOfThreadsOrOutput fails refuses = (words : List (List ℕ)) (input : Reading) (output faults : Writing)
+    → Ends fails refuses words input output faults 4 → EndsByRunFault words input output faults ⊎ IsOutputFault refuses words input output faults
+
+-- status 4 is that of a run on threads
+abbrev pub FaultIsOfThreads : (ErrorKind → Type 0) → (ErrorKind → Type 0) → Type 0
+FaultIsOfThreads fails refuses = (words : List (List ℕ)) (input : Reading) (output faults : Writing)
+    → Ends fails refuses words input output faults 4 → EndsByRunFault words input output faults

@@ -1,15 +1,16 @@
 //! Bytes that a reader fills, with room behind them.
 ghost use Rattle.std.specs.Prelude.{ℕ, ◌≡◌, ◌≤◌, ◌<◌, ◌+◌, List, [], IfOk, IfErr, OnOk, OnErr, length, take, drop};
 ghost use Rattle.std.specs.Io.KnownBytes.{Consumes, IsAtEnd, Keeps};
-ghost use Rattle.cqf_program_engine.specs.Edge.{HasRead};
+ghost use Rattle.cqf_program_engine.specs.Edge.{HasRead, MayBreak};
+ghost use Rattle.cqf_program_press.specs.Kinds.{SomeKind};
 
 use crate::heard::Broken;
 use crate::inputs::MOST_BYTES;
 use crate::retries::read_again;
+use crate::sources::Source;
 use cqf_units::Memory;
 use std::alloc::Global;
 use std::io;
-use std::io::Read;
 use std::marker::Model;
 
 /// The most bytes that there is ever room for: one more than the program reads.
@@ -76,7 +77,12 @@ fn make_room(bytes: &mut Vec<u8>, filled: usize) -> Result<(), Memory>
 }
 
 /// One read of at most so many bytes into the buffer, from a place on.
-fn read_at<R: Read>(reader: &mut R, buffer: &mut [u8], at: usize, most: usize) -> io::Result<usize>
+fn read_at<R: Source>(
+    reader: &mut R,
+    buffer: &mut [u8],
+    at: usize,
+    most: usize,
+) -> io::Result<usize>
     requires inside { at < length buffer.old }
     requires some { 0 < most }
     ensures front { take at buffer.new ≡ take at buffer.old }
@@ -85,6 +91,7 @@ fn read_at<R: Read>(reader: &mut R, buffer: &mut [u8], at: usize, most: usize) -
     ensures ok { IfOk result (λ count. Consumes (R.remaining reader.old) (R.remaining reader.new) (take count (drop at buffer.new))) }
     ensures end { IfOk result (λ count. count ≡ 0 → IsAtEnd (R.remaining reader.new)) }
     ensures err { OnErr result (Keeps (R.remaining reader.old) (R.remaining reader.new)) }
+    ensures may { OnErr result (SomeKind R.fails) }
 {
     let end = at + most.min(buffer.len() - at);
     read_again(reader, &mut buffer[at..end])
@@ -110,12 +117,13 @@ impl Filled {
 
     /// One read of at most so many bytes, behind those that were filled: how many it gave, none only at the end of the input.
     /// `Err` with `Fault` where the reader fails. With `Memory` it wasn't asked.
-    pub(crate) fn fill<R: Read>(&mut self, reader: &mut R, most: usize) -> Result<usize, Broken>
+    pub(crate) fn fill<R: Source>(&mut self, reader: &mut R, most: usize) -> Result<usize, Broken>
         requires some { 0 < most }
         requires few { length self.old + most ≤ 67108865 }
         ensures read { HasRead (R.remaining reader.old) (R.remaining reader.new) self.old self.new (length self.old + most) }
         ensures count { IfOk result (λ count. length self.new ≡ length self.old + count) }
         ensures end { IfOk result (λ count. count ≡ 0 → IsAtEnd (R.remaining reader.new)) }
+        ensures err { IfErr result (MayBreak R.fails) }
     {
         make_room(&mut self.bytes, self.count)?;
         match read_at(reader, self.bytes.as_mut_slice(), self.count, most) {

@@ -1,12 +1,12 @@
 //! A reader that remembers what it gave.
-ghost use Rattle.std.specs.Prelude.{◌≡◌, ◌≤◌, ◌<◌, ◌+◌, [], false, IfOk, IfErr, OnOk, length};
+ghost use Rattle.std.specs.Prelude.{◌≡◌, ◌≤◌, ◌<◌, ◌+◌, [], true, false, IfOk, IfErr, OnOk, length};
 ghost use Rattle.std.specs.Io.KnownBytes.{IsAtEnd};
-ghost use Rattle.cqf_program_engine.specs.Edge.{HasRead, Marks};
+ghost use Rattle.cqf_program_press.specs.Kinds.{SomeKind};
 
 use crate::filled::Filled;
+use crate::sources::Source;
 use cqf_units::Memory;
 use std::alloc::Global;
-use std::io::Read;
 
 /// Why a read gave nothing.
 #[derive(Clone, Copy, Debug, PartialEq, Eq)]
@@ -28,16 +28,19 @@ impl From<Memory> for Broken {
     }
 }
 
-/// A reader with all the bytes that it gave, and whether a read of it failed. Nothing but its own reads sets either. A read that a signal
-/// interrupts hasn't failed: it is made again.
+/// A reader with all the bytes that it gave, and whether a read of it failed. Nothing but its own reads sets either, and the last
+/// only for a kind of error for which the reader may fail. A read that a signal interrupts hasn't failed: it is made again.
 #[derive(Drop)]
-pub struct Heard<R> {
+pub struct Heard<R: Source> {
     reader: R,
     bytes: Filled,
     failed: bool,
+    pub ghost may_fail: { failed ≡ true → SomeKind R.fails },
 }
 
-impl<R: Read> Heard<R> {
+impl<R: Source> Heard<R> {
+    ghost use Rattle.cqf_program_engine.specs.Edge.{HasRead, Marks, MayBreak};
+
     /// A reader that wasn't read yet.
     pub fn new(alloc: Global, reader: R) -> Heard<R>
         ensures reader { result.reader ≡ reader }
@@ -69,6 +72,7 @@ impl<R: Read> Heard<R> {
         ensures end { IfOk result (λ count. count ≡ 0 → IsAtEnd (R.remaining self.new.reader)) }
         ensures ok { OnOk result (self.new.failed ≡ self.old.failed) }
         ensures err { IfErr result (Marks self.old.failed self.new.failed) }
+        ensures may { IfErr result (MayBreak R.fails) }
     {
         let read = self.bytes.fill(&mut self.reader, most);
         if let Err(Broken::Fault) = read {

@@ -7,9 +7,9 @@ ghost use Rattle.cqf_program_engine.specs.Run.{EndsInput, EndsRead};
 
 use crate::filled::STEP;
 use crate::heard::{Broken, Heard};
+use crate::sources::Source;
 use cqf_program_stop::{FAULT, REFUSED, Stop};
 use std::alloc::Global;
-use std::io::Read;
 
 /// The most bytes that the program reads (profile).
 pub const MOST_BYTES: usize = 67_108_864;
@@ -34,7 +34,7 @@ pub(crate) fn stop_of_length(alloc: Global) -> Stop
 /// Takes all that the reader gives. `Err` with status 4 where the reader fails, with status 1 where it gives more than
 /// 67,108,864 bytes, and with status 3 for want of memory. It has then given what was taken so far, at most one byte
 /// more than that.
-pub fn read_input<R: Read>(alloc: Global, input: &mut Heard<R>) -> Result<(), Stop>
+pub fn read_input<R: Source>(alloc: Global, input: &mut Heard<R>) -> Result<(), Stop>
     requires { IsUnheard input.old }
     ensures heard { IsHeard (reading R.remaining input.old input.new) }
     ensures end { OnOk result (IsAtEnd (R.remaining input.new.reader)) }

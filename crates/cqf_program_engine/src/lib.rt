@@ -3,6 +3,8 @@
 //! - [`engine`] runs it, and gives the exit status. [`tell`] ends a run before it has begun. [`VERSION`] is the program's version.
 //! - [`Heard`] is a reader that remembers what it gave and whether it failed, [`Told`] a writer that remembers whether it
 //!   refused anything. The engine runs over these, so that its caller knows why a run ended as it did.
+//! - A [`Source`] is a reader of which is known for which kinds of error it may fail, a [`Sink`] a writer of which is known for which it may
+//!   refuse. [`fault_is_of_threads`] says what status 4 comes of where they never do.
 //! - [`read_input`] reads all that a reader gives, and [`answer`] is the output of a job for an input, unless that is a run on
 //!   threads: the parts of a run.
 //! - [`Texts`] are the texts of several readers, bounded together.
@@ -22,14 +24,18 @@
 mod filled;
 mod heard;
 mod inputs;
+mod laws;
 mod prepared;
 mod retries;
 mod runs;
+mod sources;
 mod texts;
 
-pub use cqf_program_press::Told;
+pub use cqf_program_press::{Sink, Told};
 pub use heard::Heard;
 pub use inputs::{MOST_BYTES, read_input};
+pub use laws::{fault_in_memory_is_of_threads_or_memory, fault_is_of_threads};
 pub use prepared::Prepared;
 pub use runs::{VERSION, answer, engine, tell};
+pub use sources::Source;
 pub use texts::Texts;

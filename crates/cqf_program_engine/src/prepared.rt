@@ -4,10 +4,9 @@ ghost use Rattle.cqf_program_engine.specs.Prepared.{IsTextOf};
 ghost use Rattle.cqf_program_press.specs.Edge.{HasTold, writing};
 
 use cqf_program_plans::{ConfigOutput, LatencyOutput, LoadOutput, PortOutput, TcOutput};
-use cqf_program_press::{Told, write_out};
+use cqf_program_press::{Sink, Told, write_out};
 use cqf_program_runs::{DeliveriesOutput, LineOutput, RunOutput};
 use cqf_program_threads::ThreadsOutput;
-use std::io::Write;
 
 /// What an output is told from, with all the memory that its telling needs.
 #[derive(Drop)]
@@ -36,7 +35,7 @@ pub enum Prepared {
 
 impl Prepared {
     /// Tells the output: all of it, unless the writer refuses a part, and then a front of it. It asks for no memory.
-    pub fn tell<W: Write>(self, told: &mut Told<W>)
+    pub fn tell<W: Sink>(self, told: &mut Told<W>)
         ensures { (text : List ℕ) → IsTextOf self text → HasTold (writing W.contents told.old told.new) text }
     {
         match self {

@@ -1,23 +1,26 @@
 //! Reads that a signal interrupts (EINTR) are made again, as `cqf_program_press` makes writes again. Any other failure stands, that of a reader
-//! which would have to wait (EAGAIN) among them.
+//! which would have to wait (EAGAIN) among them. What is interrupted each of 2^64 - 1 times has failed too.
 ghost use Rattle.std.specs.Prelude.{◌≡◌, ◌≢◌, IfOk, IfErr, OnErr, length, take};
 ghost use Rattle.std.specs.IoError.{error_kind};
 ghost use Rattle.std.specs.Io.{ReadsAtMost};
 ghost use Rattle.std.specs.Io.KnownBytes.{Consumes, IsAtEnd, Keeps};
+ghost use Rattle.cqf_program_press.specs.Kinds.{SomeKind};
 
+use crate::sources::Source;
 use std::io;
-use std::io::{ErrorKind, Read};
+use std::io::ErrorKind;
 
 /// One read, made again where a signal interrupts it.
-pub(crate) fn read_again<R: Read>(reader: &mut R, buffer: &mut [u8]) -> io::Result<usize>
+pub(crate) fn read_again<R: Source>(reader: &mut R, buffer: &mut [u8]) -> io::Result<usize>
     ensures bound { ReadsAtMost result buffer.new }
     ensures ok { IfOk result (λ count. Consumes (R.remaining reader.old) (R.remaining reader.new) (take count buffer.new)) }
     ensures end { IfOk result (λ count. count ≡ 0 → length buffer.old ≢ 0 → IsAtEnd (R.remaining reader.new)) }
     ensures err { OnErr result (Keeps (R.remaining reader.old) (R.remaining reader.new)) }
+    ensures may { OnErr result (SomeKind R.fails) }
     ensures made_again { IfErr result (λ error. error_kind error ≢ ErrorKind.Interrupted) }
 {
     for _ in 0..u64::MAX {
-        match reader.read(buffer) {
+        match reader.read_some(buffer) {
             Ok(count) => return Ok(count),
             Err(error) => {
                 if error.kind() != ErrorKind::Interrupted {

@@ -16,8 +16,9 @@ ghost use Rattle.cqf_model.specs.Limits.{most_cycles};
 use crate::heard::Heard;
 use crate::inputs::read_input;
 use crate::prepared::Prepared;
+use crate::sources::Source;
 use cqf_program_plans::{compile_output, latency_output, load_output, port_output, tc_output};
-use cqf_program_press::{Told, write_out};
+use cqf_program_press::{Sink, Told, write_out};
 use cqf_program_runs::{check_output, deliveries_output, line_output, report_output, run_output};
 use cqf_program_stop::{DONE, FAULT, NO_MEMORY, Stop, USAGE};
 use cqf_program_threads::threads_output;
@@ -25,7 +26,6 @@ use cqf_program_words::{Format, Job, read_words, stop_of_line, stop_of_long_line
 use cqf_text::split_line;
 use cqf_units::Memory;
 use std::alloc::{AllocError, Global};
-use std::io::{Read, Write};
 use std::sync::Wait;
 use std::thread::Threads;
 
@@ -206,7 +206,7 @@ fn split_words(alloc: Global, line: &str) -> Result<Vec<&str>, Memory>
 }
 
 /// The run of words that are given.
-fn run_given<R: Read>(
+fn run_given<R: Source>(
     rt: &(impl Threads + Wait + Sync),
     alloc: Global,
     words: &[&str],
@@ -283,7 +283,7 @@ fn run_line(
 }
 
 /// The run of words that the input begins with.
-fn run_taken<R: Read>(
+fn run_taken<R: Source>(
     rt: &(impl Threads + Wait + Sync),
     alloc: Global,
     input: &mut Heard<R>,
@@ -300,7 +300,7 @@ fn run_taken<R: Read>(
 }
 
 /// The run of words that are given, or where none are of those in the first line of the input.
-fn run<R: Read>(
+fn run<R: Source>(
     rt: &(impl Threads + Wait + Sync),
     alloc: Global,
     words: &[&str],
@@ -320,7 +320,7 @@ fn run<R: Read>(
 }
 
 /// The status of an output that was told: 4 where it refused some of it, which is told on the writer of faults.
-fn end_told<O: Write, F: Write>(output: &Told<O>, faults: &mut Told<F>) -> u8
+fn end_told<O: Sink, F: Sink>(output: &Told<O>, faults: &mut Told<F>) -> u8
     ensures { EndsTold output.now.refused (writing F.contents faults.old faults.new) result }
 {
     if output.is_refused() {
@@ -331,7 +331,7 @@ fn end_told<O: Write, F: Write>(output: &Told<O>, faults: &mut Told<F>) -> u8
 }
 
 /// Writes all of a text, and the status of that: 4 where the output refuses some of it.
-fn hand_over<O: Write, F: Write>(text: &[u8], output: &mut Told<O>, faults: &mut Told<F>) -> u8
+fn hand_over<O: Sink, F: Sink>(text: &[u8], output: &mut Told<O>, faults: &mut Told<F>) -> u8
     ensures { HandsOver text.now (writing O.contents output.old output.new) (writing F.contents faults.old faults.new) result }
 {
     write_out(output, text);
@@ -339,7 +339,7 @@ fn hand_over<O: Write, F: Write>(text: &[u8], output: &mut Told<O>, faults: &mut
 }
 
 /// Tells all of an output, and the status of that: 4 where the writer refuses some of it.
-fn tell_output<O: Write, F: Write>(
+fn tell_output<O: Sink, F: Sink>(
     prepared: Prepared,
     output: &mut Told<O>,
     faults: &mut Told<F>,
@@ -352,7 +352,7 @@ fn tell_output<O: Write, F: Write>(
 }
 
 /// Tells the end: help on the output, and anything else on the writer of faults. The status of that.
-pub fn tell<O: Write, F: Write>(stop: &Stop, output: &mut Told<O>, faults: &mut Told<F>) -> u8
+pub fn tell<O: Sink, F: Sink>(stop: &Stop, output: &mut Told<O>, faults: &mut Told<F>) -> u8
     requires { output.old.refused ≡ false }
     ensures { TellsStop stop.now (writing O.contents output.old output.new) (writing F.contents faults.old faults.new) result }
 {
@@ -371,7 +371,7 @@ pub fn tell<O: Write, F: Write>(stop: &Stop, output: &mut Told<O>, faults: &mut 
 /// line. `rt` is for threads. The exit status: 0 done, 1 refused input, 2 usage, 3 want of memory, 4 a read, a write or a run on
 /// threads failed. What is asked for goes to `output`, and the line of a fault to `faults`. A run on threads waits until all of
 /// them have ended.
-pub fn engine<R: Read, O: Write, F: Write>(
+pub fn engine<R: Source, O: Sink, F: Sink>(
     rt: &(impl Threads + Wait + Sync),
     alloc: Global,
     words: &[&str],
@@ -381,7 +381,7 @@ pub fn engine<R: Read, O: Write, F: Write>(
 ) -> u8
     requires unheard { IsUnheard input.old }
     requires accepted { output.old.refused ≡ false }
-    ensures { Ends (map (λ word. word.now) words.now) (reading R.remaining input.old input.new) (writing O.contents output.old output.new)
+    ensures { Ends R.fails O.refuses (map (λ word. word.now) words.now) (reading R.remaining input.old input.new) (writing O.contents output.old output.new)
         (writing F.contents faults.old faults.new) result }
 {
     match run(rt, alloc, words, input) {

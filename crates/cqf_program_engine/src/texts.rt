@@ -6,10 +6,10 @@ ghost use Rattle.cqf_program_engine.specs.Run.{EndsText};
 
 use crate::filled::{Filled, STEP};
 use crate::inputs::{MOST_BYTES, stop_of, stop_of_length};
+use crate::sources::Source;
 use cqf_program_stop::Stop;
 use cqf_units::Memory;
 use std::alloc::Global;
-use std::io::Read;
 
 /// The texts of several readers, bounded together: of all of them at most 67,108,865 bytes are read.
 #[derive(Drop)]
@@ -43,13 +43,13 @@ impl Texts {
 
     /// Takes all that the reader gives, as one text more. `Err` with status 4 where the reader fails, with status 1 where all texts come to
     /// more than 67,108,864 bytes, and with status 3 for want of memory.
-    pub fn read<R: Read>(&mut self, alloc: Global, reader: &mut R) -> Result<(), Stop>
+    pub fn read<R: Source>(&mut self, alloc: Global, reader: &mut R) -> Result<(), Stop>
         requires { length self.old.bytes ≤ 67108864 }
         ensures read { HasRead (R.remaining reader.old) (R.remaining reader.new) self.old.bytes self.new.bytes 67108865 }
         ensures end { OnOk result (IsAtEnd (R.remaining reader.new)) }
         ensures short { OnOk result (length self.new.bytes ≤ 67108864) }
         ensures ends { OnOk result (self.new.ends.items ≡ self.old.ends.items ++ length self.new.bytes ∷ []) }
-        ensures err { IfErr result (EndsText self.new.bytes) }
+        ensures err { IfErr result (EndsText R.fails self.new.bytes) }
     {
         self.fill(alloc, reader)?;
         let end = self.bytes.as_slice().len();
@@ -60,13 +60,13 @@ impl Texts {
     }
 
     /// Takes all that the reader gives.
-    fn fill<R: Read>(&mut self, alloc: Global, reader: &mut R) -> Result<(), Stop>
+    fn fill<R: Source>(&mut self, alloc: Global, reader: &mut R) -> Result<(), Stop>
         requires { length self.old.bytes ≤ 67108864 }
         ensures read { HasRead (R.remaining reader.old) (R.remaining reader.new) self.old.bytes self.new.bytes 67108865 }
         ensures end { OnOk result (IsAtEnd (R.remaining reader.new)) }
         ensures short { OnOk result (length self.new.bytes ≤ 67108864) }
         ensures ends { self.new.ends.items ≡ self.old.ends.items }
-        ensures err { IfErr result (EndsText self.new.bytes) }
+        ensures err { IfErr result (EndsText R.fails self.new.bytes) }
     {
         while self.bytes.as_slice().len() <= MOST_BYTES {
             let room = STEP.min(MOST_BYTES + 1 - self.bytes.as_slice().len());

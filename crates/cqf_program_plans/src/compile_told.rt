@@ -13,13 +13,12 @@ use crate::compile_outputs::ConfigOutput;
 use crate::compile_pieces::{gate_text, row_front};
 use cqf_compile::{Plan, bridges_of};
 use cqf_model::Row;
-use cqf_program_press::{Press, Told};
+use cqf_program_press::{Press, Sink, Told};
 use cqf_program_telling::{put_bridge, put_link};
 use cqf_topology::Domain;
-use std::io::Write;
 
 /// Puts the line of a link, and a text behind it.
-fn put_port<W: Write>(press: &mut Press<'_, W>, domain: &Domain, link: u8, port_text: &[u8])
+fn put_port<W: Sink>(press: &mut Press<'_, W>, domain: &Domain, link: u8, port_text: &[u8])
     ensures { Puts W.contents press.old press.new (codes "link " ++ (name_of_link domain.now link ++ 10 ∷ port_text.now)) }
 {
     press.put(b"link ");
@@ -29,7 +28,7 @@ fn put_port<W: Write>(press: &mut Press<'_, W>, domain: &Domain, link: u8, port_
 }
 
 /// Puts each link's line, and the gate list of its port.
-fn put_ports<W: Write>(press: &mut Press<'_, W>, domain: &Domain, port_text: &[u8])
+fn put_ports<W: Sink>(press: &mut Press<'_, W>, domain: &Domain, port_text: &[u8])
     requires { port_text.now ≡ port_list_text domain.now }
     ensures { Puts W.contents press.old press.new (flat_map (text_of_link domain.now) domain.now.links) }
 {
@@ -39,7 +38,7 @@ fn put_ports<W: Write>(press: &mut Press<'_, W>, domain: &Domain, port_text: &[u
 }
 
 /// Puts the name of a bridge between two texts.
-fn put_at<W: Write>(
+fn put_at<W: Sink>(
     press: &mut Press<'_, W>,
     domain: &Domain,
     front: &[u8],
@@ -54,7 +53,7 @@ fn put_at<W: Write>(
 }
 
 /// Puts a stream and its gate at each bridge of its tree.
-fn put_row<W: Write>(press: &mut Press<'_, W>, plan: &Plan, row: &Row)
+fn put_row<W: Sink>(press: &mut Press<'_, W>, plan: &Plan, row: &Row)
     requires { All (λ l. l < length plan.now.links) (links_of row.now) }
     ensures { Puts W.contents press.old press.new (text_of_row plan.now row.now) }
 {
@@ -68,7 +67,7 @@ fn put_row<W: Write>(press: &mut Press<'_, W>, plan: &Plan, row: &Row)
 }
 
 /// Puts each stream of some rows, and its gates.
-fn put_rows<W: Write>(press: &mut Press<'_, W>, plan: &Plan, rows: &[Row])
+fn put_rows<W: Sink>(press: &mut Press<'_, W>, plan: &Plan, rows: &[Row])
     requires { AreAlongLinks plan.now rows.now }
     ensures { Puts W.contents press.old press.new (flat_map (text_of_row plan.now) rows.now) }
 {
@@ -78,7 +77,7 @@ fn put_rows<W: Write>(press: &mut Press<'_, W>, plan: &Plan, rows: &[Row])
 }
 
 /// Puts the configuration of a plan and the streams of some rows, where the text is that of the gate list of each port.
-fn put_config<W: Write>(press: &mut Press<'_, W>, plan: &Plan, rows: &[Row], port_text: &[u8])
+fn put_config<W: Sink>(press: &mut Press<'_, W>, plan: &Plan, rows: &[Row], port_text: &[u8])
     requires { IsReadyConfig plan.now rows.now port_text.now }
     ensures { Puts W.contents press.old press.new (config_text plan.now rows.now) }
 {
@@ -88,7 +87,7 @@ fn put_config<W: Write>(press: &mut Press<'_, W>, plan: &Plan, rows: &[Row], por
 
 impl ConfigOutput {
     /// Tells the output: the configuration, as `cqf_compile::write_config` gives it (profile). It asks for no memory.
-    pub fn tell<W: Write>(self, told: &mut Told<W>)
+    pub fn tell<W: Sink>(self, told: &mut Told<W>)
         ensures { HasTold (writing W.contents told.old told.new) (text_of_config self) }
     {
         let ConfigOutput {

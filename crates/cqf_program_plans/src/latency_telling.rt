@@ -6,18 +6,17 @@ ghost use Rattle.cqf_program_plans.specs.LatencyText.{latency_fields, latency_he
 
 use crate::latency_latencies::{Latency, Verdict};
 use crate::latency_outputs::LatencyOutput;
-use cqf_program_press::{Press, Told};
-use std::io::Write;
+use cqf_program_press::{Press, Sink, Told};
 
 /// Puts the header of latencies.
-fn put_header<W: Write>(press: &mut Press<'_, W>)
+fn put_header<W: Sink>(press: &mut Press<'_, W>)
     ensures { Puts W.contents press.old press.new (line_of_fields latency_header) }
 {
     press.put(b"stream,listener,bridges,least,most,window,deadline,verdict\n");
 }
 
 /// Puts a deadline, where there is one.
-fn put_deadline<W: Write>(press: &mut Press<'_, W>, deadline: Option<u32>)
+fn put_deadline<W: Sink>(press: &mut Press<'_, W>, deadline: Option<u32>)
     ensures { Puts W.contents press.old press.new (text_of_deadline deadline) }
 {
     if let Some(deadline) = deadline {
@@ -26,7 +25,7 @@ fn put_deadline<W: Write>(press: &mut Press<'_, W>, deadline: Option<u32>)
 }
 
 /// Puts a verdict, where there is one.
-fn put_verdict<W: Write>(press: &mut Press<'_, W>, verdict: Option<Verdict>)
+fn put_verdict<W: Sink>(press: &mut Press<'_, W>, verdict: Option<Verdict>)
     ensures { Puts W.contents press.old press.new (text_of_verdict verdict) }
 {
     if let Some(verdict) = verdict {
@@ -35,7 +34,7 @@ fn put_verdict<W: Write>(press: &mut Press<'_, W>, verdict: Option<Verdict>)
 }
 
 /// Puts the line of a latency.
-fn put_latency<W: Write>(press: &mut Press<'_, W>, latency: &Latency)
+fn put_latency<W: Sink>(press: &mut Press<'_, W>, latency: &Latency)
     ensures { Puts W.contents press.old press.new (line_of_fields (latency_fields latency.now)) }
 {
     press.put(latency.stream.as_bytes());
@@ -57,7 +56,7 @@ fn put_latency<W: Write>(press: &mut Press<'_, W>, latency: &Latency)
 }
 
 /// Puts a line for each latency.
-fn put_each<W: Write>(press: &mut Press<'_, W>, latencies: &[Latency])
+fn put_each<W: Sink>(press: &mut Press<'_, W>, latencies: &[Latency])
     ensures { Puts W.contents press.old press.new (lines_of_latencies latencies.now) }
 {
     for latency in latencies {
@@ -66,7 +65,7 @@ fn put_each<W: Write>(press: &mut Press<'_, W>, latencies: &[Latency])
 }
 
 /// Puts the text of latencies.
-fn put_latencies<W: Write>(press: &mut Press<'_, W>, latencies: &[Latency])
+fn put_latencies<W: Sink>(press: &mut Press<'_, W>, latencies: &[Latency])
     ensures { Puts W.contents press.old press.new (text_of_latency latencies.now) }
 {
     put_header(press);
@@ -75,7 +74,7 @@ fn put_latencies<W: Write>(press: &mut Press<'_, W>, latencies: &[Latency])
 
 impl LatencyOutput {
     /// Tells the output: the latencies, in their order (profile). It asks for no memory.
-    pub fn tell<W: Write>(self, told: &mut Told<W>)
+    pub fn tell<W: Sink>(self, told: &mut Told<W>)
         ensures { HasTold (writing W.contents told.old told.new) (text_of_latency self) }
     {
         let LatencyOutput { latencies, sheet } = self;

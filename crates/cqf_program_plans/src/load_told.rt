@@ -10,11 +10,10 @@ ghost use Rattle.cqf_report.specs.Written.{line_of_fields};
 use crate::load_listing::Listing;
 use crate::load_outputs::LoadOutput;
 use cqf_model::MOST_OCTETS;
-use cqf_program_press::{Press, Told};
+use cqf_program_press::{Press, Sink, Told};
 use cqf_program_telling::put_link;
 use cqf_topology::Domain;
 use cqf_units::{Rate, budget};
-use std::io::Write;
 
 /// A rate in Mb/s.
 fn megabits_of(rate: Rate) -> u32
@@ -60,7 +59,7 @@ fn fits_in(left: u64) -> u64
 }
 
 /// Puts what is left of a budget.
-fn put_left<W: Write>(press: &mut Press<'_, W>, budget: u64, held: u64)
+fn put_left<W: Sink>(press: &mut Press<'_, W>, budget: u64, held: u64)
     ensures { Puts W.contents press.old press.new (left_text budget held) }
 {
     if held <= budget {
@@ -72,7 +71,7 @@ fn put_left<W: Write>(press: &mut Press<'_, W>, budget: u64, held: u64)
 }
 
 /// Puts thousandths as a percentage.
-fn put_percentage<W: Write>(press: &mut Press<'_, W>, thousandths: u64)
+fn put_percentage<W: Sink>(press: &mut Press<'_, W>, thousandths: u64)
     ensures { Puts W.contents press.old press.new (percentage_text thousandths) }
 {
     press.put_number(thousandths / 10);
@@ -81,7 +80,7 @@ fn put_percentage<W: Write>(press: &mut Press<'_, W>, thousandths: u64)
 }
 
 /// Puts the share of a budget that is held: nothing where there is no budget.
-fn put_used<W: Write>(press: &mut Press<'_, W>, budget: u64, held: u64)
+fn put_used<W: Sink>(press: &mut Press<'_, W>, budget: u64, held: u64)
     requires { held < 2 ^ 32 }
     ensures { Puts W.contents press.old press.new (used_text budget held) }
 {
@@ -91,7 +90,7 @@ fn put_used<W: Write>(press: &mut Press<'_, W>, budget: u64, held: u64)
 }
 
 /// Puts the greatest reservation that still fits a budget.
-fn put_fits<W: Write>(press: &mut Press<'_, W>, budget: u64, held: u64)
+fn put_fits<W: Sink>(press: &mut Press<'_, W>, budget: u64, held: u64)
     requires { budget < 2 ^ 32 }
     ensures { Puts W.contents press.old press.new (decimal (fits_in (budget - held))) }
 {
@@ -99,7 +98,7 @@ fn put_fits<W: Write>(press: &mut Press<'_, W>, budget: u64, held: u64)
 }
 
 /// Puts the line of a link.
-fn put_line<W: Write>(press: &mut Press<'_, W>, domain: &Domain, listing: &Listing, link: u8)
+fn put_line<W: Sink>(press: &mut Press<'_, W>, domain: &Domain, listing: &Listing, link: u8)
     requires { link < length domain.now.links }
     ensures { Puts W.contents press.old press.new (line_of_fields (load_fields domain.now listing.now link)) }
 {
@@ -123,14 +122,14 @@ fn put_line<W: Write>(press: &mut Press<'_, W>, domain: &Domain, listing: &Listi
 }
 
 /// Puts the header.
-fn put_header<W: Write>(press: &mut Press<'_, W>)
+fn put_header<W: Sink>(press: &mut Press<'_, W>)
     ensures { Puts W.contents press.old press.new (line_of_fields load_header) }
 {
     press.put(b"link,rate,budget,held,left,fits,streams,used\n");
 }
 
 /// Puts a line for each link.
-fn put_lines<W: Write>(press: &mut Press<'_, W>, domain: &Domain, listing: &Listing)
+fn put_lines<W: Sink>(press: &mut Press<'_, W>, domain: &Domain, listing: &Listing)
     ensures { Puts W.contents press.old press.new (lines_of_links domain.now listing.now (length domain.now.links)) }
 {
     for link in 0..domain.links() {
@@ -139,7 +138,7 @@ fn put_lines<W: Write>(press: &mut Press<'_, W>, domain: &Domain, listing: &List
 }
 
 /// Puts the header, and a line for each link.
-fn put_load<W: Write>(press: &mut Press<'_, W>, domain: &Domain, listing: &Listing)
+fn put_load<W: Sink>(press: &mut Press<'_, W>, domain: &Domain, listing: &Listing)
     ensures { Puts W.contents press.old press.new (load_text domain.now listing.now) }
 {
     put_header(press);
@@ -148,7 +147,7 @@ fn put_load<W: Write>(press: &mut Press<'_, W>, domain: &Domain, listing: &Listi
 
 impl LoadOutput {
     /// Tells the output: a line for each link (profile). It asks for no memory.
-    pub fn tell<W: Write>(self, told: &mut Told<W>)
+    pub fn tell<W: Sink>(self, told: &mut Told<W>)
         ensures { HasTold (writing W.contents told.old told.new) (text_of_load self) }
     {
         let LoadOutput {

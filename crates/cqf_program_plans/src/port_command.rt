@@ -11,14 +11,13 @@ ghost use Rattle.cqf_program_plans.specs.PortTold.{text_of_port};
 use crate::port_outputs::PortOutput;
 use cqf_gates::{TextFault, TxList, read_tx};
 use cqf_port::{Arrival, Port};
-use cqf_program_press::{Press, Sheet, Told};
+use cqf_program_press::{Press, Sheet, Sink, Told};
 use cqf_program_scenario::two_parts;
 use cqf_program_stop::Stop;
 use cqf_program_telling::put_starts_of_port;
 use cqf_report::{TableFault, read_arrivals};
 use cqf_units::{Memory, Nanos, Rate};
 use std::alloc::Global;
-use std::io::Write;
 
 /// The end where a gate list is refused.
 fn list_stop(alloc: Global, fault: TextFault) -> Stop
@@ -93,7 +92,7 @@ fn starts_ready(
 
 impl PortOutput {
     /// Tells the output: the starts before the instant (profile). It asks for no memory.
-    pub fn tell<W: Write>(self, told: &mut Told<W>)
+    pub fn tell<W: Sink>(self, told: &mut Told<W>)
         ensures { HasTold (writing W.contents told.old told.new) (text_of_port self) }
     {
         let PortOutput { port, rate, sheet } = self;

@@ -12,13 +12,12 @@ ghost use Rattle.cqf_program_plans.specs.TcBridge.{way_clearing, way_in, way_nee
 
 use crate::tc_ways::{first_hop, leaves, way_of};
 use cqf_model::{Hop, Row};
-use cqf_program_press::Press;
+use cqf_program_press::{Press, Sink};
 use cqf_program_telling::{put_bridge, put_link, put_node};
 use cqf_topology::Domain;
-use std::io::Write;
 
 /// Puts the name of the node that a link ends in. A link that the domain lacks ends in none.
-fn put_end<W: Write>(press: &mut Press<'_, W>, domain: &Domain, link: u8)
+fn put_end<W: Sink>(press: &mut Press<'_, W>, domain: &Domain, link: u8)
     ensures { Puts W.contents press.old press.new (name_of_end domain.now link) }
 {
     if link < domain.links() {
@@ -38,7 +37,7 @@ fn bridge_of(domain: &Domain, link: u8) -> u8
 }
 
 /// Puts the variable of the interface by which a stream comes.
-fn put_way<W: Write>(press: &mut Press<'_, W>, row: &Row, way: Option<u8>)
+fn put_way<W: Sink>(press: &mut Press<'_, W>, row: &Row, way: Option<u8>)
     ensures { Puts W.contents press.old press.new (way_in row.now way) }
 {
     match way {
@@ -54,7 +53,7 @@ fn put_way<W: Write>(press: &mut Press<'_, W>, row: &Row, way: Option<u8>)
 }
 
 /// Puts the line that wants the interface of a link that leaves the bridge.
-fn put_out_need<W: Write>(press: &mut Press<'_, W>, domain: &Domain, bridge: u8, link: u8)
+fn put_out_need<W: Sink>(press: &mut Press<'_, W>, domain: &Domain, bridge: u8, link: u8)
     ensures { Puts W.contents press.old press.new (out_need domain.now bridge link) }
 {
     press.put(b"    port OUT_");
@@ -71,7 +70,7 @@ fn put_out_need<W: Write>(press: &mut Press<'_, W>, domain: &Domain, bridge: u8,
 }
 
 /// Puts the line that wants the interface by which a stream comes from its talker.
-fn put_talker_need<W: Write>(press: &mut Press<'_, W>, domain: &Domain, bridge: u8, row: &Row)
+fn put_talker_need<W: Sink>(press: &mut Press<'_, W>, domain: &Domain, bridge: u8, row: &Row)
     ensures { Puts W.contents press.old press.new (way_need domain.now bridge row.now None) }
 {
     press.put(b"    port TALKER_");
@@ -86,7 +85,7 @@ fn put_talker_need<W: Write>(press: &mut Press<'_, W>, domain: &Domain, bridge: 
 }
 
 /// Puts the line that wants the interface by which streams come over a link.
-fn put_link_need<W: Write>(press: &mut Press<'_, W>, domain: &Domain, bridge: u8, link: u8)
+fn put_link_need<W: Sink>(press: &mut Press<'_, W>, domain: &Domain, bridge: u8, link: u8)
     ensures { Puts W.contents press.old press.new (link_need domain.now bridge link) }
 {
     let from = bridge_of(domain, link);
@@ -104,7 +103,7 @@ fn put_link_need<W: Write>(press: &mut Press<'_, W>, domain: &Domain, bridge: u8
 }
 
 /// Puts the line that wants the interface by which a stream comes.
-fn put_way_need<W: Write>(
+fn put_way_need<W: Sink>(
     press: &mut Press<'_, W>,
     domain: &Domain,
     bridge: u8,
@@ -120,7 +119,7 @@ fn put_way_need<W: Write>(
 }
 
 /// Puts the lines that want the destination address and the VLAN of a stream's frames.
-fn put_frame_needs<W: Write>(press: &mut Press<'_, W>, row: &Row)
+fn put_frame_needs<W: Sink>(press: &mut Press<'_, W>, row: &Row)
     ensures { Puts W.contents press.old press.new (frame_needs row.now) }
 {
     press.put(b"    frames ");
@@ -135,7 +134,7 @@ fn put_frame_needs<W: Write>(press: &mut Press<'_, W>, row: &Row)
 }
 
 /// Puts the line that clears the interface by which a stream comes.
-fn put_clearing<W: Write>(press: &mut Press<'_, W>, row: &Row, way: Option<u8>)
+fn put_clearing<W: Sink>(press: &mut Press<'_, W>, row: &Row, way: Option<u8>)
     ensures { Puts W.contents press.old press.new (way_clearing row.now way) }
 {
     press.put(b"    no_gates \"$");
@@ -144,7 +143,7 @@ fn put_clearing<W: Write>(press: &mut Press<'_, W>, row: &Row, way: Option<u8>)
 }
 
 /// Puts the call that sets the list of a link that leaves the bridge.
-fn put_link_call<W: Write>(press: &mut Press<'_, W>, link: u8)
+fn put_link_call<W: Sink>(press: &mut Press<'_, W>, link: u8)
     ensures { Puts W.contents press.old press.new (link_call link) }
 {
     press.put(b"    link \"$OUT_");
@@ -153,7 +152,7 @@ fn put_link_call<W: Write>(press: &mut Press<'_, W>, link: u8)
 }
 
 /// Puts the lines of a link that leaves the bridge.
-fn put_link_lines<W: Write>(press: &mut Press<'_, W>, domain: &Domain, link: u8)
+fn put_link_lines<W: Sink>(press: &mut Press<'_, W>, domain: &Domain, link: u8)
     ensures { Puts W.contents press.old press.new (link_lines domain.now link) }
 {
     press.put(b"    # link ");
@@ -166,7 +165,7 @@ fn put_link_lines<W: Write>(press: &mut Press<'_, W>, domain: &Domain, link: u8)
 }
 
 /// Puts the interface of a hop, where it leaves the bridge.
-fn put_way_out<W: Write>(press: &mut Press<'_, W>, domain: &Domain, bridge: u8, hop: &Hop)
+fn put_way_out<W: Sink>(press: &mut Press<'_, W>, domain: &Domain, bridge: u8, hop: &Hop)
     ensures { Puts W.contents press.old press.new (way_out domain.now bridge hop.now) }
 {
     if leaves(domain, hop.link, bridge) {
@@ -176,7 +175,7 @@ fn put_way_out<W: Write>(press: &mut Press<'_, W>, domain: &Domain, bridge: u8, 
 }
 
 /// Puts the interfaces by which a stream leaves the bridge.
-fn put_ways_out<W: Write>(press: &mut Press<'_, W>, domain: &Domain, bridge: u8, row: &Row)
+fn put_ways_out<W: Sink>(press: &mut Press<'_, W>, domain: &Domain, bridge: u8, row: &Row)
     ensures { Puts W.contents press.old press.new (ways_out domain.now bridge row.now) }
 {
     for hop in row.tree.as_slice() {
@@ -185,7 +184,7 @@ fn put_ways_out<W: Write>(press: &mut Press<'_, W>, domain: &Domain, bridge: u8,
 }
 
 /// Puts the call that sets a stream's gate at the interface by which it comes.
-fn put_gate_call<W: Write>(press: &mut Press<'_, W>, row: &Row, way: Option<u8>)
+fn put_gate_call<W: Sink>(press: &mut Press<'_, W>, row: &Row, way: Option<u8>)
     ensures { Puts W.contents press.old press.new (gate_call row.now way) }
 {
     press.put(b"    gate \"$");
@@ -201,7 +200,7 @@ fn put_gate_call<W: Write>(press: &mut Press<'_, W>, row: &Row, way: Option<u8>)
 }
 
 /// Puts the lines of a stream that comes that way.
-fn put_stream_lines<W: Write>(
+fn put_stream_lines<W: Sink>(
     press: &mut Press<'_, W>,
     domain: &Domain,
     bridge: u8,
@@ -222,7 +221,7 @@ fn put_stream_lines<W: Write>(
 }
 
 /// Puts the line that wants the interface of a link, where it leaves the bridge.
-fn put_out_need_of<W: Write>(press: &mut Press<'_, W>, domain: &Domain, bridge: u8, link: u8)
+fn put_out_need_of<W: Sink>(press: &mut Press<'_, W>, domain: &Domain, bridge: u8, link: u8)
     ensures { Puts W.contents press.old press.new (if_left domain.now bridge (out_need domain.now bridge) link) }
 {
     if leaves(domain, link, bridge) {
@@ -231,7 +230,7 @@ fn put_out_need_of<W: Write>(press: &mut Press<'_, W>, domain: &Domain, bridge: 
 }
 
 /// Puts the lines that want the interfaces of the links that leave the bridge.
-fn put_out_needs<W: Write>(press: &mut Press<'_, W>, domain: &Domain, bridge: u8)
+fn put_out_needs<W: Sink>(press: &mut Press<'_, W>, domain: &Domain, bridge: u8)
     ensures { Puts W.contents press.old press.new (each_link domain.now bridge (out_need domain.now bridge)) }
 {
     for link in 0..domain.links() {
@@ -240,7 +239,7 @@ fn put_out_needs<W: Write>(press: &mut Press<'_, W>, domain: &Domain, bridge: u8
 }
 
 /// Puts the lines of a link, where it leaves the bridge.
-fn put_lines_of_link<W: Write>(press: &mut Press<'_, W>, domain: &Domain, bridge: u8, link: u8)
+fn put_lines_of_link<W: Sink>(press: &mut Press<'_, W>, domain: &Domain, bridge: u8, link: u8)
     ensures { Puts W.contents press.old press.new (if_left domain.now bridge (link_lines domain.now) link) }
 {
     if leaves(domain, link, bridge) {
@@ -249,7 +248,7 @@ fn put_lines_of_link<W: Write>(press: &mut Press<'_, W>, domain: &Domain, bridge
 }
 
 /// Puts the lines of the links that leave the bridge.
-fn put_links<W: Write>(press: &mut Press<'_, W>, domain: &Domain, bridge: u8)
+fn put_links<W: Sink>(press: &mut Press<'_, W>, domain: &Domain, bridge: u8)
     ensures { Puts W.contents press.old press.new (each_link domain.now bridge (link_lines domain.now)) }
 {
     for link in 0..domain.links() {
@@ -258,7 +257,7 @@ fn put_links<W: Write>(press: &mut Press<'_, W>, domain: &Domain, bridge: u8)
 }
 
 /// Puts the line that wants the interface by which a stream comes, where it's new.
-fn put_new_need<W: Write>(
+fn put_new_need<W: Sink>(
     press: &mut Press<'_, W>,
     domain: &Domain,
     bridge: u8,
@@ -273,7 +272,7 @@ fn put_new_need<W: Write>(
 }
 
 /// Puts what a stream needs that comes that way.
-fn put_needs_by<W: Write>(
+fn put_needs_by<W: Sink>(
     press: &mut Press<'_, W>,
     domain: &Domain,
     bridge: u8,
@@ -287,7 +286,7 @@ fn put_needs_by<W: Write>(
 }
 
 /// Puts what a stream needs, where it leaves the bridge.
-fn put_needs_of<W: Write>(
+fn put_needs_of<W: Sink>(
     press: &mut Press<'_, W>,
     domain: &Domain,
     bridge: u8,
@@ -302,7 +301,7 @@ fn put_needs_of<W: Write>(
 }
 
 /// Puts what the streams need that leave the bridge.
-fn put_needs<W: Write>(press: &mut Press<'_, W>, domain: &Domain, bridge: u8, rows: &[Row])
+fn put_needs<W: Sink>(press: &mut Press<'_, W>, domain: &Domain, bridge: u8, rows: &[Row])
     ensures { Puts W.contents press.old press.new (each_stream (stream_needs domain.now bridge) rows.now) }
 {
     let mut seen = [false; 256];
@@ -313,7 +312,7 @@ fn put_needs<W: Write>(press: &mut Press<'_, W>, domain: &Domain, bridge: u8, ro
 }
 
 /// Puts the line that clears the interface by which a stream comes, where it's new.
-fn put_clearing_by<W: Write>(press: &mut Press<'_, W>, row: &Row, way: (Option<u8>, bool))
+fn put_clearing_by<W: Sink>(press: &mut Press<'_, W>, row: &Row, way: (Option<u8>, bool))
     ensures { Puts W.contents press.old press.new (clearing_by row.now way) }
 {
     if way.1 {
@@ -322,7 +321,7 @@ fn put_clearing_by<W: Write>(press: &mut Press<'_, W>, row: &Row, way: (Option<u
 }
 
 /// Puts the line that clears the interface by which a stream comes, where it leaves the bridge and the interface is new.
-fn put_clearing_of<W: Write>(press: &mut Press<'_, W>, row: &Row, way: Option<(Option<u8>, bool)>)
+fn put_clearing_of<W: Sink>(press: &mut Press<'_, W>, row: &Row, way: Option<(Option<u8>, bool)>)
     ensures { Puts W.contents press.old press.new (option_map_or (clearing_by row.now) way []) }
 {
     if let Some(way) = way {
@@ -331,7 +330,7 @@ fn put_clearing_of<W: Write>(press: &mut Press<'_, W>, row: &Row, way: Option<(O
 }
 
 /// Puts the lines that clear the interfaces by which streams come.
-fn put_clearings<W: Write>(press: &mut Press<'_, W>, domain: &Domain, bridge: u8, rows: &[Row])
+fn put_clearings<W: Sink>(press: &mut Press<'_, W>, domain: &Domain, bridge: u8, rows: &[Row])
     ensures { Puts W.contents press.old press.new (each_stream (stream_clearing domain.now bridge) rows.now) }
 {
     let mut seen = [false; 256];
@@ -342,7 +341,7 @@ fn put_clearings<W: Write>(press: &mut Press<'_, W>, domain: &Domain, bridge: u8
 }
 
 /// Puts the lines of a stream, where it leaves the bridge.
-fn put_stream<W: Write>(press: &mut Press<'_, W>, domain: &Domain, bridge: u8, row: &Row)
+fn put_stream<W: Sink>(press: &mut Press<'_, W>, domain: &Domain, bridge: u8, row: &Row)
     ensures { Puts W.contents press.old press.new (stream_gates domain.now bridge row.now) }
 {
     if let Some(hop) = first_hop(domain, row, bridge) {
@@ -351,7 +350,7 @@ fn put_stream<W: Write>(press: &mut Press<'_, W>, domain: &Domain, bridge: u8, r
 }
 
 /// Puts the lines of the streams that leave the bridge.
-fn put_streams<W: Write>(press: &mut Press<'_, W>, domain: &Domain, bridge: u8, rows: &[Row])
+fn put_streams<W: Sink>(press: &mut Press<'_, W>, domain: &Domain, bridge: u8, rows: &[Row])
     ensures { Puts W.contents press.old press.new (flat_map (stream_gates domain.now bridge) rows.now) }
 {
     for row in rows {
@@ -360,7 +359,7 @@ fn put_streams<W: Write>(press: &mut Press<'_, W>, domain: &Domain, bridge: u8, 
 }
 
 /// Puts the function of a bridge.
-pub(crate) fn put_bridge_function<W: Write>(
+pub(crate) fn put_bridge_function<W: Sink>(
     press: &mut Press<'_, W>,
     domain: &Domain,
     bridge: u8,

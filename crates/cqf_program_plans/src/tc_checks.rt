@@ -2,11 +2,10 @@
 ghost use Rattle.cqf_program_press.specs.Press.{Puts};
 ghost use Rattle.cqf_program_plans.specs.TcChecks.{agree_text, checks_text, frames_text, port_text, ready_text, take_back_text};
 
-use cqf_program_press::Press;
-use std::io::Write;
+use cqf_program_press::{Press, Sink};
 
 /// Puts the function that says whether one interface may lead to two nodes.
-fn put_agree<W: Write>(press: &mut Press<'_, W>)
+fn put_agree<W: Sink>(press: &mut Press<'_, W>)
     ensures { Puts W.contents press.old press.new agree_text }
 {
     press.put(
@@ -19,7 +18,7 @@ fn put_agree<W: Write>(press: &mut Press<'_, W>)
 }
 
 /// Puts the function that wants an interface.
-fn put_port<W: Write>(press: &mut Press<'_, W>)
+fn put_port<W: Sink>(press: &mut Press<'_, W>)
     ensures { Puts W.contents press.old press.new port_text }
 {
     press.put(
@@ -44,7 +43,7 @@ fn put_port<W: Write>(press: &mut Press<'_, W>)
 }
 
 /// Puts the function that wants the address and the VLAN of a stream's frames.
-fn put_frames<W: Write>(press: &mut Press<'_, W>)
+fn put_frames<W: Sink>(press: &mut Press<'_, W>)
     ensures { Puts W.contents press.old press.new frames_text }
 {
     press.put(
@@ -75,7 +74,7 @@ fn put_frames<W: Write>(press: &mut Press<'_, W>)
 }
 
 /// Puts the function that ends the checks.
-fn put_ready<W: Write>(press: &mut Press<'_, W>)
+fn put_ready<W: Sink>(press: &mut Press<'_, W>)
     ensures { Puts W.contents press.old press.new ready_text }
 {
     press.put(
@@ -96,7 +95,7 @@ fn put_ready<W: Write>(press: &mut Press<'_, W>)
 }
 
 /// Puts the function that takes back what was set.
-fn put_take_back<W: Write>(press: &mut Press<'_, W>)
+fn put_take_back<W: Sink>(press: &mut Press<'_, W>)
     ensures { Puts W.contents press.old press.new take_back_text }
 {
     press.put(
@@ -114,7 +113,7 @@ fn put_take_back<W: Write>(press: &mut Press<'_, W>)
 }
 
 /// Puts the functions that check all before anything is changed, and that take back what was set.
-pub(crate) fn put_checks<W: Write>(press: &mut Press<'_, W>)
+pub(crate) fn put_checks<W: Sink>(press: &mut Press<'_, W>)
     ensures { Puts W.contents press.old press.new checks_text }
 {
     put_agree(press);

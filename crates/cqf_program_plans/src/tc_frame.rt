@@ -8,20 +8,19 @@ ghost use Rattle.cqf_program_plans.specs.TcText.{multiple, name_text, names_text
 ghost use Rattle.cqf_program_plans.specs.TcText.{tc_gate_text, usage_text};
 ghost use Rattle.cqf_program_plans.specs.TcWords.{gate_words, tx_words};
 
-use cqf_program_press::Press;
+use cqf_program_press::{Press, Sink};
 use cqf_program_telling::put_bridge;
 use cqf_topology::Domain;
-use std::io::Write;
 
 /// Puts the length of two cycles in nanoseconds.
-fn put_multiple<W: Write>(press: &mut Press<'_, W>, domain: &Domain)
+fn put_multiple<W: Sink>(press: &mut Press<'_, W>, domain: &Domain)
     ensures { Puts W.contents press.old press.new (multiple domain.now) }
 {
     press.put_number(2 * domain.cycle_time().0);
 }
 
 /// Puts what the script is, and the variables that it takes.
-pub(crate) fn put_usage<W: Write>(press: &mut Press<'_, W>, domain: &Domain)
+pub(crate) fn put_usage<W: Sink>(press: &mut Press<'_, W>, domain: &Domain)
     ensures { Puts W.contents press.old press.new (usage_text domain.now) }
 {
     press.put(
@@ -63,7 +62,7 @@ pub(crate) fn put_usage<W: Write>(press: &mut Press<'_, W>, domain: &Domain)
 }
 
 /// Puts the name of a bridge, and a space before it.
-fn put_name<W: Write>(press: &mut Press<'_, W>, domain: &Domain, bridge: u8)
+fn put_name<W: Sink>(press: &mut Press<'_, W>, domain: &Domain, bridge: u8)
     ensures { Puts W.contents press.old press.new (name_text domain.now bridge) }
 {
     press.put(b" ");
@@ -71,7 +70,7 @@ fn put_name<W: Write>(press: &mut Press<'_, W>, domain: &Domain, bridge: u8)
 }
 
 /// Puts the names of the bridges, a space before each.
-fn put_names<W: Write>(press: &mut Press<'_, W>, domain: &Domain)
+fn put_names<W: Sink>(press: &mut Press<'_, W>, domain: &Domain)
     ensures { Puts W.contents press.old press.new (names_text domain.now) }
 {
     for bridge in 0..domain.bridges() {
@@ -80,7 +79,7 @@ fn put_names<W: Write>(press: &mut Press<'_, W>, domain: &Domain)
 }
 
 /// Puts the commands, the names of the bridges, and what is noted of interfaces, gates and streams.
-pub(crate) fn put_opening<W: Write>(press: &mut Press<'_, W>, domain: &Domain)
+pub(crate) fn put_opening<W: Sink>(press: &mut Press<'_, W>, domain: &Domain)
     ensures { Puts W.contents press.old press.new (opening_text domain.now) }
 {
     press.put(b"set -euf\nexport LC_ALL=C\ntc=${TC:-tc} ip=${IP:-} chain=${CHAIN:-0} bridges=\"");
@@ -92,7 +91,7 @@ pub(crate) fn put_opening<W: Write>(press: &mut Press<'_, W>, domain: &Domain)
 }
 
 /// Puts what ends the script where a bridge or the instant isn't given, or the instant is no multiple of two cycles.
-pub(crate) fn put_given<W: Write>(press: &mut Press<'_, W>, domain: &Domain)
+pub(crate) fn put_given<W: Sink>(press: &mut Press<'_, W>, domain: &Domain)
     ensures { Puts W.contents press.old press.new (given_text domain.now) }
 {
     press.put(b"[ \"$#\" -eq 1 ] || refuse \"name one bridge:$bridges\"\ncase ${BASE:=} in\n");
@@ -113,7 +112,7 @@ pub(crate) fn put_given<W: Write>(press: &mut Press<'_, W>, domain: &Domain)
 }
 
 /// Puts the command that sets the transmission gates of an interface.
-fn put_list_command<W: Write>(press: &mut Press<'_, W>, domain: &Domain, port_words: &[u8])
+fn put_list_command<W: Sink>(press: &mut Press<'_, W>, domain: &Domain, port_words: &[u8])
     requires { port_words.now ≡ tx_words (port_list domain.now.cycle_time domain.now.guard) }
     ensures { Puts W.contents press.old press.new (list_command domain.now) }
 {
@@ -126,7 +125,7 @@ fn put_list_command<W: Write>(press: &mut Press<'_, W>, domain: &Domain, port_wo
 }
 
 /// Puts the function that sets the transmission gates of an interface.
-pub(crate) fn put_link_function<W: Write>(
+pub(crate) fn put_link_function<W: Sink>(
     press: &mut Press<'_, W>,
     domain: &Domain,
     port_words: &[u8],
@@ -142,7 +141,7 @@ pub(crate) fn put_link_function<W: Write>(
 }
 
 /// Puts the function that finds the gates of an earlier plan.
-pub(crate) fn put_old_gates_function<W: Write>(press: &mut Press<'_, W>)
+pub(crate) fn put_old_gates_function<W: Sink>(press: &mut Press<'_, W>)
     ensures { Puts W.contents press.old press.new old_gates_text }
 {
     press.put(
@@ -174,7 +173,7 @@ pub(crate) fn put_old_gates_function<W: Write>(press: &mut Press<'_, W>)
 }
 
 /// Puts the function that takes the gates of an earlier plan off an interface.
-pub(crate) fn put_no_gates_function<W: Write>(press: &mut Press<'_, W>)
+pub(crate) fn put_no_gates_function<W: Sink>(press: &mut Press<'_, W>)
     ensures { Puts W.contents press.old press.new no_gates_text }
 {
     press.put(b"# takes the stream gates of an earlier plan off the interface $1\nno_gates() {\n");
@@ -190,7 +189,7 @@ pub(crate) fn put_no_gates_function<W: Write>(press: &mut Press<'_, W>)
 }
 
 /// Puts the command that sets a stream's gate at an interface.
-fn put_gate_command<W: Write>(press: &mut Press<'_, W>, domain: &Domain, words: &[u8])
+fn put_gate_command<W: Sink>(press: &mut Press<'_, W>, domain: &Domain, words: &[u8])
     requires { words.now ≡ gate_words domain.now.cycle_time }
     ensures { Puts W.contents press.old press.new (gate_command domain.now) }
 {
@@ -202,7 +201,7 @@ fn put_gate_command<W: Write>(press: &mut Press<'_, W>, domain: &Domain, words: 
 }
 
 /// Puts the function that sets a stream's gate at an interface.
-pub(crate) fn put_gate_function<W: Write>(press: &mut Press<'_, W>, domain: &Domain, words: &[u8])
+pub(crate) fn put_gate_function<W: Sink>(press: &mut Press<'_, W>, domain: &Domain, words: &[u8])
     requires { words.now ≡ gate_words domain.now.cycle_time }
     ensures { Puts W.contents press.old press.new (tc_gate_text domain.now) }
 {
@@ -218,7 +217,7 @@ pub(crate) fn put_gate_function<W: Write>(press: &mut Press<'_, W>, domain: &Dom
 }
 
 /// Puts the line that chooses a bridge by its name.
-fn put_choice_line<W: Write>(press: &mut Press<'_, W>, domain: &Domain, bridge: u8)
+fn put_choice_line<W: Sink>(press: &mut Press<'_, W>, domain: &Domain, bridge: u8)
     ensures { Puts W.contents press.old press.new (choice_line domain.now bridge) }
 {
     press.put(b"\"");
@@ -229,7 +228,7 @@ fn put_choice_line<W: Write>(press: &mut Press<'_, W>, domain: &Domain, bridge: 
 }
 
 /// Puts a line a bridge that chooses it by its name.
-fn put_choice_lines<W: Write>(press: &mut Press<'_, W>, domain: &Domain)
+fn put_choice_lines<W: Sink>(press: &mut Press<'_, W>, domain: &Domain)
     ensures { Puts W.contents press.old press.new (each_below (choice_line domain.now) (length domain.now.bridges)) }
 {
     for bridge in 0..domain.bridges() {
@@ -238,7 +237,7 @@ fn put_choice_lines<W: Write>(press: &mut Press<'_, W>, domain: &Domain)
 }
 
 /// Puts the choice of a bridge by the name given.
-pub(crate) fn put_choice<W: Write>(press: &mut Press<'_, W>, domain: &Domain)
+pub(crate) fn put_choice<W: Sink>(press: &mut Press<'_, W>, domain: &Domain)
     ensures { Puts W.contents press.old press.new (choice_text domain.now) }
 {
     press.put(b"\ncase \"$1\" in\n");

@@ -12,12 +12,11 @@ use crate::tc_frame::{
 };
 use crate::tc_outputs::TcOutput;
 use cqf_model::Row;
-use cqf_program_press::{Press, Told};
+use cqf_program_press::{Press, Sink, Told};
 use cqf_topology::Domain;
-use std::io::Write;
 
 /// Puts a function a bridge.
-fn put_bridges<W: Write>(press: &mut Press<'_, W>, domain: &Domain, rows: &[Row])
+fn put_bridges<W: Sink>(press: &mut Press<'_, W>, domain: &Domain, rows: &[Row])
     ensures { Puts W.contents press.old press.new (bridges_text domain.now rows.now) }
 {
     for bridge in 0..domain.bridges() {
@@ -26,7 +25,7 @@ fn put_bridges<W: Write>(press: &mut Press<'_, W>, domain: &Domain, rows: &[Row]
 }
 
 /// Puts the functions that bridges call, with the words of the lists of ports and of gates.
-fn put_functions<W: Write>(
+fn put_functions<W: Sink>(
     press: &mut Press<'_, W>,
     domain: &Domain,
     port_words: &[u8],
@@ -43,7 +42,7 @@ fn put_functions<W: Write>(
 }
 
 /// Puts the script of a domain and the rows of its streams, with the words of the lists of ports and of gates.
-fn put_script<W: Write>(
+fn put_script<W: Sink>(
     press: &mut Press<'_, W>,
     domain: &Domain,
     rows: &[Row],
@@ -63,7 +62,7 @@ fn put_script<W: Write>(
 
 impl TcOutput {
     /// Tells the output: the script (profile). It asks for no memory.
-    pub fn tell<W: Write>(self, told: &mut Told<W>)
+    pub fn tell<W: Sink>(self, told: &mut Told<W>)
         ensures { HasTold (writing W.contents told.old told.new) (text_of_tc self) }
     {
         let TcOutput {

@@ -2,7 +2,9 @@
 use Rattle.std.proofs.Common.{◌≡◌, ◌++◌, ◌∙◌, ℕ, List, [], Bool, true, false, Option, refl, sym, ap, append_assoc, subst}
 use Rattle.std.proofs.KnownBytes.{Appends-nil, Appends-trans}
 use Rattle.std.proofs.lemmas.List.{append-nil}
+use Rattle.std.specs.declared.io.traits.Write as write
 use Rattle.cqf_program_press.specs.declared.press.Press.{Press}
+use Rattle.cqf_program_press.specs.declared.sinks.Sink as sink
 use Rattle.cqf_program_press.specs.declared.told.Told.{Told}
 use Rattle.cqf_program_press.specs.Edge.{HasTold, Writing, TellsOn, since, writing}
 use Rattle.cqf_program_press.specs.Press.{ClosesSheet, HasPressed, Opens, Puts}
@@ -34,16 +36,16 @@ HasTold-refused output a b refused one = record {
 pub HasTold-nothing : (known : Option (List ℕ)) (refused : Bool) → HasTold (record { before = known; after = known; refused = refused }) []
 HasTold-nothing known refused = record { front = []; behind = []; cut = refl; written = Appends-nil known; all = λ _. refl }
 
-module _ {W : Type 0} (contents : W → Option (List ℕ)) where
+module _ {W : Type 0} {s : sink.Ghosts W} {w : write.Ghosts W} (contents : W → Option (List ℕ)) where
   -- nothing was put
-  pub Puts-nil : (press : Press W) → Puts contents press press []
+  pub Puts-nil : (press : Press W s w) → Puts contents press press []
   Puts-nil press = record {
     same = refl;
     behind = λ before given has. subst (λ (x : List ℕ). HasPressed contents before press x) (sym (append-nil given)) has;
   }
 
   -- one text was put behind another
-  pub Puts-trans : (old mid new : Press W) (a b : List ℕ) → Puts contents old mid a → Puts contents mid new b → Puts contents old new (a ++ b)
+  pub Puts-trans : (old mid new : Press W s w) (a b : List ℕ) → Puts contents old mid a → Puts contents mid new b → Puts contents old new (a ++ b)
   Puts-trans old mid new a b one two = record {
     same = two.same ∙ one.same;
     behind = λ before given has. subst (λ (x : List ℕ). HasPressed contents before new x) (append_assoc given a b)
@@ -51,11 +53,11 @@ module _ {W : Type 0} (contents : W → Option (List ℕ)) where
   }
 
   -- the same text by another word
-  pub Puts-of : (old new : Press W) (a b : List ℕ) → a ≡ b → Puts contents old new a → Puts contents old new b
+  pub Puts-of : (old new : Press W s w) (a b : List ℕ) → a ≡ b → Puts contents old new a → Puts contents old new b
   Puts-of old new a b same puts = subst (λ (x : List ℕ). Puts contents old new x) same puts
 
   -- bytes were put on the sheet
-  pub Puts-on_sheet : (old new : Press W) (bytes : List ℕ) → new.told ≡ old.told → new.sheet ≡ old.sheet ++ bytes
+  pub Puts-on_sheet : (old new : Press W s w) (bytes : List ℕ) → new.told ≡ old.told → new.sheet ≡ old.sheet ++ bytes
       → Puts contents old new bytes
   Puts-on_sheet old new bytes told put = record {
     same = ap (λ t. t.ghost_name) told;
@@ -67,7 +69,7 @@ module _ {W : Type 0} (contents : W → Option (List ℕ)) where
   }
 
   -- the sheet was told behind what was told before
-  pub Puts-turned : (old new : Press W) (sheet : List ℕ) → new.told.ghost_name ≡ old.told.ghost_name → sheet ≡ old.sheet
+  pub Puts-turned : (old new : Press W s w) (sheet : List ℕ) → new.told.ghost_name ≡ old.told.ghost_name → sheet ≡ old.sheet
       → TellsOn contents old.told.now new.told.now sheet → new.sheet ≡ [] → Puts contents old new []
   Puts-turned old new sheet same is on empty = record {
     same = same;
@@ -80,7 +82,7 @@ module _ {W : Type 0} (contents : W → Option (List ℕ)) where
   }
 
   -- bytes were told past an empty sheet
-  pub Puts-past : (old new : Press W) (bytes : List ℕ) → new.told.ghost_name ≡ old.told.ghost_name → old.sheet ≡ [] → new.sheet ≡ old.sheet
+  pub Puts-past : (old new : Press W s w) (bytes : List ℕ) → new.told.ghost_name ≡ old.told.ghost_name → old.sheet ≡ [] → new.sheet ≡ old.sheet
       → TellsOn contents old.told.now new.told.now bytes → Puts contents old new bytes
   Puts-past old new bytes same empty kept on = record {
     same = same;
@@ -94,13 +96,13 @@ module _ {W : Type 0} (contents : W → Option (List ℕ)) where
   }
 
   -- what was left on the sheet was told
-  pub Closes-told : (old : Press W) (told : Told W) (sheet : List ℕ) → sheet ≡ old.sheet → TellsOn contents old.told.now told sheet
+  pub Closes-told : (old : Press W s w) (told : Told W s w) (sheet : List ℕ) → sheet ≡ old.sheet → TellsOn contents old.told.now told sheet
       → ClosesSheet contents old told
   Closes-told old told sheet is on = λ before text has.
       subst (λ (x : List ℕ). HasTold (since contents before told) x) (sym (has.cut ∙ ap (λ x. has.part ++ x) (sym is))) (on before has.part has.has_told)
 
   -- a text that was put between opening and closing was told
-  pub HasTold-pressed : (old : Told W) (first last : Press W) (new : Told W) (text : List ℕ) → Opens old first → Puts contents first last text
+  pub HasTold-pressed : (old : Told W s w) (first last : Press W s w) (new : Told W s w) (text : List ℕ) → Opens old first → Puts contents first last text
       → ClosesSheet contents last new → HasTold (writing contents old new) text
   HasTold-pressed old first last new text opens puts closes =
       let start : HasPressed contents (contents old.writer) first [] = record {
@@ -111,14 +113,17 @@ module _ {W : Type 0} (contents : W → Option (List ℕ)) where
       closes (contents old.writer) text (puts.behind (contents old.writer) [] start)
 
 -- one text was put behind another, as answers cite it
-pub Puts-then : {W : Type 0} {contents : W → Option (List ℕ)} {old mid new : Press W} (a b : List ℕ) → Puts contents old mid a → Puts contents mid new b
+pub Puts-then : {W : Type 0} {s : sink.Ghosts W} {w : write.Ghosts W} {contents : W → Option (List ℕ)}
+    {old mid new : Press W s w} (a b : List ℕ) → Puts contents old mid a → Puts contents mid new b
     → Puts contents old new (a ++ b)
 Puts-then {contents = contents} {old = old} {mid = mid} {new = new} a b one two = Puts-trans contents old mid new a b one two
 
 -- nothing was put, by whatever word
-pub Puts-nothing : {W : Type 0} {contents : W → Option (List ℕ)} {press : Press W} (text : List ℕ) → text ≡ [] → Puts contents press press text
+pub Puts-nothing : {W : Type 0} {s : sink.Ghosts W} {w : write.Ghosts W} {contents : W → Option (List ℕ)}
+    {press : Press W s w} (text : List ℕ) → text ≡ [] → Puts contents press press text
 Puts-nothing {contents = contents} {press = press} text none = Puts-of contents press press [] text (sym none) (Puts-nil contents press)
 
 -- a text was put behind another, where the two are known by one more word
-pub Puts-as : {W : Type 0} {contents : W → Option (List ℕ)} {old new : Press W} (a b : List ℕ) → a ≡ b → Puts contents old new a → Puts contents old new b
+pub Puts-as : {W : Type 0} {s : sink.Ghosts W} {w : write.Ghosts W} {contents : W → Option (List ℕ)}
+    {old new : Press W s w} (a b : List ℕ) → a ≡ b → Puts contents old new a → Puts contents old new b
 Puts-as {contents = contents} {old = old} {new = new} a b same puts = Puts-of contents old new a b same puts

@@ -1,11 +1,12 @@
 //! Text that is told in sheets: the output of a program goes out a sheet at a time, and no memory is asked for meanwhile.
 //!
-//! - [`Told`] is a writer that remembers whether it refused anything. [`write_out`] tells it a text, [`tell_on`] a text behind what
+//! - A [`Sink`] is a writer of which is known for which kinds of error it may refuse.
+//! - [`Told`] is such a writer that remembers whether it refused anything. [`write_out`] tells it a text, [`tell_on`] a text behind what
 //!   it was told before, and [`flush_out`] lets it hand on what it holds.
 //! - A [`Sheet`] has all the memory that a text needs on its way, however long it is. It alone asks for some.
 //! - A [`Press`] gathers text on a sheet, piece by piece, and tells each full sheet. Behind a refusal it tells nothing more.
 //!
-//! `specs/Edge.antt` says what became of a writer (`Writing`, `HasTold`), `specs/Press.antt` what a press was given (`HasPressed`,
+//! `specs/Kinds.antt` has the words on kinds of error, `specs/Edge.antt` says what became of a writer (`Writing`, `HasTold`), `specs/Press.antt` what a press was given (`HasPressed`,
 //! `Puts`).
 //!
 //! ```text
@@ -22,9 +23,11 @@ mod outputs;
 mod press;
 mod retries;
 mod sheet;
+mod sinks;
 mod told;
 
 pub use outputs::{flush_out, tell_on, write_out};
 pub use press::Press;
 pub use sheet::Sheet;
+pub use sinks::Sink;
 pub use told::Told;

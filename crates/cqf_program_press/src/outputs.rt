@@ -1,11 +1,12 @@
 //! The bytes that the program writes.
 ghost use Rattle.cqf_program_press.specs.Edge.{HasTold, KeepsTold, TellsOn, writing};
 
+use crate::sinks::Sink;
 use crate::told::Told;
 use std::io::Write;
 
 /// Writes the text without a flush: all of it, unless the writer refuses a part, and then a front of it.
-fn write_part<W: Write>(output: &mut Told<W>, text: &[u8])
+fn write_part<W: Sink>(output: &mut Told<W>, text: &[u8])
     ensures { HasTold (writing W.contents output.old output.new) text.now }
 {
     let mut rest = text;
@@ -19,7 +20,7 @@ fn write_part<W: Write>(output: &mut Told<W>, text: &[u8])
 }
 
 /// Writes the text: all of it, unless the writer refuses a part, and then a front of it.
-pub fn write_out<W: Write>(output: &mut Told<W>, text: &[u8])
+pub fn write_out<W: Sink>(output: &mut Told<W>, text: &[u8])
     ensures { HasTold (writing W.contents output.old output.new) text.now }
 {
     write_part(output, text);
@@ -27,7 +28,7 @@ pub fn write_out<W: Write>(output: &mut Told<W>, text: &[u8])
 }
 
 /// Writes the text behind all that was told before: nothing where the writer refused any of that.
-pub fn tell_on<W: Write>(output: &mut Told<W>, text: &[u8])
+pub fn tell_on<W: Sink>(output: &mut Told<W>, text: &[u8])
     ensures { TellsOn W.contents output.old output.new text.now }
 {
     if !output.is_refused() {
@@ -36,7 +37,7 @@ pub fn tell_on<W: Write>(output: &mut Told<W>, text: &[u8])
 }
 
 /// Lets the writer hand on what it holds, unless it refused something.
-pub fn flush_out<W: Write>(output: &mut Told<W>)
+pub fn flush_out<W: Sink>(output: &mut Told<W>)
     ensures { KeepsTold W.contents output.old output.new }
 {
     if output.is_refused() {

@@ -5,18 +5,18 @@ ghost use Rattle.cqf_program_press.specs.Press.{ClosesSheet, Opens, Puts};
 
 use crate::outputs::{flush_out, tell_on};
 use crate::sheet::{MOST_PUT, SHEET, Sheet};
+use crate::sinks::Sink;
 use crate::told::Told;
 use itoa::{Buffer, Integer};
-use std::io::Write;
 
 /// A sheet of text, and the writer that it's told to.
 #[derive(Drop)]
-pub struct Press<'o, W> {
+pub struct Press<'o, W: Sink> {
     told: &'o mut Told<W>,
     sheet: Sheet,
 }
 
-impl<'o, W: Write> Press<'o, W> {
+impl<'o, W: Sink> Press<'o, W> {
     /// The sheet before the writer: what stood on it is taken away.
     pub fn new(told: &'o mut Told<W>, sheet: Sheet) -> Press<'o, W>
         ensures same { result.told.ghost_name ≡ told.entry.ghost_name }

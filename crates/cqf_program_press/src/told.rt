@@ -2,20 +2,23 @@
 ghost use Rattle.std.specs.Prelude.{◌≡◌, ◌<◌, true, false, IfOk, OnOk, OnErr, length};
 ghost use Rattle.std.specs.Io.{WritesAtMost};
 ghost use Rattle.std.specs.Io.KnownBytes.{Keeps, WriteAppends};
+ghost use Rattle.cqf_program_press.specs.Kinds.{SomeKind};
 
 use crate::retries::{flush_again, write_again};
+use crate::sinks::Sink;
 use std::io;
 use std::io::Write;
 
-/// A writer, and whether it refused a write or a flush. Nothing but its own writes and flushes sets that. A signal that interrupts one of these
-/// isn't a refusal: it is made again.
+/// A writer, and whether it refused a write or a flush. Nothing but its own writes and flushes sets that, and only for a
+/// kind of error for which the writer may refuse. A signal that interrupts one of these isn't a refusal: it is made again.
 #[derive(Drop)]
-pub struct Told<W> {
+pub struct Told<W: Sink> {
     writer: W,
     refused: bool,
+    pub ghost may_refuse: { refused ≡ true → SomeKind W.refuses },
 }
 
-impl<W: Write> Told<W> {
+impl<W: Sink> Told<W> {
     /// A writer that was asked for nothing yet.
     pub fn new(writer: W) -> Told<W>
         ensures writer { result.writer ≡ writer }
@@ -49,7 +52,7 @@ impl<W: Write> Told<W> {
     }
 }
 
-impl<W: Write> Write for Told<W> {
+impl<W: Sink> Write for Told<W> {
     ghost contents = { λ told. W.contents told.writer };
 
     /// Writes some of the bytes. Where there are some, and none is taken, they are refused.

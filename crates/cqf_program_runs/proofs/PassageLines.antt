@@ -1,7 +1,9 @@
 -- The line of a delivery's last fields, behind a field.
 use Rattle.std.proofs.Common.{◌∷◌, [], ℕ, List, Option}
+use Rattle.std.specs.declared.io.traits.Write as write
 use Rattle.cqf_program_press.specs.Press.{Puts}
 use Rattle.cqf_program_press.specs.declared.press.Press.{Press}
+use Rattle.cqf_program_press.specs.declared.sinks.Sink as sink
 use Rattle.cqf_program_telling.proofs.LineLemmas.{Puts-field}
 use Rattle.cqf_report.specs.Records.{Fields}
 use Rattle.cqf_report.specs.Written.{line_of_fields}
@@ -11,7 +13,8 @@ use Rattle.cqf_program_runs.specs.declared.delivery.Passage.TheVariants.{Dropped
 use Rattle.cqf_program_runs.specs.DeliveriesText.{passage_fields, text_of_instant, text_of_listeners_latency}
 
 -- a field, a comma, and the fields of a passage
-pub Puts-passage : {W : Type 0} {contents : W → Option (List ℕ)} {old mid after new : Press W} (field : List ℕ) (at : ℕ) (passage : Passage) (fields : Fields)
+pub Puts-passage : {W : Type 0} {s : sink.Ghosts W} {w : write.Ghosts W} {contents : W → Option (List ℕ)}
+    {old mid after new : Press W s w} (field : List ℕ) (at : ℕ) (passage : Passage) (fields : Fields)
     → Puts contents old mid field → Puts contents mid after (44 ∷ []) → Puts contents after new (line_of_fields (passage_fields at passage fields))
     → Puts contents old new (line_of_fields (field ∷ passage_fields at passage fields))
 Puts-passage field at (Dropped reason) fields one comma rest = Puts-field field [] ([] ∷ [] ∷ [] ∷ fields) one comma rest

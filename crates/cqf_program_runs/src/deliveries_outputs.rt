@@ -3,8 +3,7 @@ ghost use Rattle.cqf_program_press.specs.Edge.{HasTold, writing};
 ghost use Rattle.cqf_program_runs.specs.DeliveriesText.{text_of_deliveries};
 
 use crate::{Delivery, put_deliveries};
-use cqf_program_press::{Press, Sheet, Told};
-use std::io::Write;
+use cqf_program_press::{Press, Sheet, Sink, Told};
 use std::marker::Model;
 
 /// What the output of `deliveries` is told from: the deliveries, and a sheet. To those who hold it, it is the deliveries.
@@ -25,7 +24,7 @@ impl Model for DeliveriesOutput {
 
 impl DeliveriesOutput {
     /// Tells the output: the deliveries, in their order (profile). It asks for no memory.
-    pub fn tell<W: Write>(self, told: &mut Told<W>)
+    pub fn tell<W: Sink>(self, told: &mut Told<W>)
         ensures { HasTold (writing W.contents told.old told.new) (text_of_deliveries self) }
     {
         let DeliveriesOutput { deliveries, sheet } = self;

@@ -9,10 +9,9 @@ ghost use Rattle.cqf_program_runs.specs.DeliveriesText.{lines_of_deliveries, nam
 ghost use Rattle.cqf_program_runs.specs.DeliveriesText.{text_of_instant, text_of_listeners_latency};
 
 use crate::delivery::{Delivery, Fate, Journey, Passage, latency};
-use cqf_program_press::Press;
+use cqf_program_press::{Press, Sink};
 use cqf_report::reason_name;
 use cqf_units::Nanos;
-use std::io::Write;
 
 impl Fate {
     /// The fate as it is told: `delivered`, `late`, `under-way`, or the reason of a drop as a book has it.
@@ -29,14 +28,14 @@ impl Fate {
 }
 
 /// Puts the header of deliveries.
-fn put_header<W: Write>(press: &mut Press<'_, W>)
+fn put_header<W: Sink>(press: &mut Press<'_, W>)
     ensures { Puts W.contents press.old press.new (line_of_fields deliveries_header) }
 {
     press.put(b"frame,stream,octets,at,listener,whole,latency,deadline,what\n");
 }
 
 /// Puts the instant at which a frame is whole, where there is one.
-fn put_instant<W: Write>(press: &mut Press<'_, W>, whole: Option<Nanos>)
+fn put_instant<W: Sink>(press: &mut Press<'_, W>, whole: Option<Nanos>)
     ensures { Puts W.contents press.old press.new (text_of_instant whole) }
 {
     if let Some(whole) = whole {
@@ -45,7 +44,7 @@ fn put_instant<W: Write>(press: &mut Press<'_, W>, whole: Option<Nanos>)
 }
 
 /// Puts how long it takes, where it is whole.
-fn put_latency<W: Write>(press: &mut Press<'_, W>, at: Nanos, whole: Option<Nanos>)
+fn put_latency<W: Sink>(press: &mut Press<'_, W>, at: Nanos, whole: Option<Nanos>)
     ensures { Puts W.contents press.old press.new (text_of_listeners_latency at.0 whole) }
 {
     if let Some(whole) = whole {
@@ -54,7 +53,7 @@ fn put_latency<W: Write>(press: &mut Press<'_, W>, at: Nanos, whole: Option<Nano
 }
 
 /// Puts the deadline, where there is one.
-fn put_deadline<W: Write>(press: &mut Press<'_, W>, deadline: Option<u32>)
+fn put_deadline<W: Sink>(press: &mut Press<'_, W>, deadline: Option<u32>)
     ensures { Puts W.contents press.old press.new (text_of_deadline deadline) }
 {
     if let Some(deadline) = deadline {
@@ -63,7 +62,7 @@ fn put_deadline<W: Write>(press: &mut Press<'_, W>, deadline: Option<u32>)
 }
 
 /// Puts the fields of a frame's way to a listener, and the last field.
-fn put_journey<W: Write>(press: &mut Press<'_, W>, at: Nanos, journey: &Journey, last: &[u8])
+fn put_journey<W: Sink>(press: &mut Press<'_, W>, at: Nanos, journey: &Journey, last: &[u8])
     ensures { Puts W.contents press.old press.new (line_of_fields (passage_fields at.0 (Passage.Goes journey.now) (last.now ∷ []))) }
 {
     press.put(journey.listener.as_bytes());
@@ -79,7 +78,7 @@ fn put_journey<W: Write>(press: &mut Press<'_, W>, at: Nanos, journey: &Journey,
 }
 
 /// Puts the empty fields of a frame that is dropped, and the last field.
-fn put_drop<W: Write>(press: &mut Press<'_, W>, last: &[u8])
+fn put_drop<W: Sink>(press: &mut Press<'_, W>, last: &[u8])
     ensures { Puts W.contents press.old press.new (line_of_fields ([] ∷ [] ∷ [] ∷ [] ∷ last.now ∷ [])) }
 {
     press.put(b",,,,");
@@ -88,7 +87,7 @@ fn put_drop<W: Write>(press: &mut Press<'_, W>, last: &[u8])
 }
 
 /// Puts the fields of a frame's passage, and the last field.
-fn put_passage<W: Write>(press: &mut Press<'_, W>, at: Nanos, passage: &Passage, last: &[u8])
+fn put_passage<W: Sink>(press: &mut Press<'_, W>, at: Nanos, passage: &Passage, last: &[u8])
     ensures { Puts W.contents press.old press.new (line_of_fields (passage_fields at.0 passage.now (last.now ∷ []))) }
 {
     match passage {
@@ -98,7 +97,7 @@ fn put_passage<W: Write>(press: &mut Press<'_, W>, at: Nanos, passage: &Passage,
 }
 
 /// Puts the line of a delivery.
-fn put_delivery<W: Write>(press: &mut Press<'_, W>, delivery: &Delivery)
+fn put_delivery<W: Sink>(press: &mut Press<'_, W>, delivery: &Delivery)
     ensures { Puts W.contents press.old press.new (line_of_fields (delivery_fields delivery.now)) }
 {
     press.put_number(delivery.frame);
@@ -114,7 +113,7 @@ fn put_delivery<W: Write>(press: &mut Press<'_, W>, delivery: &Delivery)
 }
 
 /// Puts a line for each delivery.
-fn put_each<W: Write>(press: &mut Press<'_, W>, deliveries: &[Delivery])
+fn put_each<W: Sink>(press: &mut Press<'_, W>, deliveries: &[Delivery])
     ensures { Puts W.contents press.old press.new (lines_of_deliveries deliveries.now) }
 {
     for delivery in deliveries {
@@ -123,7 +122,7 @@ fn put_each<W: Write>(press: &mut Press<'_, W>, deliveries: &[Delivery])
 }
 
 /// Puts the text of deliveries.
-pub fn put_deliveries<W: Write>(press: &mut Press<'_, W>, deliveries: &[Delivery])
+pub fn put_deliveries<W: Sink>(press: &mut Press<'_, W>, deliveries: &[Delivery])
     ensures { Puts W.contents press.old press.new (text_of_deliveries deliveries.now) }
 {
     put_header(press);

@@ -15,13 +15,12 @@ use crate::line_outputs::LineOutput;
 use cqf_laws_history::{closed_tables_stay, state_follows_history};
 use cqf_laws_report::offers_stand_in_order;
 use cqf_model::Offer;
-use cqf_program_press::{Press, Sheet, Told};
+use cqf_program_press::{Press, Sheet, Sink, Told};
 use cqf_program_scenario::{offers_part, one_part, run_given};
 use cqf_program_stop::Stop;
 use cqf_topology::Domain;
 use cqf_units::Memory;
 use std::alloc::Global;
-use std::io::Write;
 
 /// The offers of the input, to a domain.
 fn read_line(alloc: Global, domain: &Domain, input: &[u8]) -> Result<Vec<Offer>, Stop>
@@ -64,7 +63,7 @@ fn output_of_line(
 
 impl LineOutput {
     /// Tells the output: the book of the line (profile). It asks for no memory.
-    pub fn tell<W: Write>(self, told: &mut Told<W>)
+    pub fn tell<W: Sink>(self, told: &mut Told<W>)
         ensures { (text : List ℕ) → IsLineTold self text → HasTold (writing W.contents told.old told.new) text }
     {
         let LineOutput {

@@ -11,22 +11,21 @@ ghost use Rattle.cqf_program_stop.specs.Stops.{IsRefused, line_of};
 ghost use Rattle.cqf_model.specs.Limits.{most_cycles};
 
 use crate::run_outputs::RunOutput;
-use cqf_program_press::{Press, Sheet, Told};
+use cqf_program_press::{Press, Sheet, Sink, Told};
 use cqf_program_scenario::{Log, Simulated, simulate};
 use cqf_program_stop::Stop;
 use cqf_program_telling::{ExactBook, put_log};
 use std::alloc::Global;
-use std::io::Write;
 
 /// Puts the line `%%`.
-fn put_parting<W: Write>(press: &mut Press<'_, W>)
+fn put_parting<W: Sink>(press: &mut Press<'_, W>)
     ensures { Puts W.contents press.old press.new (line_of (codes "%%")) }
 {
     press.put(b"%%\n");
 }
 
 /// Puts the text of the history that a log stands for and of a book that is ready to be told, with a line `%%` between them.
-fn put_logged<W: Write>(press: &mut Press<'_, W>, log: &Log, book: ExactBook)
+fn put_logged<W: Sink>(press: &mut Press<'_, W>, log: &Log, book: ExactBook)
     ensures { (of_parts : Contents) → AreExactParts book of_parts →
         Puts W.contents press.old press.new (run_text log.now.administration.domain log.now.administration.entries of_parts) }
 {
@@ -38,7 +37,7 @@ fn put_logged<W: Write>(press: &mut Press<'_, W>, log: &Log, book: ExactBook)
 impl RunOutput {
     /// Tells the output: the history of the input's scenario, a line `%%`, and the one-thread book of that history (profile). It asks
     /// for no memory.
-    pub fn tell<W: Write>(self, told: &mut Told<W>)
+    pub fn tell<W: Sink>(self, told: &mut Told<W>)
         ensures { (text : List ℕ) → IsRunTold self text → HasTold (writing W.contents told.old told.new) text }
     {
         let RunOutput { made, sheet } = self;

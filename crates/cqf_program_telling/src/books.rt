@@ -8,12 +8,11 @@ ghost use Rattle.cqf_report.specs.Written.{line_of_fields};
 
 use crate::names::{put_bridge, put_link};
 use cqf_model::{Book, Dropped, Reason, Started};
-use cqf_program_press::Press;
+use cqf_program_press::{Press, Sink};
 use cqf_topology::Domain;
-use std::io::Write;
 
 /// Puts the word for a reason.
-fn put_reason<W: Write>(press: &mut Press<'_, W>, reason: Reason)
+fn put_reason<W: Sink>(press: &mut Press<'_, W>, reason: Reason)
     ensures { Puts W.contents press.old press.new (name_of_reason reason) }
 {
     match reason {
@@ -25,14 +24,14 @@ fn put_reason<W: Write>(press: &mut Press<'_, W>, reason: Reason)
 }
 
 /// Puts the header of a book.
-pub fn put_book_header<W: Write>(press: &mut Press<'_, W>)
+pub fn put_book_header<W: Sink>(press: &mut Press<'_, W>)
     ensures { Puts W.contents press.old press.new (line_of_fields book_header) }
 {
     press.put(b"what,cycle,where,frame,octets,detail\n");
 }
 
 /// Puts a transmission's line, which begins with the word for what it is.
-fn put_started<W: Write>(press: &mut Press<'_, W>, what: &[u8], domain: &Domain, started: &Started)
+fn put_started<W: Sink>(press: &mut Press<'_, W>, what: &[u8], domain: &Domain, started: &Started)
     ensures { Puts W.contents press.old press.new (line_of_fields (started_fields what.now domain.now started.now)) }
 {
     press.put(what);
@@ -50,7 +49,7 @@ fn put_started<W: Write>(press: &mut Press<'_, W>, what: &[u8], domain: &Domain,
 }
 
 /// Puts a line for each transmission, which begins with the word for what they are.
-pub fn put_starts<W: Write>(
+pub fn put_starts<W: Sink>(
     press: &mut Press<'_, W>,
     what: &[u8],
     domain: &Domain,
@@ -64,7 +63,7 @@ pub fn put_starts<W: Write>(
 }
 
 /// Puts a drop's line.
-fn put_dropped<W: Write>(press: &mut Press<'_, W>, domain: &Domain, dropped: &Dropped)
+fn put_dropped<W: Sink>(press: &mut Press<'_, W>, domain: &Domain, dropped: &Dropped)
     ensures { Puts W.contents press.old press.new (line_of_fields (dropped_fields domain.now dropped.now)) }
 {
     press.put(b"drop");
@@ -82,7 +81,7 @@ fn put_dropped<W: Write>(press: &mut Press<'_, W>, domain: &Domain, dropped: &Dr
 }
 
 /// Puts a line for each drop.
-pub fn put_drops<W: Write>(press: &mut Press<'_, W>, domain: &Domain, drops: &[Dropped])
+pub fn put_drops<W: Sink>(press: &mut Press<'_, W>, domain: &Domain, drops: &[Dropped])
     ensures { Puts W.contents press.old press.new (lines_of_drops domain.now drops.now) }
 {
     for dropped in drops {
@@ -91,7 +90,7 @@ pub fn put_drops<W: Write>(press: &mut Press<'_, W>, domain: &Domain, drops: &[D
 }
 
 /// Puts the text of a book, as `cqf_report::write_book` gives it.
-pub fn put_book<W: Write>(press: &mut Press<'_, W>, domain: &Domain, book: &Book)
+pub fn put_book<W: Sink>(press: &mut Press<'_, W>, domain: &Domain, book: &Book)
     ensures { Puts W.contents press.old press.new (text_of_book domain.now (contents_of book.now)) }
 {
     put_book_header(press);

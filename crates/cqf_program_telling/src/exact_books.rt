@@ -10,11 +10,10 @@ ghost use Rattle.cqf_report.specs.Books.{lines_of_starts, text_of_book};
 use crate::{put_book_header, put_drops, put_starts};
 use cqf_instants::{Pass, gather_starts};
 use cqf_model::{Book, Dropped, Started};
-use cqf_program_press::Press;
+use cqf_program_press::{Press, Sink};
 use cqf_topology::Domain;
 use cqf_units::Memory;
 use std::alloc::Global;
-use std::io::Write;
 use std::marker::Model;
 
 /// A book whose starts are found while it is told, so that no list of them is kept.
@@ -53,7 +52,7 @@ impl ExactBook {
 
     /// Puts the text of the book, one of the domain, as `cqf_report::write_book` gives it: its header, the starts, those of background
     /// frames, and the drops (profile). It asks for no memory. The time grows with the lines.
-    pub fn put<W: Write>(self, press: &mut Press<'_, W>, domain: &Domain)
+    pub fn put<W: Sink>(self, press: &mut Press<'_, W>, domain: &Domain)
         ensures { (book : Contents) → AreExactParts self book →
             Puts W.contents press.old press.new (text_of_book domain.now book) }
     {
@@ -92,7 +91,7 @@ impl ExactBook {
 }
 
 /// Puts a line for each start that a pass tells, cycle by cycle.
-fn put_starts_of_pass<W: Write>(press: &mut Press<'_, W>, domain: &Domain, pass: Pass)
+fn put_starts_of_pass<W: Sink>(press: &mut Press<'_, W>, domain: &Domain, pass: Pass)
     requires { pass.told ≡ 0 }
     ensures { (starts : List AStarted) → AreStartsOf pass.basis starts →
         Puts W.contents press.old press.new (lines_of_starts (codes "start") domain.now starts) }

@@ -10,11 +10,10 @@ ghost use Rattle.cqf_program_telling.specs.CallTexts.{named_text};
 
 use cqf_admission::{Call, Entry};
 use cqf_model::{Receipt, Refused, Reply};
-use cqf_program_press::Press;
-use std::io::Write;
+use cqf_program_press::{Press, Sink};
 
 /// Puts a word, and a number behind it.
-fn put_numbered<W: Write>(press: &mut Press<'_, W>, word: &[u8], number: usize)
+fn put_numbered<W: Sink>(press: &mut Press<'_, W>, word: &[u8], number: usize)
     ensures { Puts W.contents press.old press.new (word.now ++ decimal number) }
 {
     press.put(word);
@@ -22,7 +21,7 @@ fn put_numbered<W: Write>(press: &mut Press<'_, W>, word: &[u8], number: usize)
 }
 
 /// Puts that a link's budget has too few octets left.
-fn put_short<W: Write>(press: &mut Press<'_, W>, link: u8, left: u32)
+fn put_short<W: Sink>(press: &mut Press<'_, W>, link: u8, left: u32)
     ensures { Puts W.contents press.old press.new (text_of_refusal (Refused.BudgetShort link left)) }
 {
     press.put(b"BudgetShort ");
@@ -32,7 +31,7 @@ fn put_short<W: Write>(press: &mut Press<'_, W>, link: u8, left: u32)
 }
 
 /// Puts a refusal's name, and its values behind it.
-fn put_refusal<W: Write>(press: &mut Press<'_, W>, refused: Refused)
+fn put_refusal<W: Sink>(press: &mut Press<'_, W>, refused: Refused)
     ensures { Puts W.contents press.old press.new (text_of_refusal refused) }
 {
     match refused {
@@ -53,7 +52,7 @@ fn put_refusal<W: Write>(press: &mut Press<'_, W>, refused: Refused)
 }
 
 /// Puts the stream's number and the effect cycle.
-fn put_receipt<W: Write>(press: &mut Press<'_, W>, receipt: Receipt)
+fn put_receipt<W: Sink>(press: &mut Press<'_, W>, receipt: Receipt)
     ensures { Puts W.contents press.old press.new (reply_text (Reply.Accepted receipt)) }
 {
     press.put(b"accepted ");
@@ -63,7 +62,7 @@ fn put_receipt<W: Write>(press: &mut Press<'_, W>, receipt: Receipt)
 }
 
 /// Puts why a call is refused.
-fn put_refused<W: Write>(press: &mut Press<'_, W>, refused: Refused)
+fn put_refused<W: Sink>(press: &mut Press<'_, W>, refused: Refused)
     ensures { Puts W.contents press.old press.new (reply_text (Reply.Refused refused)) }
 {
     press.put(b"refused ");
@@ -71,7 +70,7 @@ fn put_refused<W: Write>(press: &mut Press<'_, W>, refused: Refused)
 }
 
 /// Puts an answer.
-fn put_reply<W: Write>(press: &mut Press<'_, W>, reply: Reply)
+fn put_reply<W: Sink>(press: &mut Press<'_, W>, reply: Reply)
     ensures { Puts W.contents press.old press.new (reply_text reply) }
 {
     match reply {
@@ -82,7 +81,7 @@ fn put_reply<W: Write>(press: &mut Press<'_, W>, reply: Reply)
 }
 
 /// Puts the line of a call that names a stream.
-pub(crate) fn put_call<W: Write>(
+pub(crate) fn put_call<W: Sink>(
     press: &mut Press<'_, W>,
     seat: u16,
     word: &[u8],
@@ -99,7 +98,7 @@ pub(crate) fn put_call<W: Write>(
 }
 
 /// Puts a Seal's line without its end.
-pub(crate) fn put_seal<W: Write>(press: &mut Press<'_, W>, seat: u16)
+pub(crate) fn put_seal<W: Sink>(press: &mut Press<'_, W>, seat: u16)
     ensures { Puts W.contents press.old press.new (decimal seat ++ codes " seal") }
 {
     press.put_number(seat);
@@ -107,7 +106,7 @@ pub(crate) fn put_seal<W: Write>(press: &mut Press<'_, W>, seat: u16)
 }
 
 /// Puts an entry's line without its end.
-fn put_text<W: Write>(press: &mut Press<'_, W>, entry: &Entry)
+fn put_text<W: Sink>(press: &mut Press<'_, W>, entry: &Entry)
     ensures { Puts W.contents press.old press.new (entry_text entry.now.seat (act_of entry.now.call) entry.now.reply) }
 {
     match &entry.call {
@@ -123,7 +122,7 @@ fn put_text<W: Write>(press: &mut Press<'_, W>, entry: &Entry)
 }
 
 /// Puts the line of an entry.
-fn put_entry<W: Write>(press: &mut Press<'_, W>, entry: &Entry)
+fn put_entry<W: Sink>(press: &mut Press<'_, W>, entry: &Entry)
     ensures { Puts W.contents press.old press.new (line_of_entry (recorded_of entry.now)) }
 {
     put_text(press, entry);
@@ -131,7 +130,7 @@ fn put_entry<W: Write>(press: &mut Press<'_, W>, entry: &Entry)
 }
 
 /// Puts the text of a history, as `cqf_report::write_history` gives it.
-pub fn put_history<W: Write>(press: &mut Press<'_, W>, entries: &[Entry])
+pub fn put_history<W: Sink>(press: &mut Press<'_, W>, entries: &[Entry])
     ensures { Puts W.contents press.old press.new (history_text (map recorded_of entries.now)) }
 {
     for entry in entries {

@@ -11,17 +11,11 @@ ghost use Rattle.cqf_admission_requests.specs.Orders.{StandsIn, act_in};
 use crate::history::{put_call, put_seal};
 use cqf_admission_ledger::Logged;
 use cqf_admission_requests::{What, word_of};
-use cqf_program_press::Press;
+use cqf_program_press::{Press, Sink};
 use cqf_topology::Request;
-use std::io::Write;
 
 /// Puts the line of an entry without its end.
-fn put_text<W: Write>(
-    press: &mut Press<'_, W>,
-    requests: &[Request],
-    script: &[u8],
-    logged: &Logged,
-)
+fn put_text<W: Sink>(press: &mut Press<'_, W>, requests: &[Request], script: &[u8], logged: &Logged)
     requires { StandsIn (map asked_of requests.now) script.now logged.now.what }
     ensures { Puts W.contents press.old press.new
         (entry_text logged.now.seat (act_in (map asked_of requests.now) script.now logged.now.what) logged.now.reply) }
@@ -40,7 +34,7 @@ fn put_text<W: Write>(
 }
 
 /// Puts the line of an entry.
-fn put_logged<W: Write>(
+fn put_logged<W: Sink>(
     press: &mut Press<'_, W>,
     requests: &[Request],
     script: &[u8],
@@ -54,7 +48,7 @@ fn put_logged<W: Write>(
 }
 
 /// Puts the text of the history that a log stands for, over these requests and a script's text.
-pub fn put_log<W: Write>(
+pub fn put_log<W: Sink>(
     press: &mut Press<'_, W>,
     requests: &[Request],
     script: &[u8],

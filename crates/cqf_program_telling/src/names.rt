@@ -4,12 +4,11 @@ ghost use Rattle.cqf_program_press.specs.Press.{Puts};
 ghost use Rattle.cqf_report.specs.Books.{ends_of_link, name_of_bridge, name_of_link, name_of_node};
 
 use cqf_model::{Link, Node};
-use cqf_program_press::Press;
+use cqf_program_press::{Press, Sink};
 use cqf_topology::Domain;
-use std::io::Write;
 
 /// Puts the name of a bridge. A bridge that the domain lacks has none.
-pub fn put_bridge<W: Write>(press: &mut Press<'_, W>, domain: &Domain, bridge: u8)
+pub fn put_bridge<W: Sink>(press: &mut Press<'_, W>, domain: &Domain, bridge: u8)
     ensures { Puts W.contents press.old press.new (name_of_bridge domain.now bridge) }
 {
     if bridge < domain.bridges() {
@@ -18,7 +17,7 @@ pub fn put_bridge<W: Write>(press: &mut Press<'_, W>, domain: &Domain, bridge: u
 }
 
 /// Puts the name of a station. A station that the domain lacks has none.
-fn put_station<W: Write>(press: &mut Press<'_, W>, domain: &Domain, station: u8)
+fn put_station<W: Sink>(press: &mut Press<'_, W>, domain: &Domain, station: u8)
     ensures { Puts W.contents press.old press.new (name_of_node domain.now (Node.Station station)) }
 {
     if station < domain.stations() {
@@ -27,7 +26,7 @@ fn put_station<W: Write>(press: &mut Press<'_, W>, domain: &Domain, station: u8)
 }
 
 /// Puts the name of a node. One that the domain lacks has none.
-pub fn put_node<W: Write>(press: &mut Press<'_, W>, domain: &Domain, node: Node)
+pub fn put_node<W: Sink>(press: &mut Press<'_, W>, domain: &Domain, node: Node)
     ensures { Puts W.contents press.old press.new (name_of_node domain.now node) }
 {
     match node {
@@ -37,7 +36,7 @@ pub fn put_node<W: Write>(press: &mut Press<'_, W>, domain: &Domain, node: Node)
 }
 
 /// Puts the names of a link's ends.
-fn put_ends<W: Write>(press: &mut Press<'_, W>, domain: &Domain, link: Link)
+fn put_ends<W: Sink>(press: &mut Press<'_, W>, domain: &Domain, link: Link)
     ensures { Puts W.contents press.old press.new (ends_of_link domain.now link) }
 {
     put_bridge(press, domain, link.from);
@@ -46,7 +45,7 @@ fn put_ends<W: Write>(press: &mut Press<'_, W>, domain: &Domain, link: Link)
 }
 
 /// Puts a link by the names of its ends. A link that the domain lacks has none.
-pub fn put_link<W: Write>(press: &mut Press<'_, W>, domain: &Domain, link: u8)
+pub fn put_link<W: Sink>(press: &mut Press<'_, W>, domain: &Domain, link: u8)
     ensures { Puts W.contents press.old press.new (name_of_link domain.now link) }
 {
     if link < domain.links() {

@@ -9,12 +9,11 @@ ghost use Rattle.cqf_program_telling.specs.PortLines.{AreTellable, lines_of_port
 ghost use Rattle.cqf_units.specs.Timing.{ending_of, nanos_of_octet};
 
 use cqf_model::Arrival;
-use cqf_program_press::Press;
+use cqf_program_press::{Press, Sink};
 use cqf_units::{Nanos, Octets, Rate, end_of};
-use std::io::Write;
 
 /// Puts the header of a port's starts.
-fn put_header<W: Write>(press: &mut Press<'_, W>)
+fn put_header<W: Sink>(press: &mut Press<'_, W>)
     ensures { Puts W.contents press.old press.new (line_of_fields start_header) }
 {
     press.put(b"class,frame,start,end\n");
@@ -30,7 +29,7 @@ fn frame_end(octets: u32, rate: Rate, start: Nanos) -> Nanos
 
 /// Puts the line of a start, which is the place of its arrival and its instant, with the instant at which its frame is
 /// over at this rate.
-fn put_start<W: Write>(
+fn put_start<W: Sink>(
     press: &mut Press<'_, W>,
     arrivals: &[Arrival],
     start: (usize, u64),
@@ -54,7 +53,7 @@ fn put_start<W: Write>(
 }
 
 /// Puts a line for each start.
-fn put_each<W: Write>(
+fn put_each<W: Sink>(
     press: &mut Press<'_, W>,
     arrivals: &[Arrival],
     starts: &[(usize, u64)],
@@ -70,7 +69,7 @@ fn put_each<W: Write>(
 
 /// Puts the text of a port's starts at a rate, as `cqf_report::write_starts` gives it. Of each start there are the place
 /// of its arrival among the arrivals, from 0, and its instant, before 2^63 ns.
-pub fn put_starts_of_port<W: Write>(
+pub fn put_starts_of_port<W: Sink>(
     press: &mut Press<'_, W>,
     arrivals: &[Arrival],
     starts: &[(usize, u64)],

@@ -6,10 +6,9 @@ ghost use Rattle.cqf_program_threads.specs.PagedBooks.{IsStretch, contents_told,
 
 use crate::paged::{Kind, PagedBook};
 use cqf_model::Started;
-use cqf_program_press::Press;
+use cqf_program_press::{Press, Sink};
 use cqf_program_telling::{put_book_header, put_drops, put_starts};
 use cqf_topology::Domain;
-use std::io::Write;
 
 /// Where the starts on a link end, of those from a place on: the first place of a start on another link, or that behind the last.
 fn end_on_link(starts: &[Started], place: usize, link: u8) -> usize
@@ -25,7 +24,7 @@ fn end_on_link(starts: &[Started], place: usize, link: u8) -> usize
 }
 
 /// Puts a line for each start on the link, of those from a place on, and gives the place behind them.
-fn put_on_link<W: Write>(
+fn put_on_link<W: Sink>(
     press: &mut Press<'_, W>,
     what: &[u8],
     domain: &Domain,
@@ -43,7 +42,7 @@ fn put_on_link<W: Write>(
 }
 
 /// Puts a line for each start of a cycle, link by link. Of each bridge's page it goes on where the link before ended.
-fn put_starts_of_cycle<W: Write>(
+fn put_starts_of_cycle<W: Sink>(
     press: &mut Press<'_, W>,
     what: &[u8],
     kind: Kind,
@@ -67,7 +66,7 @@ fn put_starts_of_cycle<W: Write>(
 }
 
 /// Puts a line for each start of a kind, cycle by cycle.
-fn put_starts_of_kind<W: Write>(press: &mut Press<'_, W>, what: &[u8], kind: Kind, book: &PagedBook)
+fn put_starts_of_kind<W: Sink>(press: &mut Press<'_, W>, what: &[u8], kind: Kind, book: &PagedBook)
     ensures { Puts W.contents press.old press.new
         (lines_of_starts what.now book.now.domain (starts_in_cycles book.now kind book.now.cycles)) }
 {
@@ -77,7 +76,7 @@ fn put_starts_of_kind<W: Write>(press: &mut Press<'_, W>, what: &[u8], kind: Kin
 }
 
 /// Puts a line for each drop of a cycle, bridge by bridge.
-fn put_drops_of_cycle<W: Write>(press: &mut Press<'_, W>, book: &PagedBook, cycle: u32)
+fn put_drops_of_cycle<W: Sink>(press: &mut Press<'_, W>, book: &PagedBook, cycle: u32)
     ensures { Puts W.contents press.old press.new
         (lines_of_drops book.now.domain (drops_at_bridges book.now cycle (length book.now.domain.bridges))) }
 {
@@ -87,7 +86,7 @@ fn put_drops_of_cycle<W: Write>(press: &mut Press<'_, W>, book: &PagedBook, cycl
 }
 
 /// Puts a line for each drop, cycle by cycle.
-fn put_all_drops<W: Write>(press: &mut Press<'_, W>, book: &PagedBook)
+fn put_all_drops<W: Sink>(press: &mut Press<'_, W>, book: &PagedBook)
     ensures { Puts W.contents press.old press.new (lines_of_drops book.now.domain (drops_in_cycles book.now book.now.cycles)) }
 {
     for cycle in 0..book.cycles() {
@@ -97,7 +96,7 @@ fn put_all_drops<W: Write>(press: &mut Press<'_, W>, book: &PagedBook)
 
 /// Puts the text of the book that pages tell, as `cqf_report::write_book` gives it: its header, the starts of streams' frames, those of
 /// background frames, and the drops (profile). It asks for no memory. The time grows with the lines, and with the cycles times the links.
-pub fn put_paged_book<W: Write>(press: &mut Press<'_, W>, book: &PagedBook)
+pub fn put_paged_book<W: Sink>(press: &mut Press<'_, W>, book: &PagedBook)
     ensures { Puts W.contents press.old press.new (text_of_book book.now.domain (contents_told book.now)) }
 {
     put_book_header(press);

@@ -17,14 +17,13 @@ use crate::threads_outputs::ThreadsOutput;
 use crate::{PagedBook, put_paged_book};
 use cqf_admission::Entry;
 use cqf_laws_account::pages_tell_the_book;
-use cqf_program_press::{Press, Sheet, Told};
+use cqf_program_press::{Press, Sheet, Sink, Told};
 use cqf_program_scenario::{Opened, read_opened};
 use cqf_program_stop::{FAULT, Stop};
 use cqf_program_telling::put_history;
 use cqf_topology::Domain;
 use cqf_worker::{ConductFault, Free, PagedAccount, conduct_pages};
 use std::alloc::{AllocError, Global};
-use std::io::Write;
 use std::sync::Wait;
 use std::thread::Threads;
 
@@ -82,7 +81,7 @@ fn conduct_opened(
 }
 
 /// Puts a line `%%`, and the text of the book that pages tell behind it.
-fn put_rest<W: Write>(press: &mut Press<'_, W>, book: &PagedBook)
+fn put_rest<W: Sink>(press: &mut Press<'_, W>, book: &PagedBook)
     ensures { Puts W.contents press.old press.new (line_of (codes "%%") ++ text_of_book book.now.domain (contents_told book.now)) }
 {
     press.put(b"%%\n");
@@ -90,7 +89,7 @@ fn put_rest<W: Write>(press: &mut Press<'_, W>, book: &PagedBook)
 }
 
 /// Puts the text of a history, and of the book that pages tell, with a line `%%` between them.
-fn put_account<W: Write>(press: &mut Press<'_, W>, history: &[Entry], book: &PagedBook)
+fn put_account<W: Sink>(press: &mut Press<'_, W>, history: &[Entry], book: &PagedBook)
     ensures { Puts W.contents press.old press.new (run_text book.now.domain (map recorded_of history.now) (contents_told book.now)) }
 {
     put_history(press, history);
@@ -100,7 +99,7 @@ fn put_account<W: Write>(press: &mut Press<'_, W>, history: &[Entry], book: &Pag
 impl ThreadsOutput {
     /// Tells the output: a history of the input's scenario, a line `%%`, and the one-thread book of that history (profile). It
     /// asks for no memory, and sorts nothing.
-    pub fn tell<W: Write>(self, told: &mut Told<W>)
+    pub fn tell<W: Sink>(self, told: &mut Told<W>)
         ensures { HasTold (writing W.contents told.old told.new) (text_of_account self) }
     {
         let ThreadsOutput {

@@ -1,5 +1,7 @@
 //! Bytes that are read.
-use cqf_program_engine::{Heard, read_input};
+ghost use Rattle.std.specs.Prelude.{⊤};
+
+use cqf_program_engine::{Heard, Source, read_input};
 use cqf_program_stop::{NO_MEMORY, Stop};
 use cqf_refusing::{Told, mark, once, twice};
 use std::alloc::Global;
@@ -18,6 +20,15 @@ impl Read for Ones {
         self.left -= count;
         buf[..count].fill(1);
         Ok(count)
+    }
+}
+
+/// It may fail for anything.
+impl Source for Ones {
+    ghost fails = { λ _. ⊤ };
+
+    fn read_some(&mut self, buffer: &mut [u8]) -> io::Result<usize> {
+        self.read(buffer)
     }
 }
 

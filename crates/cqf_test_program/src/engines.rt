@@ -1,6 +1,8 @@
 //! The program over readers and writers that fail, and over each front of its input: a frame of one stream goes along three bridges.
 
-use cqf_program_engine::{Heard, Told, engine};
+ghost use Rattle.std.specs.Prelude.{⊤};
+
+use cqf_program_engine::{Heard, Sink, Source, Told, engine};
 use std::alloc::Global;
 use std::io;
 use std::io::{ErrorKind, Read, Write};
@@ -56,6 +58,15 @@ impl Read for Breaks {
     }
 }
 
+/// It may fail for anything.
+impl Source for Breaks {
+    ghost fails = { λ _. ⊤ };
+
+    fn read_some(&mut self, buffer: &mut [u8]) -> io::Result<usize> {
+        self.read(buffer)
+    }
+}
+
 /// A reader that never ends.
 #[derive(Drop)]
 struct Endless;
@@ -63,6 +74,15 @@ struct Endless;
 impl Read for Endless {
     fn read(&mut self, buf: &mut [u8]) -> io::Result<usize> {
         Ok(buf.len())
+    }
+}
+
+/// It may fail for anything.
+impl Source for Endless {
+    ghost fails = { λ _. ⊤ };
+
+    fn read_some(&mut self, buffer: &mut [u8]) -> io::Result<usize> {
+        self.read(buffer)
     }
 }
 
@@ -97,6 +117,19 @@ impl Write for Narrow {
             Refusal::FailsWhenFlushed => Err(io::Error::from(ErrorKind::Other)),
             _ => Ok(()),
         }
+    }
+}
+
+/// It may refuse for anything.
+impl Sink for Narrow {
+    ghost refuses = { λ _. ⊤ };
+
+    fn write_some(&mut self, bytes: &[u8]) -> io::Result<usize> {
+        self.write(bytes)
+    }
+
+    fn hand_on(&mut self) -> io::Result<()> {
+        self.flush()
     }
 }
 
@@ -159,7 +192,7 @@ fn is_end(status: u8, output: &Told<Narrow>, faults: &Told<Narrow>, wanted: End)
 }
 
 /// Whether a run ends so, where its output has so much room, and refuses so, and its writer of faults has so much room.
-fn ends<R: Read + Drop>(
+fn ends<R: Source + Drop>(
     rt: &(impl Threads + Wait + Sync),
     alloc: Global,
     words: &[&str],

@@ -1,6 +1,8 @@
 //! Text that is told in sheets, to writers in memory and to some that refuse a write.
 
-use cqf_program_press::{Press, Sheet, Told};
+ghost use Rattle.std.specs.Prelude.{⊤};
+
+use cqf_program_press::{Press, Sheet, Sink, Told};
 use std::alloc::Global;
 use std::io;
 use std::io::{ErrorKind, Write};
@@ -44,8 +46,21 @@ impl Write for Refuses {
     }
 }
 
+/// It may refuse for anything.
+impl Sink for Refuses {
+    ghost refuses = { λ _. ⊤ };
+
+    fn write_some(&mut self, bytes: &[u8]) -> io::Result<usize> {
+        self.write(bytes)
+    }
+
+    fn hand_on(&mut self) -> io::Result<()> {
+        self.flush()
+    }
+}
+
 /// Tells the numbers from 100,000 on, so many, each on a line of its own.
-fn tell_numbers<W: Write>(told: &mut Told<W>, sheet: Sheet, many: u64) {
+fn tell_numbers<W: Sink>(told: &mut Told<W>, sheet: Sheet, many: u64) {
     let mut press = Press::new(told, sheet);
     for number in 0..many {
         press.put_number(number.saturating_add(100_000));

@@ -1,6 +1,8 @@
 //! Runs whose reads and writes are interrupted by signals.
 
-use cqf_program_engine::{Heard, Told, engine};
+ghost use Rattle.std.specs.Prelude.{⊤};
+
+use cqf_program_engine::{Heard, Sink, Source, Told, engine};
 use std::io;
 use std::io::{ErrorKind, Read, Write};
 
@@ -28,6 +30,15 @@ impl Read for Interrupted {
     }
 }
 
+/// It may fail for anything.
+impl Source for Interrupted {
+    ghost fails = { λ _. ⊤ };
+
+    fn read_some(&mut self, buffer: &mut [u8]) -> io::Result<usize> {
+        self.read(buffer)
+    }
+}
+
 /// A writer that takes at most 7 octets at a time, and is flushed, each at the second try.
 #[derive(Drop)]
 struct Interrupting {
@@ -50,6 +61,19 @@ impl Write for Interrupting {
             return Err(io::Error::from(ErrorKind::Interrupted));
         }
         Ok(())
+    }
+}
+
+/// It may refuse for anything.
+impl Sink for Interrupting {
+    ghost refuses = { λ _. ⊤ };
+
+    fn write_some(&mut self, bytes: &[u8]) -> io::Result<usize> {
+        self.write(bytes)
+    }
+
+    fn hand_on(&mut self) -> io::Result<()> {
+        self.flush()
     }
 }
 
