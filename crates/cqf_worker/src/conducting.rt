@@ -21,6 +21,7 @@ use cqf_desk::{CloseFault, Desk, History, Seat};
 use cqf_laws_account::{
     bridges_apart_post_the_pages, gathered_pages_are_the_book, seats_give_the_history,
 };
+use cqf_laws_bridge::bridges_go_on;
 use cqf_laws_shift::book_of_history_says_the_shift;
 use cqf_model::{Background, Offer};
 use cqf_topology::Domain;
@@ -261,7 +262,8 @@ fn settle(
 /// the pace is asked, while no lock is held. It waits until all threads have ended.
 ///
 /// Refused with the first fault in the order that [`ConductFault`] tells; then the history and the pages are gone. `Bridge` comes for want of
-/// memory, or where a bridge refuses to receive a cycle that it has sent; `ChannelLost` never as pipes are closed.
+/// memory, or where a bridge refuses to receive a cycle that it has sent, with a table and batches that come to it in no run under the tables of
+/// a legal history; `ChannelLost` never as pipes are closed.
 pub fn conduct_pages<R: Threads + Wait + Sync, P: Pace>(
     rt: &R,
     alloc: Global,
@@ -286,6 +288,7 @@ pub fn conduct_pages<R: Threads + Wait + Sync, P: Pace>(
     seats_give_the_history();
     bridges_apart_post_the_pages();
     book_of_history_says_the_shift();
+    bridges_go_on();
     // the domain is accepted: a fact
     let _accepted = domain.cycle_time();
     let given = Given {

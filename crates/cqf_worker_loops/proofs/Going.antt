@@ -64,12 +64,8 @@ within_more ports n items all =
 pub record StandsAt (t : Traffic) (number cycle : ℕ) (now : Worker) : Type 0 where
   pub gone : HasGoneThrough t number cycle now
   pub behind : gone.worked.before cycle ≡ now.bridge
-  pub of_domain : now.bridge.domain ≡ t.domain
-  pub of_number : now.bridge.number ≡ number
-  pub received : now.bridge.received ≡ cycle
   pub not_spent : now.bridge.spent ≡ false
   pub ports : HasPorts now.bridge
-  pub is_agenda : IsAgendaOf t.domain t.offers t.background number now.agenda
   pub links_in : map link_of now.ins.items ≡ links_into t.domain number
   pub links_out : map link_of now.outs.items ≡ links_onward t.domain number
 
@@ -111,6 +107,10 @@ begins t number w is =
           receives = λ k run less. absurd (omega (arith, less, no_pages));
           posts = λ k less. absurd (omega (arith, less, no_pages));
         };
+        is_agenda = is.is_agenda;
+        of_domain = ap (λ (b : BridgeState). b.domain) is.is_bridge;
+        of_number = ap (λ (b : BridgeState). b.number) is.is_bridge;
+        received = ap (λ (b : BridgeState). b.received) is.is_bridge;
         has_sent = none_sent;
         had_tables = none_given;
         has_taken = unused_counts w.ins.items is.none_taken;
@@ -119,14 +119,10 @@ begins t number w is =
         in_place = λ k page there. absurd (none_at k page (ap (λ (s : Own). slice_get s.pages k) (sym is.is_share) ∙ there));
       };
       behind = sym is.is_bridge;
-      of_domain = ap (λ (b : BridgeState). b.domain) is.is_bridge;
-      of_number = ap (λ (b : BridgeState). b.number) is.is_bridge;
-      received = ap (λ (b : BridgeState). b.received) is.is_bridge;
       not_spent = ap (λ (b : BridgeState). b.spent) is.is_bridge;
       ports = ap (λ (b : BridgeState). map (λ (r : PortRecord). r.link) b.ports) is.is_bridge
           ∙ new_links t.domain (new_record t.domain) (λ l. refl) (links_from t.domain number)
           ∙ ap (λ (b : BridgeState). links_from b.domain b.number) (sym is.is_bridge);
-      is_agenda = is.is_agenda;
       links_in = is.links_in;
       links_out = is.links_out;
     }
@@ -141,31 +137,31 @@ pub may_go_on : (t : Traffic) (number cycle : ℕ) (worker now : Worker) → Bac
 may_go_on t number cycle worker now background is at early =
     let run : Run = record { domain = t.domain; tables = []; offers = t.offers; background = t.background } in
     let backed : AreBackedOf t.domain number cycle (background_at now.agenda cycle) =
-    subst (AreBackedOf t.domain number cycle) (sym (at.is_agenda.background_are cycle)) (background t.domain run number cycle refl is.good_background) in
+    subst (AreBackedOf t.domain number cycle) (sym (at.gone.is_agenda.background_are cycle)) (background t.domain run number cycle refl is.good_background) in
     record {
       early = early;
       ports = at.ports;
-      links_out = at.links_out ∙ (λ i. links_onward (sym at.of_domain i) (sym at.of_number i));
+      links_out = at.links_out ∙ (λ i. links_onward (sym at.gone.of_domain i) (sym at.gone.of_number i));
       room = λ k d below. omega (arith, early, (at.gone.has_put k d below).1);
-      backed = subst (λ (d : Domain). AreBackedOf d now.bridge.number cycle (background_at now.agenda cycle)) (sym at.of_domain)
-          (subst (λ (b : ℕ). AreBackedOf t.domain b cycle (background_at now.agenda cycle)) (sym at.of_number) backed);
+      backed = subst (λ (d : Domain). AreBackedOf d now.bridge.number cycle (background_at now.agenda cycle)) (sym at.gone.of_domain)
+          (subst (λ (b : ℕ). AreBackedOf t.domain b cycle (background_at now.agenda cycle)) (sym at.gone.of_number) backed);
       offered = λ rows. run_of_offers now.bridge.domain now.bridge.number cycle rows t.offers (offers_listed_at now.agenda cycle)
-          (subst (λ (d : Domain). AreOffers d t.offers) (sym at.of_domain) is.good_offers)
-          (at.is_agenda.offers_are cycle ∙ (λ i. offered_for (sym at.of_domain i) t.offers (sym at.of_number i) cycle));
+          (subst (λ (d : Domain). AreOffers d t.offers) (sym at.gone.of_domain) is.good_offers)
+          (at.gone.is_agenda.offers_are cycle ∙ (λ i. offered_for (sym at.gone.of_domain i) t.offers (sym at.gone.of_number i) cycle));
     }
 
 module _ (t : Traffic) (number n : ℕ) (before after : Worker) (at : StandsAt t number n before) (good : AreOffers t.domain t.offers)
     (step : GoesOn n before after) where
   -- the bridge halfway is of the domain and the number
   domain_half : step.halfway.domain ≡ t.domain
-  domain_half = ap (λ (b : BridgeState). b.domain) step.sends.sends.bridge ∙ at.of_domain
+  domain_half = ap (λ (b : BridgeState). b.domain) step.sends.sends.bridge ∙ at.gone.of_domain
 
   number_half : step.halfway.number ≡ number
-  number_half = ap (λ (b : BridgeState). b.number) step.sends.sends.bridge ∙ at.of_number
+  number_half = ap (λ (b : BridgeState). b.number) step.sends.sends.bridge ∙ at.gone.of_number
 
   -- what is offered to it is the traffic's
   offers_half : offers_listed_at before.agenda n ≡ offered_for t.domain t.offers number n
-  offers_half = at.is_agenda.offers_are n
+  offers_half = at.gone.is_agenda.offers_are n
 
   -- it receives for each run of the traffic
   receives : (run : Run) → IsRunOfBridge t.domain number n step.table.rows (offered_for t.domain t.offers number n) run →
@@ -200,13 +196,13 @@ module _ (t : Traffic) (number n : ℕ) (before after : Worker) (at : StandsAt t
   received_after : after.bridge.received ≡ n + 1
   received_after =
       ap (λ (b : BridgeState). b.received) received.bridge
-      ∙ ap (λ (k : ℕ). k + 1) (ap (λ (b : BridgeState). b.received) step.sends.sends.bridge ∙ at.received)
+      ∙ ap (λ (k : ℕ). k + 1) (ap (λ (b : BridgeState). b.received) step.sends.sends.bridge ∙ at.gone.received)
 
   -- the batches that are put are of the ports' links
   links_put : map (λ (x : LinkBatch). x.link) (onward before.bridge.domain step.sends.batches) ≡ map link_of before.outs.items
   links_put =
       onward_links before.bridge step.halfway n (background_at before.agenda n) step.sends.batches step.sends.sends at.ports
-      ∙ (λ i. links_onward (at.of_domain i) (at.of_number i)) ∙ sym at.links_out
+      ∙ (λ i. links_onward (at.gone.of_domain i) (at.gone.of_number i)) ∙ sym at.links_out
 
   -- there is a batch for each port
   count_put : length (onward before.bridge.domain step.sends.batches) ≡ length before.outs.items
@@ -275,7 +271,7 @@ module _ (t : Traffic) (number n : ℕ) (before after : Worker) (at : StandsAt t
   sends_now : SendsCycle (at.gone.worked.before n) step.halfway n (backed_for t.domain t.background number n) [] step.sends.batches
   sends_now =
       subst (λ (b : BridgeState). SendsCycle b step.halfway n (backed_for t.domain t.background number n) [] step.sends.batches) (sym at.behind)
-      (subst (λ (own : List Backed). SendsCycle before.bridge step.halfway n own [] step.sends.batches) (at.is_agenda.background_are n) step.sends.sends)
+      (subst (λ (own : List Backed). SendsCycle before.bridge step.halfway n own [] step.sends.batches) (at.gone.is_agenda.background_are n) step.sends.sends)
 
   -- the cycle is the next of its course
   next : IsNextCycle t number n (course_of before) (course_of after) (at.gone.worked.before n) step.halfway after.bridge
@@ -320,11 +316,19 @@ module _ (t : Traffic) (number n : ℕ) (before after : Worker) (at : StandsAt t
       only_one y x zero e = (refl, same_Some y x e)
       only_one y x (suc j) e = absurd cc
 
+  -- it has what it is offered still
+  agenda_after : IsAgendaOf t.domain t.offers t.background number after.agenda
+  agenda_after = subst (IsAgendaOf t.domain t.offers t.background number) (sym step.same_agenda) at.gone.is_agenda
+
   -- the worker stands behind the cycle
   pub goes_on : StandsAt t number (n + 1) after
   goes_on = record {
     gone = record {
       worked = worked_on t number n (course_of before) (course_of after) step.halfway after.bridge at.gone.worked next;
+      is_agenda = agenda_after;
+      of_domain = domain_after;
+      of_number = number_after;
+      received = received_after;
       has_sent = sent_after;
       had_tables = ap (λ (e : End (Carried CycleTable)). length (items_in e.items)) step.is_given ∙ ap length (items_more before.tables.items step.table)
           ∙ length-append (items_in before.tables.items) (step.table ∷ []) ∙ ap (λ (k : ℕ). k + 1) at.gone.had_tables;
@@ -335,13 +339,9 @@ module _ (t : Traffic) (number n : ℕ) (before after : Worker) (at : StandsAt t
       in_place = pages_in_place;
     };
     behind = stands_behind t number n (course_of before) (course_of after) step.halfway after.bridge at.gone.worked next;
-    of_domain = domain_after;
-    of_number = number_after;
-    received = received_after;
     not_spent = ap (λ (b : BridgeState). b.spent) received.bridge;
     ports = ports_received some_run.0 step.halfway after.bridge n step.batches step.dropped received
         (ports_sent before.bridge step.halfway n (background_at before.agenda n) step.sends.batches step.sends.sends at.ports);
-    is_agenda = subst (IsAgendaOf t.domain t.offers t.background number) (sym step.same_agenda) at.is_agenda;
     links_in = ap (map link_of) step.takes ∙ links_same before.ins.items (map Item step.batches) ∙ at.links_in;
     links_out = ap (map link_of) step.sends.puts ∙ links_same before.outs.items (map Item (onward before.bridge.domain step.sends.batches)) ∙ at.links_out;
   }
@@ -405,7 +405,7 @@ batches_left t number cycle now after items at more =
 memory_alone : (t : Traffic) (number cycle : ℕ) (now : Worker) (after : BridgeState) (reason : BridgeFault) → StandsAt t number cycle now →
     IsSendFault now.bridge after cycle reason → reason ≡ refusing.Memory
 memory_alone t number cycle now after refusing.Spent at fault = absurd (false≢true (sym at.not_spent ∙ fault.0))
-memory_alone t number cycle now after refusing.WrongCycle at fault = absurd (fault.1 (sym at.received, at.gone.has_sent ∙ sym at.received))
+memory_alone t number cycle now after refusing.WrongCycle at fault = absurd (fault.1 (sym at.gone.received, at.gone.has_sent ∙ sym at.gone.received))
 memory_alone t number cycle now after refusing.StrangeBatch at fault = absurd fault
 memory_alone t number cycle now after (refusing.OverOctets frame) at fault = absurd fault
 memory_alone t number cycle now after refusing.Memory at fault = refl

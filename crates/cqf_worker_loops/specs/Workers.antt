@@ -97,9 +97,13 @@ abbrev pub MayWork : Worker → Type 0
 MayWork w = (t : Traffic) × (number : ℕ) × IsWorkerOf t number w
 
 -- the bridge did its part: it went through so many cycles, in each of which a table was taken, a batch at each port taken or put, and a
--- page posted, which is its own of the cycle at whose place it stands
+-- page posted, which is its own of the cycle at whose place it stands. The bridge stands before the next, with what the traffic has for it
 pub record HasGoneThrough (t : Traffic) (number cycles : ℕ) (done : Worker) : Type 0 where
   pub worked : HasWorked t (course_of done) number
+  pub is_agenda : IsAgendaOf t.domain t.offers t.background number done.agenda
+  pub of_domain : done.bridge.domain ≡ t.domain
+  pub of_number : done.bridge.number ≡ number
+  pub received : done.bridge.received ≡ cycles
   pub has_sent : done.bridge.sent ≡ cycles
   pub had_tables : length (items_in done.tables.items) ≡ cycles
   pub has_taken : All (HasCarried cycles) done.ins.items

@@ -48,8 +48,8 @@ returns-in_err-ended-clause-err g c =
     (IsConductFault c.args.domain.now c.args.admission.entries c.args.offers.now c.args.background.now c.args.cycles
     (map (λ (v : Vec Command Global). v.items) c.args.admins.items)) c.from_residual-in_err-ended.ensures.1
     (told_of_threads c.args.domain.now c.args.admission.entries c.args.offers.now c.args.background.now c.args.cycles
-    (map (λ (v : Vec Command Global). v.items) c.args.admins.items) c.in_ok-desk.field-0 c.in_ok-desk.ensures.ok c.in_err-ended.field-0.0
-    c.in_err-ended.ensures.err)
+    (map (λ (v : Vec Command Global). v.items) c.args.admins.items) c.in_ok-desk.field-0 c.in_ok-desk.ensures.ok
+    c.bridges_go_on.ensures.receives c.in_err-ended.field-0.0 c.in_err-ended.ensures.err)
 
 -- or it isn't closed
 pub returns-in_err-account-clause-err : goal.returns-in_err-account-clause-err
