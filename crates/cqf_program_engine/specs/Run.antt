@@ -79,7 +79,7 @@ IsRefusal (Check cycles) input stop = IsCheckRefusal cycles input stop
 
 -- a run on threads fails, with the line of its fault: its input isn't refused. No other job fails
 abbrev pub IsFailure : Job → List ℕ → Stop → Type 0
-IsFailure (Run cycles true) input stop = (stop.status ≡ 4) × TellsFault (scenario_input cycles input) stop.text.items
+IsFailure (Run cycles true) input stop = (stop.status ≡ 4) × TellsFault cycles (scenario_input cycles input) stop.text.items
 IsFailure job input stop = ⊥
 
 -- how a job ends without its output

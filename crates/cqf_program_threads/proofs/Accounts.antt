@@ -19,8 +19,9 @@ use Rattle.cqf_program_scenario.specs.Scenario.{Scenario, scenario_input}
 use Rattle.cqf_program_scenario.specs.declared.opening.Opened.{Opened}
 use Rattle.cqf_program_stop.specs.Stops.{EndsWith, IsRefused, fault_line}
 use Rattle.cqf_program_stop.specs.declared.stops.Stop.{Stop}
-use Rattle.cqf_program_threads.specs.ThreadsOutput.{EndsThreads, IsAccountOfInput, IsThreadsOutput}
+use Rattle.cqf_program_threads.specs.ThreadsOutput.{EndsThreads, IsAccountOfInput, IsFaultOfInput, IsFaultOfScenario, IsThreadsOutput}
 use Rattle.cqf_worker.specs.Account.{IsPagedAccount, all_asked, entries_of}
+use Rattle.cqf_worker.specs.Failing.{IsConductFault}
 use Rattle.cqf_worker_loops.specs.Commands.{acts_asked}
 use Rattle.cqf_worker_threads.specs.Faults.{conduct_fault_text}
 use Rattle.cqf_worker.specs.declared.account.PagedAccount.{PagedAccount}
@@ -55,6 +56,29 @@ IsAccountOfInput-opened cycles input made account offers frames opened same_offe
       is_account = subst₂ (λ (offers : List Offer) (frames : List Background). IsPagedAccount made.domain (opening_history s) offers frames
           cycles admins account)
           (same_offers ∙ o.offers) (same_frames ∙ o.background) of_opening;
+    }
+
+-- a fault that a run of what was opened of an input may tell is one of the input's scenario
+pub IsFaultOfInput-opened : (cycles : ℕ) (input : List ℕ) (made : Opened) (fault : ConductFault) (d : Domain) (entries : List Recorded)
+    (offers : List Offer) (frames : List Background) → IsOpenedInput cycles input made → d ≡ made.domain → entries ≡ made.admission.entries
+    → offers ≡ made.offers.items → frames ≡ made.background.items
+    → IsConductFault d entries offers frames cycles (commands_in made.commands.items) fault → IsFaultOfInput cycles input fault
+IsFaultOfInput-opened cycles input made fault d entries offers frames opened same_domain same_entries same_offers same_frames may =
+    let s = opened.scenario in
+    let o = opened.opened in
+    let admins = commands_in made.commands.items in
+    let of_offers : IsConductFault d entries s.offers s.background cycles admins fault =
+    subst₂ (λ (offers : List Offer) (frames : List Background). IsConductFault d entries offers frames cycles admins fault)
+    (same_offers ∙ o.offers) (same_frames ∙ o.background) may in
+    record {
+      scenario = s;
+      holds = opened.holds;
+      of_scenario = record {
+        commands = admins;
+        asked = subst (λ (lists : List (List Act)). AreCommandsBehind s.calls s.sealer lists) (asked_of made.commands.items) o.commands;
+        may = subst₂ (λ (e : Domain) (entries : List Recorded). IsConductFault e entries s.offers s.background cycles admins fault)
+            (same_domain ∙ o.domain) (same_entries ∙ o.entries) of_offers;
+      };
     }
 
 -- the pages of such an account tell its book
@@ -104,13 +128,20 @@ EndsThreads-memory cycles input stop three none = record {
   memory = λ _. none;
 }
 
--- a fault of the run that isn't for memory ends it, behind an input that has a scenario
-EndsThreads-fault : (cycles : ℕ) (input : List ℕ) (s : Scenario) (fault : ConductFault) (stop : Stop) → scenario_input cycles input ≡ Ok s → fault ≢ Memory
+-- a fault of a run of the input's scenario ends it, where it isn't for memory
+EndsThreads-fault : (cycles : ℕ) (input : List ℕ) (fault : ConductFault) (stop : Stop) → IsFaultOfInput cycles input fault → fault ≢ Memory
     → EndsWith 4 (fault_line (codes "run") (conduct_fault_text fault)) stop → EndsThreads cycles input stop
-EndsThreads-fault cycles input s fault stop holds other e = record {
+EndsThreads-fault cycles input fault stop may other e = record {
   statuses = elim e.statuses [ inl four ↦ inr (inr four) | inr three ↦ inr (inl three) ];
   refused = λ one. absurd (elim e.statuses [ inl four ↦ omega arith | inr three ↦ omega arith ]);
-  fault = λ four. record { scenario = s; holds = holds; fault = fault; other = other; tells = e.line_is four };
+  fault = λ four. record {
+    scenario = may.scenario;
+    holds = may.holds;
+    fault = fault;
+    of_scenario = may.of_scenario;
+    other = other;
+    tells = e.line_is four;
+  };
   memory = e.memory;
 }
 
@@ -123,14 +154,14 @@ memory_or_not BookDisagrees = inr (λ e. (cc))
 memory_or_not ChannelLost = inr (λ e. (cc))
 memory_or_not Spawn = inr (λ e. (cc))
 
--- a fault of the run ends it, behind an input that was opened
-pub EndsThreads-stopped : (cycles : ℕ) (input : List ℕ) (made : Opened) (fault : ConductFault) (stop : Stop) → IsOpenedInput cycles input made
+-- whatever its fault, it ends
+pub EndsThreads-stopped : (cycles : ℕ) (input : List ℕ) (fault : ConductFault) (stop : Stop) → IsFaultOfInput cycles input fault
     → (fault ≢ Memory → EndsWith 4 (fault_line (codes "run") (conduct_fault_text fault)) stop) → (fault ≡ Memory → EndsWith 3 [] stop)
     → EndsThreads cycles input stop
-EndsThreads-stopped cycles input made fault stop o told memory = elim (memory_or_not fault) [
+EndsThreads-stopped cycles input fault stop may told memory = elim (memory_or_not fault) [
   | inl is ↦
       let e = memory is in
       let three : stop.status ≡ 3 = elim e.statuses [ inl three ↦ three | inr three ↦ three ] in
       EndsThreads-memory cycles input stop three (e.memory three)
-  | inr other ↦ EndsThreads-fault cycles input o.scenario fault stop o.holds other (told other)
+  | inr other ↦ EndsThreads-fault cycles input fault stop may other (told other)
 ]

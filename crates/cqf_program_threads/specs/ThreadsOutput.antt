@@ -12,6 +12,7 @@ use Rattle.cqf_program_scenario.specs.Scenario.{Scenario, scenario_input}
 use Rattle.cqf_program_stop.specs.Stops.{fault_line}
 use Rattle.cqf_program_stop.specs.declared.stops.Stop.{Stop}
 use Rattle.cqf_worker.specs.Account.{IsPagedAccount, all_asked}
+use Rattle.cqf_worker.specs.Failing.{IsConductFault}
 use Rattle.cqf_worker_threads.specs.Faults.{conduct_fault_text}
 use Rattle.cqf_worker.specs.declared.account.PagedAccount.{PagedAccount}
 use Rattle.cqf_worker_threads.specs.declared.faults.ConductFault.{ConductFault}
@@ -33,6 +34,18 @@ pub record IsAccountOfInput (cycles : ℕ) (input : List ℕ) (d : Domain) (acco
   pub asked : AreCommandsBehind scenario.calls scenario.sealer (all_asked commands)
   pub is_account : IsPagedAccount d (opening_history scenario) scenario.offers scenario.background cycles commands account
 
+-- a fault that a run of a scenario over so many cycles may tell, which begins so and in which each administrator makes what it calls for
+pub record IsFaultOfScenario (cycles : ℕ) (s : Scenario) (fault : ConductFault) : Type 0 where
+  pub commands : List (List Command)
+  pub asked : AreCommandsBehind s.calls s.sealer (all_asked commands)
+  pub may : IsConductFault s.domain (opening_history s) s.offers s.background cycles commands fault
+
+-- one that a run of an input's scenario may tell
+pub record IsFaultOfInput (cycles : ℕ) (input : List ℕ) (fault : ConductFault) : Type 0 where
+  pub scenario : Scenario
+  pub holds : scenario_input cycles input ≡ Ok scenario
+  pub of_scenario : IsFaultOfScenario cycles scenario fault
+
 -- the output is the text of the history of an account of the input's scenario, and of its book
 pub record IsThreadsOutput (cycles : ℕ) (input output : List ℕ) : Type 0 where
   pub scenario : Scenario
@@ -42,11 +55,13 @@ pub record IsThreadsOutput (cycles : ℕ) (input output : List ℕ) : Type 0 whe
   pub of_scenario : IsAccountOfScenario cycles scenario entries book
   pub written : output ≡ run_text scenario.domain entries book
 
--- the line tells the fault of a run, which began, since the input has a scenario; want of memory outside a bridge isn't told so
-pub record TellsFault (found : Result Scenario (List ℕ)) (line : List ℕ) : Type 0 where
+-- the line tells a fault that a run over so many cycles may tell of the scenario that the input has; want of memory outside a bridge
+-- isn't told so
+pub record TellsFault (cycles : ℕ) (found : Result Scenario (List ℕ)) (line : List ℕ) : Type 0 where
   pub scenario : Scenario
   pub holds : found ≡ Ok scenario
   pub fault : ConductFault
+  pub of_scenario : IsFaultOfScenario cycles scenario fault
   pub other : fault ≢ Memory
   pub tells : line ≡ fault_line (codes "run") (conduct_fault_text fault)
 
@@ -55,5 +70,5 @@ pub record TellsFault (found : Result Scenario (List ℕ)) (line : List ℕ) : T
 pub record EndsThreads (cycles : ℕ) (input : List ℕ) (stop : Stop) : Type 0 where
   pub statuses : (stop.status ≡ 1) ⊎ ((stop.status ≡ 3) ⊎ (stop.status ≡ 4))
   pub refused : stop.status ≡ 1 → scenario_input cycles input ≡ Err stop.text.items
-  pub fault : stop.status ≡ 4 → TellsFault (scenario_input cycles input) stop.text.items
+  pub fault : stop.status ≡ 4 → TellsFault cycles (scenario_input cycles input) stop.text.items
   pub memory : stop.status ≡ 3 → stop.text.items ≡ []

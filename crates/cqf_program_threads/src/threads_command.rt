@@ -10,7 +10,7 @@ ghost use Rattle.cqf_program_stop.specs.Stops.{EndsWith, fault_line, line_of};
 ghost use Rattle.cqf_worker_threads.specs.Faults.{conduct_fault_text};
 ghost use Rattle.cqf_program_threads.specs.AccountTold.{text_of_account};
 ghost use Rattle.cqf_program_threads.specs.PagedBooks.{contents_told};
-ghost use Rattle.cqf_program_threads.specs.ThreadsOutput.{EndsThreads, IsAccountOfInput, IsThreadsOutput};
+ghost use Rattle.cqf_program_threads.specs.ThreadsOutput.{EndsThreads, IsAccountOfInput, IsFaultOfInput, IsThreadsOutput};
 ghost use Rattle.cqf_model.specs.Limits.{most_cycles};
 
 use crate::threads_outputs::ThreadsOutput;
@@ -47,7 +47,7 @@ fn fault_stop(alloc: Global, fault: ConductFault) -> Stop
     }
 }
 
-/// The domain of what was opened of the input, and the account of its run, by pages.
+/// The domain of what was opened of the input, and the account of its run, by pages, or the run's fault.
 fn conduct_opened(
     rt: &(impl Threads + Wait + Sync),
     alloc: Global,
@@ -57,7 +57,8 @@ fn conduct_opened(
 ) -> Result<(Domain, PagedAccount), ConductFault>
     requires short { cycles ≤ most_cycles }
     requires opened { IsOpenedInput cycles input.now opened }
-    ensures { IfOk result (λ ran. IsAccountOfInput cycles input.now ran.0 ran.1) }
+    ensures ok { IfOk result (λ ran. IsAccountOfInput cycles input.now ran.0 ran.1) }
+    ensures err { IfErr result (IsFaultOfInput cycles input.now) }
 {
     let Opened {
         domain,
@@ -66,7 +67,7 @@ fn conduct_opened(
         offers,
         background,
     } = opened;
-    let account = conduct_pages(
+    match conduct_pages(
         rt,
         alloc,
         &domain,
@@ -76,8 +77,10 @@ fn conduct_opened(
         cycles,
         commands,
         &Free,
-    )?;
-    Ok((domain, account))
+    ) {
+        Ok(account) => Ok((domain, account)),
+        Err(fault) => Err(fault),
+    }
 }
 
 /// Puts a line `%%`, and the text of the book that pages tell behind it.
