@@ -7,17 +7,14 @@ use cqf_program_engine::{Heard, Texts, engine, tell};
 use cqf_program_explanations::{Source, explanation};
 use cqf_program_files::{Front, cycles_of, front_of, renumbered};
 use cqf_program_press::{Told, write_out};
-use cqf_program_stop::{FAULT, REFUSED, Stop, USAGE};
-use cqf_program_words::{Job, Operands, read_words, stop_of_file};
+use cqf_program_stop::{FAULT, REFUSED, Stop};
+use cqf_program_words::{Job, Operands, STANDARD, check_files, read_words, stop_of_file};
 use std::alloc::{AllocError, Global};
 use std::fs::File;
 use std::io::{ErrorKind, Write};
 use std::process::ExitCode;
 use std::sync::Wait;
 use std::thread::Threads;
-
-/// The name of standard input.
-const STANDARD: &str = "-";
 
 /// Room for each line that the engine tells of a fault, had before it runs.
 const ROOM: usize = 65_536;
@@ -180,8 +177,8 @@ pub(crate) fn run_files(
         Err(stop) => return end(rt, &stop),
     };
     let names = operands.files();
-    if names.iter().filter(|name| **name == STANDARD).count() > 1 {
-        return end(rt, &Stop::with_line(alloc, USAGE, "cqf: words\n"));
+    if let Err(stop) = check_files(alloc, names) {
+        return end(rt, &stop);
     }
     let read = match read_files(rt, alloc, names) {
         Ok(read) => read,

@@ -7,7 +7,7 @@ use Rattle.std.specs.Io.KnownBytes.{IsAtEnd}
 use Rattle.std.proofs.Math.Logic.{∥∥₁_elim}
 use Rattle.cqf_program_stop.specs.Stops.{EndsWith, line_of}
 use Rattle.clap.specs.Words.{Row, Text, first_of, subcommand_of}
-use Rattle.cqf_program_words.specs.Shown.{EndsShown, no_command}
+use Rattle.cqf_program_words.specs.Shown.{EndsShown, ShowsLine, ShowsWords, no_command}
 use Rattle.cqf_program_words.specs.Words.{EndsWords, IsJob, IsJobOf, IsNumberIn, Mean, cqf_app}
 use Rattle.cqf_program_engine.specs.Edge.{IsHeard, Marks, Reading}
 use Rattle.cqf_program_press.specs.Edge.{Writing}
@@ -28,15 +28,15 @@ use Rattle.cqf_program_words.specs.declared.words.Job.TheVariants.{Check, Compil
 
 -- words that are given and mean no job stop the run before anything is read
 pub IsStopped-by_words : (words : List (List ℕ)) (input : Reading) (stop : Stop) → words ≢ [] → input.failed ≡ false → EndsWords words stop
-    → IsStopped words input stop
-IsStopped-by_words [] input stop some sound e = absurd (some refl)
-IsStopped-by_words (word ∷ words) input stop some sound e = elim e.statuses [
+    → ¬ AskForVersion words → ShowsWords words stop → IsStopped words input stop
+IsStopped-by_words [] input stop some sound e no_version shows = absurd (some refl)
+IsStopped-by_words (word ∷ words) input stop some sound e no_version shows = elim e.statuses [
   | inl zero_is ↦ inl (zero_is, record { answered = inl (e.help zero_is); at_end = λ none. absurd (some none); sound = sound })
   | inr (inl two) ↦
       let misused : IsMisuse (word ∷ words) input.bytes stop = record {
         status = two;
         short = λ none. absurd (some none);
-        cause = inr (inr ((λ none. absurd (some none)), e.mistake two, e.no_job (λ three. omega arith)));
+        cause = inr (inr ((λ none. absurd (some none)), e.mistake two, e.no_job (λ three. omega arith), no_version, shows));
       } in
       inr (inr (inl (two, record { misused = misused; at_end = λ none. absurd (some none); sound = sound })))
   | inr (inr three) ↦ inr (inr (inr (inl (three, e.memory three))))
@@ -51,13 +51,18 @@ IsStopped-by_version words input stop some sound asks e = elim e.statuses [
   | inr three ↦ inr (inr (inr (inl (three, e.memory three))))
 ]
 
+-- no words ask for nothing
+no_words_ask : ¬ AskForVersion []
+no_words_ask (inl same) = (cc)
+no_words_ask (inr same) = (cc)
+
 -- words of the first line that mean no job stop it too
 pub HasCause-by_line : (bytes : List ℕ) (stop : Stop) → length bytes ≤ 67108864 → HasWords bytes → EndsWords (words_of [] bytes) stop
-    → HasCause [] bytes stop
-HasCause-by_line bytes stop short text e = elim e.statuses [
+    → ShowsLine (first_line bytes) stop → HasCause [] bytes stop
+HasCause-by_line bytes stop short text e shows = elim e.statuses [
   | inl zero_is ↦ inl (zero_is, inl (e.help zero_is))
   | inr (inl two) ↦
-      inr (inr (inl (record { status = two; short = λ none. short; cause = inr (inr ((λ none. text), e.mistake two, e.no_job (λ three. omega arith))) })))
+      inr (inr (inl (record { status = two; short = λ none. short; cause = inr (inr ((λ none. text), e.mistake two, e.no_job (λ three. omega arith), no_words_ask, shows)) })))
   | inr (inr three) ↦ inr (inr (inr (inl (three, e.memory three))))
 ]
 

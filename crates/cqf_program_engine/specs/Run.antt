@@ -24,7 +24,7 @@ use Rattle.cqf_program_runs.specs.RunOutput.{IsRunOutput}
 use Rattle.cqf_program_scenario.specs.Scenario.{scenario_input}
 use Rattle.cqf_program_plans.specs.TcOutput.{tc_of_input}
 use Rattle.cqf_program_threads.specs.ThreadsOutput.{IsThreadsOutput, TellsFault}
-use Rattle.cqf_program_words.specs.Shown.{ShowsBehind, no_command}
+use Rattle.cqf_program_words.specs.Shown.{ShowsBehind, ShowsLine, ShowsWords, no_command}
 use Rattle.cqf_program_words.specs.Words.{AreMistaken, AskForHelp, Mean}
 use Rattle.cqf_program_stop.specs.declared.stops.Stop.{Stop}
 use Rattle.cqf_program_engine.specs.declared.runs.TheConstants.{VERSION}
@@ -137,13 +137,25 @@ pub record IsRefusedRun (words : List (List ℕ)) (bytes : List ℕ) (stop : Sto
       ⊎ ((length bytes ≤ 67108864) × (words ≡ [] → HasWords bytes)
       × ((job : Job) × Mean (words_of words bytes) job × IsRefusal job (input_of words bytes) stop))
 
--- the words mean no job: those of the first line aren't text; it is too long to have words; or they are a mistake. The stop has status 2
+-- the program's version is asked for, by one of these words alone
+abbrev pub AskForVersion : List (List ℕ) → Type 0
+AskForVersion words = (words ≡ codes "--version" ∷ []) ⊎ (words ≡ codes "-V" ∷ [])
+
+-- how a mistake is told: by a line of the program's own where words that are given aren't all printable, and where a first line that has
+-- the words isn't shown as it is. Of other words the text is clap's
+abbrev pub ShowsMistake : List (List ℕ) → List ℕ → Stop → Type 0
+ShowsMistake [] bytes stop = ShowsLine (first_line bytes) stop
+ShowsMistake (word ∷ words) bytes stop = ShowsWords (word ∷ words) stop
+
+-- the words mean no job: those of the first line aren't text; it is too long to have words; or they are a mistake, and don't ask for the
+-- version. The stop has status 2
 pub record IsMisuse (words : List (List ℕ)) (bytes : List ℕ) (stop : Stop) : Type 0 where
   pub status : stop.status ≡ 2
   pub short : words ≡ [] → length bytes ≤ 67108864
   pub cause : ((words ≡ []) × ¬ IsUtf8 (first_line bytes) × (stop.text.items ≡ line_of (codes "cqf: words")))
       ⊎ (((words ≡ []) × (most_line < length (first_line bytes)) × ShowsBehind no_command stop.text.items)
-      ⊎ ((words ≡ [] → HasWords bytes) × AreMistaken (words_of words bytes) × ((job : Job) → ¬ Mean (words_of words bytes) job)))
+      ⊎ ((words ≡ [] → HasWords bytes) × AreMistaken (words_of words bytes) × ((job : Job) → ¬ Mean (words_of words bytes) job)
+      × ¬ AskForVersion words × ShowsMistake words bytes stop))
 
 -- a run on threads fails: the words mean that job, and this is the line of its fault. The stop has status 4
 pub record IsFailedRun (words : List (List ℕ)) (bytes : List ℕ) (stop : Stop) : Type 0 where
@@ -196,10 +208,6 @@ pub record EndsText (fails : ErrorKind → Type 0) (bytes : List ℕ) (stop : St
 abbrev pub IsVersionWord : Bool → List ℕ → Type 0
 IsVersionWord true word = (word ≡ codes "--version") ⊎ (word ≡ codes "-V")
 IsVersionWord false word = ¬ ((word ≡ codes "--version") ⊎ (word ≡ codes "-V"))
-
--- the program's version is asked for, by one of these words alone
-abbrev pub AskForVersion : List (List ℕ) → Type 0
-AskForVersion words = (words ≡ codes "--version" ∷ []) ⊎ (words ≡ codes "-V" ∷ [])
 
 -- whether it is
 abbrev pub IsAsking : Bool → List (List ℕ) → Type 0

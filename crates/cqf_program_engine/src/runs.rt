@@ -5,6 +5,7 @@ ghost use Rattle.cqf_program_engine.specs.Edge.{IsHeard, IsUnheard, reading};
 ghost use Rattle.cqf_program_engine.specs.Prepared.{HasText, IsTextOf};
 ghost use Rattle.cqf_program_press.specs.Edge.{writing};
 ghost use Rattle.cqf_program_threads.specs.ThreadsOutput.{EndsThreads, IsThreadsOutput};
+ghost use Rattle.cqf_program_words.specs.Shown.{ShowsLine};
 ghost use Rattle.cqf_program_words.specs.Words.{EndsWords, Mean};
 ghost use Rattle.cqf_program_stop.specs.Stops.{EndsWith};
 ghost use Rattle.cqf_program_engine.specs.Run.{version_line, IsAsking, IsVersionWord, IsWithin, IsOutput, IsEnd};
@@ -248,6 +249,7 @@ fn split_first_line(bytes: &[u8]) -> (&[u8], &[u8])
 fn read_line(alloc: Global, line: &str, words: &[&str]) -> Result<Job, Stop>
     ensures ok { IfOk result (Mean (map (λ word. word.now) words.now)) }
     ensures err { IfErr result (EndsWords (map (λ word. word.now) words.now)) }
+    ensures shows { IfErr result (ShowsLine line.now) }
 {
     match read_words(alloc, words) {
         Ok(job) => Ok(job),

@@ -1,13 +1,15 @@
-use Rattle.std.proofs.Common.{List, ℕ, map, subst}
+use Rattle.std.proofs.Common.{Bool, List, ℕ, map, subst}
 use Rattle.std.proofs.lemmas.Result.{IfErr-weaker, IfOk-weaker}
 use Rattle.cqf_program_engine.specs.Edge.{reading}
-use Rattle.cqf_program_engine.specs.Run.{IsEnd, IsOutput}
+use Rattle.cqf_program_engine.specs.Run.{IsAsking, IsEnd, IsOutput}
 use Rattle.cqf_program_engine.proofs.RunLemmas.{HasRun-given, IsStopped-by_given, IsStopped-by_words, IsWithin-means}
 use Rattle.cqf_program_engine.proofs.runs.run_given.Goals as goal
 
 pub returns-in-Err-clause-err : goal.returns-in-Err-clause-err
 returns-in-Err-clause-err g c = IsStopped-by_words (map (λ word. word.now) c.args.words.now) (reading g.R.Read.remaining c.args.input.now c.args.input.now)
     c.in-Err.stop c.requires.given c.requires.unheard.sound c.in-Err.ensures.err
+    (subst (λ (asking : Bool). IsAsking asking (map (λ word. word.now) c.args.words.now)) c.if-ask_for_version.false c.ask_for_version.ensures)
+    c.in-Err.ensures.own
 
 pub returns-clause-ok : goal.returns-clause-ok
 returns-clause-ok g c = IfOk-weaker c.output_of.result _ _
