@@ -1,0 +1,69 @@
+-- The traffic of a stream's table (profile): what its talker promises, and when its offers begin.
+use Rattle.std.specs.Prelude.{ℕ, ◌≤◌, ◌&&◌, Bool, List, Option, Some, None, Result, Ok, is_none, is_some, find, if◌then◌else◌, ok_or}
+use Rattle.std.specs.List.{list_any}
+use Rattle.toml.specs.Data.{Data, Members, get_member}
+use Rattle.cqf_lists.specs.Results.{and_then}
+use Rattle.cqf_topology_fields.specs.Fields.{number_from}
+use Rattle.cqf_laws_traffic.specs.Traffic.{Traffic}
+use Rattle.cqf_traffic.specs.declared.keys.TrafficKey.{TrafficKey}
+use Rattle.cqf_traffic.specs.declared.keys.TrafficKey.TheVariants.{Interval, Frames, Size, Jitter, Offset}
+use Rattle.cqf_traffic.specs.Keys.{default_of, key_text, least_of, most_of, traffic_keys}
+
+-- a stream's traffic as numbers: nanoseconds, frames and octets
+pub record TrafficText : Type 0 where
+  pub interval : ℕ
+  pub frames : ℕ
+  pub size : ℕ
+  pub jitter : ℕ
+  pub offset : ℕ
+
+-- a number that may stand at a key
+pub record IsInRange (key : TrafficKey) (n : ℕ) : Type 0 where
+  pub least : least_of key ≤ n
+  pub most : n ≤ most_of key
+
+-- each may stand at its key
+pub record IsTrafficText (t : TrafficText) : Type 0 where
+  pub interval : IsInRange Interval t.interval
+  pub frames : IsInRange Frames t.frames
+  pub size : IsInRange Size t.size
+  pub jitter : IsInRange Jitter t.jitter
+  pub offset : IsInRange Offset t.offset
+
+-- what the talker promises; when its offers begin is no part of it
+abbrev pub promise_of : TrafficText → Traffic
+promise_of t = record { interval = t.interval; frames = t.frames; size = t.size; jitter = t.jitter }
+
+-- what stands at a key of a stream's table
+abbrev pub value_at : TrafficKey → Members → Option Data
+value_at key table = get_member (key_text key) table
+
+-- whether one of the keys stands there
+abbrev pub has_traffic : Members → Bool
+has_traffic table = list_any (λ key. is_some (value_at key table)) traffic_keys
+
+-- the first key that is owed then and absent
+abbrev pub first_owed : Members → Option TrafficKey
+first_owed table = if has_traffic table then find (λ key. is_none (default_of key) && is_none (value_at key table)) traffic_keys else None
+
+-- the number at a key, by what stands there; where it can't be had, the key
+abbrev pub number_by : Option Data → TrafficKey → Result ℕ TrafficKey
+number_by None key = ok_or (default_of key) key
+number_by (Some d) key = ok_or (number_from (least_of key) (most_of key) d) key
+
+abbrev pub number_at : TrafficKey → Members → Result ℕ TrafficKey
+number_at key table = number_by (value_at key table) key
+
+-- the traffic of a stream's table, or the first key that has another value than it may have
+abbrev pub numbers_from : Members → Result TrafficText TrafficKey
+numbers_from table =
+    and_then (number_at Interval table) (λ interval.
+    and_then (number_at Frames table) (λ frames.
+    and_then (number_at Size table) (λ size.
+    and_then (number_at Jitter table) (λ jitter.
+    and_then (number_at Offset table) (λ offset.
+    Ok (record { interval = interval; frames = frames; size = size; jitter = jitter; offset = offset }))))))
+
+-- none where no key of it stands
+abbrev pub traffic_from : Members → Result (Option TrafficText) TrafficKey
+traffic_from table = if has_traffic table then and_then (numbers_from table) (λ t. Ok (Some t)) else Ok None

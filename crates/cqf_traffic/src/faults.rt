@@ -1,0 +1,69 @@
+//! Why a text of streams with traffic is refused.
+ghost use Rattle.std.specs.Prelude.{◌≡◌, Some};
+ghost use Rattle.cqf_traffic.specs.FlowsText.{flows_fault_text};
+
+use crate::TrafficKey;
+use cqf_topology::StreamsFault;
+use cqf_units::Memory;
+use std::alloc::AllocFailed;
+use std::fmt;
+use thiserror::Error;
+
+/// Why a text of streams with traffic is refused (profile): as a text of streams is, and by the keys of traffic. What is missing is
+/// told before any bad value. A fault prints as its name, and then its key.
+#[derive(Clone, Copy, Debug, PartialEq, Eq, Error)]
+pub enum FlowsFault {
+    /// What is wrong but for traffic, want of memory too.
+    Streams(StreamsFault),
+    /// The first key that a stream's traffic owes and that is absent.
+    Missing(TrafficKey),
+    /// The first key of a stream's traffic whose value has another form than it must have.
+    BadValue(TrafficKey),
+}
+
+impl fmt::Display for FlowsFault {
+    ghost output = { λ fault. Some (flows_fault_text fault) };
+
+    fn fmt<W: fmt::Write>(&self, f: &mut fmt::Formatter<W>) -> fmt::Result {
+        match self {
+            FlowsFault::Streams(fault) => write!(f, "{fault}"),
+            FlowsFault::Missing(key) => write!(f, "Missing {key}"),
+            FlowsFault::BadValue(key) => write!(f, "BadValue {key}"),
+        }
+    }
+}
+
+/// Want of memory, as a fault.
+impl From<Memory> for FlowsFault {
+    ghost use Rattle.cqf_topology_fields.specs.declared.faults.TomlFault.TheVariants as toml;
+    ghost use Rattle.cqf_traffic.specs.declared.faults.FlowsFault.TheVariants as variant;
+
+    ghost from_gives = { λ _ fault. fault ≡ variant.Streams toml.Memory };
+
+    fn from(_refused: Memory) -> FlowsFault {
+        FlowsFault::Streams(StreamsFault::Memory)
+    }
+}
+
+/// Want of room for a value, likewise.
+impl<T: Drop> From<AllocFailed<T>> for FlowsFault {
+    ghost use Rattle.cqf_topology_fields.specs.declared.faults.TomlFault.TheVariants as toml;
+    ghost use Rattle.cqf_traffic.specs.declared.faults.FlowsFault.TheVariants as variant;
+
+    ghost from_gives = { λ _ fault. fault ≡ variant.Streams toml.Memory };
+
+    fn from(_refused: AllocFailed<T>) -> FlowsFault {
+        FlowsFault::Streams(StreamsFault::Memory)
+    }
+}
+
+/// What is wrong with a stream but for its traffic.
+impl From<StreamsFault> for FlowsFault {
+    ghost use Rattle.cqf_traffic.specs.declared.faults.FlowsFault.TheVariants as variant;
+
+    ghost from_gives = { λ fault given. given ≡ variant.Streams fault };
+
+    fn from(fault: StreamsFault) -> FlowsFault {
+        FlowsFault::Streams(fault)
+    }
+}

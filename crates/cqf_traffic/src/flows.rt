@@ -1,0 +1,157 @@
+//! Streams with their deadlines and their traffic.
+ghost use Rattle.std.specs.Prelude.{◌≡◌, [], map, ok_or, option_and_then};
+ghost use Rattle.toml.specs.Data.{as_table};
+ghost use Rattle.toml.specs.View.{items_view, table_view, view};
+ghost use Rattle.cqf_lists.specs.Results.{and_then};
+ghost use Rattle.cqf_topology_fields.specs.Fields.{Gives, first_absent, whole_document};
+ghost use Rattle.cqf_topology.specs.StreamsText.{stream_keys, streams_keys};
+ghost use Rattle.cqf_traffic.specs.FlowsText.{first_lack, first_lack_of, first_lack_within, flow_from, flow_text, flows_from, flows_in};
+ghost use Rattle.cqf_traffic.specs.FlowsText.{flows_of_array, flows_of_text, traffic_or};
+
+use crate::requests::read_planned;
+use crate::traffic::{Traffic, traffic_of};
+use crate::{FlowsFault, first_owed};
+use cqf_topology::{Key, Planned, StreamsFault};
+use cqf_topology_fields::{are_all_tables, array_at, read_document, value_at};
+use std::alloc::Global;
+use toml::{Table, Value};
+
+/// A stream of a text: its request and deadline, and what its talker promises, where the text says it.
+#[derive(Debug, Drop)]
+pub struct Flow {
+    pub planned: Planned,
+    pub traffic: Option<Traffic>,
+}
+
+/// The first key that a stream's table lacks, of those that each has.
+fn first_absent_of(table: &Table) -> Option<Key>
+    ensures { result ≡ first_absent stream_keys (table_view table.now) }
+{
+    if value_at(table, Key::Name).is_none() {
+        return Some(Key::Name);
+    }
+    if value_at(table, Key::Octets).is_none() {
+        return Some(Key::Octets);
+    }
+    if value_at(table, Key::Path).is_none() && value_at(table, Key::Paths).is_none() {
+        return Some(Key::Path);
+    }
+    None
+}
+
+/// What a stream's table lacks first.
+fn first_lack(table: &Table) -> Option<FlowsFault>
+    ensures { result ≡ first_lack (table_view table.now) }
+{
+    if let Some(key) = first_absent_of(table) {
+        return Some(FlowsFault::Streams(StreamsFault::Missing(key)));
+    }
+    match first_owed(table) {
+        Some(key) => Some(FlowsFault::Missing(key)),
+        None => None,
+    }
+}
+
+/// What a value lacks first, where it is a table.
+fn first_lack_from(value: &Value) -> Option<FlowsFault>
+    ensures { result ≡ option_and_then first_lack (as_table (view value.now)) }
+{
+    match value.as_table() {
+        Some(table) => first_lack(table),
+        None => None,
+    }
+}
+
+/// What one of the values lacks first, where it is a table.
+fn first_lack_among(values: &[Value]) -> Option<FlowsFault>
+    ensures { result ≡ first_lack_within (items_view values.now) }
+{
+    for value in values {
+        let lack = first_lack_from(value);
+        if lack.is_some() {
+            return lack;
+        }
+    }
+    None
+}
+
+/// What a document's streams lack first.
+fn first_lack_of(table: &Table) -> Option<FlowsFault>
+    ensures { result ≡ first_lack_of (table_view table.now) }
+{
+    match value_at(table, Key::Streams).and_then(Value::as_array) {
+        Some(values) => first_lack_among(values.as_slice()),
+        None => None,
+    }
+}
+
+/// The traffic of a stream's table, or the fault of its first bad value.
+fn read_traffic(table: &Table) -> Result<Option<Traffic>, FlowsFault>
+    ensures { result ≡ traffic_or (table_view table.now) }
+{
+    match traffic_of(table) {
+        Ok(traffic) => Ok(traffic),
+        Err(key) => Err(FlowsFault::BadValue(key)),
+    }
+}
+
+/// A stream's table.
+fn read_flow(alloc: Global, table: &Table) -> Result<Flow, FlowsFault>
+    ensures { Gives (FlowsFault.Streams StreamsFault.Memory) flow_text result (flow_from (table_view table.now)) }
+{
+    let planned = read_planned(alloc, table)?;
+    let traffic = read_traffic(table)?;
+    Ok(Flow { planned, traffic })
+}
+
+/// A stream, as an element of the array of streams.
+fn flow_in(alloc: Global, value: &Value) -> Result<Flow, FlowsFault>
+    ensures { Gives (FlowsFault.Streams StreamsFault.Memory) flow_text result
+        (and_then (ok_or (as_table (view value.now)) (FlowsFault.Streams (StreamsFault.BadValue Key.Streams))) flow_from) }
+{
+    match value.as_table() {
+        Some(table) => read_flow(alloc, table),
+        None => Err(FlowsFault::Streams(StreamsFault::BadValue(Key::Streams))),
+    }
+}
+
+/// The elements of the array of streams.
+fn all_flows_in(alloc: Global, values: &[Value]) -> Result<Vec<Flow>, FlowsFault>
+    ensures { Gives (FlowsFault.Streams StreamsFault.Memory) (λ flows. map flow_text flows.items) result (flows_from (items_view values.now)) }
+{
+    let mut flows = Vec::new(alloc);
+    for value in values {
+        let flow = flow_in(alloc, value)?;
+        flows.push(flow)?;
+    }
+    Ok(flows)
+}
+
+/// The streams of a document.
+fn flows_of_table(alloc: Global, table: &Table) -> Result<Vec<Flow>, FlowsFault>
+    ensures { Gives (FlowsFault.Streams StreamsFault.Memory) (λ flows. map flow_text flows.items) result (flows_in (table_view table.now)) }
+{
+    let values = array_at(table, Key::Streams)?;
+    if !are_all_tables(values) {
+        return Err(FlowsFault::Streams(StreamsFault::BadValue(Key::Streams)));
+    }
+    all_flows_in(alloc, values)
+}
+
+/// The streams of a text, in its order, with their deadlines and their traffic.
+///
+/// The text is that of [`cqf_topology::read_planned_streams`], where a table may have the keys of traffic too, which are read behind
+/// its others ([`crate::traffic_of`]).
+///
+/// # Errors
+/// As of [`cqf_topology::read_planned_streams`], where what a stream's traffic owes is missing behind its other keys, and a bad value of
+/// traffic comes behind those of the stream's other keys; `Memory` where a growth is refused.
+pub fn read_flows(alloc: Global, text: &[u8]) -> Result<Vec<Flow>, FlowsFault>
+    ensures { Gives (FlowsFault.Streams StreamsFault.Memory) (λ flows. map flow_text flows.items) result (flows_of_text text.now) }
+{
+    let table = read_document(alloc, text, &[Key::Streams], Key::Streams, &[])?;
+    match first_lack_of(&table) {
+        Some(fault) => Err(fault),
+        None => flows_of_table(alloc, &table),
+    }
+}

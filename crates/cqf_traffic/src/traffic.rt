@@ -1,0 +1,177 @@
+//! A talker's promise, as its stream's table has it.
+ghost use Rattle.std.specs.Prelude.{◌≡◌, option_map};
+ghost use Rattle.toml.specs.View.{table_view, view};
+ghost use Rattle.cqf_laws_traffic.specs.Traffic.{intervals_in, needed};
+ghost use Rattle.cqf_topology_fields.specs.Fields.{number_from};
+ghost use Rattle.cqf_traffic.specs.TrafficText.{has_traffic, number_at, numbers_from, promise_of, traffic_from, value_at};
+ghost use Rattle.cqf_traffic.specs.Keys.{least_of, most_of};
+
+use crate::keys::{TRAFFIC_KEYS, TrafficKey};
+use cqf_units::{Nanos, Octets};
+use std::marker::Model;
+use toml::{Table, Value};
+
+/// What a talker promises of a stream: in each interval at most so many frames of at most so many octets, each at its edge bridge at
+/// most so late against the regular grid; and when its offers begin, on which no promise hangs (after IEEE Std 802.1Q-2018,
+/// 46.2.3.5). Each number is in the range of its key.
+#[derive(Clone, Copy, Debug)]
+pub struct Traffic {
+    interval: u32,
+    frames: u32,
+    size: u32,
+    jitter: u32,
+    offset: u32,
+}
+
+impl Model for Traffic {
+    ghost use Rattle.cqf_traffic.specs.TrafficText.{TrafficText, IsTrafficText};
+
+    ghost Value = { TrafficText };
+
+    ghost view = { λ t. record { interval = t.interval; frames = t.frames; size = t.size; jitter = t.jitter; offset = t.offset } };
+
+    ghost invariant = { λ t. IsTrafficText (record { interval = t.interval; frames = t.frames; size = t.size; jitter = t.jitter; offset = t.offset }) };
+
+    ghost inverse = { λ v. record { interval = v.interval; frames = v.frames; size = v.size; jitter = v.jitter; offset = v.offset } };
+}
+
+impl Traffic {
+    ghost use Rattle.cqf_traffic.specs.TrafficText.{IsTrafficText};
+
+    /// How long an interval is, from 1 to 1,000,000,000 ns.
+    pub fn interval(self) -> Nanos
+        ensures value { result.0 ≡ self.interval }
+        ensures range { IsTrafficText self }
+    {
+        Nanos(u64::from(self.interval))
+    }
+
+    /// How many frames come in each interval at most, from 1 to 1,000.
+    pub fn frames(self) -> u32
+        ensures value { result ≡ self.frames }
+        ensures range { IsTrafficText self }
+    {
+        self.frames
+    }
+
+    /// How many octets a frame has at most, from 64 to 1,522.
+    pub fn size(self) -> Octets
+        ensures value { result.0 ≡ self.size }
+        ensures range { IsTrafficText self }
+    {
+        Octets(self.size)
+    }
+
+    /// How late a frame may be, up to 1,000,000,000 ns.
+    pub fn jitter(self) -> Nanos
+        ensures value { result.0 ≡ self.jitter }
+        ensures range { IsTrafficText self }
+    {
+        Nanos(u64::from(self.jitter))
+    }
+
+    /// When the stream's offers begin, up to 1,000,000,000 ns.
+    pub fn offset(self) -> Nanos
+        ensures value { result.0 ≡ self.offset }
+        ensures range { IsTrafficText self }
+    {
+        Nanos(u64::from(self.offset))
+    }
+
+    /// Into how many intervals a cycle can reach, by the cycle time (profile).
+    fn intervals_in(self, cycle_time: Nanos) -> u128
+        ensures value { result ≡ intervals_in cycle_time.0 (promise_of self) }
+    {
+        let interval = u128::from(self.interval);
+        (u128::from(cycle_time.0) + u128::from(self.jitter) + interval - 1) / interval
+    }
+
+    /// What a cycle needs of the stream, in octets, by the cycle time: as many frames of the greatest size as it can hold (profile).
+    pub fn needed(self, cycle_time: Nanos) -> u128
+        ensures { result ≡ needed cycle_time.0 (promise_of self) }
+    {
+        let intervals = self.intervals_in(cycle_time);
+        intervals * u128::from(self.frames) * u128::from(self.size)
+    }
+}
+
+/// What stands at a key of a stream's table, or `None` where it lacks the key.
+pub(crate) fn value_at<'t>(table: &'t Table, key: TrafficKey) -> Option<&'t Value>
+    ensures { option_map (λ v. view v.now) result ≡ value_at key (table_view table.now) }
+{
+    table.get(key.as_str())
+}
+
+/// Whether a key of traffic stands in the table.
+pub(crate) fn has_traffic(table: &Table) -> bool
+    ensures { result ≡ has_traffic (table_view table.now) }
+{
+    TRAFFIC_KEYS
+        .iter()
+        .any(|key| value_at(table, *key).is_some())
+}
+
+/// A number that may stand at the key, of a value.
+fn number_of(value: &Value, key: TrafficKey) -> Option<u32>
+    ensures { result ≡ number_from (least_of key) (most_of key) (view value.now) }
+{
+    let number = match value.as_integer() {
+        Some(integer) => u32::try_from(integer).ok()?,
+        None => return None,
+    };
+    if key.least() <= number && number <= key.most() {
+        Some(number)
+    } else {
+        None
+    }
+}
+
+/// The number at a key, or what stands for it where it is absent; else the key.
+fn number_at(table: &Table, key: TrafficKey) -> Result<u32, TrafficKey>
+    ensures { result ≡ number_at key (table_view table.now) }
+{
+    let number = match value_at(table, key) {
+        Some(value) => number_of(value, key),
+        None => key.default(),
+    };
+    match number {
+        Some(number) => Ok(number),
+        None => Err(key),
+    }
+}
+
+/// The traffic of a stream's table that has one.
+fn numbers_of(table: &Table) -> Result<Traffic, TrafficKey>
+    ensures { result ≡ numbers_from (table_view table.now) }
+{
+    let interval = number_at(table, TrafficKey::Interval)?;
+    let frames = number_at(table, TrafficKey::Frames)?;
+    let size = number_at(table, TrafficKey::Size)?;
+    let jitter = number_at(table, TrafficKey::Jitter)?;
+    let offset = number_at(table, TrafficKey::Offset)?;
+    Ok(Traffic {
+        interval,
+        frames,
+        size,
+        jitter,
+        offset,
+    })
+}
+
+/// The traffic of a stream's table, or `None` where none of its keys stands there. Each of `interval`, from 1 to 1,000,000,000 ns,
+/// `frames`, from 1 to 1,000, else 1, `size`, from 64 to 1,522 octets, `jitter` and `offset`, up to 1,000,000,000 ns, else 0, is an
+/// integer (profile).
+///
+/// # Errors
+/// The first of these keys, in this order, at which something else stands, or which is owed and absent.
+pub fn traffic_of(table: &Table) -> Result<Option<Traffic>, TrafficKey>
+    ensures { result ≡ traffic_from (table_view table.now) }
+{
+    if !has_traffic(table) {
+        return Ok(None);
+    }
+    match numbers_of(table) {
+        Ok(traffic) => Ok(Some(traffic)),
+        Err(key) => Err(key),
+    }
+}
