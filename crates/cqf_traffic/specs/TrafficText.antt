@@ -42,9 +42,13 @@ value_at key table = get_member (key_text key) table
 abbrev pub has_traffic : Members → Bool
 has_traffic table = list_any (λ key. is_some (value_at key table)) traffic_keys
 
--- the first key that is owed then and absent
+-- whether a key is owed where there is traffic, and absent
+abbrev pub is_lacked : Members → TrafficKey → Bool
+is_lacked table key = is_none (default_of key) && is_none (value_at key table)
+
+-- the first that is
 abbrev pub first_owed : Members → Option TrafficKey
-first_owed table = if has_traffic table then find (λ key. is_none (default_of key) && is_none (value_at key table)) traffic_keys else None
+first_owed table = if has_traffic table then find (is_lacked table) traffic_keys else None
 
 -- the number at a key, by what stands there; where it can't be had, the key
 abbrev pub number_by : Option Data → TrafficKey → Result ℕ TrafficKey

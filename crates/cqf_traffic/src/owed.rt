@@ -1,12 +1,22 @@
 //! What a stream's traffic owes.
 ghost use Rattle.std.specs.Prelude.{◌≡◌};
 ghost use Rattle.toml.specs.View.{table_view};
-ghost use Rattle.cqf_traffic.specs.TrafficText.{first_owed};
+ghost use Rattle.cqf_traffic.specs.TrafficText.{first_owed, is_lacked};
 
 use crate::TrafficKey;
 use crate::keys::TRAFFIC_KEYS;
 use crate::traffic::{has_traffic, value_at};
 use toml::Table;
+
+/// Whether the key is owed where a stream has traffic, and the table lacks it.
+fn is_lacked(table: &Table, key: TrafficKey) -> bool
+    ensures { result ≡ is_lacked (table_view table.now) key }
+{
+    if key.default().is_some() {
+        return false;
+    }
+    value_at(table, key).is_none()
+}
 
 /// The first key that is owed, and absent, where a key of traffic stands in a stream's table: `interval`, or `size` (profile).
 pub fn first_owed(table: &Table) -> Option<TrafficKey>
@@ -18,5 +28,5 @@ pub fn first_owed(table: &Table) -> Option<TrafficKey>
     TRAFFIC_KEYS
         .iter()
         .copied()
-        .find(|key| key.default().is_none() && value_at(table, *key).is_none())
+        .find(|key| is_lacked(table, *key))
 }
