@@ -1,0 +1,42 @@
+//! How many frames stand on the grids of streams.
+ghost use Rattle.std.specs.Prelude.{◌≡◌, ◌<◌, ◌^◌, nat_le};
+ghost use Rattle.cqf_traffic_offers.specs.Offering.{blocks_before, frames_before, frames_of, most_offers};
+
+use crate::Sender;
+use cqf_traffic::Traffic;
+use cqf_units::Nanos;
+
+/// The most offers of a run (profile).
+const MOST_OFFERS: u128 = 1_000_000;
+
+/// How many blocks stand on the grid before an instant.
+pub(crate) fn blocks_before(end: Nanos, traffic: Traffic) -> u64
+    ensures { result ≡ blocks_before end.0 traffic }
+{
+    let interval = traffic.interval().0;
+    let open = u128::from(end.0.saturating_sub(traffic.offset().0));
+    ((open + u128::from(interval) - 1) / u128::from(interval)) as u64
+}
+
+/// How many frames these are.
+fn frames_of(end: Nanos, traffic: Option<Traffic>) -> u128
+    ensures value { result ≡ frames_of end.0 traffic }
+    ensures bounded { result < 2 ^ 96 }
+{
+    match traffic {
+        Some(traffic) => { u128::from(blocks_before(end, traffic)) * u128::from(traffic.frames()) }
+        None => 0,
+    }
+}
+
+/// Whether senders have no more than 1,000,000 frames together before an instant, none of them late (profile).
+pub fn are_few(end: Nanos, senders: &[Sender]) -> bool
+    ensures { result ≡ nat_le (frames_before end.0 senders.now) most_offers }
+{
+    let mut frames = 0;
+    for sender in senders {
+        let more = frames + frames_of(end, sender.traffic);
+        frames = more.min(MOST_OFFERS + 1);
+    }
+    frames <= MOST_OFFERS
+}

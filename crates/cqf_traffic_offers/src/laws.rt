@@ -1,0 +1,11 @@
+//! Laws about what streams offer.
+ghost use Rattle.cqf_traffic_offers.specs.Conforming.{OffersConform};
+
+use cqf_laws_traffic::conforming_offers_fit_a_cycle;
+
+/// What is offered of a stream keeps its talker's word, for every seed and without one (after IEEE Std 802.1Q-2018, 46.2.3.5).
+pub fn offers_conform()
+    ensures { OffersConform }
+{
+    conforming_offers_fit_a_cycle();
+}
