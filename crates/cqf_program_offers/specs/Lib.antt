@@ -1,0 +1,2 @@
+pub mod OffersText
+pub mod OffersOutput

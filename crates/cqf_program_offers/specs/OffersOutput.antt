@@ -1,0 +1,67 @@
+-- What the command `offers` gives for its input (profile): what the streams of a plant offer, or the line of the input's first fault.
+use Rattle.std.specs.Prelude.{ℕ, ◌*◌, List, [], ◌∷◌, Option, Some, None, Result, Ok, Err, codes, if◌then◌else◌, map, nat_le, option_and_then, slice_get}
+use Rattle.std.specs.Option.{unwrap_or}
+use Rattle.cqf_lists.specs.Results.{and_then}
+use Rattle.cqf_model.specs.declared.topology.Node.{Node}
+use Rattle.cqf_model.specs.Domain.{Domain, node_named}
+use Rattle.cqf_model.specs.History.{Asked}
+use Rattle.cqf_text.specs.Parts.{parts_of}
+use Rattle.cqf_topology.specs.DomainText.{domain_of_text}
+use Rattle.cqf_admission.specs.Asking.{asked_by}
+use Rattle.cqf_report.specs.Offers.{as_bridge}
+use Rattle.cqf_traffic.specs.declared.faults.FlowsFault.{FlowsFault}
+use Rattle.cqf_traffic.specs.FlowsText.{FlowText, flows_fault_text, flows_of_text}
+use Rattle.cqf_traffic_offers.specs.declared.senders.Sender.{Sender}
+use Rattle.cqf_traffic_offers.specs.Offering.{frames_before, most_offers, offers_before}
+use Rattle.cqf_program_stop.specs.Stops.{fault_line, or_line}
+use Rattle.cqf_program_scenario.specs.Lines.{domain_line}
+use Rattle.cqf_program_scenario.specs.Parts.{two_parts}
+use Rattle.cqf_program_plans.specs.LoadOutput.{listed_from}
+use Rattle.cqf_program_offers.specs.OffersText.{offers_text}
+
+-- why streams with traffic are refused
+abbrev pub flows_line : FlowsFault → List ℕ
+flows_line fault = fault_line (codes "streams") (flows_fault_text fault)
+
+-- where what they offer is too much
+abbrev pub too_many_line : List ℕ
+too_many_line = fault_line (codes "offers") (codes "TooMany")
+
+-- the domain and the streams of an input, or the line of the first fault: of the parts, then of the domain, then of the streams
+abbrev pub flows_input : List ℕ → Result (Domain × List FlowText) (List ℕ)
+flows_input input = and_then (two_parts (parts_of input)) (λ parts.
+    and_then (or_line domain_line (domain_of_text parts.0)) (λ domain.
+    and_then (or_line flows_line (flows_of_text parts.1)) (λ flows. Ok (domain, flows))))
+
+-- what a stream asks for
+abbrev pub asked_in : FlowText → Asked
+asked_in flow = asked_by flow.0.0
+
+-- the first name of some branches
+abbrev pub first_name : List (List (List ℕ)) → Option (List ℕ)
+first_name [] = None
+first_name (path ∷ more) = slice_get path 0
+
+-- a stream as its talker sees it: its edge bridge is the one with which its branches begin
+abbrev pub edge_of : Domain → List (List (List ℕ)) → ℕ
+edge_of d paths = unwrap_or (as_bridge (option_and_then (node_named d) (first_name paths))) 0
+
+abbrev pub sender_of : Domain → FlowText → Sender
+sender_of d flow = record { name = flow.0.0.name; bridge = edge_of d flow.0.0.paths; traffic = flow.1 }
+
+-- what streams offer before an instant, as a text, or the line where it is too much
+abbrev pub offered_by : Domain → ℕ → Option ℕ → List Sender → Result (List ℕ) (List ℕ)
+offered_by d until seed senders =
+    if nat_le (frames_before until senders) most_offers then Ok (offers_text d (offers_before until seed senders)) else Err too_many_line
+
+-- streams as their talkers see them, where each is judged as by `load`, or the line of the first that is refused
+abbrev pub senders_of : Domain → List FlowText → Result (List Sender) (List ℕ)
+senders_of d flows = and_then (listed_from d [] (map asked_in flows)) (λ rows. Ok (map (sender_of d) flows))
+
+-- what they offer
+abbrev pub offered_of : Domain → ℕ → Option ℕ → List FlowText → Result (List ℕ) (List ℕ)
+offered_of d until seed flows = and_then (senders_of d flows) (offered_by d until seed)
+
+-- the text for an input over so many cycles, or the line of its first fault
+abbrev pub offered_input : ℕ → Option ℕ → List ℕ → Result (List ℕ) (List ℕ)
+offered_input cycles seed input = and_then (flows_input input) (λ found. offered_of found.0 (cycles * found.0.cycle_time) seed found.1)

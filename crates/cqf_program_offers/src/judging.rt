@@ -1,0 +1,71 @@
+//! Streams that are judged one after the other, as `load` judges them.
+ghost use Rattle.std.specs.Prelude.{◌≡◌, ◌++◌, ◌∷◌, [], ◌<◌, ◌^◌, List, IfErr, IfOk, string_bytes};
+ghost use Rattle.std.specs.List.{list_any};
+ghost use Rattle.cqf_admission.specs.Asking.{asked_of};
+ghost use Rattle.cqf_admission_trees.specs.Branches.{branches_of, places_of};
+ghost use Rattle.cqf_model.specs.Domain.{is_text};
+ghost use Rattle.cqf_model.specs.History.{Asked};
+ghost use Rattle.cqf_model.specs.declared.topology.Row.{Row as ARow};
+ghost use Rattle.cqf_program_plans.specs.Listing.{Lists};
+ghost use Rattle.cqf_program_plans.specs.LoadOutput.{listed_from};
+ghost use Rattle.cqf_program_stop.specs.Stops.{IsRefused};
+
+use cqf_admission::{Judged, MOST_STREAMS, judge};
+use cqf_admission_trees::count_places;
+use cqf_model::{Refused, Row};
+use cqf_program_plans::stream_stop;
+use cqf_program_stop::Stop;
+use cqf_topology::{Domain, Request};
+use cqf_units::{Cycle, Name};
+use std::alloc::Global;
+
+/// Whether a stream has the name.
+fn has_name(rows: &[Row], name: &Name) -> bool
+    ensures { result ≡ list_any (λ (row : ARow). is_text row.name name.now) rows.now }
+{
+    rows.iter().any(|row| row.name == *name)
+}
+
+/// The row of a request behind others, which asks for less than 2^64 places, or the first reason against it but that a link has no room.
+fn look_over(domain: &Domain, rows: &[Row], request: &Request) -> Result<Row, Refused>
+    requires { places_of (branches_of request.now.paths.items) < 2 ^ 64 }
+    ensures { Lists domain.now rows.now (asked_of request.now) result }
+{
+    let judged = judge(domain, request)?;
+    if has_name(rows, &judged.name) {
+        return Err(Refused::NameHeld);
+    }
+    if rows.len() >= MOST_STREAMS {
+        return Err(Refused::TooManyStreams);
+    }
+    let Judged { name, tree, .. } = judged;
+    Ok(Row {
+        no: rows.len() as u32,
+        name,
+        octets: request.octets,
+        tree,
+        admitted: Cycle(0),
+        withdrawn: None,
+    })
+}
+
+/// The row of a request behind others, or the end where it is refused.
+pub(crate) fn row_of(
+    alloc: Global,
+    domain: &Domain,
+    rows: &[Row],
+    request: &Request,
+) -> Result<Row, Stop>
+    ensures ok { IfOk result (λ row. (more : List Asked) →
+        listed_from domain.now rows.now (asked_of request.now ∷ more) ≡ listed_from domain.now (rows.now ++ row ∷ []) more) }
+    ensures named { IfOk result (λ row. row.name ≡ string_bytes request.now.name) }
+    ensures err { IfErr result (λ stop. (more : List Asked) → IsRefused (listed_from domain.now rows.now (asked_of request.now ∷ more)) stop) }
+{
+    if count_places(request.paths.as_slice()).is_none() {
+        return Err(Stop::memory(alloc));
+    }
+    match look_over(domain, rows, request) {
+        Ok(row) => Ok(row),
+        Err(refused) => Err(stream_stop(alloc, rows.len() + 1, refused)),
+    }
+}

@@ -1,0 +1,46 @@
+//! The reader of streams with their traffic.
+ghost use Rattle.std.specs.Prelude.{◌≡◌, ◌≢◌, [], Ok, IfErr, IfOk, map};
+ghost use Rattle.cqf_program_offers.specs.OffersOutput.{flows_input, flows_line};
+ghost use Rattle.cqf_program_stop.specs.Stops.{EndsWith, IsRefused, or_line};
+ghost use Rattle.cqf_traffic.specs.FlowsText.{flow_text, flows_of_text};
+
+use cqf_program_scenario::{domain_part, two_parts};
+use cqf_program_stop::Stop;
+use cqf_topology::{Domain, StreamsFault};
+use cqf_traffic::{Flow, FlowsFault, read_flows};
+use std::alloc::Global;
+
+/// The end where streams with traffic are refused.
+fn flows_stop(alloc: Global, fault: FlowsFault) -> Stop
+    ensures refused { fault ≢ FlowsFault.Streams StreamsFault.Memory → EndsWith 1 (flows_line fault) result }
+    ensures memory { fault ≡ FlowsFault.Streams StreamsFault.Memory → EndsWith 3 [] result }
+{
+    match fault {
+        FlowsFault::Streams(StreamsFault::Memory) => Stop::memory(alloc),
+        _ => Stop::refused(alloc, "streams", &fault),
+    }
+}
+
+/// The streams of a part, with their deadlines and their traffic. `Err` with status 1 and the line of its first fault, and with status 3 for
+/// want of memory.
+pub fn flows_part(alloc: Global, text: &[u8]) -> Result<Vec<Flow>, Stop>
+    ensures ok { IfOk result (λ flows. flows_of_text text.now ≡ Ok (map flow_text flows.items)) }
+    ensures err { IfErr result (IsRefused (or_line flows_line (flows_of_text text.now))) }
+{
+    match read_flows(alloc, text) {
+        Ok(flows) => Ok(flows),
+        Err(fault) => Err(flows_stop(alloc, fault)),
+    }
+}
+
+/// The domain and the streams of the input. `Err` with status 1 and the line of the first fault: of its parts, of the domain, or of the
+/// streams; and with status 3 for want of memory.
+pub(crate) fn flows_input(alloc: Global, input: &[u8]) -> Result<(Domain, Vec<Flow>), Stop>
+    ensures ok { IfOk result (λ found. flows_input input.now ≡ Ok (found.0, map flow_text found.1.items)) }
+    ensures err { IfErr result (IsRefused (flows_input input.now)) }
+{
+    let (domain_text, streams_text) = two_parts(alloc, input)?;
+    let domain = domain_part(alloc, domain_text)?;
+    let flows = flows_part(alloc, streams_text)?;
+    Ok((domain, flows))
+}

@@ -1,0 +1,89 @@
+//! Streams as their talkers see them.
+ghost use Rattle.std.specs.Prelude.{◌≡◌, ◌++◌, ◌∷◌, [], IfErr, IfOk, Ok, OnOk, map, string_bytes, option_map};
+ghost use Rattle.cqf_program_stop.specs.Stops.{EndsWith, IsRefused};
+ghost use Rattle.cqf_admission_trees.specs.Branches.{branches_of};
+ghost use Rattle.cqf_program_offers.specs.OffersOutput.{edge_of, first_name, sender_of, senders_of};
+ghost use Rattle.cqf_traffic.specs.FlowsText.{flow_text};
+
+use crate::judging::row_of;
+use cqf_model::{Node, Row};
+use cqf_program_stop::Stop;
+use cqf_topology::Domain;
+use cqf_traffic::Flow;
+use cqf_traffic_offers::Sender;
+use cqf_units::{Memory, Name};
+use std::alloc::Global;
+
+/// The first name of some branches.
+fn first_name(paths: &[Vec<String>]) -> Option<&str>
+    ensures { option_map (λ name. name.now) result ≡ first_name (branches_of paths.now) }
+{
+    match paths {
+        [path, ..] => match path.as_slice() {
+            [name, ..] => Some(name.as_str()),
+            [] => None,
+        },
+        [] => None,
+    }
+}
+
+/// The bridge with which some branches begin.
+fn edge_of(domain: &Domain, paths: &[Vec<String>]) -> u8
+    ensures { result ≡ edge_of domain.now (branches_of paths.now) }
+{
+    let Some(name) = first_name(paths) else {
+        return 0;
+    };
+    match domain.find(name) {
+        Some(Node::Bridge(bridge)) => bridge,
+        _ => 0,
+    }
+}
+
+/// A stream of this name as its talker sees it.
+fn sender_of(domain: &Domain, flow: &Flow, name: Name) -> Sender
+    requires { name ≡ string_bytes flow.now.planned.request.name }
+    ensures { result ≡ sender_of domain.now (flow_text flow.now) }
+{
+    Sender {
+        name,
+        bridge: edge_of(domain, flow.planned.request.paths.as_slice()),
+        traffic: flow.traffic,
+    }
+}
+
+/// Puts a stream behind others, as its row and as its talker sees it. The error is want of memory.
+fn put_stream(
+    domain: &Domain,
+    flow: &Flow,
+    row: Row,
+    rows: &mut Vec<Row>,
+    senders: &mut Vec<Sender>,
+) -> Result<(), Memory>
+    requires { row.name ≡ string_bytes flow.now.planned.request.name }
+    ensures rows { OnOk result (rows.new.items ≡ rows.old.items ++ row ∷ []) }
+    ensures senders { OnOk result (senders.new.items ≡ senders.old.items ++ sender_of domain.now (flow_text flow.now) ∷ []) }
+{
+    senders.push(sender_of(domain, flow, row.name.copied()))?;
+    rows.push(row)?;
+    Ok(())
+}
+
+/// Streams as their talkers see them, each judged as if those before it had been accepted, whatever room links have.
+///
+/// # Errors
+/// With status 1 and the line of the first stream that is refused; and with status 3 for want of memory.
+pub fn senders_of(alloc: Global, domain: &Domain, flows: &[Flow]) -> Result<Vec<Sender>, Stop>
+    ensures ok { IfOk result (λ senders. senders_of domain.now (map flow_text flows.now) ≡ Ok senders.items) }
+    ensures err { IfErr result (IsRefused (senders_of domain.now (map flow_text flows.now))) }
+{
+    let mut rows = Vec::new(alloc);
+    let mut senders = Vec::new(alloc);
+    for flow in flows {
+        let row = row_of(alloc, domain, rows.as_slice(), &flow.planned.request)?;
+        if put_stream(domain, flow, row, &mut rows, &mut senders).is_err() {
+            return Err(Stop::memory(alloc));
+        }
+    }
+    Ok(senders)
+}

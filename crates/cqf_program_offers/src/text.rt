@@ -1,0 +1,45 @@
+//! Offers as a text.
+ghost use Rattle.std.specs.Prelude.{◌≡◌, ◌++◌, IfOk, OnOk, string_bytes};
+ghost use Rattle.cqf_report.specs.Books.{name_of_bridge};
+ghost use Rattle.cqf_program_offers.specs.OffersText.{offer_line, offers_text};
+
+use cqf_model::Offer;
+use cqf_topology::Domain;
+use cqf_units::Memory;
+use std::alloc::Global;
+
+/// The name of a bridge. A bridge that the domain lacks has none.
+fn name_of_bridge(domain: &Domain, bridge: u8) -> &str
+    ensures { result.now ≡ name_of_bridge domain.now bridge }
+{
+    if bridge < domain.bridges() {
+        domain.bridge_name(bridge).as_str()
+    } else {
+        ""
+    }
+}
+
+/// The line of an offer.
+fn offer_line(alloc: Global, domain: &Domain, offer: &Offer) -> Result<String, Memory>
+    ensures { IfOk result (λ line. string_bytes line ≡ offer_line domain.now offer.now) }
+{
+    let at = offer.at.0;
+    let bridge = name_of_bridge(domain, offer.bridge);
+    let stream = offer.stream.as_str();
+    let octets = offer.octets;
+    let line = format!(in alloc; "{at},{bridge},{stream},{octets}\n")?;
+    Ok(line)
+}
+
+/// Offers as a text: a header, and a line an offer with its instant, its bridge, its stream and its octets (profile). `Memory` where a growth
+/// is refused.
+pub fn offers_text(alloc: Global, domain: &Domain, offers: &[Offer]) -> Result<Vec<u8>, Memory>
+    ensures { IfOk result (λ text. text.items ≡ offers_text domain.now offers.now) }
+{
+    let mut text = Vec::from_slice(alloc, b"at,bridge,stream,octets\n")?;
+    for offer in offers {
+        let line = offer_line(alloc, domain, offer)?;
+        text.extend_from_slice(line.as_bytes())?;
+    }
+    Ok(text)
+}
