@@ -11,7 +11,7 @@ use cqf_program_stop::Stop;
 use cqf_topology::Domain;
 use cqf_traffic::Flow;
 use cqf_traffic_offers::Sender;
-use cqf_units::{Memory, Name};
+use cqf_units::Name;
 use std::alloc::Global;
 
 /// The first name of some branches.
@@ -52,21 +52,25 @@ fn sender_of(domain: &Domain, flow: &Flow, name: Name) -> Sender
     }
 }
 
-/// Puts a stream behind others, as its row and as its talker sees it. The error is want of memory.
+/// Puts a stream behind others, as its row and as its talker sees it. `Err` with status 3 for want of memory.
 fn put_stream(
-    domain: &Domain,
-    flow: &Flow,
+    alloc: Global,
+    sender: Sender,
     row: Row,
     rows: &mut Vec<Row>,
     senders: &mut Vec<Sender>,
-) -> Result<(), Memory>
-    requires { row.name ≡ string_bytes flow.now.planned.request.name }
+) -> Result<(), Stop>
     ensures rows { OnOk result (rows.new.items ≡ rows.old.items ++ row ∷ []) }
-    ensures senders { OnOk result (senders.new.items ≡ senders.old.items ++ sender_of domain.now (flow_text flow.now) ∷ []) }
+    ensures senders { OnOk result (senders.new.items ≡ senders.old.items ++ sender ∷ []) }
+    ensures memory { IfErr result (EndsWith 3 []) }
 {
-    senders.push(sender_of(domain, flow, row.name.copied()))?;
-    rows.push(row)?;
-    Ok(())
+    if rows.push(row).is_err() {
+        return Err(Stop::memory(alloc));
+    }
+    match senders.push(sender) {
+        Ok(()) => Ok(()),
+        Err(_) => Err(Stop::memory(alloc)),
+    }
 }
 
 /// Streams as their talkers see them, each judged as if those before it had been accepted, whatever room links have.
@@ -80,10 +84,12 @@ pub fn senders_of(alloc: Global, domain: &Domain, flows: &[Flow]) -> Result<Vec<
     let mut rows = Vec::new(alloc);
     let mut senders = Vec::new(alloc);
     for flow in flows {
-        let row = row_of(alloc, domain, rows.as_slice(), &flow.planned.request)?;
-        if put_stream(domain, flow, row, &mut rows, &mut senders).is_err() {
-            return Err(Stop::memory(alloc));
-        }
+        let row = match row_of(alloc, domain, rows.as_slice(), &flow.planned.request) {
+            Ok(row) => row,
+            Err(stop) => return Err(stop),
+        };
+        let sender = sender_of(domain, flow, row.name.copied());
+        put_stream(alloc, sender, row, &mut rows, &mut senders)?;
     }
     Ok(senders)
 }
