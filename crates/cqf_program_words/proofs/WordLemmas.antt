@@ -1,5 +1,5 @@
 -- Values of a command, and the jobs that they rule out.
-use Rattle.std.proofs.Common.{◌≡◌, ◌≢◌, ◌∙◌, ◌+◌, ◌*◌, ℕ, true, refl, List, [], Option, Some, sym, ap, ap₂, subst, slice_index, codes, arith, inl, inr, ◌⊎◌}
+use Rattle.std.proofs.Common.{◌≡◌, ◌≢◌, ◌∙◌, ◌+◌, ◌*◌, ℕ, true, refl, List, [], Option, Some, None, sym, ap, ap₂, subst, slice_index, codes, arith, inl, inr, ◌⊎◌}
 use Rattle.clap.specs.Words.{App, Row, Text, first_of, fault_of, is_simple, is_simple_and_free, HasKind, HasMatchesOf, IsAmong, Kinds, kind_of, subcommand_of}
 use Rattle.clap.specs.Words.{Rule, rule_of, subcommand_rows_of}
 use Rattle.clap.specs.declared.builder.arg.Arg.{Arg}
@@ -11,9 +11,9 @@ use Rattle.clap.specs.declared.error.kind.ErrorKind.TheVariants.{DisplayHelp, Di
 use Rattle.cqf_units.specs.declared.timing.Rate.{Rate}
 use Rattle.cqf_program_words.specs.declared.words.Format.{Format}
 use Rattle.cqf_program_words.specs.declared.words.Job.{Job}
-use Rattle.cqf_program_words.specs.declared.words.Job.TheVariants.{Check, Compile, Deliveries, Latency, Line, Load, Port, Report, Run}
+use Rattle.cqf_program_words.specs.declared.words.Job.TheVariants.{Check, Compile, Deliveries, Latency, Line, Load, Offers, Port, Report, Run}
 use Rattle.cqf_program_stop.specs.declared.stops.Stop.{Stop}
-use Rattle.cqf_program_words.specs.Words.{cqf_app, format_text, rate_text, IsJob, IsJobOf, IsNumberIn, Mean, AskForHelp, EndsBy, EndsWords}
+use Rattle.cqf_program_words.specs.Words.{cqf_app, format_text, rate_text, IsJob, IsJobOf, IsNumberIn, IsSeed, Mean, AskForHelp, EndsBy, EndsWords}
 
 -- an option whose parser was set goes by the rule that it went by, but for the parser
 pub with_parser : (before after : Arg) (rule : Rule) (parser : ValueParser) → after ≡ record before { value_parser = after.value_parser } →
@@ -43,6 +43,7 @@ no_port-until rows text same none (Run cycles threads) job = omega (arith, marke
 no_port-until rows text same none (Report cycles) job = omega (arith, marked (codes "port") (codes "report") job.0)
 no_port-until rows text same none (Deliveries cycles) job = omega (arith, marked (codes "port") (codes "deliveries") job.0)
 no_port-until rows text same none (Check cycles) job = omega (arith, marked (codes "port") (codes "check") job.0)
+no_port-until rows text same none (Offers cycles seed) job = omega (arith, marked (codes "port") (codes "offers") job.0)
 
 -- nor with no rate
 pub no_port-rate : (rows : List Row) (text : Option Text) → text ≡ first_of (codes "rate") rows → ((rate : Rate) → ¬ (text ≡ Some (rate_text rate))) →
@@ -56,6 +57,7 @@ no_port-rate rows text same none (Run cycles threads) job = omega (arith, marked
 no_port-rate rows text same none (Report cycles) job = omega (arith, marked (codes "port") (codes "report") job.0)
 no_port-rate rows text same none (Deliveries cycles) job = omega (arith, marked (codes "port") (codes "deliveries") job.0)
 no_port-rate rows text same none (Check cycles) job = omega (arith, marked (codes "port") (codes "check") job.0)
+no_port-rate rows text same none (Offers cycles seed) job = omega (arith, marked (codes "port") (codes "offers") job.0)
 
 -- with no format there is no job of `compile`
 pub no_compile-format : (rows : List Row) (text : Option Text) → text ≡ first_of (codes "format") rows →
@@ -70,24 +72,60 @@ no_compile-format rows text same none (Run cycles threads) job = omega (arith, m
 no_compile-format rows text same none (Report cycles) job = omega (arith, marked (codes "compile") (codes "report") job.0)
 no_compile-format rows text same none (Deliveries cycles) job = omega (arith, marked (codes "compile") (codes "deliveries") job.0)
 no_compile-format rows text same none (Check cycles) job = omega (arith, marked (codes "compile") (codes "check") job.0)
+no_compile-format rows text same none (Offers cycles seed) job = omega (arith, marked (codes "compile") (codes "offers") job.0)
 
 -- with no number of cycles there is no job of a command that takes them alone
 pub no_cycles : (name : Text) (rows : List Row) → name ≢ codes "port" → name ≢ codes "compile" → name ≢ codes "load" → name ≢ codes "latency" →
-    ((n : ℕ) → ¬ IsNumberIn 1 100000 n (first_of (codes "cycles") rows)) → (job : Job) → ¬ IsJobOf job name rows
-no_cycles name rows not_port not_compile not_load not_latency none (Port until rate) job = not_port job.0
-no_cycles name rows not_port not_compile not_load not_latency none (Line cycles) job = none cycles job.1
-no_cycles name rows not_port not_compile not_load not_latency none (Compile format) job = not_compile job.0
-no_cycles name rows not_port not_compile not_load not_latency none Load job = not_load job
-no_cycles name rows not_port not_compile not_load not_latency none (Latency strict) job = not_latency job.0
-no_cycles name rows not_port not_compile not_load not_latency none (Run cycles threads) job = none cycles job.1
-no_cycles name rows not_port not_compile not_load not_latency none (Report cycles) job = none cycles job.1
-no_cycles name rows not_port not_compile not_load not_latency none (Deliveries cycles) job = none cycles job.1
-no_cycles name rows not_port not_compile not_load not_latency none (Check cycles) job = none cycles job.1
+    name ≢ codes "offers" → ((n : ℕ) → ¬ IsNumberIn 1 100000 n (first_of (codes "cycles") rows)) → (job : Job) → ¬ IsJobOf job name rows
+no_cycles name rows not_port not_compile not_load not_latency not_offers none (Port until rate) job = not_port job.0
+no_cycles name rows not_port not_compile not_load not_latency not_offers none (Line cycles) job = none cycles job.1
+no_cycles name rows not_port not_compile not_load not_latency not_offers none (Compile format) job = not_compile job.0
+no_cycles name rows not_port not_compile not_load not_latency not_offers none Load job = not_load job
+no_cycles name rows not_port not_compile not_load not_latency not_offers none (Latency strict) job = not_latency job.0
+no_cycles name rows not_port not_compile not_load not_latency not_offers none (Run cycles threads) job = none cycles job.1
+no_cycles name rows not_port not_compile not_load not_latency not_offers none (Report cycles) job = none cycles job.1
+no_cycles name rows not_port not_compile not_load not_latency not_offers none (Deliveries cycles) job = none cycles job.1
+no_cycles name rows not_port not_compile not_load not_latency not_offers none (Check cycles) job = none cycles job.1
+no_cycles name rows not_port not_compile not_load not_latency not_offers none (Offers cycles seed) job = not_offers job.0
+
+-- with no number of cycles there is no job of `offers`
+pub no_offers-cycles : (rows : List Row) → ((n : ℕ) → ¬ IsNumberIn 1 100000 n (first_of (codes "cycles") rows)) → (job : Job) →
+    ¬ IsJobOf job (codes "offers") rows
+no_offers-cycles rows none (Port until rate) job = omega (arith, marked (codes "offers") (codes "port") job.0)
+no_offers-cycles rows none (Line cycles) job = none cycles job.1
+no_offers-cycles rows none (Compile format) job = omega (arith, marked (codes "offers") (codes "compile") job.0)
+no_offers-cycles rows none Load job = omega (arith, marked (codes "offers") (codes "load") job)
+no_offers-cycles rows none (Latency strict) job = omega (arith, marked (codes "offers") (codes "latency") job.0)
+no_offers-cycles rows none (Run cycles threads) job = none cycles job.1
+no_offers-cycles rows none (Report cycles) job = none cycles job.1
+no_offers-cycles rows none (Deliveries cycles) job = none cycles job.1
+no_offers-cycles rows none (Check cycles) job = none cycles job.1
+no_offers-cycles rows none (Offers cycles seed) job = none cycles job.1
+
+-- nor with something else than a seed
+pub no_offers-seed : (rows : List Row) → ((seed : Option ℕ) → ¬ IsSeed seed (first_of (codes "seed") rows)) → (job : Job) →
+    ¬ IsJobOf job (codes "offers") rows
+no_offers-seed rows none (Port until rate) job = omega (arith, marked (codes "offers") (codes "port") job.0)
+no_offers-seed rows none (Line cycles) job = omega (arith, marked (codes "offers") (codes "line") job.0)
+no_offers-seed rows none (Compile format) job = omega (arith, marked (codes "offers") (codes "compile") job.0)
+no_offers-seed rows none Load job = omega (arith, marked (codes "offers") (codes "load") job)
+no_offers-seed rows none (Latency strict) job = omega (arith, marked (codes "offers") (codes "latency") job.0)
+no_offers-seed rows none (Run cycles threads) job = omega (arith, marked (codes "offers") (codes "run") job.0)
+no_offers-seed rows none (Report cycles) job = omega (arith, marked (codes "offers") (codes "report") job.0)
+no_offers-seed rows none (Deliveries cycles) job = omega (arith, marked (codes "offers") (codes "deliveries") job.0)
+no_offers-seed rows none (Check cycles) job = omega (arith, marked (codes "offers") (codes "check") job.0)
+no_offers-seed rows none (Offers cycles seed) job = none seed job.2
 
 -- a number of a value is one of its text
 pub number_of-text : (least most number : ℕ) (text value : Option Text) → text ≡ value → IsNumberIn least most number text → IsNumberIn least most number value
 number_of-text least most number text value same h =
     let P : Option Text → Type 0 = λ t. IsNumberIn least most number t in subst P same h
+
+-- where the text of a seed writes none, there is no seed, and not nothing
+pub no_seed : (text : Text) (value : Option Text) → Some text ≡ value → ((n : ℕ) → ¬ IsNumberIn 0 4294967295 n (Some text)) → (seed : Option ℕ) →
+    ¬ IsSeed seed value
+no_seed text value same none None is = absurd (cc)
+no_seed text value same none (Some seed) is = none seed (number_of-text 0 4294967295 seed value (Some text) (sym same) is)
 
 -- where clap's error is one of the words' faults, and isn't for memory, they mean no job
 pub no_job-by_fault : (words : List Text) (kind : ErrorKind) → (kind ≡ OutOfMemory) ⊎ IsAmong kind (fault_of cqf_app words) → kind ≢ OutOfMemory → (job : Job) →

@@ -12,7 +12,7 @@ use Rattle.cqf_units.specs.declared.timing.Rate.TheVariants.{Mb10, Mb100, Mb1000
 use Rattle.cqf_program_words.specs.declared.words.Format.{Format}
 use Rattle.cqf_program_words.specs.declared.words.Format.TheVariants as form
 use Rattle.cqf_program_words.specs.declared.words.Job.{Job}
-use Rattle.cqf_program_words.specs.declared.words.Job.TheVariants.{Check, Compile, Deliveries, Latency, Line, Load, Port, Report, Run}
+use Rattle.cqf_program_words.specs.declared.words.Job.TheVariants.{Check, Compile, Deliveries, Latency, Line, Load, Offers, Port, Report, Run}
 use Rattle.cqf_program_stop.specs.declared.stops.Stop.{Stop}
 use Rattle.cqf_model.specs.Limits.{last_until, most_cycles}
 
@@ -35,6 +35,14 @@ rate_rule = default_rule (codes "rate") (codes "1000")
 -- the option `--format FORMAT`, list where it isn't given
 abbrev pub format_rule : Rule
 format_rule = default_rule (codes "format") (codes "list")
+
+-- an option `--NAME VALUE` that may be given
+abbrev pub free_rule : Text → Rule
+free_rule name = record (new_rule name) { long = Some name; action = Some Set; value_names = 1 }
+
+-- the option `--seed S`
+abbrev pub seed_rule : Rule
+seed_rule = record (free_rule (codes "seed")) { parser = Some (Unsigned 0 4294967295) }
 
 -- a flag `--NAME`
 abbrev pub flag_rule : Text → Rule
@@ -76,11 +84,16 @@ deliveries_app = with_rule (new_app (codes "deliveries")) (number_rule (codes "c
 abbrev pub check_app : App
 check_app = with_rule (new_app (codes "check")) (number_rule (codes "cycles") 1 most_cycles)
 
+-- `offers --cycles N [--seed S]`
+abbrev pub offers_app : App
+offers_app = with_rule (with_rule (new_app (codes "offers")) (number_rule (codes "cycles") 1 most_cycles)) seed_rule
+
 -- the program's name, and settings: the words come without the program's name, and one of the commands has to be given
 abbrev pub named_app : App
 named_app = on_top (λ s. record s { no_binary_name = true; subcommand_required = true }) (new_app (codes "cqf"))
 
--- the commands that take no domain, those that run no scenario, those that tell nothing of deliveries, and all of the program's
+-- the commands that take no domain, those that run no scenario, those that tell nothing of deliveries, those
+-- that read what is offered, and all of the program's
 abbrev pub app_without_domain : App
 app_without_domain = with_subcommand (with_subcommand named_app port_app.top) line_app.top
 
@@ -90,8 +103,11 @@ first_app = with_subcommand (with_subcommand (with_subcommand app_without_domain
 abbrev pub app_without_deliveries : App
 app_without_deliveries = with_subcommand (with_subcommand first_app run_app.top) report_app.top
 
+abbrev pub app_of_runs : App
+app_of_runs = with_subcommand (with_subcommand app_without_deliveries deliveries_app.top) check_app.top
+
 abbrev pub cqf_app : App
-cqf_app = with_subcommand (with_subcommand app_without_deliveries deliveries_app.top) check_app.top
+cqf_app = with_subcommand app_of_runs offers_app.top
 
 -- the text of a value writes a number from least to most: digits, and a plus may stand first
 abbrev pub IsNumberIn : ℕ → ℕ → ℕ → Option Text → Type 0
@@ -115,6 +131,11 @@ abbrev pub IsFlagGiven : Bool → Option Text → Type 0
 IsFlagGiven true value = value ≡ Some (codes "true")
 IsFlagGiven false value = value ≢ Some (codes "true")
 
+-- a seed is a number, and there may be none
+abbrev pub IsSeed : Option ℕ → Option Text → Type 0
+IsSeed None value = value ≡ None
+IsSeed (Some seed) value = IsNumberIn 0 4294967295 seed value
+
 -- the job of a command with its values
 abbrev pub IsJobOf : Job → Text → List Row → Type 0
 IsJobOf (Port until rate) name rows = (name ≡ codes "port")
@@ -136,6 +157,9 @@ IsJobOf (Deliveries cycles) name rows = (name ≡ codes "deliveries")
     × IsNumberIn 1 most_cycles cycles (first_of (codes "cycles") rows)
 IsJobOf (Check cycles) name rows = (name ≡ codes "check")
     × IsNumberIn 1 most_cycles cycles (first_of (codes "cycles") rows)
+IsJobOf (Offers cycles seed) name rows = (name ≡ codes "offers")
+    × IsNumberIn 1 most_cycles cycles (first_of (codes "cycles") rows)
+    × IsSeed seed (first_of (codes "seed") rows)
 
 -- whether the input of a job begins with a domain, behind which its streams stand
 abbrev pub takes_domain : Job → Bool

@@ -43,13 +43,18 @@ fn is_command(word: &str) -> bool
         || word == "report"
         || word == "deliveries"
         || word == "check"
+        || word == "offers"
 }
 
 /// Whether the word is an option behind which its value stands as a word of its own.
 fn wants_value(word: &str) -> bool
     ensures { result ≡ wants_value word.now }
 {
-    word == "--until" || word == "--rate" || word == "--cycles" || word == "--format"
+    word == "--until"
+        || word == "--rate"
+        || word == "--cycles"
+        || word == "--format"
+        || word == "--seed"
 }
 
 /// Whether the word is the one that ends the options.

@@ -1,5 +1,5 @@
 //! The words of a command line (profile).
-ghost use Rattle.std.specs.Prelude.{◌≡◌, ◌≢◌, ◌⊎◌, IfOk, IfErr, MatchOption, ℕ, Some, codes, false, map, option_map};
+ghost use Rattle.std.specs.Prelude.{◌≡◌, ◌≢◌, ◌⊎◌, IfOk, IfErr, MatchOption, Option, ℕ, Some, codes, false, map, option_map};
 ghost use Rattle.clap.specs.declared.error.kind.ErrorKind.TheVariants.{InvalidValue};
 ghost use Rattle.cqf_units.specs.declared.timing.Rate.{Rate};
 ghost use Rattle.clap.specs.declared.builder.command.Command.TheViews.{out-Command};
@@ -10,7 +10,7 @@ ghost use Rattle.cqf_program_words.specs.Words.{app_without_deliveries, app_with
 ghost use Rattle.cqf_program_words.specs.Words.{compile_app, deliveries_app, first_app, latency_app, line_app, load_app};
 ghost use Rattle.cqf_program_words.specs.Words.{named_app, port_app, report_app, run_app, default_rule, flag_rule};
 ghost use Rattle.cqf_program_words.specs.Words.{format_rule, format_text, number_rule, rate_rule, rate_text};
-ghost use Rattle.cqf_program_words.specs.Words.{wanted_rule, IsFlagGiven, IsJob, IsJobOf, IsNumberIn, Mean, EndsBy};
+ghost use Rattle.cqf_program_words.specs.Words.{app_of_runs, free_rule, offers_app, seed_rule, wanted_rule, IsFlagGiven, IsSeed, IsJob, IsJobOf, IsNumberIn, Mean, EndsBy};
 ghost use Rattle.cqf_program_words.specs.Shown.{ShowsWords};
 ghost use Rattle.cqf_program_words.specs.Words.{EndsWords, takes_domain};
 ghost use Rattle.cqf_model.specs.Limits.{last_until, most_cycles};
@@ -180,6 +180,20 @@ An input that is refused has status 1 too, and a line that begins otherwise.
 Nothing is said of background frames, nor of offers other than these: latency
 bounds all that a reservation covers.";
 
+/// What the help of `offers` says of standard input and of its output.
+const OFFERS_INPUT: &str = r#"Standard input has two parts, which a line of %% divides:
+  a domain       links = [{ from = "a", to = "s", rate = 1000, delay = 500 }]
+  its streams    streams = [{ name = "x", octets = 64, path = ["a", "s"],
+                   interval = 125000, size = 64 }]
+or they are one file with both, or 2 to 16 whose names end with .toml:
+  cqf offers --cycles 5 plant.toml
+
+The output is offers, as the command run reads them: of each stream with traffic
+a block of so many frames in each interval, from its offset on, as long as that
+is within N cycles; by instant, then by the stream's place, then in order. With
+a seed each block is late by chance, up to its stream's jitter, but comes no
+earlier than the one before it; the same seed gives the same offers."#;
+
 /// What the program's help says of files and of its version.
 const MORE_WORDS: &str =
     r"Behind a command stand files, - for standard input; without one all is read
@@ -217,6 +231,8 @@ pub enum Job {
     Deliveries { cycles: u32 },
     /// Whether all offered frames of a scenario come to their listeners, in time.
     Check { cycles: u32 },
+    /// What the streams of a plant offer, each block late by chance where there is a seed.
+    Offers { cycles: u32, seed: Option<u32> },
 }
 
 impl Job {
@@ -232,7 +248,8 @@ impl Job {
             | Job::Run { .. }
             | Job::Report { .. }
             | Job::Deliveries { .. }
-            | Job::Check { .. } => true,
+            | Job::Check { .. }
+            | Job::Offers { .. } => true,
         }
     }
 }
@@ -299,6 +316,35 @@ fn cycles_option<'a>(alloc: Global) -> Arg<'a>
 {
     let help = "the number of cycles, 1 to 100000";
     wanted_option(alloc, "cycles", help).value_parser(value_parser!(u64).range(1..100_001))
+}
+
+/// The greatest seed (profile).
+const LAST_SEED: u64 = 4_294_967_295;
+
+/// An option `--NAME N` that may be given, whatever N is.
+fn free_option<'a>(
+    alloc: Global,
+    name: &'static str,
+    value: &'static str,
+    help: &'static str,
+) -> Arg<'a>
+    ensures rule { rule_of result ≡ free_rule name.now }
+    ensures own { result.global ≡ false }
+{
+    Arg::new(alloc, name)
+        .long(name)
+        .action(ArgAction::Set)
+        .value_name(value)
+        .help(help)
+}
+
+/// The option `--seed S`.
+fn seed_option<'a>(alloc: Global) -> Arg<'a>
+    ensures rule { rule_of result ≡ seed_rule }
+    ensures own { result.global ≡ false }
+{
+    let help = "how blocks are late by chance, 0 to 4294967295";
+    free_option(alloc, "seed", "S", help).value_parser(value_parser!(u64).range(0..4_294_967_296))
 }
 
 /// The flag `--threads`.
@@ -423,6 +469,18 @@ fn check_command<'a>(alloc: Global) -> Result<Command<'a>, AllocError>
         .arg(cycles_option(alloc))
 }
 
+/// `offers --cycles N [--seed S]`.
+fn offers_command<'a>(alloc: Global) -> Result<Command<'a>, AllocError>
+    ensures app { IfOk result (λ command. app_of command ≡ offers_app) }
+    ensures local { IfOk result (λ command. (out-Command command).has_globals ≡ false) }
+{
+    Command::new(alloc, "offers")
+        .about("what the streams of a plant offer")
+        .after_help(OFFERS_INPUT)
+        .arg(cycles_option(alloc))?
+        .arg(seed_option(alloc))
+}
+
 /// The program without its commands. Its name stands in the usage of each command.
 fn named_command<'a>(alloc: Global) -> Result<Command<'a>, AllocError>
     ensures app { IfOk result (λ command. app_of command ≡ named_app) }
@@ -471,9 +529,9 @@ fn commands_without_deliveries<'a>(alloc: Global) -> Result<Command<'a>, AllocEr
     first_commands(alloc)?.subcommand(run)?.subcommand(report)
 }
 
-/// The program's commands.
-fn commands<'a>(alloc: Global) -> Result<Command<'a>, AllocError>
-    ensures app { IfOk result (λ command. app_of command ≡ cqf_app) }
+/// The commands that read what is offered.
+fn commands_of_runs<'a>(alloc: Global) -> Result<Command<'a>, AllocError>
+    ensures app { IfOk result (λ command. app_of command ≡ app_of_runs) }
     ensures local { IfOk result (λ command. (out-Command command).has_globals ≡ false) }
 {
     let deliveries = deliveries_command(alloc)?;
@@ -481,6 +539,15 @@ fn commands<'a>(alloc: Global) -> Result<Command<'a>, AllocError>
     commands_without_deliveries(alloc)?
         .subcommand(deliveries)?
         .subcommand(check)
+}
+
+/// The program's commands.
+fn commands<'a>(alloc: Global) -> Result<Command<'a>, AllocError>
+    ensures app { IfOk result (λ command. app_of command ≡ cqf_app) }
+    ensures local { IfOk result (λ command. (out-Command command).has_globals ≡ false) }
+{
+    let offers = offers_command(alloc)?;
+    commands_of_runs(alloc)?.subcommand(offers)
 }
 
 /// The text of an error of clap's, or what there is of it where memory lacks.
@@ -580,6 +647,34 @@ fn cycles_of(values: &ArgMatches<'_>) -> Option<u32>
     }
 }
 
+/// The seed of the command with these values, which may have none; `None` where something else is given.
+fn seed_of(values: &ArgMatches<'_>) -> Option<Option<u32>>
+    ensures { MatchOption result ((seed : Option ℕ) → ¬ IsSeed seed (first_of (codes "seed") (rows_of (found_of values.now))))
+        (λ seed. IsSeed seed (first_of (codes "seed") (rows_of (found_of values.now)))) }
+{
+    match text_of(values, "seed") {
+        None => Some(None),
+        Some(text) => match number_in(Some(text), 0, LAST_SEED) {
+            Some(seed) => Some(Some(seed as u32)),
+            None => None,
+        },
+    }
+}
+
+/// The job of the command `offers` with its values.
+fn offers_job(values: &ArgMatches<'_>) -> Option<Job>
+    ensures { MatchOption result ((job : Job) → ¬ IsJobOf job (codes "offers") (rows_of (found_of values.now)))
+        (λ job. IsJobOf job (codes "offers") (rows_of (found_of values.now))) }
+{
+    let Some(cycles) = cycles_of(values) else {
+        return None;
+    };
+    let Some(seed) = seed_of(values) else {
+        return None;
+    };
+    Some(Job::Offers { cycles, seed })
+}
+
 /// Whether the flag is given.
 fn is_given(values: &ArgMatches<'_>, id: &str) -> bool
     ensures { IsFlagGiven result (first_of id.now (rows_of (found_of values.now))) }
@@ -596,6 +691,7 @@ fn cycles_job(name: &str, values: &ArgMatches<'_>) -> Option<Job>
     requires not_compile { name.now ≢ codes "compile" }
     requires not_load { name.now ≢ codes "load" }
     requires not_latency { name.now ≢ codes "latency" }
+    requires not_offers { name.now ≢ codes "offers" }
     ensures { MatchOption result ((job : Job) → ¬ IsJobOf job name.now (rows_of (found_of values.now)))
         (λ job. IsJobOf job name.now (rows_of (found_of values.now))) }
 {
@@ -628,6 +724,7 @@ fn job_of(matches: &ArgMatches<'_>) -> Option<Job>
         "latency" => Some(Job::Latency {
             strict: is_given(values, "strict"),
         }),
+        "offers" => offers_job(values),
         _ => cycles_job(name, values),
     }
 }
