@@ -1,5 +1,5 @@
 -- What the texts of files come to for a job: the input that the program reads (profile).
-use Rattle.std.specs.Prelude.{ℕ, ◌≡◌, ◌-◌, ◌&&◌, Bool, true, false, List, [], ◌∷◌, Option, Some, None, Vec, drop, if◌then◌else◌, option_and_then, option_map}
+use Rattle.std.specs.Prelude.{ℕ, ◌≡◌, ◌-◌, ◌&&◌, Bool, true, false, not, List, [], ◌∷◌, Option, Some, None, Vec, bytes_eq, codes, drop, if◌then◌else◌, option_and_then, option_map, take}
 use Rattle.std.specs.declared.alloc.Global.{Global}
 use Rattle.cqf_program_stop.specs.declared.stops.Stop.{Stop}
 use Rattle.cqf_program_words.specs.declared.words.Job.{Job}
@@ -18,10 +18,14 @@ cycles_of (job.Deliveries cycles) = Some cycles
 cycles_of (job.Check cycles) = Some cycles
 cycles_of other = None
 
--- the file of calls, where there is one: it stands right behind a plant, and no line divides it
+-- a text begins as a table of offers does
+abbrev pub begins_as_offers : List ℕ → Bool
+begins_as_offers text = bytes_eq (take 3 text) (codes "at,")
+
+-- the file of calls, where there is one: it stands right behind a plant, no line divides it, and it isn't a table of offers
 abbrev pub called_script : Job → List (List ℕ) → List ℕ → List ℕ → ℕ → Option (List (ℕ × List ℕ))
 called_script it names first second cycles =
-    if is_plant it names first && is_undivided second then Some (script_of_calls cycles second) else None
+    if is_plant it names first && (is_undivided second && not (begins_as_offers second)) then Some (script_of_calls cycles second) else None
 
 abbrev pub script_at : Job → List (List ℕ) → List ℕ → List (List ℕ) → Option (List (ℕ × List ℕ))
 script_at it names first [] = None

@@ -2,7 +2,7 @@
 ghost use Rattle.std.specs.Prelude.{◌≡◌, ◌∷◌, IfOk, IfErr, Some, length, map, option_map, string_bytes};
 ghost use Rattle.cqf_program_words.specs.Composing.{composed_of};
 ghost use Rattle.cqf_program_words.specs.Words.{takes_domain};
-ghost use Rattle.cqf_program_files.specs.Front.{EndsFront, IsFrontOf, IsGathered, IsGatheredWith, IsJointFor, called_script, cycles_of, joint_names};
+ghost use Rattle.cqf_program_files.specs.Front.{EndsFront, IsFrontOf, IsGathered, IsGatheredWith, IsJointFor, begins_as_offers, called_script, cycles_of, joint_names};
 ghost use Rattle.cqf_program_files.specs.Front.{parts_of_script, script_at, with_first};
 
 use crate::calls::{CallsScript, script_of_calls};
@@ -34,7 +34,14 @@ pub fn cycles_of(job: &Job) -> Option<u32>
     }
 }
 
-/// The script of the second text, where it is a file of calls behind a plant. The error is want of memory.
+/// Whether the text begins as a table of offers does, with `at,`.
+pub fn begins_as_offers(text: &[u8]) -> bool
+    ensures { result ≡ begins_as_offers text.now }
+{
+    text.starts_with(b"at,")
+}
+
+/// The script of the second text, where it is a file of calls behind a plant, and no table of offers. The error is want of memory.
 fn called_script(
     alloc: Global,
     job: &Job,
@@ -50,6 +57,9 @@ fn called_script(
         return Ok(None);
     }
     if !is_undivided(alloc, second)? {
+        return Ok(None);
+    }
+    if begins_as_offers(second) {
         return Ok(None);
     }
     let script = script_of_calls(alloc, cycles, second)?;
@@ -181,7 +191,7 @@ fn joint_plant(
 ///
 /// Where the job takes a domain, the first 2 to 16 names that end with `.toml` are those of one plant: its text has all that commands
 /// know of these texts, arrays one behind the other. Where the job reads a script, a text right behind a plant is a file of calls, which
-/// [`script_of_calls`] reads. The rest goes as [`cqf_program_words::composed`] has it (profile).
+/// [`script_of_calls`] reads, unless it begins as offers do. The rest goes as [`cqf_program_words::composed`] has it (profile).
 ///
 /// # Errors
 /// Where the job takes a domain, status 1 and the line of the first fault: a line of a file whose name ends with `.toml` that is too long to

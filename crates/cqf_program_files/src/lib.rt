@@ -27,7 +27,7 @@ mod plants;
 
 pub use calls::{CallsScript, script_of_calls};
 pub use faults::PlantFault;
-pub use front::{Front, cycles_of, front_of};
+pub use front::{Front, begins_as_offers, cycles_of, front_of};
 pub use keys::{LINK, OWN, STREAM, TOP, strange_key};
 pub use lines::{MOST_OCTETS, MOST_PARTS, first_long_line};
 pub use numbers::renumbered;

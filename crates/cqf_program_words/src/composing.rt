@@ -93,8 +93,14 @@ fn put_rest(input: &mut Vec<u8>, texts: &[&[u8]]) -> Result<(), AllocError>
     Ok(())
 }
 
-/// The first text, twice where it is a plant, and the others behind it.
-fn joined(alloc: Global, plant: bool, first: &[u8], rest: &[&[u8]]) -> Result<Vec<u8>, AllocError>
+/// The first text, twice where it is a plant, and the others behind it, with a line `%%` between them, and a line feed behind each that has
+/// none at its end and isn't empty. The error is want of memory.
+pub fn joined(
+    alloc: Global,
+    plant: bool,
+    first: &[u8],
+    rest: &[&[u8]],
+) -> Result<Vec<u8>, AllocError>
     ensures { IfOk result (λ input. input.items ≡ first_text plant first.now ++ flat_map text_behind (map (λ text. text.now) rest.now)) }
 {
     let mut input = Vec::new(alloc);

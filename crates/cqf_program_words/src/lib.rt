@@ -32,7 +32,9 @@ mod operands;
 mod shown;
 mod words;
 
-pub use composing::{composed, composed_behind, composed_between, is_plant, is_toml, is_undivided};
+pub use composing::{
+    composed, composed_behind, composed_between, is_plant, is_toml, is_undivided, joined,
+};
 pub use operands::{Operands, STANDARD, check_files, operands_of, split_operands};
 pub use shown::{stop_of_file, stop_of_line, stop_of_long_line};
 pub use words::{Format, Job, read_words};
