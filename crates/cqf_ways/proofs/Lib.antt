@@ -1,0 +1,5 @@
+pub mod StepLemmas
+pub mod OrderLemmas
+pub mod MarkLemmas
+pub mod LinkLemmas
+pub mod WayLemmas
