@@ -3,3 +3,5 @@ pub mod OrderLemmas
 pub mod MarkLemmas
 pub mod LinkLemmas
 pub mod WayLemmas
+pub mod PartLemmas
+pub mod ShortLemmas

@@ -57,6 +57,20 @@ stays_before (x ∷ xs) (y ∷ ys) more rest e b = elim (compared x y) [
     ]
 ]
 
+-- and comes before it still
+pub before_stays : (xs ys more rest : List ℕ) → length xs ≡ length ys → is_before xs ys ≡ true → is_before (xs ++ more) (ys ++ rest) ≡ true
+before_stays [] ys more rest e b = absurd cc
+before_stays (x ∷ xs) [] more rest e b = absurd cc
+before_stays (x ∷ xs) (y ∷ ys) more rest e b = elim (compared x y) [
+  | inl same ↦ subst (λ (z : ℕ). is_before (x ∷ (xs ++ more)) (z ∷ (ys ++ rest)) ≡ true) same
+      (before_same x (xs ++ more) (ys ++ rest)
+      ∙ before_stays xs ys more rest (shorter x y xs ys e) (sym (before_same x xs ys) ∙ ap (λ z. is_before (x ∷ xs) (z ∷ ys)) same ∙ b))
+  | inr apart ↦ elim apart [
+      | inl lower ↦ before_lower x y (xs ++ more) (ys ++ rest) lower
+      | inr higher ↦ absurd (let t = before_higher x y xs ys higher in cc)
+    ]
+]
+
 -- behind one beginning, what follows decides
 pub before_behind : (front xs ys : List ℕ) → is_before (front ++ xs) (front ++ ys) ≡ is_before xs ys
 before_behind [] xs ys = refl

@@ -1,3 +1,4 @@
 pub mod Ways
 pub mod Steps
 pub mod Ends
+pub mod WayLaws

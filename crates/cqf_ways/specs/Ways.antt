@@ -1,5 +1,5 @@
 -- Ways through a network by the numbers of their links, and the first of those with room (profile).
-use Rattle.std.specs.Prelude.{ℕ, ◌≡◌, ◌≤◌, Bool, true, false, if◌then◌else◌, nat_le, nat_lt, List, find, length, Option, Some, None, option_and_then, slice_get}
+use Rattle.std.specs.Prelude.{ℕ, ◌≡◌, ◌≤◌, Bool, true, false, if◌then◌else◌, nat_le, nat_lt, List, find, length, not, Option, Some, None, option_and_then, slice_get}
 use Rattle.std.specs.Option.{option_map_or}
 use Rattle.std.specs.List.{list_all}
 use Rattle.cqf_model.specs.declared.topology.Link.{Link}
@@ -43,4 +43,4 @@ NoWay links room from to = (way : List ℕ) → ¬ IsWay links room from to way
 
 -- the first link of a way that has less left than is asked for
 abbrev pub short_link : List ℕ → ℕ → List ℕ → Option ℕ
-short_link left cost way = find (λ l. if has_room left cost l then false else true) way
+short_link left cost way = find (λ l. not (has_room left cost l)) way
