@@ -5,3 +5,4 @@ pub mod LinkLemmas
 pub mod WayLemmas
 pub mod PartLemmas
 pub mod ShortLemmas
+pub mod ListenerLemmas

@@ -1,6 +1,6 @@
 -- Bridges that are marked link by link.
-use Rattle.std.proofs.Common.{◌≡◌, ◌∙◌, ◌+◌, ◌<◌, ◌≤◌, ◌⊎◌, ℕ, Bool, true, false, List, Option, Some, None, length, refl, sym, ap, subst, inl, inr, arith}
-use Rattle.std.specs.Prelude.{option_and_then, replicate, slice_get, if◌then◌else◌}
+use Rattle.std.proofs.Common.{◌≡◌, ◌+◌, ◌<◌, ℕ, Bool, false, List, Option, Some, None, length, refl, ap, subst, inl, inr, arith}
+use Rattle.std.specs.Prelude.{option_and_then, replicate, if◌then◌else◌}
 use Rattle.std.proofs.lemmas.Bool.{cases_Bool, cases_lt}
 use Rattle.std.proofs.lemmas.List.{get_or-replicate, get_or_past, length-replicate}
 use Rattle.std.proofs.lemmas.Option.{slice_get_past}
@@ -8,7 +8,7 @@ use Rattle.cqf_model.specs.declared.topology.Link.{Link}
 use Rattle.cqf_model.specs.declared.topology.Node.{Node}
 use Rattle.cqf_model.specs.declared.topology.Node.TheVariants.{Bridge, Station}
 use Rattle.cqf_ways.specs.Ends.{AreMarked, IsMarkedBy, is_marked, open_to}
-use Rattle.cqf_ways.specs.Steps.{AreBefore, LeadsInto, SomeLeadsInto}
+use Rattle.cqf_ways.specs.Steps.{AreBefore, LeadsInto}
 use Rattle.cqf_ways.specs.Ways.{led_by, led_to}
 
 -- no link leads by a number that no link has
@@ -16,10 +16,10 @@ pub open_within : (links : List Link) (room : ℕ → Bool) (node end : Node) (l
 open_within links room node end l e = elim (cases_lt l (length links)) [
   | inl inside ↦ inside
   | inr past ↦ elim (cases_Bool (room l)) [
-      | inl roomy ↦ absurd (let none = slice_get_past links l past in let led : led_to links node l ≡ None = ap (option_and_then (led_by node)) none in
-          let opened : open_to links room node l ≡ led_to links node l = ap (λ b. if b then led_to links node l else None) roomy in cc)
-      | inr full ↦ absurd (let opened : open_to links room node l ≡ None = ap (λ b. if b then led_to links node l else None) full in cc)
-    ]
+    | inl roomy ↦ absurd (let none = slice_get_past links l past in let led : led_to links node l ≡ None = ap (option_and_then (led_by node)) none in
+        let opened : open_to links room node l ≡ led_to links node l = ap (λ b. if b then led_to links node l else None) roomy in cc)
+    | inr full ↦ absurd (let opened : open_to links room node l ≡ None = ap (λ b. if b then led_to links node l else None) full in cc)
+  ]
 ]
 
 -- where there are no marks none is marked

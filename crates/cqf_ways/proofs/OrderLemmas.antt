@@ -1,6 +1,5 @@
 -- Which of two ways of one length comes before the other.
-use Rattle.std.proofs.Common.{◌≡◌, ◌∙◌, ◌<◌, ◌≤◌, ◌⊎◌, ◌==◌, ℕ, Bool, true, false, List, [], ◌∷◌, ◌++◌, length, refl, sym, ap, subst, inl, inr, arith}
-use Rattle.std.specs.Prelude.{if◌then◌else◌, nat_lt, suc}
+use Rattle.std.proofs.Common.{◌≡◌, ◌∙◌, ◌<◌, ◌≤◌, ◌⊎◌, ℕ, true, false, List, [], ◌∷◌, ◌++◌, length, refl, sym, ap, subst, inl, inr, arith}
 use Rattle.std.proofs.lemmas.Bool.Decides.{nat_tests}
 use Rattle.cqf_ways.specs.Steps.{is_before}
 
@@ -38,9 +37,9 @@ same_or_behind (x ∷ xs) (y ∷ ys) e b = elim (compared x y) [
         | inr behind ↦ inr (before_same x ys xs ∙ behind)
       ])
   | inr apart ↦ elim apart [
-      | inl lower ↦ absurd (let t = before_lower x y xs ys lower in cc)
-      | inr higher ↦ inr (before_lower y x ys xs higher)
-    ]
+    | inl lower ↦ absurd (let t = before_lower x y xs ys lower in cc)
+    | inr higher ↦ inr (before_lower y x ys xs higher)
+  ]
 ]
 
 -- one that comes before another doesn't come behind it, whatever stands behind both
@@ -52,9 +51,9 @@ stays_before (x ∷ xs) (y ∷ ys) more rest e b = elim (compared x y) [
       (before_same x (ys ++ more) (xs ++ rest)
       ∙ stays_before xs ys more rest (shorter x y xs ys e) (sym (before_same x xs ys) ∙ ap (λ z. is_before (x ∷ xs) (z ∷ ys)) same ∙ b))
   | inr apart ↦ elim apart [
-      | inl lower ↦ before_higher y x (ys ++ more) (xs ++ rest) lower
-      | inr higher ↦ absurd (let t = before_higher x y xs ys higher in cc)
-    ]
+    | inl lower ↦ before_higher y x (ys ++ more) (xs ++ rest) lower
+    | inr higher ↦ absurd (let t = before_higher x y xs ys higher in cc)
+  ]
 ]
 
 -- and comes before it still
@@ -66,9 +65,9 @@ before_stays (x ∷ xs) (y ∷ ys) more rest e b = elim (compared x y) [
       (before_same x (xs ++ more) (ys ++ rest)
       ∙ before_stays xs ys more rest (shorter x y xs ys e) (sym (before_same x xs ys) ∙ ap (λ z. is_before (x ∷ xs) (z ∷ ys)) same ∙ b))
   | inr apart ↦ elim apart [
-      | inl lower ↦ before_lower x y (xs ++ more) (ys ++ rest) lower
-      | inr higher ↦ absurd (let t = before_higher x y xs ys higher in cc)
-    ]
+    | inl lower ↦ before_lower x y (xs ++ more) (ys ++ rest) lower
+    | inr higher ↦ absurd (let t = before_higher x y xs ys higher in cc)
+  ]
 ]
 
 -- behind one beginning, what follows decides

@@ -1,18 +1,18 @@
 -- Beginnings of first ways are first ways, so two of them part once.
-use Rattle.std.proofs.Common.{append_assoc, ◌≡◌, ◌≢◌, ◌∙◌, ◌+◌, ◌<◌, ◌≤◌, ◌⊎◌, ℕ, Bool, true, false, List, [], ◌∷◌, ◌++◌, Option, Some, None, Contains, length, refl, sym, ap, subst, inl, inr, arith}
+use Rattle.std.proofs.Common.{append_assoc, ◌≡◌, ◌≢◌, ◌∙◌, ◌+◌, ◌≤◌, ℕ, Bool, true, false, List, [], ◌∷◌, ◌++◌, Option, Some, None, Contains, length, refl, sym, ap, subst, inl, inr, arith}
 use Rattle.std.proofs.Common.{length-append}
-use Rattle.std.specs.Prelude.{◌&&◌, nat_le, not, option_and_then, slice_get}
+use Rattle.std.specs.Prelude.{◌&&◌, option_and_then, slice_get}
 use Rattle.std.specs.Option.{option_map_or}
 use Rattle.std.specs.List.{list_all}
 use Rattle.std.proofs.lemmas.Bool.{cases_Bool, cases_eq, cases_lt}
 use Rattle.std.proofs.lemmas.List.Folds.{list_all-append}
 use Rattle.std.proofs.lemmas.Option.{option_and_then_some}
-use Rattle.cqf_lists.proofs.Members.{contains_cases, contains_here, contains_later, contains_none, find_some}
+use Rattle.cqf_lists.proofs.Members.{contains_cases, contains_none}
 use Rattle.cqf_model.specs.declared.topology.Link.{Link}
 use Rattle.cqf_model.specs.declared.topology.Node.{Node}
-use Rattle.cqf_model.specs.declared.topology.Node.TheVariants.{Bridge, Station}
+use Rattle.cqf_model.specs.declared.topology.Node.TheVariants.{Station}
 use Rattle.cqf_ways.specs.Steps.{is_before, led_along}
-use Rattle.cqf_ways.specs.Ways.{IsFirstWay, IsWay, NoWay, has_room, led_by, led_to, most_links, short_link}
+use Rattle.cqf_ways.specs.Ways.{IsFirstWay, IsWay, led_by, led_to}
 use Rattle.cqf_ways.specs.WayLaws.{EndsOnce, PartForGood, ends_along}
 use Rattle.cqf_ways.proofs.OrderLemmas.{before_stays, same_or_behind}
 use Rattle.cqf_ways.proofs.StepLemmas.{along-append, along-push}
@@ -64,9 +64,9 @@ first_begins links room from mid to front back first to_mid = record {
   ];
   least = λ other is same. elim (cases_Bool (is_before other front)) [
     | inl before ↦ absurd (
-      let as_long : length (other ++ back) ≡ length (front ++ back) = omega (arith, same, length-append front back, length-append other back) in
-      let not_before = first.least (other ++ back) (through other is (omega (arith, same))) as_long in
-      let is = before_stays other front back back same before in cc)
+        let as_long : length (other ++ back) ≡ length (front ++ back) = omega (arith, same, length-append front back, length-append other back) in
+        let not_before = first.least (other ++ back) (through other is (omega (arith, same))) as_long in
+        let is = before_stays other front back back same before in cc)
     | inr not_before ↦ not_before
   ];
 }
@@ -179,12 +179,12 @@ pub first_ways_part : (links : List Link) (room : ℕ → Bool) (from : Node) (s
     IsFirstWay links room from (Station station) way → IsFirstWay links room from (Station there) other → PartForGood links from way other
 first_ways_part links room from station there way other differ first also = elim (beginning way other) [
   | Parts common x y rest more is other_is apart ↦ (
-    let one : IsFirstWay links room from (Station station) (common ++ (x ∷ rest)) = subst (λ (ws : List ℕ). IsFirstWay links room from (Station station) ws) is first in
-    let two : IsFirstWay links room from (Station there) (common ++ (y ∷ more)) =
-    subst (λ (ws : List ℕ). IsFirstWay links room from (Station there) ws) other_is also in
-    option_and_then_some (λ end. led_along (led_to links) end (x ∷ rest)) (led_along (led_to links) from common) (Station station)
-    (sym (along-append (led_to links) from common (x ∷ rest)) ∙ one.is_way.leads)
-    (λ node to_node on.
+      let one : IsFirstWay links room from (Station station) (common ++ (x ∷ rest)) = subst (λ (ws : List ℕ). IsFirstWay links room from (Station station) ws) is first in
+      let two : IsFirstWay links room from (Station there) (common ++ (y ∷ more)) =
+      subst (λ (ws : List ℕ). IsFirstWay links room from (Station there) ws) other_is also in
+      option_and_then_some (λ end. led_along (led_to links) end (x ∷ rest)) (led_along (led_to links) from common) (Station station)
+      (sym (along-append (led_to links) from common (x ∷ rest)) ∙ one.is_way.leads)
+      (λ node to_node on.
       record {
         common = common;
         node = node;
@@ -199,11 +199,11 @@ first_ways_part links room from station there way other differ first also = elim
         apart = apart_behind links room from node (Station station) (Station there) common x y rest more apart one two to_node;
       }))
   | Begins rest is ↦ absurd (differ (one_station station there
-    (from_station links station (Station there) rest (leads_on links from (Station station) (Station there) way rest first.is_way.leads
-    (sym (ap (led_along (led_to links) from) is) ∙ also.is_way.leads)))))
+      (from_station links station (Station there) rest (leads_on links from (Station station) (Station there) way rest first.is_way.leads
+      (sym (ap (led_along (led_to links) from) is) ∙ also.is_way.leads)))))
   | IsBegun rest is ↦ absurd (differ (sym (one_station there station
-    (from_station links there (Station station) rest (leads_on links from (Station there) (Station station) other rest also.is_way.leads
-    (sym (ap (led_along (led_to links) from) is) ∙ first.is_way.leads))))))
+      (from_station links there (Station station) rest (leads_on links from (Station there) (Station station) other rest also.is_way.leads
+      (sym (ap (led_along (led_to links) from) is) ∙ first.is_way.leads))))))
 ]
   where
     one_station : (a b : ℕ) → Station b ≡ Station a → a ≡ b
@@ -233,13 +233,12 @@ goes_round links room from mid to front first loop back to_mid round is =
 pub ends_once : (links : List Link) (room : ℕ → Bool) (from to : Node) (way : List ℕ) → IsFirstWay links room from to way → EndsOnce links from way
 ends_once links room from to way first = record {
   not_again = λ c.
-    let r = reached links from way from c in
-    goes_round links room from from to [] r.first r.front r.back refl r.leads (subst (λ (ws : List ℕ). IsFirstWay links room from to ws) r.is first);
+      let r = reached links from way from c in
+      goes_round links room from from to [] r.first r.front r.back refl r.leads (subst (λ (ws : List ℕ). IsFirstWay links room from to ws) r.is first);
   once = λ front l rest node end is to_node by_link c.
-    let r = reached links end rest end c in
-    let whole : way ≡ (front ++ l ∷ []) ++ ((r.first ∷ r.front) ++ r.back) =
-    is ∙ ap (λ ws. front ++ (l ∷ ws)) r.is ∙ sym (append_assoc front (l ∷ []) ((r.first ∷ r.front) ++ r.back)) in
-    goes_round links room from end to (front ++ l ∷ []) r.first r.front r.back (along-push (led_to links) from node end front l to_node by_link) r.leads
-    (subst (λ (ws : List ℕ). IsFirstWay links room from to ws) whole first);
+      let r = reached links end rest end c in
+      let whole : way ≡ (front ++ l ∷ []) ++ ((r.first ∷ r.front) ++ r.back) =
+      is ∙ ap (λ ws. front ++ (l ∷ ws)) r.is ∙ sym (append_assoc front (l ∷ []) ((r.first ∷ r.front) ++ r.back)) in
+      goes_round links room from end to (front ++ l ∷ []) r.first r.front r.back (along-push (led_to links) from node end front l to_node by_link) r.leads
+      (subst (λ (ws : List ℕ). IsFirstWay links room from to ws) whole first);
 }
-

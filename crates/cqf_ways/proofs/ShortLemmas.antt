@@ -1,6 +1,6 @@
 -- Ways that lack room, and ways at no cost.
-use Rattle.std.proofs.Common.{◌≡◌, ◌∙◌, ◌<◌, ◌≤◌, ℕ, Bool, true, false, List, [], ◌∷◌, Option, Some, None, Contains, length, refl, sym, ap, subst, inl, inr, arith}
-use Rattle.std.specs.Prelude.{◌&&◌, find, nat_le, not, option_and_then, slice_get}
+use Rattle.std.proofs.Common.{◌≡◌, ◌∙◌, ◌<◌, ℕ, Bool, true, false, List, [], ◌∷◌, Option, Some, None, Contains, length, refl, sym, ap, inl, inr, arith}
+use Rattle.std.specs.Prelude.{◌&&◌, nat_le, not, option_and_then, slice_get}
 use Rattle.std.specs.Option.{option_map_or}
 use Rattle.std.specs.List.{list_all}
 use Rattle.std.proofs.Common.{le-leb}

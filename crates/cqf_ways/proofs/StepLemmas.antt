@@ -1,8 +1,8 @@
 -- Ways by numbered steps, and how the first into a set comes from the first into the set before it.
-use Rattle.std.proofs.Common.{◌≡◌, ◌∙◌, ◌+◌, ◌<◌, ◌≤◌, ◌⊎◌, ℕ, Bool, true, false, List, [], ◌∷◌, ◌++◌, Option, Some, None, length, refl, sym, ap, subst, inl, inr, arith, length-append}
-use Rattle.std.specs.Prelude.{option_and_then, suc, zero}
+use Rattle.std.proofs.Common.{◌≡◌, ◌∙◌, ◌+◌, ◌≤◌, ℕ, Bool, true, false, List, [], ◌∷◌, ◌++◌, Option, Some, None, length, refl, sym, ap, subst, inl, inr, arith, length-append}
+use Rattle.std.specs.Prelude.{option_and_then}
 use Rattle.std.proofs.lemmas.Option.{option_and_then_some}
-use Rattle.cqf_ways.specs.Steps.{AreBefore, IsFirstInto, IsFirstStep, LeadsInto, SomeLeadsInto, WayInto, is_before, led_along}
+use Rattle.cqf_ways.specs.Steps.{AreBefore, IsFirstInto, IsFirstStep, LeadsInto, WayInto, is_before, led_along}
 use Rattle.cqf_ways.proofs.OrderLemmas.{before_behind, higher_alone, same_or_behind, stays_before}
 
 -- steps behind others lead on from where these do
@@ -57,15 +57,15 @@ parted {N} next ends before from there (x ∷ xs) are outside into =
     let leads : led_along next from (p.front ++ p.last ∷ []) ≡ Some there = sym (ap (led_along next from) p.is) ∙ into.leads in
     option_and_then_some (λ end. led_along next end (p.last ∷ [])) (led_along next from p.front) there (sym (along-append next from p.front (p.last ∷ [])) ∙ leads)
     (λ node to_node to_there.
-      let last : LeadsInto next ends node p.last there = record { leads = sym (along-one next node p.last) ∙ to_there; inside = into.inside } in
-      record {
-        front = p.front;
-        last = p.last;
-        node = node;
-        is = p.is;
-        into = record { leads = to_node; inside = are.all node (record { step = p.last; end = there; leads = last }) };
-        leads = last;
-      })
+    let last : LeadsInto next ends node p.last there = record { leads = sym (along-one next node p.last) ∙ to_there; inside = into.inside } in
+    record {
+      front = p.front;
+      last = p.last;
+      node = node;
+      is = p.is;
+      into = record { leads = to_node; inside = are.all node (record { step = p.last; end = there; leads = last }) };
+      leads = last;
+    })
 
 -- the length of a list with one element more
 length_pushed : (xs : List ℕ) (x : ℕ) → length (xs ++ x ∷ []) ≡ length xs + 1

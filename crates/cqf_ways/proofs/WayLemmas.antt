@@ -1,5 +1,5 @@
 -- Ways with room are ways by the links with room.
-use Rattle.std.proofs.Common.{◌≡◌, ◌∙◌, ◌+◌, ◌<◌, ◌≤◌, ℕ, Bool, true, false, List, [], ◌∷◌, Option, Some, None, length, refl, sym, ap, subst, arith}
+use Rattle.std.proofs.Common.{◌≡◌, ◌∙◌, ◌≤◌, ℕ, Bool, true, false, List, [], ◌∷◌, Option, Some, None, length, refl, sym, ap}
 use Rattle.std.specs.Prelude.{◌&&◌, if◌then◌else◌, option_and_then}
 use Rattle.std.specs.List.{list_all}
 use Rattle.cqf_model.specs.declared.topology.Link.{Link}
@@ -7,7 +7,7 @@ use Rattle.cqf_model.specs.declared.topology.Node.{Node}
 use Rattle.cqf_model.proofs.Links.{same_node_itself, same_node_true}
 use Rattle.cqf_ways.specs.declared.ends.Ends.TheVariants.{Only}
 use Rattle.cqf_ways.specs.Ends.{is_in, open_to}
-use Rattle.cqf_ways.specs.Steps.{IsFirstInto, NoneInto, WayInto, is_before, led_along}
+use Rattle.cqf_ways.specs.Steps.{IsFirstInto, NoneInto, WayInto, led_along}
 use Rattle.cqf_ways.specs.Ways.{IsFirstWay, IsWay, NoWay, led_to, most_links}
 
 -- by links with room, each of a way has it

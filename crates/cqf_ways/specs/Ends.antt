@@ -1,5 +1,5 @@
 -- Sets of nodes in which a way may end, and the links that lead into them.
-use Rattle.std.specs.Prelude.{ℕ, ◌≡◌, ◌<◌, Bool, true, false, if◌then◌else◌, List, Option, Some, None, slice_index_or}
+use Rattle.std.specs.Prelude.{ℕ, ◌≡◌, ◌<◌, Bool, true, false, if◌then◌else◌, List, Option, None, slice_index_or}
 use Rattle.cqf_model.specs.declared.topology.Link.{Link}
 use Rattle.cqf_model.specs.declared.topology.Node.{Node}
 use Rattle.cqf_model.specs.declared.topology.Node.TheVariants.{Bridge, Station}

@@ -3,7 +3,7 @@ use Rattle.std.specs.Prelude.{ℕ, ◌≡◌, ◌≢◌, Bool, true, List, [], �
 use Rattle.std.specs.Option.{option_map_or}
 use Rattle.cqf_model.specs.declared.topology.Link.{Link}
 use Rattle.cqf_model.specs.declared.topology.Node.{Node}
-use Rattle.cqf_model.specs.declared.topology.Node.TheVariants.{Bridge, Station}
+use Rattle.cqf_model.specs.declared.topology.Node.TheVariants.{Station}
 use Rattle.cqf_ways.specs.Steps.{led_along}
 use Rattle.cqf_ways.specs.Ways.{IsFirstWay, IsWay, NoWay, has_room, led_to, short_link}
 

@@ -2,7 +2,7 @@
 ghost use Rattle.std.specs.Prelude.{◌≡◌, ◌≤◌, ◌<◌, IfSome, MatchOption, length};
 ghost use Rattle.cqf_ways.specs.Ends.{is_in, open_to};
 ghost use Rattle.cqf_ways.specs.Steps.{IsFirstInto, IsFirstStep, NoneLeadsInto, NoneInto};
-ghost use Rattle.cqf_ways.specs.Ways.{IsFirstWay, NoWay, has_room};
+ghost use Rattle.cqf_ways.specs.Ways.{IsFirstWay, NoWay, has_room, short_link};
 
 use crate::Room;
 use crate::ends::Ends;
@@ -77,4 +77,13 @@ pub fn first_way(room: Room, from: u8, to: Node) -> Option<ArrayVec<u8, 16>>
 {
     let found = way_into(room, from, &Ends::Only(to), MOST_LINKS)?;
     Some(found.way)
+}
+
+/// The first link of a way that has no room.
+pub fn first_short(room: Room, way: &[u8]) -> Option<u8>
+    ensures { result ≡ short_link room.entry.left.now room.entry.cost way.now }
+{
+    way.iter()
+        .copied()
+        .find(|link| !room.has(usize::from(*link)))
 }

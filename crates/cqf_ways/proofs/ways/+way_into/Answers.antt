@@ -1,4 +1,4 @@
-use Rattle.std.proofs.Common.{◌≡◌, ◌∙◌, ◌-◌, List, ℕ, arith, subst, sym}
+use Rattle.std.proofs.Common.{◌∙◌, ◌-◌, List, ℕ, arith, subst, sym}
 use Rattle.cqf_model.specs.declared.topology.Node.TheVariants.{Bridge}
 use Rattle.cqf_ways.specs.Ends.{is_in, open_to}
 use Rattle.cqf_ways.specs.Steps.{IsFirstInto}
