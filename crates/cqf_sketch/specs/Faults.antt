@@ -1,0 +1,21 @@
+-- Why a sketch's domain is refused, and how that is told (profile).
+use Rattle.std.specs.Prelude.{ℕ, ◌++◌, List, Result, Ok, Err, codes}
+use Rattle.std.specs.Result.{result_map_both}
+use Rattle.cqf_topology_fields.specs.declared.faults.TomlFault.{TomlFault}
+use Rattle.cqf_topology.specs.DomainText.{domain_fault}
+use Rattle.cqf_topology.specs.Faults.{domain_fault_text}
+use Rattle.cqf_sketch.specs.declared.faults.SketchFault.{SketchFault}
+use Rattle.cqf_sketch.specs.declared.faults.SketchFault.TheVariants as fault
+
+-- the text of a fault
+abbrev pub sketch_fault_text : SketchFault → List ℕ
+sketch_fault_text (fault.Domain found) = domain_fault_text found
+sketch_fault_text fault.BadDuplex = codes "BadValue duplex"
+sketch_fault_text (fault.TwoTalkerLinks station) = codes "TwoTalkerLinks " ++ station
+
+-- a fault in reading, as one of the sketch
+abbrev pub sketch_fault : TomlFault → SketchFault
+sketch_fault early = fault.Domain (domain_fault early)
+
+abbrev pub or_sketch : {A : Type 0} → Result A TomlFault → Result A SketchFault
+or_sketch r = result_map_both (λ x. x) sketch_fault r

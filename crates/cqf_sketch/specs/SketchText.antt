@@ -1,0 +1,104 @@
+-- What the text of a sketch's domain says, before it is asked whether a network can be like that (profile).
+use Rattle.std.specs.Prelude.{ℕ, List, [], ◌∷◌, ◌++◌, ◌&&◌, Bool, false, if◌then◌else◌, codes, length, nat_le, Option, Some, None, ok_or, option_and_then, Result, Ok, Err}
+use Rattle.toml.specs.Data.{Data, Items, Members, as_array, as_bool, as_table, get_member}
+use Rattle.cqf_lists.specs.Results.{and_then}
+use Rattle.cqf_topology_fields.specs.declared.keys.Key.{Key}
+use Rattle.cqf_topology_fields.specs.declared.keys.Key.TheVariants.{Cycle, Guard, Bridges, Stations, Links, From, To, Rate, Delay}
+use Rattle.cqf_topology_fields.specs.declared.faults.TomlFault.{TomlFault}
+use Rattle.cqf_topology_fields.specs.declared.faults.TomlFault.TheVariants.{BadValue}
+use Rattle.cqf_topology_fields.specs.Fields.{are_tables, each_from, name_from, names_at, number_from, read_at, value_at, whole_document}
+use Rattle.cqf_topology.specs.DomainText.{domain_keys, if_some, link_keys, rate_from}
+use Rattle.cqf_sketch.specs.declared.draft.DraftLink.{DraftLink}
+use Rattle.cqf_sketch.specs.declared.draft.OneWay.{OneWay}
+use Rattle.cqf_sketch.specs.declared.faults.SketchFault.{SketchFault}
+use Rattle.cqf_sketch.specs.declared.faults.SketchFault.TheVariants.{BadDuplex}
+use Rattle.cqf_sketch.specs.Faults.{or_sketch, sketch_fault}
+
+-- what a sketch's domain says: the candidates for its cycle time, in the order of wish, times in nanoseconds, names, and links by
+-- the names of their ends
+pub record SketchText : Type 0 where
+  pub candidates : List ℕ
+  pub guard : ℕ
+  pub bridges : List (List ℕ)
+  pub stations : List (List ℕ)
+  pub links : List DraftLink
+
+-- its keys, in reading order: where candidates are given, that of the cycle time isn't read
+abbrev pub sketch_keys : Option (List ℕ) → List Key
+sketch_keys None = domain_keys
+sketch_keys (Some given) = Guard ∷ Bridges ∷ Stations ∷ Links ∷ []
+
+-- a cycle time, and some
+abbrev pub cycle_from : Data → Option ℕ
+cycle_from d = number_from 10000 10000000 d
+
+abbrev pub cycles_from : Items → Result (List ℕ) TomlFault
+cycles_from items = each_from (λ d. ok_or (cycle_from d) (BadValue Cycle)) items
+
+-- 1 to 1,000 of them
+abbrev pub some_few : List ℕ → Result (List ℕ) TomlFault
+some_few cycles = if nat_le 1 (length cycles) && nat_le (length cycles) 1000 then Ok cycles else Err (BadValue Cycle)
+
+-- the candidates that a value means: one cycle time, or an array of them
+abbrev pub candidates_by : Option Items → Data → Result (List ℕ) TomlFault
+candidates_by None d = and_then (ok_or (cycle_from d) (BadValue Cycle)) (λ cycle. Ok (cycle ∷ []))
+candidates_by (Some items) d = and_then (cycles_from items) some_few
+
+abbrev pub candidates_from : Data → Result (List ℕ) TomlFault
+candidates_from d = candidates_by (as_array d) d
+
+-- those of a domain's table, where none are given
+abbrev pub candidates_of : Option Data → Result (List ℕ) TomlFault
+candidates_of None = Err (BadValue Cycle)
+candidates_of (Some d) = candidates_from d
+
+abbrev pub candidates_read : Option (List ℕ) → Members → Result (List ℕ) TomlFault
+candidates_read None table = candidates_of (value_at Cycle table)
+candidates_read (Some given) table = Ok given
+
+-- whether a link stands for two, there and back
+abbrev pub duplex_by : Option Data → Result Bool SketchFault
+duplex_by None = Ok false
+duplex_by (Some d) = ok_or (as_bool d) BadDuplex
+
+abbrev pub duplex_at : Members → Result Bool SketchFault
+duplex_at table = duplex_by (get_member (codes "duplex") table)
+
+-- a link's table: there, and whether back
+abbrev pub one_way_read : Members → Result OneWay TomlFault
+one_way_read table =
+    and_then (read_at From name_from table) (λ from.
+    and_then (read_at To name_from table) (λ to.
+    and_then (read_at Rate rate_from table) (λ rate.
+    and_then (read_at Delay (number_from 0 10000000) table) (λ delay.
+    Ok (record { from = from; to = to; rate = rate; delay = delay })))))
+
+abbrev pub link_read : Members → Result DraftLink SketchFault
+link_read table =
+    and_then (or_sketch (one_way_read table)) (λ there.
+    and_then (duplex_at table) (λ duplex.
+    Ok (record { there = there; duplex = duplex })))
+
+-- the elements of the array of links, each a table
+abbrev pub links_from : Items → Result (List DraftLink) SketchFault
+links_from items = each_from (λ d. and_then (ok_or (as_table d) (sketch_fault (BadValue Links))) link_read) items
+
+abbrev pub links_of_array : Items → Result (List DraftLink) SketchFault
+links_of_array items = if are_tables items then links_from items else Err (sketch_fault (BadValue Links))
+
+abbrev pub links_read : Members → Result (List DraftLink) SketchFault
+links_read table = and_then (or_sketch (read_at Links as_array table)) links_of_array
+
+-- a domain's table
+abbrev pub sketch_from : Option (List ℕ) → Members → Result SketchText SketchFault
+sketch_from given table =
+    and_then (or_sketch (candidates_read given table)) (λ candidates.
+    and_then (or_sketch (read_at Guard (number_from 1 10000000) table)) (λ guard.
+    and_then (or_sketch (and_then (names_at Bridges table) (if_some Bridges))) (λ bridges.
+    and_then (or_sketch (names_at Stations table)) (λ stations.
+    and_then (links_read table) (λ links.
+    Ok (record { candidates = candidates; guard = guard; bridges = bridges; stations = stations; links = links }))))))
+
+-- what a sketch's domain says, or its first fault in being read
+abbrev pub sketch_of_text : Option (List ℕ) → List ℕ → Result SketchText SketchFault
+sketch_of_text given text = and_then (or_sketch (whole_document (sketch_keys given) Links link_keys text)) (sketch_from given)

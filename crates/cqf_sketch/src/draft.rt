@@ -1,0 +1,292 @@
+//! What the text of a sketch's domain says, before it is asked whether a network can be like that.
+ghost use Rattle.std.specs.Prelude.{◌≡◌, codes, drop, if◌then◌else◌, option_map, ok_or};
+ghost use Rattle.toml.specs.View.{items_view, table_view, view};
+ghost use Rattle.toml.specs.Data.{as_bool, as_table, get_member};
+ghost use Rattle.cqf_lists.specs.Results.{and_then};
+ghost use Rattle.cqf_topology_fields.specs.Fields.{Gives, names_at, read_at};
+ghost use Rattle.cqf_topology.specs.DomainText.{if_some, rate_from, rate_of};
+ghost use Rattle.cqf_sketch.specs.Faults.{sketch_fault};
+ghost use Rattle.cqf_sketch.specs.SketchText.{candidates_read, duplex_at, link_read, links_from, links_read, one_way_read, sketch_from, sketch_of_text};
+
+use crate::SketchFault;
+use crate::cycles::candidates_at;
+use cqf_model::LONGEST_CYCLE;
+use cqf_topology_fields::{
+    Key, TomlFault, are_all_tables, array_at, name_at, names_at, number_at, read_document, value_at,
+};
+use cqf_topology::DomainFault;
+use cqf_units::{Name, Rate};
+use std::alloc::Global;
+use std::marker::Model;
+use toml::{Table, Value};
+
+/// A link in one direction, by the names of its ends.
+#[derive(Debug, Drop)]
+pub struct OneWay {
+    pub from: Name,
+    pub to: Name,
+    pub rate: Rate,
+    /// In nanoseconds.
+    pub delay: u32,
+}
+
+/// A link of a sketch: there, and where it is `duplex` back too.
+#[derive(Debug, Drop)]
+pub struct DraftLink {
+    pub there: OneWay,
+    pub duplex: bool,
+}
+
+/// A sketch's domain as its text says it: times in nanoseconds, and links by the names of their ends.
+#[derive(Debug, Drop)]
+pub struct Draft {
+    candidates: Vec<u32>,
+    guard: u32,
+    bridges: Vec<Name>,
+    stations: Vec<Name>,
+    links: Vec<DraftLink>,
+}
+
+impl Model for Draft {
+    ghost use Rattle.cqf_sketch.specs.SketchText.{SketchText};
+
+    ghost Value = { SketchText };
+
+    ghost view = { λ d. record { candidates = d.candidates.items; guard = d.guard; bridges = d.bridges.items; stations = d.stations.items; links = d.links.items } };
+}
+
+impl Draft {
+    /// The candidates for the cycle time, in the order of wish.
+    pub fn candidates(&self) -> &[u32]
+        ensures { result.now ≡ self.now.candidates }
+    {
+        self.candidates.as_slice()
+    }
+
+    pub fn guard(&self) -> u32
+        ensures { result ≡ self.now.guard }
+    {
+        self.guard
+    }
+
+    pub fn bridges(&self) -> &[Name]
+        ensures { result.now ≡ self.now.bridges }
+    {
+        self.bridges.as_slice()
+    }
+
+    pub fn stations(&self) -> &[Name]
+        ensures { result.now ≡ self.now.stations }
+    {
+        self.stations.as_slice()
+    }
+
+    pub fn links(&self) -> &[DraftLink]
+        ensures { result.now ≡ self.now.links }
+    {
+        self.links.as_slice()
+    }
+}
+
+/// The keys of a sketch's domain, in reading order.
+const KEYS: [Key; 5] = [
+    Key::Cycle,
+    Key::Guard,
+    Key::Bridges,
+    Key::Stations,
+    Key::Links,
+];
+
+/// The keys of a link's table that each has, in reading order.
+const LINK_KEYS: [Key; 4] = [Key::From, Key::To, Key::Rate, Key::Delay];
+
+/// The rate of so many Mb/s.
+fn rate_of_number(number: i64) -> Option<Rate>
+    ensures { result ≡ rate_of number }
+{
+    match number {
+        10 => Some(Rate::Mb10),
+        100 => Some(Rate::Mb100),
+        1000 => Some(Rate::Mb1000),
+        _ => None,
+    }
+}
+
+/// The rate that a value means.
+fn rate_of_value(value: &Value) -> Option<Rate>
+    ensures { result ≡ rate_from (view value.now) }
+{
+    match value.as_integer() {
+        Some(number) => rate_of_number(number),
+        None => None,
+    }
+}
+
+/// The rate at a key.
+fn rate_at(table: &Table) -> Result<Rate, TomlFault>
+    ensures { result ≡ read_at Key.Rate rate_from (table_view table.now) }
+{
+    match value_at(table, Key::Rate).and_then(rate_of_value) {
+        Some(rate) => Ok(rate),
+        None => Err(TomlFault::BadValue(Key::Rate)),
+    }
+}
+
+/// The way there of a link's table.
+fn read_one_way(table: &Table) -> Result<OneWay, TomlFault>
+    ensures { result ≡ one_way_read (table_view table.now) }
+{
+    let from = name_at(table, Key::From)?;
+    let to = name_at(table, Key::To)?;
+    let rate = rate_at(table)?;
+    let delay = number_at(table, Key::Delay, 0, LONGEST_CYCLE)?;
+    Ok(OneWay {
+        from,
+        to,
+        rate,
+        delay,
+    })
+}
+
+/// Whether a value means a way back too.
+fn is_duplex(value: &Value) -> Result<bool, SketchFault>
+    ensures { result ≡ ok_or (as_bool (view value.now)) SketchFault.BadDuplex }
+{
+    match value.as_bool() {
+        Some(duplex) => Ok(duplex),
+        None => Err(SketchFault::BadDuplex),
+    }
+}
+
+/// What stands at `duplex` of a link's table.
+fn duplex_value(table: &Table) -> Option<&Value>
+    ensures { option_map (λ v. view v.now) result ≡ get_member (codes "duplex") (table_view table.now) }
+{
+    table.get("duplex")
+}
+
+/// Whether a link's table means a way back too.
+fn read_duplex(table: &Table) -> Result<bool, SketchFault>
+    ensures { result ≡ duplex_at (table_view table.now) }
+{
+    match duplex_value(table) {
+        Some(value) => is_duplex(value),
+        None => Ok(false),
+    }
+}
+
+/// A link's table.
+fn read_link(table: &Table) -> Result<DraftLink, SketchFault>
+    ensures { result ≡ link_read (table_view table.now) }
+{
+    let there = read_one_way(table)?;
+    let duplex = read_duplex(table)?;
+    Ok(DraftLink { there, duplex })
+}
+
+/// A link, as an element of the array of links.
+fn link_in(value: &Value) -> Result<DraftLink, SketchFault>
+    ensures { result ≡ and_then (ok_or (as_table (view value.now)) (sketch_fault (TomlFault.BadValue Key.Links))) link_read }
+{
+    match value.as_table() {
+        Some(table) => read_link(table),
+        None => Err(SketchFault::Domain(DomainFault::BadValue(Key::Links))),
+    }
+}
+
+/// The elements of the array of links.
+fn links_in(alloc: Global, values: &[Value]) -> Result<Vec<DraftLink>, SketchFault>
+    ensures { Gives (SketchFault.Domain DomainFault.Memory) (λ links. links.items) result (links_from (items_view values.now)) }
+{
+    let mut links = Vec::new(alloc);
+    for value in values {
+        let link = link_in(value)?;
+        links.push(link)?;
+    }
+    Ok(links)
+}
+
+/// The links of a domain's table.
+fn read_links(alloc: Global, table: &Table) -> Result<Vec<DraftLink>, SketchFault>
+    ensures { Gives (SketchFault.Domain DomainFault.Memory) (λ links. links.items) result (links_read (table_view table.now)) }
+{
+    let values = array_at(table, Key::Links)?;
+    if !are_all_tables(values) {
+        return Err(SketchFault::Domain(DomainFault::BadValue(Key::Links)));
+    }
+    links_in(alloc, values)
+}
+
+/// The bridges of a domain's table, of which there is at least one.
+fn read_bridges(alloc: Global, table: &Table) -> Result<Vec<Name>, TomlFault>
+    ensures { Gives TomlFault.Memory (λ names. names.items) result (and_then (names_at Key.Bridges (table_view table.now)) (if_some Key.Bridges)) }
+{
+    let bridges = names_at(alloc, table, Key::Bridges)?;
+    if bridges.is_empty() {
+        return Err(TomlFault::BadValue(Key::Bridges));
+    }
+    Ok(bridges)
+}
+
+/// The candidates that are given, or else those of a domain's table.
+fn read_candidates(
+    alloc: Global,
+    table: &Table,
+    given: Option<Vec<u32>>,
+) -> Result<Vec<u32>, TomlFault>
+    ensures { Gives TomlFault.Memory (λ cycles. cycles.items) result (candidates_read (option_map (λ cycles. cycles.items) given) (table_view table.now)) }
+{
+    match given {
+        Some(cycles) => Ok(cycles),
+        None => candidates_at(alloc, table),
+    }
+}
+
+/// A domain's table.
+fn read_table(
+    alloc: Global,
+    table: &Table,
+    given: Option<Vec<u32>>,
+) -> Result<Draft, SketchFault>
+    ensures { Gives (SketchFault.Domain DomainFault.Memory) (λ draft. draft) result
+        (sketch_from (option_map (λ cycles. cycles.items) given) (table_view table.now)) }
+{
+    let candidates = read_candidates(alloc, table, given)?;
+    let guard = number_at(table, Key::Guard, 1, LONGEST_CYCLE)?;
+    let bridges = read_bridges(alloc, table)?;
+    let stations = names_at(alloc, table, Key::Stations)?;
+    let links = read_links(alloc, table)?;
+    Ok(Draft {
+        candidates,
+        guard,
+        bridges,
+        stations,
+        links,
+    })
+}
+
+/// The keys that a sketch's domain owes: that of the cycle time only where no candidates are given.
+fn owed_keys(keys: &[Key; 5], given: bool) -> &[Key]
+    ensures { result.now ≡ (if given then drop 1 keys.now else keys.now) }
+{
+    if given { &keys[1..] } else { &keys[..] }
+}
+
+/// What the text of a sketch's domain says, or its first fault in being read (profile). Where candidates for the cycle time are
+/// given, the text's `cycle` isn't read. Keys that mean nothing here are passed over.
+///
+/// # Errors
+/// `NotToml`, `Missing` and `BadValue` as of a plant's domain, where `cycle` may be an array of 1 to 1,000 cycle times, and
+/// `BadDuplex`, behind a link's other keys, where something else than a boolean stands at `duplex`; `Memory` where a growth is refused.
+pub fn read_draft(
+    alloc: Global,
+    text: &[u8],
+    given: Option<Vec<u32>>,
+) -> Result<Draft, SketchFault>
+    ensures { Gives (SketchFault.Domain DomainFault.Memory) (λ draft. draft) result
+        (sketch_of_text (option_map (λ cycles. cycles.items) given) text.now) }
+{
+    let keys = owed_keys(&KEYS, given.is_some());
+    let table = read_document(alloc, text, keys, Key::Links, &LINK_KEYS)?;
+    read_table(alloc, &table, given)
+}

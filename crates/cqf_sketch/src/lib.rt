@@ -1,0 +1,9 @@
+//! Sketches: domains and streams of which a planner has traffic and deadlines, but not yet all that a plant has.
+#![tactic(auto)]
+
+mod cycles;
+mod draft;
+mod faults;
+
+pub use draft::{Draft, DraftLink, OneWay, read_draft};
+pub use faults::SketchFault;
