@@ -3,7 +3,9 @@
 
 mod cycles;
 mod draft;
+mod ends;
 mod faults;
+mod names;
 
 pub use draft::{Draft, DraftLink, OneWay, read_draft};
 pub use faults::SketchFault;

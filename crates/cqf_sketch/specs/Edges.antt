@@ -1,0 +1,84 @@
+-- The links of a sketch one direction each, by the nodes that they join (profile).
+use Rattle.std.specs.Prelude.{ℕ, ◌≡◌, ◌++◌, List, [], ◌∷◌, ◌==◌, ◌&&◌, Bool, true, false, if◌then◌else◌, length, not, ok_or, Option, Some, None, Result, Ok, Err, suc}
+use Rattle.std.specs.List.{list_any}
+use Rattle.cqf_lists.specs.Results.{and_then}
+use Rattle.cqf_units.specs.declared.timing.Rate.{Rate}
+use Rattle.cqf_model.specs.declared.topology.Node.{Node}
+use Rattle.cqf_model.specs.declared.topology.Node.TheVariants.{Bridge, Station}
+use Rattle.cqf_model.specs.Domain.{node_or, same_node}
+use Rattle.cqf_topology.specs.declared.faults.DomainFault.TheVariants as domain
+use Rattle.cqf_topology.specs.DomainText.{place_of, with_front}
+use Rattle.cqf_sketch.specs.declared.draft.DraftLink.{DraftLink}
+use Rattle.cqf_sketch.specs.declared.draft.OneWay.{OneWay}
+use Rattle.cqf_sketch.specs.declared.ends.End.{End}
+use Rattle.cqf_sketch.specs.declared.ends.End.TheVariants as end
+use Rattle.cqf_sketch.specs.declared.faults.SketchFault.{SketchFault}
+use Rattle.cqf_sketch.specs.declared.faults.SketchFault.TheVariants as fault
+
+-- a link in one direction, from a bridge or a station, and its element's place in the text
+pub record Edge : Type 0 where
+  pub from : Node
+  pub to : Node
+  pub rate : Rate
+  pub delay : ℕ
+  pub element : ℕ
+
+-- the node that an end is, and the end that a node is
+abbrev pub node_of : End → Node
+node_of (end.Bridge b) = Bridge b
+node_of (end.Station s) = Station s
+
+abbrev pub end_of_node : Node → End
+end_of_node (Bridge b) = end.Bridge b
+end_of_node (Station s) = end.Station s
+
+-- the node of a name: a bridge, or else a station
+abbrev pub end_named : List (List ℕ) → List (List ℕ) → List ℕ → Option Node
+end_named bridges stations name = node_or (place_of name bridges) (place_of name stations)
+
+-- whether a link may lead from a node to a node: between two bridges, or between a bridge and a station
+abbrev pub may_lead : Node → Node → Bool
+may_lead (Bridge a) (Bridge b) = not (a == b)
+may_lead (Bridge a) (Station s) = true
+may_lead (Station s) (Bridge b) = true
+may_lead (Station s) (Station t) = false
+
+-- a link there, with its ends found, or the name that is no such end
+abbrev pub joined_edge : List (List ℕ) → List (List ℕ) → ℕ → OneWay → Result Edge SketchFault
+joined_edge bridges stations element way =
+    and_then (ok_or (end_named bridges stations way.from) (fault.Domain (domain.UnknownName way.from))) (λ from.
+    and_then (ok_or (end_named bridges stations way.to) (fault.Domain (domain.UnknownName way.to))) (λ to.
+    if may_lead from to
+    then Ok (record { from = from; to = to; rate = way.rate; delay = way.delay; element = element })
+    else Err (fault.Domain (domain.UnknownName way.to))))
+
+-- the same link back, and a link's directions, there before back
+abbrev pub back_of : Edge → Edge
+back_of edge = record { from = edge.to; to = edge.from; rate = edge.rate; delay = edge.delay; element = edge.element }
+
+abbrev pub edges_of : Bool → Edge → List Edge
+edges_of true edge = edge ∷ back_of edge ∷ []
+edges_of false edge = edge ∷ []
+
+-- each link of the text from an element on, with its ends found, or the first fault
+abbrev pub joined : List (List ℕ) → List (List ℕ) → ℕ → List DraftLink → Result (List Edge) SketchFault
+joined bridges stations element [] = Ok []
+joined bridges stations element (link ∷ links) =
+    and_then (joined_edge bridges stations element link.there) (λ edge.
+    with_front (edges_of link.duplex edge) (joined bridges stations (suc element) links))
+
+-- both ends, and whether two pairs of nodes are the same
+abbrev pub ends_of : Edge → Node × Node
+ends_of edge = (edge.from, edge.to)
+
+abbrev pub same_pair : Node × Node → Node × Node → Bool
+same_pair a b = same_node a.0 b.0 && same_node a.1 b.1
+
+-- the place of the first pair that stood earlier
+abbrev pub first_repeat : List (Node × Node) → List (Node × Node) → Option ℕ
+first_repeat earlier [] = None
+first_repeat earlier (pair ∷ pairs) = if list_any (same_pair pair) earlier then Some (length earlier) else first_repeat (earlier ++ pair ∷ []) pairs
+
+-- a pair of ends, as nodes
+abbrev pub pair_of : End × End → Node × Node
+pair_of ends = (node_of ends.0, node_of ends.1)

@@ -1,0 +1,140 @@
+//! Links one direction each, by the numbers of their ends.
+ghost use Rattle.std.specs.Prelude.{◌≡◌, ◌++◌, option_map, OnOk};
+ghost use Rattle.cqf_topology_fields.specs.Fields.{Gives};
+ghost use Rattle.cqf_sketch.specs.Edges.{back_of, edges_of, end_named, joined, joined_edge, may_lead, node_of};
+
+use crate::SketchFault;
+use crate::draft::{DraftLink, OneWay};
+use crate::names::number_of_name;
+use cqf_topology::DomainFault;
+use cqf_units::{Memory, Name, Rate};
+use indexmap::IndexSet;
+use std::alloc::Global;
+use std::marker::Model;
+
+/// A node by its number among the bridges or among the stations, however many there are.
+#[derive(Clone, Copy, Debug, PartialEq, Eq, Hash)]
+pub(crate) enum End {
+    Bridge(usize),
+    Station(usize),
+}
+
+/// A link in one direction, with its element's place in the text.
+#[derive(Clone, Copy)]
+pub(crate) struct JoinedEdge {
+    from: End,
+    to: End,
+    rate: Rate,
+    delay: u32,
+    element: usize,
+}
+
+impl Model for JoinedEdge {
+    ghost use Rattle.cqf_sketch.specs.Edges.{Edge, end_of_node, node_of};
+
+    ghost Value = { Edge };
+
+    ghost view = { λ e. record { from = node_of e.from; to = node_of e.to; rate = e.rate; delay = e.delay; element = e.element } };
+
+    ghost inverse = { λ e. record { from = end_of_node e.from; to = end_of_node e.to; rate = e.rate; delay = e.delay; element = e.element } };
+}
+
+/// The node of a name.
+fn end_of_name(
+    bridges: &IndexSet<Name>,
+    stations: &IndexSet<Name>,
+    name: &Name,
+) -> Option<End>
+    ensures { option_map node_of result ≡ end_named bridges.now.keys stations.now.keys name.now }
+{
+    if let Some(bridge) = number_of_name(bridges, name) {
+        return Some(End::Bridge(bridge));
+    }
+    match number_of_name(stations, name) {
+        Some(station) => Some(End::Station(station)),
+        None => None,
+    }
+}
+
+/// Whether a link may lead from a node to a node.
+fn may_lead(from: End, to: End) -> bool
+    ensures { result ≡ may_lead (node_of from) (node_of to) }
+{
+    match (from, to) {
+        (End::Bridge(bridge), End::Bridge(other)) => bridge != other,
+        (End::Station(_), End::Station(_)) => false,
+        _ => true,
+    }
+}
+
+/// A link there, by the numbers of its ends.
+fn join_edge(
+    bridges: &IndexSet<Name>,
+    stations: &IndexSet<Name>,
+    element: usize,
+    way: &OneWay,
+) -> Result<JoinedEdge, SketchFault>
+    ensures { result ≡ joined_edge bridges.now.keys stations.now.keys element way.now }
+{
+    let from = match end_of_name(bridges, stations, &way.from) {
+        Some(from) => from,
+        None => return Err(SketchFault::Domain(DomainFault::UnknownName(way.from.copied()))),
+    };
+    let to = match end_of_name(bridges, stations, &way.to) {
+        Some(to) => to,
+        None => return Err(SketchFault::Domain(DomainFault::UnknownName(way.to.copied()))),
+    };
+    if !may_lead(from, to) {
+        return Err(SketchFault::Domain(DomainFault::UnknownName(way.to.copied())));
+    }
+    Ok(JoinedEdge {
+        from,
+        to,
+        rate: way.rate,
+        delay: way.delay,
+        element,
+    })
+}
+
+impl JoinedEdge {
+    /// The same link back.
+    fn back(self) -> JoinedEdge
+        ensures { result ≡ back_of self }
+    {
+        JoinedEdge {
+            from: self.to,
+            to: self.from,
+            rate: self.rate,
+            delay: self.delay,
+            element: self.element,
+        }
+    }
+}
+
+/// Adds the directions of a link to those of others.
+fn add_edges(edges: &mut Vec<JoinedEdge>, edge: JoinedEdge, duplex: bool) -> Result<(), Memory>
+    ensures { OnOk result (edges.new.items ≡ edges.old.items ++ edges_of duplex edge) }
+{
+    edges.push(edge)?;
+    if duplex {
+        edges.push(edge.back())?;
+    }
+    Ok(())
+}
+
+/// The links, one direction each, by the numbers of their ends.
+pub(crate) fn join_edges(
+    alloc: Global,
+    bridges: &IndexSet<Name>,
+    stations: &IndexSet<Name>,
+    links: &[DraftLink],
+) -> Result<Vec<JoinedEdge>, SketchFault>
+    ensures { Gives (SketchFault.Domain DomainFault.Memory) (λ edges. edges.items) result (joined bridges.now.keys stations.now.keys 0 links.now) }
+{
+    let mut edges = Vec::new(alloc);
+    for (element, link) in links.iter().enumerate() {
+        let edge = join_edge(bridges, stations, element, &link.there)?;
+        add_edges(&mut edges, edge, link.duplex)?;
+    }
+    Ok(edges)
+}

@@ -1,0 +1,136 @@
+-- The streams of a sketch, or the first fault of their text (profile).
+use Rattle.std.specs.Prelude.{ℕ, List, [], ◌∷◌, ◌++◌, ◌&&◌, ◌||◌, Bool, if◌then◌else◌, find, is_none, is_some, length, map, nat_le, Option, Some, None, ok_or}
+use Rattle.std.specs.Prelude.{option_and_then, option_map, Result, Ok, Err, string_bytes}
+use Rattle.std.specs.Option.{option_or}
+use Rattle.toml.specs.Data.{Data, Items, no_items, item, Members, as_array, as_str, as_table}
+use Rattle.cqf_lists.specs.Results.{and_then, refuse}
+use Rattle.cqf_topology_fields.specs.declared.keys.Key.{Key}
+use Rattle.cqf_topology_fields.specs.declared.keys.Key.TheVariants.{From, To, Streams, Name, Octets, Path, Paths}
+use Rattle.cqf_topology_fields.specs.declared.faults.TomlFault.{TomlFault}
+use Rattle.cqf_topology_fields.specs.declared.faults.TomlFault.TheVariants as toml_fault
+use Rattle.cqf_topology_fields.specs.Fields.{are_tables, each_from, first_absent, name_from, names_from, number_from, read_at, value_at, whole_document}
+use Rattle.cqf_topology.specs.DomainText.{first_taken}
+use Rattle.cqf_topology.specs.PlannedText.{deadline_from}
+use Rattle.cqf_topology.specs.StreamsText.{branches_from, streams_keys}
+use Rattle.cqf_traffic.specs.declared.faults.FlowsFault.{FlowsFault}
+use Rattle.cqf_traffic.specs.declared.faults.FlowsFault.TheVariants as flows_fault
+use Rattle.cqf_traffic.specs.FlowsText.{or_streams, traffic_or}
+use Rattle.cqf_traffic.specs.TrafficText.{TrafficText, first_owed, has_traffic}
+use Rattle.cqf_sketch_streams.specs.declared.wanted.Wanted.{Wanted}
+use Rattle.cqf_sketch_streams.specs.declared.wanted.Wanted.TheVariants as wanted
+use Rattle.cqf_sketch_streams.specs.declared.streams.Stream.{Stream}
+
+-- which way a stream is to go: along given branches, or from a talker or bridge to its listeners
+pub data WantedText : Type 0 where
+  Along : List (List (List ℕ)) → WantedText
+  Between : List ℕ → List (List ℕ) → WantedText
+
+-- a stream of a sketch: its name, its octets a cycle where the text says them, its way, its deadline and its traffic
+pub record StreamText : Type 0 where
+  pub name : List ℕ
+  pub octets : Option ℕ
+  pub way : WantedText
+  pub deadline : Option ℕ
+  pub traffic : Option TrafficText
+
+abbrev pub wanted_text : Wanted → WantedText
+wanted_text (wanted.Along paths) = Along (map (λ path. map string_bytes path.items) paths.items)
+wanted_text (wanted.Between from to) = Between from to.items
+
+abbrev pub stream_text : Stream → StreamText
+stream_text stream = record {
+  name = string_bytes stream.name;
+  octets = stream.octets;
+  way = wanted_text stream.way;
+  deadline = stream.deadline;
+  traffic = stream.traffic;
+}
+
+-- whether branches are given
+abbrev pub has_path : Members → Bool
+has_path table = is_some (value_at Path table) || is_some (value_at Paths table)
+
+-- the keys that a stream's table owes but for its traffic: its octets where there is no traffic, and its ends where no branches
+-- are given
+abbrev pub owed_keys : Members → List Key
+owed_keys table = Name ∷ ((if has_traffic table then [] else Octets ∷ []) ++ (if has_path table then [] else From ∷ To ∷ []))
+
+-- what it lacks first
+abbrev pub first_lack : Members → Option FlowsFault
+first_lack table =
+    option_or (option_map (λ key. flows_fault.Streams (toml_fault.Missing key)) (first_absent (owed_keys table) table))
+    (option_map flows_fault.Missing (first_owed table))
+
+-- the same over the elements of an array, in order, those that are tables
+abbrev pub first_lack_within : Items → Option FlowsFault
+first_lack_within no_items = None
+first_lack_within (item d ds) = option_or (option_and_then first_lack (as_table d)) (first_lack_within ds)
+
+abbrev pub first_lack_of : Members → Option FlowsFault
+first_lack_of table = option_and_then first_lack_within (option_and_then as_array (value_at Streams table))
+
+-- the octets of a stream, by what stands there
+abbrev pub octets_by : Option Data → Members → Result (Option ℕ) TomlFault
+octets_by None table = Ok None
+octets_by (Some d) table = and_then (read_at Octets (number_from 0 4294967295) table) (λ octets. Ok (Some octets))
+
+abbrev pub octets_from : Members → Result (Option ℕ) TomlFault
+octets_from table = octets_by (value_at Octets table) table
+
+-- the first end that stands there
+abbrev pub first_end : Members → Option Key
+first_end table = find (λ key. is_some (value_at key table)) (From ∷ To ∷ [])
+
+-- 1 to 64 listeners, all different
+abbrev pub if_listeners : List (List ℕ) → Result (List (List ℕ)) TomlFault
+if_listeners names =
+    if nat_le 1 (length names) && nat_le (length names) 64 && is_none (first_taken [] names) then Ok names else Err (toml_fault.BadValue To)
+
+-- the listeners that a value means: a name, or an array of them
+abbrev pub listeners_by : Option Items → Data → Result (List (List ℕ)) TomlFault
+listeners_by None d = and_then (ok_or (name_from d) (toml_fault.BadValue To)) (λ name. Ok (name ∷ []))
+listeners_by (Some items) d = and_then (names_from To items) if_listeners
+
+abbrev pub listeners_of : Option Data → Result (List (List ℕ)) TomlFault
+listeners_of None = Err (toml_fault.BadValue To)
+listeners_of (Some d) = listeners_by (as_array d) d
+
+-- the way of a stream's table: given branches, beside which no end may stand, or its ends
+abbrev pub along_from : Members → Result WantedText TomlFault
+along_from table = and_then (branches_from table) (λ paths. refuse (first_end table) toml_fault.BadValue (Ok (Along paths)))
+
+abbrev pub between_from : Members → Result WantedText TomlFault
+between_from table =
+    and_then (read_at From name_from table) (λ from.
+    and_then (listeners_of (value_at To table)) (λ to.
+    Ok (Between from to)))
+
+abbrev pub wanted_from : Members → Result WantedText TomlFault
+wanted_from table = if has_path table then along_from table else between_from table
+
+-- a stream's table: its traffic is read behind its other keys
+abbrev pub stream_from : Members → Result StreamText FlowsFault
+stream_from table =
+    and_then (or_streams (read_at Name as_str table)) (λ name.
+    and_then (or_streams (octets_from table)) (λ octets.
+    and_then (or_streams (wanted_from table)) (λ way.
+    and_then (or_streams (deadline_from table)) (λ deadline.
+    and_then (traffic_or table) (λ traffic.
+    Ok (record { name = name; octets = octets; way = way; deadline = deadline; traffic = traffic }))))))
+
+-- the elements of the array of streams, each a table
+abbrev pub streams_from : Items → Result (List StreamText) FlowsFault
+streams_from items = each_from (λ d. and_then (ok_or (as_table d) (flows_fault.Streams (toml_fault.BadValue Streams))) stream_from) items
+
+abbrev pub streams_of_array : Items → Result (List StreamText) FlowsFault
+streams_of_array items = if are_tables items then streams_from items else Err (flows_fault.Streams (toml_fault.BadValue Streams))
+
+-- the streams of a document
+abbrev pub streams_in : Members → Result (List StreamText) FlowsFault
+streams_in table = and_then (or_streams (read_at Streams as_array table)) streams_of_array
+
+-- the streams of a sketch's text: where it is TOML and no key is missing, each is read
+abbrev pub sketch_streams_of_text : List ℕ → Result (List StreamText) FlowsFault
+sketch_streams_of_text text =
+    and_then (or_streams (whole_document streams_keys Streams [] text)) (λ table.
+    refuse (first_lack_of table) (λ fault. fault) (streams_in table))

@@ -1,0 +1,23 @@
+//! The streams of a sketch, of which a planner has traffic and a deadline, and a talker and its listeners or given branches.
+//!
+//! [`read_sketch_streams`] gives those of a text, each a [`Stream`], or the first thing wrong ([`cqf_traffic::FlowsFault`]).
+//!
+//! ```text
+//! [[streams]]
+//! name = "mic"
+//! from = "mic"
+//! to = ["desk", "recorder"]
+//! interval = 125000
+//! size = 704
+//! ```
+//!
+//! is a stream from the talker mic to two listeners. With `path` beside `from` it is refused: `BadValue from`.
+#![tactic(auto)]
+
+mod lacks;
+mod streams;
+mod wanted;
+
+pub use cqf_traffic::{FlowsFault, Traffic, TrafficKey};
+pub use streams::{Stream, read_sketch_streams};
+pub use wanted::{MOST_LISTENERS, Wanted};
