@@ -1,1 +1,3 @@
 pub mod JoinLemmas
+pub mod PairLemmas
+pub mod PlaceLemmas

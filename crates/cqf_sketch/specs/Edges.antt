@@ -1,7 +1,10 @@
 -- The links of a sketch one direction each, by the nodes that they join (profile).
-use Rattle.std.specs.Prelude.{ℕ, ◌≡◌, ◌++◌, List, [], ◌∷◌, ◌==◌, ◌&&◌, Bool, true, false, if◌then◌else◌, length, not, ok_or, Option, Some, None, Result, Ok, Err, suc}
+use Rattle.std.specs.Prelude.{ℕ, ◌≡◌, ◌*◌, ◌++◌, List, [], ◌∷◌, ◌==◌, ◌&&◌, Bool, true, false, if◌then◌else◌, count_by, filter, find, length, map, nat_le, nat_lt, not, ok_or}
+use Rattle.std.specs.Prelude.{option_map, slice_get, Option, Some, None, Result, Ok, Err, suc}
+use Rattle.std.specs.Option.{option_map_or}
 use Rattle.std.specs.List.{list_any}
 use Rattle.cqf_lists.specs.Results.{and_then}
+use Rattle.cqf_units.specs.Timing.{nanos_of_octet}
 use Rattle.cqf_units.specs.declared.timing.Rate.{Rate}
 use Rattle.cqf_model.specs.declared.topology.Node.{Node}
 use Rattle.cqf_model.specs.declared.topology.Node.TheVariants.{Bridge, Station}
@@ -82,3 +85,50 @@ first_repeat earlier (pair ∷ pairs) = if list_any (same_pair pair) earlier the
 -- a pair of ends, as nodes
 abbrev pub pair_of : End × End → Node × Node
 pair_of ends = (node_of ends.0, node_of ends.1)
+
+-- whether a node is a station, and whether an edge is a talker's link; the others are the plant's
+abbrev pub is_station : Node → Bool
+is_station (Bridge b) = false
+is_station (Station s) = true
+
+abbrev pub is_talkers : Edge → Bool
+is_talkers edge = is_station edge.from
+
+abbrev pub talkers_of : List Edge → List Edge
+talkers_of edges = filter is_talkers edges
+
+-- the element of the edge at a place, and the node that it leaves
+abbrev pub element_at : List Edge → ℕ → ℕ
+element_at edges place = option_map_or (λ (edge : Edge). edge.element) (slice_get edges place) 0
+
+abbrev pub from_at : List Edge → ℕ → Node
+from_at edges place = option_map_or (λ (edge : Edge). edge.from) (slice_get edges place) (Station 0)
+
+-- the element of the first edge whose ends are those of an earlier one
+abbrev pub first_twice : List Edge → Option ℕ
+first_twice edges = option_map (element_at edges) (first_repeat [] (map ends_of edges))
+
+-- the first station that a talker's link leaves, where an earlier one does
+abbrev pub from_alone : Edge → Node × Node
+from_alone edge = (edge.from, edge.from)
+
+abbrev pub first_again : List Edge → Option Node
+first_again edges = option_map (from_at edges) (first_repeat [] (map from_alone edges))
+
+-- the element of the first edge of the plant whose delay isn't below the guard time, and of the first whose gap behind a frame is
+-- above it
+abbrev pub has_long_delay : ℕ → Edge → Bool
+has_long_delay guard edge = not (is_talkers edge) && nat_le guard edge.delay
+
+abbrev pub has_long_gap : ℕ → Edge → Bool
+has_long_gap guard edge = not (is_talkers edge) && nat_lt guard (12 * nanos_of_octet edge.rate)
+
+abbrev pub first_long_delay : ℕ → List Edge → Option ℕ
+first_long_delay guard edges = option_map (λ (edge : Edge). edge.element) (find (has_long_delay guard) edges)
+
+abbrev pub first_long_gap : ℕ → List Edge → Option ℕ
+first_long_gap guard edges = option_map (λ (edge : Edge). edge.element) (find (has_long_gap guard) edges)
+
+-- how many edges are the plant's
+abbrev pub plant_count : List Edge → ℕ
+plant_count edges = count_by (λ edge. not (is_talkers edge)) edges

@@ -1,13 +1,13 @@
 //! Links one direction each, by the numbers of their ends.
 ghost use Rattle.std.specs.Prelude.{◌≡◌, ◌++◌, option_map, OnOk};
 ghost use Rattle.cqf_topology_fields.specs.Fields.{Gives};
-ghost use Rattle.cqf_sketch.specs.Edges.{back_of, edges_of, end_named, joined, joined_edge, may_lead, node_of};
+ghost use Rattle.cqf_sketch.specs.Edges.{back_of, edges_of, end_named, ends_of, from_alone, has_long_delay, has_long_gap, is_talkers, joined, joined_edge, may_lead, node_of, pair_of};
 
 use crate::SketchFault;
 use crate::draft::{DraftLink, OneWay};
 use crate::names::number_of_name;
 use cqf_topology::DomainFault;
-use cqf_units::{Memory, Name, Rate};
+use cqf_units::{Memory, Name, Rate, octet_time};
 use indexmap::IndexSet;
 use std::alloc::Global;
 use std::marker::Model;
@@ -97,6 +97,64 @@ fn join_edge(
 }
 
 impl JoinedEdge {
+    /// Whether it leaves a station, and so is a talker's link.
+    pub(crate) fn is_talkers(self) -> bool
+        ensures { result ≡ is_talkers self }
+    {
+        match self.from {
+            End::Bridge(_) => false,
+            End::Station(_) => true,
+        }
+    }
+
+    /// The node that it leaves.
+    pub(crate) fn from(self) -> End
+        ensures { node_of result ≡ self.from }
+    {
+        self.from
+    }
+
+    /// Both its ends.
+    pub(crate) fn ends(self) -> (End, End)
+        ensures { pair_of result ≡ ends_of self }
+    {
+        (self.from, self.to)
+    }
+
+    /// The node that it leaves, twice.
+    pub(crate) fn from_alone(self) -> (End, End)
+        ensures { pair_of result ≡ from_alone self }
+    {
+        (self.from, self.from)
+    }
+
+    /// Its element's place in the text.
+    pub(crate) fn element(self) -> usize
+        ensures { result ≡ self.element }
+    {
+        self.element
+    }
+
+    /// Whether it is the plant's and its delay isn't below the guard time.
+    pub(crate) fn has_long_delay(self, guard: u32) -> bool
+        ensures { result ≡ has_long_delay guard self }
+    {
+        if self.is_talkers() {
+            return false;
+        }
+        guard <= self.delay
+    }
+
+    /// Whether it is the plant's and the gap behind a frame isn't within the guard time.
+    pub(crate) fn has_long_gap(self, guard: u32) -> bool
+        ensures { result ≡ has_long_gap guard self }
+    {
+        if self.is_talkers() {
+            return false;
+        }
+        u64::from(guard) < 12 * octet_time(self.rate)
+    }
+
     /// The same link back.
     fn back(self) -> JoinedEdge
         ensures { result ≡ back_of self }
