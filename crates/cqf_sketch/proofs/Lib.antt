@@ -1,3 +1,4 @@
 pub mod JoinLemmas
 pub mod PairLemmas
 pub mod PlaceLemmas
+pub mod InsideLemmas

@@ -1,3 +1,4 @@
 pub mod Faults
 pub mod SketchText
 pub mod Edges
+pub mod SketchDomain

@@ -3,11 +3,13 @@
 
 mod checks;
 mod cycles;
+mod domain;
 mod draft;
 mod ends;
 mod faults;
 mod names;
 mod repeats;
 
+pub use domain::TalkerLink;
 pub use draft::{Draft, DraftLink, OneWay, read_draft};
 pub use faults::SketchFault;
