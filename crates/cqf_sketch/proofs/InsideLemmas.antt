@@ -82,12 +82,15 @@ joined_inside bridges stations element (link ∷ links) edges e =
     by later edge (Err fault) is inside whole = absurd cc
 
 -- a talker's edge leaves a station that is there
-pub talkers_inside : (bridges stations : ℕ) (edges : List Edge) → ((edge : Edge) → Contains edges edge → EdgeInside bridges stations edge) →
+pub talkers_inside : (bridges stations : ℕ) (edges : List Edge) → All (EdgeInside bridges stations) edges →
     All (λ (edge : Edge). StationInside stations edge.from) (talkers_of edges)
 talkers_inside bridges stations edges inside =
     all_from_members (λ (edge : Edge). StationInside stations edge.from) (talkers_of edges)
-    (λ edge c. let both = contains_from_filter is_talkers edges edge c in by edge.from both.1 (inside edge both.0).from_inside)
+    (λ edge c. let both = contains_from_filter is_talkers edges edge c in by edge.from both.1 (member edge both.0).from_inside)
   where
+    member : (edge : Edge) → Contains edges edge → EdgeInside bridges stations edge
+    member edge c = subst (EdgeInside bridges stations) c.2 (inside c.0 edge c.1)
+
     by : (node : Node) → (elim node [ Bridge b ↦ false | Station s ↦ true ]) ≡ true → NodeInside bridges stations node → StationInside stations node
     by (Bridge b) is within = absurd cc
     by (Station s) is within = within

@@ -1,5 +1,5 @@
 -- The domain of a sketch, or the first fault of its text (profile).
-use Rattle.std.specs.Prelude.{ℕ, ◌<◌, List, [], ◌||◌, Bool, filter, length, map, nat_le, nat_lt, not, slice_index_or, Option, Result, Ok}
+use Rattle.std.specs.Prelude.{ℕ, ◌<◌, List, [], ◌||◌, Bool, filter, length, map, nat_le, nat_lt, not, option_map, slice_index_or, Option, Result, Ok}
 use Rattle.std.specs.List.{list_all}
 use Rattle.cqf_lists.specs.Results.{and_then, refuse}
 use Rattle.cqf_model.specs.declared.topology.Link.{Link}
@@ -42,6 +42,10 @@ talker_of edge = record { station = number_of edge.from; bridge = number_of edge
 abbrev pub station_named : List (List ℕ) → Node → List ℕ
 station_named stations node = slice_index_or stations (number_of node) []
 
+-- the first station that gets a second talker's link
+abbrev pub second_talker : SketchText → List Edge → Option (List ℕ)
+second_talker text edges = option_map (station_named text.stations) (first_again (talkers_of edges))
+
 -- there are more bridges, stations or links of the plant than a domain may have
 abbrev pub is_too_many : SketchText → List Edge → Bool
 is_too_many text edges = nat_lt 32 (length text.bridges) || nat_lt 64 (length text.stations) || nat_lt 64 (plant_count edges)
@@ -65,7 +69,7 @@ sketch_with text edges = record {
 abbrev pub with_edges : SketchText → List Edge → Result SketchDomain SketchFault
 with_edges text edges =
     refuse (first_twice edges) (λ element. fault.Domain (domain.LinkTwice element)) (
-    refuse (first_again (talkers_of edges)) (λ node. fault.TwoTalkerLinks (station_named text.stations node)) (
+    refuse (second_talker text edges) fault.TwoTalkerLinks (
     refuse (if_so (is_guard_too_long text)) (λ _. fault.Domain domain.GuardTooLong) (
     refuse (first_long_delay text.guard edges) (λ element. fault.Domain (domain.DelayTooLong element)) (
     refuse (first_long_gap text.guard edges) (λ element. fault.Domain (domain.GapTooLong element)) (

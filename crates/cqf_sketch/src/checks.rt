@@ -1,10 +1,16 @@
 //! The checks of a sketch's links: the first that fails each.
-ghost use Rattle.std.specs.Prelude.{◌≡◌, ◌<◌, IfOk, Some, length, map, option_map};
-ghost use Rattle.cqf_sketch.specs.Edges.{element_at, ends_of, first_again, first_long_delay, first_long_gap, first_twice, from_alone, from_at, node_of, pair_of, plant_count, talkers_of};
+ghost use Rattle.std.specs.Prelude.{◌≡◌, ◌<◌, All, IfOk, IfSome, Some, length, map, option_map};
+ghost use Rattle.cqf_topology_fields.specs.Fields.{Gives};
+ghost use Rattle.cqf_sketch.specs.SketchDomain.{EdgeInside, StationInside, is_guard_too_long, is_too_many, second_talker, sketch_with, with_edges};
+ghost use Rattle.cqf_sketch.specs.Edges.{element_at, ends_of, first_again, first_long_delay, first_long_gap, first_twice, from_alone, from_at, pair_of, plant_count, talkers_of};
 
+use crate::SketchFault;
+use crate::draft::Draft;
 use crate::ends::{End, JoinedEdge};
 use crate::repeats::find_repeat;
-use cqf_units::Memory;
+use cqf_model::Node;
+use cqf_topology::DomainFault;
+use cqf_units::{Memory, Name};
 use std::alloc::Global;
 
 /// Both ends of each link.
@@ -48,23 +54,50 @@ fn element_at(edges: &[JoinedEdge], place: usize) -> Option<usize>
     Some(edges[place].element())
 }
 
-/// The node that the first link leaves which an earlier one leaves too.
-pub(crate) fn find_again(alloc: Global, edges: &[JoinedEdge]) -> Result<Option<End>, Memory>
-    ensures { IfOk result (λ from. option_map node_of from ≡ first_again edges.now) }
+/// The station that the talker's link at a place leaves.
+fn station_at(talkers: &[JoinedEdge], place: usize, stations: usize) -> Option<usize>
+    requires place { place < length talkers.now }
+    requires inside { All (λ edge. StationInside stations edge.from) talkers.now }
+    ensures station { option_map Node.Station result ≡ Some (from_at talkers.now place) }
+    ensures within { IfSome result (λ station. station < stations) }
 {
-    let pairs = froms_of_all(alloc, edges)?;
+    match talkers[place].from() {
+        End::Station(station) => Some(station),
+        End::Bridge(_) => unreachable!(),
+    }
+}
+
+/// The station that the first talker's link leaves which an earlier one leaves too. Each leaves one of so many.
+fn find_again(
+    alloc: Global,
+    talkers: &[JoinedEdge],
+    stations: usize,
+) -> Result<Option<usize>, Memory>
+    requires { All (λ edge. StationInside stations edge.from) talkers.now }
+    ensures station { IfOk result (λ station. option_map Node.Station station ≡ first_again talkers.now) }
+    ensures within { IfOk result (λ station. IfSome station (λ station. station < stations)) }
+{
+    let pairs = froms_of_all(alloc, talkers)?;
     match find_repeat(alloc, pairs.as_slice())? {
-        Some(place) => Ok(from_at(edges, place)),
+        Some(place) => Ok(station_at(talkers, place, stations)),
         None => Ok(None),
     }
 }
 
-/// The node that the link at a place leaves.
-fn from_at(edges: &[JoinedEdge], place: usize) -> Option<End>
-    requires { place < length edges.now }
-    ensures { option_map node_of result ≡ Some (from_at edges.now place) }
+/// The first station that gets a second talker's link.
+fn second_talker(
+    alloc: Global,
+    draft: &Draft,
+    edges: &[JoinedEdge],
+) -> Result<Option<Name>, Memory>
+    requires { All (EdgeInside (length draft.now.bridges) (length draft.now.stations)) edges.now }
+    ensures { IfOk result (λ name. name ≡ second_talker draft.now edges.now) }
 {
-    Some(edges[place].from())
+    let talkers = talkers_of(alloc, edges)?;
+    match find_again(alloc, talkers.as_slice(), draft.stations().len())? {
+        Some(station) => Ok(Some(draft.stations()[station].copied())),
+        None => Ok(None),
+    }
 }
 
 /// The talkers' links.
@@ -115,4 +148,46 @@ pub(crate) fn plant_count(edges: &[JoinedEdge]) -> usize
         }
     }
     count
+}
+
+/// Whether the guard time reaches each candidate.
+fn is_guard_too_long(draft: &Draft) -> bool
+    ensures { result ≡ is_guard_too_long draft.now }
+{
+    let guard = draft.guard();
+    draft.candidates().iter().all(|cycle| *cycle <= guard)
+}
+
+/// Whether there are more bridges, stations or links of the plant than a domain may have.
+fn is_too_many(draft: &Draft, edges: &[JoinedEdge]) -> bool
+    ensures { result ≡ is_too_many draft.now edges.now }
+{
+    draft.bridges().len() > 32 || draft.stations().len() > 64 || plant_count(edges) > 64
+}
+
+/// The checks of a sketch's domain whose links are numbered, but those of its names and ends: the first that it fails.
+pub(crate) fn check(alloc: Global, draft: &Draft, edges: &[JoinedEdge]) -> Result<(), SketchFault>
+    requires { All (EdgeInside (length draft.now.bridges) (length draft.now.stations)) edges.now }
+    ensures { Gives (SketchFault.Domain DomainFault.Memory) (λ _. sketch_with draft.now edges.now) result (with_edges draft.now edges.now) }
+{
+    let guard = draft.guard();
+    if let Some(element) = find_twice(alloc, edges)? {
+        return Err(SketchFault::Domain(DomainFault::LinkTwice(element)));
+    }
+    if let Some(station) = second_talker(alloc, draft, edges)? {
+        return Err(SketchFault::TwoTalkerLinks(station));
+    }
+    if is_guard_too_long(draft) {
+        return Err(SketchFault::Domain(DomainFault::GuardTooLong));
+    }
+    if let Some(element) = find_long_delay(edges, guard) {
+        return Err(SketchFault::Domain(DomainFault::DelayTooLong(element)));
+    }
+    if let Some(element) = find_long_gap(edges, guard) {
+        return Err(SketchFault::Domain(DomainFault::GapTooLong(element)));
+    }
+    if is_too_many(draft, edges) {
+        return Err(SketchFault::Domain(DomainFault::TooMany));
+    }
+    Ok(())
 }

@@ -1,11 +1,14 @@
 //! Links one direction each, by the numbers of their ends.
 ghost use Rattle.std.specs.Prelude.{◌≡◌, ◌++◌, option_map, OnOk};
 ghost use Rattle.cqf_topology_fields.specs.Fields.{Gives};
+ghost use Rattle.cqf_sketch.specs.SketchDomain.{EdgeInside, NodeInside, link_of, number_of, talker_of};
 ghost use Rattle.cqf_sketch.specs.Edges.{back_of, edges_of, end_named, ends_of, from_alone, has_long_delay, has_long_gap, is_talkers, joined, joined_edge, may_lead, node_of, pair_of};
 
 use crate::SketchFault;
+use crate::domain::TalkerLink;
 use crate::draft::{DraftLink, OneWay};
 use crate::names::number_of_name;
+use cqf_model::{Link, Node};
 use cqf_topology::DomainFault;
 use cqf_units::{Memory, Name, Rate, octet_time};
 use indexmap::IndexSet;
@@ -128,6 +131,32 @@ impl JoinedEdge {
         (self.from, self.from)
     }
 
+    /// It as a link of the plant.
+    pub(crate) fn link(self) -> Link
+        requires { EdgeInside 32 64 self }
+        ensures { result ≡ link_of self }
+    {
+        Link {
+            from: small_number(self.from),
+            to: small_node(self.to),
+            rate: self.rate,
+            delay: self.delay,
+        }
+    }
+
+    /// It as a talker's link.
+    pub(crate) fn talker(self) -> TalkerLink
+        requires { EdgeInside 32 64 self }
+        ensures { result ≡ talker_of self }
+    {
+        TalkerLink {
+            station: small_number(self.from),
+            bridge: small_number(self.to),
+            rate: self.rate,
+            delay: self.delay,
+        }
+    }
+
     /// Its element's place in the text.
     pub(crate) fn element(self) -> usize
         ensures { result ≡ self.element }
@@ -166,6 +195,28 @@ impl JoinedEdge {
             delay: self.delay,
             element: self.element,
         }
+    }
+}
+
+/// The number of a node, where there are few.
+fn small_number(end: End) -> u8
+    requires { NodeInside 32 64 (node_of end) }
+    ensures { result ≡ number_of (node_of end) }
+{
+    match end {
+        End::Bridge(bridge) => bridge as u8,
+        End::Station(station) => station as u8,
+    }
+}
+
+/// The node, where there are few.
+fn small_node(end: End) -> Node
+    requires { NodeInside 32 64 (node_of end) }
+    ensures { result ≡ node_of end }
+{
+    match end {
+        End::Bridge(bridge) => Node::Bridge(bridge as u8),
+        End::Station(station) => Node::Station(station as u8),
     }
 }
 
