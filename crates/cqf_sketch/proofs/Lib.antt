@@ -2,3 +2,4 @@ pub mod JoinLemmas
 pub mod PairLemmas
 pub mod PlaceLemmas
 pub mod InsideLemmas
+pub mod CheckedLemmas

@@ -1,5 +1,5 @@
 -- The domain of a sketch, or the first fault of its text (profile).
-use Rattle.std.specs.Prelude.{ℕ, ◌<◌, List, [], ◌||◌, Bool, filter, length, map, nat_le, nat_lt, not, option_map, slice_index_or, Option, Result, Ok}
+use Rattle.std.specs.Prelude.{ℕ, ◌<◌, ◌++◌, List, [], ◌||◌, Bool, filter, length, map, nat_le, nat_lt, not, option_map, slice_index_or, Option, Result, Ok}
 use Rattle.std.specs.List.{list_all}
 use Rattle.cqf_lists.specs.Results.{and_then, refuse}
 use Rattle.cqf_model.specs.declared.topology.Link.{Link}
@@ -76,12 +76,23 @@ with_edges text edges =
     refuse (if_so (is_too_many text edges)) (λ _. fault.Domain domain.TooMany) (
     Ok (sketch_with text edges)))))))
 
--- those of its names and ends before the others: that each bridge's name and then each station's stands nowhere earlier
+-- a name that stood earlier, as a fault, and names behind those that are numbered, none of them among these or the others
+abbrev pub name_taken : List ℕ → SketchFault
+name_taken name = fault.Domain (domain.NameTaken name)
+
+abbrev pub numbered_with : List (List ℕ) → List (List ℕ) → List (List ℕ) → Result (List (List ℕ)) SketchFault
+numbered_with others done names = refuse (first_taken (others ++ done) names) name_taken (Ok (done ++ names))
+
+-- the domain that the text says, where the names are numbered
+abbrev pub with_names : SketchText → Result SketchDomain SketchFault
+with_names text = and_then (joined text.bridges text.stations 0 text.links) (with_edges text)
+
+-- the checks of its names and ends come before the others: that each bridge's name and then each station's stands nowhere earlier
 abbrev pub checked : SketchText → Result SketchDomain SketchFault
 checked text =
-    refuse (first_taken [] text.bridges) (λ name. fault.Domain (domain.NameTaken name)) (
-    refuse (first_taken text.bridges text.stations) (λ name. fault.Domain (domain.NameTaken name)) (
-    and_then (joined text.bridges text.stations 0 text.links) (with_edges text)))
+    refuse (first_taken [] text.bridges) name_taken (
+    refuse (first_taken text.bridges text.stations) name_taken (
+    with_names text))
 
 -- the domain that a sketch's text means, or its first fault
 abbrev pub sketch_domain_of_text : Option (List ℕ) → List ℕ → Result SketchDomain SketchFault

@@ -1,10 +1,16 @@
 //! The domain of a sketch.
-ghost use Rattle.std.specs.Prelude.{◌≡◌, All, IfOk, map};
+ghost use Rattle.std.specs.Prelude.{◌≡◌, All, IfOk, map, option_map};
 ghost use Rattle.cqf_sketch.specs.Edges.{talkers_of};
-ghost use Rattle.cqf_sketch.specs.SketchDomain.{EdgeInside, link_of, plant_of, talker_of};
+ghost use Rattle.cqf_topology_fields.specs.Fields.{Gives};
+ghost use Rattle.cqf_sketch.specs.SketchDomain.{EdgeInside, checked, link_of, plant_of, sketch_domain_of_text, sketch_with, talker_of, with_names};
 
-use crate::ends::JoinedEdge;
+use crate::SketchFault;
+use crate::checks::check;
+use crate::draft::{Draft, read_draft};
+use crate::ends::{JoinedEdge, join_edges};
+use crate::names::numbered_names;
 use cqf_model::Link;
+use cqf_topology::DomainFault;
 use cqf_units::{Memory, Name, Rate};
 use indexmap::IndexSet;
 use std::alloc::Global;
@@ -75,4 +81,109 @@ fn talker_links(alloc: Global, edges: &[JoinedEdge]) -> Result<Vec<TalkerLink>, 
         }
     }
     Ok(talkers)
+}
+
+/// The links of a draft whose names are numbered, one direction each, or the first check that the draft fails.
+fn checked_edges(
+    alloc: Global,
+    draft: &Draft,
+    bridges: &IndexSet<Name>,
+    stations: &IndexSet<Name>,
+) -> Result<Vec<JoinedEdge>, SketchFault>
+    requires bridges { bridges.now.keys ≡ draft.now.bridges }
+    requires stations { stations.now.keys ≡ draft.now.stations }
+    ensures given { Gives (SketchFault.Domain DomainFault.Memory) (λ edges. sketch_with draft.now edges.items) result (with_names draft.now) }
+    ensures few { IfOk result (λ edges. All (EdgeInside 32 64) edges.items) }
+{
+    let edges = join_edges(alloc, bridges, stations, draft.links())?;
+    check(alloc, draft, edges.as_slice())?;
+    Ok(edges)
+}
+
+impl SketchDomain {
+    /// The domain of a draft whose names are numbered, or the first check that it fails.
+    fn of_names(
+        alloc: Global,
+        draft: &Draft,
+        bridges: IndexSet<Name>,
+        stations: IndexSet<Name>,
+    ) -> Result<SketchDomain, SketchFault>
+        requires bridges { bridges.keys ≡ draft.now.bridges }
+        requires stations { stations.keys ≡ draft.now.stations }
+        ensures { Gives (SketchFault.Domain DomainFault.Memory) (λ domain. domain) result (with_names draft.now) }
+    {
+        let edges = checked_edges(alloc, draft, &bridges, &stations)?;
+        let links = links_of(alloc, edges.as_slice())?;
+        let talkers = talker_links(alloc, edges.as_slice())?;
+        let candidates = Vec::from_slice(alloc, draft.candidates())?;
+        Ok(SketchDomain {
+            candidates,
+            guard: draft.guard(),
+            bridges,
+            stations,
+            links,
+            talkers,
+        })
+    }
+
+    /// The domain that a draft means, or the first check that it fails.
+    fn of_draft(alloc: Global, draft: &Draft) -> Result<SketchDomain, SketchFault>
+        ensures { Gives (SketchFault.Domain DomainFault.Memory) (λ domain. domain) result (checked draft.now) }
+    {
+        let none = IndexSet::new(alloc);
+        let bridges = numbered_names(alloc, draft.bridges(), &none)?;
+        let stations = numbered_names(alloc, draft.stations(), &bridges)?;
+        SketchDomain::of_names(alloc, draft, bridges, stations)
+    }
+
+    /// The domain that a sketch's text means, or the first fault of the text (profile). Where candidates for the cycle time are
+    /// given, the text's `cycle` isn't read. Keys that mean nothing here are passed over.
+    ///
+    /// # Errors
+    /// What is wrong in being read, as of [`read_draft`]; and then, each over the whole before the next: `NameTaken`, of the first name,
+    /// bridges before stations, that stood earlier; `UnknownName`, of the first `from` that names no node, or `to` that names no node
+    /// other than that, and no bridge where `from` is a station; `LinkTwice`, of the first link that leads as an earlier one does, also
+    /// back; `TwoTalkerLinks`, of the first station that gets a second; `GuardTooLong`, where the guard time reaches the greatest
+    /// candidate; `DelayTooLong` and `GapTooLong`, of the first link of the plant whose delay isn't below the guard time, and on which
+    /// the gap behind a frame takes longer; and `TooMany`, where there are more than 32 bridges, 64 stations or 64 links of the plant.
+    /// `Memory` where a growth is refused.
+    pub fn read(
+        alloc: Global,
+        text: &[u8],
+        given: Option<Vec<u32>>,
+    ) -> Result<SketchDomain, SketchFault>
+        ensures { Gives (SketchFault.Domain DomainFault.Memory) (λ domain. domain) result
+            (sketch_domain_of_text (option_map (λ cycles. cycles.items) given) text.now) }
+    {
+        let draft = read_draft(alloc, text, given)?;
+        SketchDomain::of_draft(alloc, &draft)
+    }
+
+    /// The candidates for the cycle time, in the order of wish.
+    pub fn candidates(&self) -> &[u32]
+        ensures { result.now ≡ self.now.candidates }
+    {
+        self.candidates.as_slice()
+    }
+
+    /// The guard time, in nanoseconds.
+    pub fn guard(&self) -> u32
+        ensures { result ≡ self.now.guard }
+    {
+        self.guard
+    }
+
+    /// The plant's links, by number.
+    pub fn links(&self) -> &[Link]
+        ensures { result.now ≡ self.now.links }
+    {
+        self.links.as_slice()
+    }
+
+    /// The talkers' links.
+    pub fn talkers(&self) -> &[TalkerLink]
+        ensures { result.now ≡ self.now.talkers }
+    {
+        self.talkers.as_slice()
+    }
 }

@@ -10,6 +10,6 @@ mod faults;
 mod names;
 mod repeats;
 
-pub use domain::TalkerLink;
+pub use domain::{SketchDomain, TalkerLink};
 pub use draft::{Draft, DraftLink, OneWay, read_draft};
 pub use faults::SketchFault;

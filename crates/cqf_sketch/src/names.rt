@@ -2,8 +2,10 @@
 ghost use Rattle.std.specs.Prelude.{◌≡◌, [], ◌∷◌, ◌++◌, false, OnOk, Ok};
 ghost use Rattle.cqf_lists.specs.Results.{refuse};
 ghost use Rattle.cqf_topology_fields.specs.Fields.{Gives};
-ghost use Rattle.cqf_topology.specs.DomainText.{first_taken, is_among, numbered_with, place_of};
+ghost use Rattle.cqf_sketch.specs.SketchDomain.{name_taken, numbered_with};
+ghost use Rattle.cqf_topology.specs.DomainText.{first_taken, is_among, place_of};
 
+use crate::SketchFault;
 use cqf_topology::DomainFault;
 use cqf_units::{Memory, Name};
 use indexmap::IndexSet;
@@ -44,12 +46,12 @@ fn number_names(
     numbered: &mut IndexSet<Name>,
     names: &[Name],
     others: &IndexSet<Name>,
-) -> Result<(), DomainFault>
-    ensures { Gives DomainFault.Memory (λ _. numbered.new.keys) result (numbered_with others.now.keys numbered.old.keys names.now) }
+) -> Result<(), SketchFault>
+    ensures { Gives (SketchFault.Domain DomainFault.Memory) (λ _. numbered.new.keys) result (numbered_with others.now.keys numbered.old.keys names.now) }
 {
     for name in names {
         if is_taken(others, numbered, name) {
-            return Err(DomainFault::NameTaken(name.copied()));
+            return Err(SketchFault::Domain(DomainFault::NameTaken(name.copied())));
         }
         add_name(numbered, name)?;
     }
@@ -61,9 +63,9 @@ pub(crate) fn numbered_names(
     alloc: Global,
     names: &[Name],
     others: &IndexSet<Name>,
-) -> Result<IndexSet<Name>, DomainFault>
-    ensures { Gives DomainFault.Memory (λ numbered. numbered.keys) result
-        (refuse (first_taken others.now.keys names.now) DomainFault.NameTaken (Ok names.now)) }
+) -> Result<IndexSet<Name>, SketchFault>
+    ensures { Gives (SketchFault.Domain DomainFault.Memory) (λ numbered. numbered.keys) result
+        (refuse (first_taken others.now.keys names.now) name_taken (Ok names.now)) }
 {
     let mut numbered = IndexSet::new(alloc);
     number_names(&mut numbered, names, others)?;
