@@ -1,8 +1,8 @@
 -- What the checks of a sketch's domain give, one after the other.
-use Rattle.std.proofs.Common.{◌≡◌, ◌∙◌, ◌<◌, ◌≤◌, ℕ, All, Bool, true, false, List, [], Option, Some, None, Result, Ok, Err, length, nat_lt, ap, refl, subst, sym, arith}
+use Rattle.std.proofs.Common.{◌≡◌, ◌∙◌, ◌≤◌, ℕ, All, Bool, true, false, List, [], Option, Some, None, Result, Ok, Err, length, nat_lt, ap, refl, sym, arith}
 use Rattle.std.specs.Prelude.{◌||◌}
 use Rattle.std.proofs.lemmas.Bool.Decides.{nat_tests}
-use Rattle.cqf_lists.specs.Results.{and_then, refuse}
+use Rattle.cqf_lists.specs.Results.{refuse}
 use Rattle.cqf_model.specs.declared.topology.Node.{Node}
 use Rattle.cqf_model.specs.declared.topology.Node.TheVariants.{Bridge, Station}
 use Rattle.cqf_topology.specs.DomainText.{first_taken, if_so}

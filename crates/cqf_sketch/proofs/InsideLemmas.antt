@@ -1,9 +1,8 @@
 -- The ends of a sketch's links are nodes that it has.
-use Rattle.std.proofs.Common.{◌≡◌, ◌∙◌, ◌<◌, ℕ, All, Bool, true, false, Contains, List, [], ◌∷◌, ◌++◌, Option, Some, None, Result, Ok, Err, cond, filter, length, ok_or, position, ap, refl, subst, sym}
+use Rattle.std.proofs.Common.{◌≡◌, ◌<◌, ℕ, All, Bool, true, false, Contains, List, [], ◌∷◌, ◌++◌, Option, Some, None, Result, Ok, Err, cond, length, ok_or, refl, subst}
 use Rattle.std.specs.Prelude.{suc}
 use Rattle.std.proofs.lemmas.List.Elements.{All-append, All-cons, All-nil}
 use Rattle.std.proofs.lemmas.List.Quantifiers.{position-Some}
-use Rattle.cqf_lists.specs.Results.{and_then}
 use Rattle.cqf_lists.proofs.Members.{all_from_members, contains_from_filter}
 use Rattle.cqf_model.specs.declared.topology.Node.{Node}
 use Rattle.cqf_model.specs.declared.topology.Node.TheVariants.{Bridge, Station}

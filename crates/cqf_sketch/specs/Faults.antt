@@ -1,5 +1,5 @@
 -- Why a sketch's domain is refused, and how that is told (profile).
-use Rattle.std.specs.Prelude.{ℕ, ◌++◌, List, Result, Ok, Err, codes}
+use Rattle.std.specs.Prelude.{ℕ, ◌++◌, List, Result, codes}
 use Rattle.std.specs.Result.{result_map_both}
 use Rattle.cqf_topology_fields.specs.declared.faults.TomlFault.{TomlFault}
 use Rattle.cqf_topology.specs.DomainText.{domain_fault}

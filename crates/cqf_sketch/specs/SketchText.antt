@@ -1,5 +1,5 @@
 -- What the text of a sketch's domain says, before it is asked whether a network can be like that (profile).
-use Rattle.std.specs.Prelude.{ℕ, List, [], ◌∷◌, ◌++◌, ◌&&◌, Bool, false, if◌then◌else◌, codes, length, nat_le, Option, Some, None, ok_or, option_and_then, Result, Ok, Err}
+use Rattle.std.specs.Prelude.{ℕ, List, [], ◌∷◌, ◌&&◌, Bool, false, if◌then◌else◌, codes, length, nat_le, Option, Some, None, ok_or, Result, Ok, Err}
 use Rattle.toml.specs.Data.{Data, Items, Members, as_array, as_bool, as_table, get_member}
 use Rattle.cqf_lists.specs.Results.{and_then}
 use Rattle.cqf_topology_fields.specs.declared.keys.Key.{Key}

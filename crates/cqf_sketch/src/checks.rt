@@ -85,11 +85,7 @@ fn find_again(
 }
 
 /// The first station that gets a second talker's link.
-fn second_talker(
-    alloc: Global,
-    draft: &Draft,
-    edges: &[JoinedEdge],
-) -> Result<Option<Name>, Memory>
+fn second_talker(alloc: Global, draft: &Draft, edges: &[JoinedEdge]) -> Result<Option<Name>, Memory>
     requires { All (EdgeInside (length draft.now.bridges) (length draft.now.stations)) edges.now }
     ensures { IfOk result (λ name. name ≡ second_talker draft.now edges.now) }
 {

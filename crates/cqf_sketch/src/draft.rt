@@ -11,10 +11,10 @@ ghost use Rattle.cqf_sketch.specs.SketchText.{candidates_read, duplex_at, link_r
 use crate::SketchFault;
 use crate::cycles::candidates_at;
 use cqf_model::LONGEST_CYCLE;
+use cqf_topology::DomainFault;
 use cqf_topology_fields::{
     Key, TomlFault, are_all_tables, array_at, name_at, names_at, number_at, read_document, value_at,
 };
-use cqf_topology::DomainFault;
 use cqf_units::{Name, Rate};
 use std::alloc::Global;
 use std::marker::Model;
@@ -243,11 +243,7 @@ fn read_candidates(
 }
 
 /// A domain's table.
-fn read_table(
-    alloc: Global,
-    table: &Table,
-    given: Option<Vec<u32>>,
-) -> Result<Draft, SketchFault>
+fn read_table(alloc: Global, table: &Table, given: Option<Vec<u32>>) -> Result<Draft, SketchFault>
     ensures { Gives (SketchFault.Domain DomainFault.Memory) (λ draft. draft) result
         (sketch_from (option_map (λ cycles. cycles.items) given) (table_view table.now)) }
 {
@@ -278,11 +274,7 @@ fn owed_keys(keys: &[Key; 5], given: bool) -> &[Key]
 /// # Errors
 /// `NotToml`, `Missing` and `BadValue` as of a plant's domain, where `cycle` may be an array of 1 to 1,000 cycle times, and
 /// `BadDuplex`, behind a link's other keys, where something else than a boolean stands at `duplex`; `Memory` where a growth is refused.
-pub fn read_draft(
-    alloc: Global,
-    text: &[u8],
-    given: Option<Vec<u32>>,
-) -> Result<Draft, SketchFault>
+pub fn read_draft(alloc: Global, text: &[u8], given: Option<Vec<u32>>) -> Result<Draft, SketchFault>
     ensures { Gives (SketchFault.Domain DomainFault.Memory) (λ draft. draft) result
         (sketch_of_text (option_map (λ cycles. cycles.items) given) text.now) }
 {

@@ -43,11 +43,7 @@ impl Model for JoinedEdge {
 }
 
 /// The node of a name.
-fn end_of_name(
-    bridges: &IndexSet<Name>,
-    stations: &IndexSet<Name>,
-    name: &Name,
-) -> Option<End>
+fn end_of_name(bridges: &IndexSet<Name>, stations: &IndexSet<Name>, name: &Name) -> Option<End>
     ensures { option_map node_of result ≡ end_named bridges.now.keys stations.now.keys name.now }
 {
     if let Some(bridge) = number_of_name(bridges, name) {

@@ -1,4 +1,4 @@
-use Rattle.std.proofs.Common.{◌≡◌, ◌∙◌, ℕ, All, List, Ok, ap, length, subst, sym}
+use Rattle.std.proofs.Common.{◌≡◌, ◌∙◌, All, List, Ok, length, subst, sym}
 use Rattle.cqf_sketch.specs.Edges.{Edge, joined}
 use Rattle.cqf_sketch.specs.SketchDomain.{EdgeInside, sketch_with}
 use Rattle.cqf_sketch.proofs.CheckedLemmas.{few_nodes, inside_few}

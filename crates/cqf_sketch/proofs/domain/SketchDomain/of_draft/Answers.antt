@@ -1,5 +1,4 @@
 use Rattle.std.proofs.Common.{◌≡◌, ◌∙◌, [], Err, Ok, refl, subst, sym}
-use Rattle.cqf_lists.specs.Results.{refuse}
 use Rattle.cqf_topology.specs.declared.faults.DomainFault.TheVariants.{Memory}
 use Rattle.cqf_topology.specs.DomainText.{first_taken}
 use Rattle.cqf_topology.proofs.Refusals.{Gives-residual}
