@@ -1,0 +1,88 @@
+//! Domains of sketches read, or refused.
+use cqf_sketch::{SketchDomain, SketchFault};
+use std::alloc::Global;
+
+/// Two bridges, a station that listens and talks, and one that only talks.
+const SKETCH: &str = "cycle = [250000, 125000]
+guard = 4000
+bridges = [\"a\", \"b\"]
+stations = [\"s\", \"t\"]
+links = [
+    { from = \"a\", to = \"b\", rate = 1000, delay = 500, duplex = true },
+    { from = \"b\", to = \"s\", rate = 1000, delay = 600, duplex = true },
+    { from = \"t\", to = \"a\", rate = 100, delay = 700 },
+]
+";
+
+/// Whether a fault prints so.
+fn prints(alloc: Global, fault: SketchFault, wanted: &str) -> bool {
+    match format!(in alloc; "{fault}") {
+        Ok(text) => text.as_str() == wanted,
+        Err(_) => false,
+    }
+}
+
+/// Whether the sketch with another text in the place of a part of it is answered so.
+fn answers(alloc: Global, old: &str, new: &str, wanted: &str) -> bool {
+    let Ok(changed) = SKETCH.replacen(alloc, old, new, 1) else {
+        return false;
+    };
+    match SketchDomain::read(alloc, changed.as_bytes(), None) {
+        Ok(_domain) => wanted == "read",
+        Err(fault) => prints(alloc, fault, wanted),
+    }
+}
+
+/// A part of the sketch, another text in its place, and the answer.
+const CHANGES: &[(&str, &str, &str)] = &[
+    ("", "", "read"),
+    ("cycle = [250000, 125000]", "cycle = 125000", "read"),
+    ("[250000, 125000]", "[]", "BadValue cycle"),
+    ("125000]", "9999]", "BadValue cycle"),
+    ("cycle = [250000, 125000]\n", "", "Missing cycle"),
+    ("duplex = true", "duplex = 1", "BadValue duplex"),
+    ("to = \"s\"", "to = \"x\"", "UnknownName x"),
+    (
+        "from = \"t\", to = \"a\"",
+        "from = \"t\", to = \"s\"",
+        "UnknownName s",
+    ),
+    (
+        "from = \"t\", to = \"a\"",
+        "from = \"b\", to = \"a\"",
+        "LinkTwice 2",
+    ),
+    (
+        "from = \"t\", to = \"a\"",
+        "from = \"s\", to = \"a\"",
+        "TwoTalkerLinks s",
+    ),
+    ("guard = 4000", "guard = 250000", "GuardTooLong"),
+    ("guard = 4000", "guard = 200000", "read"),
+    ("delay = 600", "delay = 4000", "DelayTooLong 1"),
+    ("delay = 700", "delay = 4000", "read"),
+    ("\"s\", \"t\"", "\"s\", \"s\"", "NameTaken s"),
+];
+
+#[test]
+fn a_changed_sketch_is_refused_by_its_first_fault(rt: HostRuntime) {
+    for (old, new, wanted) in CHANGES {
+        assert!(rt; answers(rt.alloc(), old, new, wanted), "{old} to {new}");
+    }
+}
+
+/// Of a link both ways the plant has each that leaves a bridge, and the others are talkers' links.
+#[test]
+fn links_are_numbered_there_before_back(rt: HostRuntime) {
+    match SketchDomain::read(rt.alloc(), SKETCH.as_bytes(), None) {
+        Ok(domain) => {
+            assert!(rt; domain.candidates() == [250_000, 125_000].as_slice());
+            assert!(rt; domain.links().len() == 3);
+            assert!(rt; domain.links()[1].from == 1);
+            assert!(rt; domain.talkers().len() == 2);
+            assert!(rt; domain.talkers()[0].station == 0 && domain.talkers()[0].bridge == 1);
+            assert!(rt; domain.talkers()[1].station == 1 && domain.talkers()[1].bridge == 0);
+        }
+        Err(_) => assert!(rt; false),
+    }
+}
