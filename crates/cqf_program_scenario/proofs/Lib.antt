@@ -5,3 +5,4 @@ mod ReadInput
 pub mod BookOf
 mod Commands
 mod ExactParts
+pub mod InTime

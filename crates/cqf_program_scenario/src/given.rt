@@ -154,8 +154,9 @@ fn read_parts(alloc: Global, cycles: u32, parts: RunParts<'_>) -> Result<Given, 
     read_behind(alloc, cycles, domain, requests, parts)
 }
 
-/// The scenario of the input, or the end with the line of its first fault.
-pub(crate) fn read_given(alloc: Global, cycles: u32, input: &[u8]) -> Result<Given, Stop>
+/// The scenario of the input over so many cycles, or the end with the line of its first fault. `Err` with status 1, and with status 3 for
+/// want of memory.
+pub fn read_given(alloc: Global, cycles: u32, input: &[u8]) -> Result<Given, Stop>
     ensures ok { IfOk result (λ given. scenario_input cycles input.now ≡ Ok (scenario_given given)) }
     ensures stand { IfOk result (λ given. HasOrders given) }
     ensures good { IfOk result (λ given. MayBeRun cycles (scenario_given given)) }

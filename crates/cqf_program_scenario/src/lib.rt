@@ -17,7 +17,7 @@
 //! cycles that are still open then are closed. The network runs over the tables of that history: its book is told by the exact
 //! instants at which frames start, with no port and no gate, but for the ports of links that have background frames.
 //!
-//! - [`simulate`] reads the scenario of an input and runs it: the log of its history, and the book.
+//! - [`simulate`] reads the scenario of an input and runs it: the log of its history, and the book. [`read_given`] reads it alone.
 //! - [`read_behind`] reads the rest of a scenario whose domain and streams were read otherwise, and [`run_given`] runs a
 //!   scenario that was made otherwise.
 //! - [`administer`] reads the scenario of an input and makes its history alone, with no run of the network.
@@ -46,7 +46,7 @@ mod readers;
 mod runs;
 
 pub use administered::{Administered, administer};
-pub use given::{Given, read_behind};
+pub use given::{Given, read_behind, read_given};
 pub use logs::Log;
 pub use opening::{Opened, read_opened};
 pub use parts::{RunParts, one_part, run_parts, two_parts};

@@ -69,6 +69,14 @@ impl ExactBook {
         put_drops(press, domain, drops);
     }
 
+    /// The pass that tells the starts of streams' frames, before its first cycle. The rest of the book is let go.
+    pub fn into_pass(self) -> Pass
+        ensures pass { result ≡ self.pass }
+        ensures fresh { result.told ≡ 0 }
+    {
+        self.pass
+    }
+
     /// The book with all its starts in a list.
     ///
     /// # Errors

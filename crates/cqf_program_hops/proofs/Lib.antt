@@ -1,0 +1,2 @@
+mod Sorts
+mod Early

@@ -1,0 +1,68 @@
+//! The command `hops`.
+ghost use Rattle.std.specs.Prelude.{◌≡◌, ◌≤◌, IfErr, IfOk};
+ghost use Rattle.cqf_model.specs.Limits.{most_cycles};
+ghost use Rattle.cqf_program_scenario.specs.Closing.{MayBeRun, scenario_given};
+ghost use Rattle.cqf_program_scenario.specs.Logged.{HasOrders};
+ghost use Rattle.cqf_program_scenario.specs.Scenario.{scenario_input};
+ghost use Rattle.cqf_program_stop.specs.Stops.{IsRefused};
+ghost use Rattle.cqf_program_hops.specs.Gathered.{AreLegsOf, wanted_by};
+ghost use Rattle.cqf_program_hops.specs.HopsOutput.{IsHopsOutput};
+ghost use Rattle.cqf_program_hops.specs.LegsText.{text_of_legs};
+
+use crate::gathering::legs_of_scenario;
+use crate::hops_outputs::HopsOutput;
+use crate::wanting::Choice;
+use cqf_program_press::Sheet;
+use cqf_program_scenario::{Given, read_given};
+use cqf_program_stop::Stop;
+use cqf_units::Memory;
+use std::alloc::Global;
+
+/// The output for a scenario.
+fn output_of(
+    alloc: Global,
+    cycles: u32,
+    choice: Choice<'_>,
+    given: Given,
+) -> Result<HopsOutput, Memory>
+    requires short { cycles ≤ most_cycles }
+    requires may { MayBeRun cycles (scenario_given given) }
+    requires stand { HasOrders given }
+    ensures domain { IfOk result (λ output. output.domain ≡ given.domain) }
+    ensures offers { IfOk result (λ output. output.offers ≡ given.offers.items) }
+    ensures legs { IfOk result (λ output. AreLegsOf cycles (scenario_given given) (wanted_by choice.entry) output.legs) }
+{
+    let legs = legs_of_scenario(alloc, cycles, choice, &given)?;
+    let sheet = Sheet::new(alloc)?;
+    let Given { domain, offers, .. } = given;
+    Ok(HopsOutput {
+        domain,
+        offers,
+        legs,
+        sheet,
+    })
+}
+
+/// The output of `hops` over so many cycles, 0 to 100,000, ready to be told: each start and each drop of the wanted frames in the book of
+/// the input's scenario, by frame, then instant, then link (profile).
+///
+/// # Errors
+/// With status 1 and the line of the first fault of the input: of its parts, of the domain, the streams, the script, the
+/// offers, or the background frames; and with status 3 for want of memory.
+pub fn hops_output(
+    alloc: Global,
+    cycles: u32,
+    choice: Choice<'_>,
+    input: &[u8],
+) -> Result<HopsOutput, Stop>
+    requires { cycles ≤ most_cycles }
+    ensures ok { IfOk result (λ output. IsHopsOutput cycles (wanted_by choice.entry) input.now
+        (text_of_legs output.domain output.offers output.legs)) }
+    ensures err { IfErr result (IsRefused (scenario_input cycles input.now)) }
+{
+    let given = read_given(alloc, cycles, input)?;
+    match output_of(alloc, cycles, choice, given) {
+        Ok(output) => Ok(output),
+        Err(_) => Err(Stop::memory(alloc)),
+    }
+}
