@@ -5,9 +5,8 @@ ghost use Rattle.cqf_program_hops.specs.LegsText.{text_of_legs};
 use crate::leg_lines::put_legs;
 use crate::legs::Leg;
 use cqf_model::Offer;
-use cqf_program_press::{Press, Sheet, Told};
+use cqf_program_press::{Press, Sheet, Sink, Told};
 use cqf_topology::Domain;
-use std::io::Write;
 use std::marker::Model;
 
 /// What the output of `hops` is told from: a domain, the offers, what is told of their frames, and a sheet.
@@ -33,7 +32,7 @@ impl Model for HopsOutput {
 
 impl HopsOutput {
     /// Tells the output: what a book tells of frames, in its order (profile). It asks for no memory.
-    pub fn tell<W: Write>(self, told: &mut Told<W>)
+    pub fn tell<W: Sink>(self, told: &mut Told<W>)
         ensures { HasTold (writing W.contents told.old told.new) (text_of_legs self.domain self.offers self.legs) }
     {
         let HopsOutput {

@@ -11,12 +11,11 @@ ghost use Rattle.cqf_program_hops.specs.LegsText.{lines_of_legs, started_fields,
 use crate::legs::Leg;
 use crate::wanting::stream_of;
 use cqf_model::{Dropped, Offer, Started};
-use cqf_program_press::Press;
+use cqf_program_press::{Press, Sink};
 use cqf_program_telling::{put_bridge, put_link};
 use cqf_report::reason_name;
 use cqf_topology::Domain;
 use cqf_units::octet_time;
-use std::io::Write;
 
 /// A link's octet time. A link that the domain lacks has none.
 fn octet_time_of(domain: &Domain, link: u8) -> u64
@@ -56,7 +55,7 @@ fn whole_of(domain: &Domain, started: &Started) -> u64
 }
 
 /// Puts the line of a start of a frame of a stream.
-fn put_started<W: Write>(
+fn put_started<W: Sink>(
     press: &mut Press<'_, W>,
     domain: &Domain,
     stream: &str,
@@ -85,7 +84,7 @@ fn put_started<W: Write>(
 }
 
 /// Puts the fields of a drop behind its bridge.
-fn put_reason<W: Write>(press: &mut Press<'_, W>, reason: &[u8])
+fn put_reason<W: Sink>(press: &mut Press<'_, W>, reason: &[u8])
     ensures { Puts W.contents press.old press.new (line_of_fields ([] ∷ [] ∷ [] ∷ reason.now ∷ [])) }
 {
     press.put(b",,,");
@@ -94,7 +93,7 @@ fn put_reason<W: Write>(press: &mut Press<'_, W>, reason: &[u8])
 }
 
 /// Puts the line of a drop of a frame of a stream.
-fn put_dropped<W: Write>(
+fn put_dropped<W: Sink>(
     press: &mut Press<'_, W>,
     domain: &Domain,
     stream: &str,
@@ -117,7 +116,7 @@ fn put_dropped<W: Write>(
 }
 
 /// Puts the line of what is told of one of the offers' frames.
-fn put_leg<W: Write>(press: &mut Press<'_, W>, domain: &Domain, offers: &[Offer], leg: &Leg)
+fn put_leg<W: Sink>(press: &mut Press<'_, W>, domain: &Domain, offers: &[Offer], leg: &Leg)
     requires { IsLegInTime domain.now leg.now }
     ensures { Puts W.contents press.old press.new (line_of_fields (leg_fields domain.now offers.now leg.now)) }
 {
@@ -132,14 +131,14 @@ fn put_leg<W: Write>(press: &mut Press<'_, W>, domain: &Domain, offers: &[Offer]
 }
 
 /// Puts the header.
-fn put_header<W: Write>(press: &mut Press<'_, W>)
+fn put_header<W: Sink>(press: &mut Press<'_, W>)
     ensures { Puts W.contents press.old press.new (line_of_fields hops_header) }
 {
     press.put(b"frame,stream,octets,cycle,where,start,end,whole,dropped\n");
 }
 
 /// Puts the lines.
-fn put_each<W: Write>(press: &mut Press<'_, W>, domain: &Domain, offers: &[Offer], legs: &[Leg])
+fn put_each<W: Sink>(press: &mut Press<'_, W>, domain: &Domain, offers: &[Offer], legs: &[Leg])
     requires { All (IsLegInTime domain.now) legs.now }
     ensures { Puts W.contents press.old press.new (lines_of_legs domain.now offers.now legs.now) }
 {
@@ -149,7 +148,7 @@ fn put_each<W: Write>(press: &mut Press<'_, W>, domain: &Domain, offers: &[Offer
 }
 
 /// Puts the text of what is told of the offers' frames.
-pub(crate) fn put_legs<W: Write>(
+pub(crate) fn put_legs<W: Sink>(
     press: &mut Press<'_, W>,
     domain: &Domain,
     offers: &[Offer],

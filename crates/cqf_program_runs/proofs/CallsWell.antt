@@ -1,6 +1,5 @@
 -- No call of a history is refused just where a check finds none, and then it tells what is told of the frames.
-use Rattle.std.proofs.Common.{◌≡◌, ◌∙◌, ◌+◌, ℕ, Bool, true, false, not, List, Option, Some, None, Result, Ok, Err, Contains, ap, filter, find, refl, sym}
-use Rattle.std.specs.List.{enumerate_from}
+use Rattle.std.proofs.Common.{◌≡◌, ◌∙◌, ◌+◌, ℕ, Bool, true, false, not, List, Option, Some, None, Result, Ok, ap, filter, refl, sym}
 use Rattle.std.proofs.lemmas.Bool.{false≢true}
 use Rattle.cqf_lists.specs.Results.{refuse}
 use Rattle.cqf_lists.proofs.Members.{contains_at, contains_filter, contains_from_filter, place_of_member}

@@ -16,8 +16,11 @@ pub mod Arrived
 pub mod Listeners
 mod Once
 mod Planned
-mod InTime
 mod Passing
 mod Later
 mod Judged
 mod Told
+mod OfCycles
+mod Room
+mod OneMore
+mod Counted

@@ -1,5 +1,5 @@
 -- The first refused call of a log is that of the history that the log stands for.
-use Rattle.std.proofs.Common.{◌≡◌, ◌∙◌, ◌+◌, ◌∷◌, ◌<◌, ◌≤◌, ℕ, Bool, true, false, not, List, [], Option, Some, None, ap, drop, filter, find}
+use Rattle.std.proofs.Common.{◌≡◌, ◌∙◌, ◌+◌, ◌∷◌, ◌<◌, ◌≤◌, ℕ, Bool, true, false, not, List, [], Some, None, ap, drop, filter, find}
 use Rattle.std.proofs.Common.{Contains, get_or, length, map, option_map, refl, sym}
 use Rattle.std.specs.List.{enumerate_from}
 use Rattle.std.proofs.lemmas.Bool.{cond-false, cond-true}

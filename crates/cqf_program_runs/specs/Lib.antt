@@ -20,5 +20,7 @@ pub mod CheckOutput
 -- what the inner functions say
 pub mod ReportTelling
 pub mod DeliveriesReading
+pub mod Ending
+pub mod Counting
 pub mod Checking
 pub mod RefusedInLog

@@ -1,10 +1,14 @@
 //! When frames are whole at their listeners, found by frame.
-ghost use Rattle.std.specs.Prelude.{◌≡◌, ◌+◌, ◌≤◌, ◌<◌, ◌^◌, ◌==◌, ◌++◌, ◌∷◌, [], All, IfOk, OnOk, find, length, option_map};
+ghost use Rattle.std.specs.Prelude.{◌≡◌, ◌+◌, ◌≤◌, ◌<◌, ◌^◌, ◌==◌, ◌++◌, ◌∷◌, [], All, IfOk, List, OnOk, find, length, option_map};
 ghost use Rattle.cqf_program_plans.specs.LatencyText.{is_station};
 ghost use Rattle.cqf_model.specs.Domain.{end_of};
 ghost use Rattle.cqf_program_runs.specs.Arrivals.{AddsArrival, AreNoted, HaveNoArrivals, IsInTime, NotesArrival, lists_of_arrivals, whole_in};
 ghost use Rattle.cqf_program_runs.specs.Deliveries.{whole_instant};
+ghost use Rattle.cqf_program_runs.specs.Ending.{NotesEach, TellsInTime};
+ghost use Rattle.cqf_instants.specs.Progress.{AreStartsOf};
+ghost use Rattle.cqf_model.specs.declared.frames.Started.{Started as AStarted};
 
+use cqf_instants::Pass;
 use cqf_model::{Node, Started};
 use cqf_topology::Domain;
 use cqf_units::{Memory, Nanos, Octets, end_of};
@@ -96,6 +100,21 @@ fn note(lists: &mut Vec<Vec<Arrival>>, domain: &Domain, start: &Started) -> Resu
     Ok(())
 }
 
+/// Notes starts, in their order.
+fn note_each(
+    lists: &mut Vec<Vec<Arrival>>,
+    domain: &Domain,
+    starts: &[Started],
+) -> Result<(), Memory>
+    requires { All (IsInTime domain.now) starts.now }
+    ensures { OnOk result (NotesEach domain.now starts.now (lists_of_arrivals lists.old.items) (lists_of_arrivals lists.new.items)) }
+{
+    for start in starts {
+        note(lists, domain, start)?;
+    }
+    Ok(())
+}
+
 /// The first arrival at the end of a link.
 fn arrival_on(arrivals: &[Arrival], link: u8) -> Option<Arrival>
     ensures { result ≡ find (λ arrival. arrival.link == link) arrivals.now }
@@ -117,20 +136,22 @@ fn whole_among(arrivals: &[Arrival], link: u8) -> Option<Nanos>
 }
 
 impl Arrivals {
-    /// The arrivals of frames of numbers up to one, by the starts of a book. Each start is looked at once.
-    pub(crate) fn new(
+    /// The arrivals of frames of numbers up to one, by the starts that a pass tells. None of these is kept, and each is looked at once.
+    pub(crate) fn of_pass(
         alloc: Global,
         domain: &Domain,
         frames: usize,
-        starts: &[Started],
+        pass: Pass,
     ) -> Result<Arrivals, Memory>
         requires few { frames < 2 ^ 32 }
-        requires in_time { All (IsInTime domain.now) starts.now }
-        ensures { IfOk result (λ arrivals. AreNoted domain.now starts.now frames arrivals) }
+        requires fresh { pass.told ≡ 0 }
+        requires in_time { TellsInTime domain.now pass.basis }
+        ensures { IfOk result (λ arrivals. (starts : List AStarted) → AreStartsOf pass.basis starts → AreNoted domain.now starts frames arrivals) }
     {
         let mut lists = no_arrivals(alloc, frames + 1)?;
-        for start in starts {
-            note(&mut lists, domain, start)?;
+        let mut pass = pass;
+        while pass.next_cycle() {
+            note_each(&mut lists, domain, pass.starts())?;
         }
         Ok(Arrivals { lists })
     }

@@ -1,8 +1,10 @@
 //! Whether all goes well in a run, by its deliveries.
-ghost use Rattle.std.specs.Prelude.{◌≡◌, ◌&&◌, true, IfOk, count_by, find, option_copied, string_bytes};
+ghost use Rattle.std.specs.Prelude.{ℕ, ◌≡◌, ◌+◌, ◌≤◌, ◌++◌, ◌&&◌, [], true, IfOk, List, length, count_by, find, option_copied, string_bytes};
 ghost use Rattle.cqf_program_runs.specs.Checked.{complaint_line, complaint_of, counts_of, is_bad, is_delivered};
 ghost use Rattle.cqf_program_runs.specs.Checked.{is_finished, is_timed, is_under_way, unfinished_line, well_line};
+ghost use Rattle.cqf_program_runs.specs.Counting.{AreCountsBefore};
 ghost use Rattle.cqf_program_runs.specs.Deliveries.{fate_of};
+ghost use Rattle.cqf_program_runs.specs.declared.delivery.Delivery.{Delivery as ADelivery};
 
 use crate::delivery::{Delivery, Fate, Passage, latency};
 use cqf_report::reason_name;
@@ -69,7 +71,8 @@ fn is_delivered(delivery: &Delivery) -> bool
 
 /// How many deliveries are under way.
 fn count_under_way(deliveries: &[Delivery]) -> usize
-    ensures { result ≡ count_by (λ delivery. is_under_way (fate_of delivery)) deliveries.now }
+    ensures counts { result ≡ count_by (λ delivery. is_under_way (fate_of delivery)) deliveries.now }
+    ensures few { result ≤ length deliveries.now }
 {
     deliveries
         .iter()
@@ -79,7 +82,8 @@ fn count_under_way(deliveries: &[Delivery]) -> usize
 
 /// How many deliveries are there, and in time.
 fn count_delivered(deliveries: &[Delivery]) -> usize
-    ensures { result ≡ count_by (λ delivery. is_delivered (fate_of delivery)) deliveries.now }
+    ensures counts { result ≡ count_by (λ delivery. is_delivered (fate_of delivery)) deliveries.now }
+    ensures few { result ≤ length deliveries.now }
 {
     deliveries
         .iter()
@@ -89,7 +93,8 @@ fn count_delivered(deliveries: &[Delivery]) -> usize
 
 /// How many of those have a deadline.
 fn count_timed(deliveries: &[Delivery]) -> usize
-    ensures { result ≡ count_by (λ delivery. is_delivered (fate_of delivery) && is_timed delivery.passage) deliveries.now }
+    ensures counts { result ≡ count_by (λ delivery. is_delivered (fate_of delivery) && is_timed delivery.passage) deliveries.now }
+    ensures few { result ≤ length deliveries.now }
 {
     deliveries
         .iter()
@@ -97,20 +102,37 @@ fn count_timed(deliveries: &[Delivery]) -> usize
         .count()
 }
 
-/// What a check counts of deliveries, beside so many offers of which so many are of cycles that aren't run.
-pub fn counts_of(frames: usize, later: usize, deliveries: &[Delivery]) -> Counts
-    ensures { result ≡ counts_of frames later deliveries.now }
+/// What a check counts of no deliveries, beside so many offers of which so many are of cycles that aren't run.
+pub(crate) fn no_counts(frames: usize, later: usize) -> Counts
+    ensures { result ≡ counts_of frames later [] }
 {
     Counts {
         frames,
         later,
-        under_way: count_under_way(deliveries),
-        delivered: count_delivered(deliveries),
-        timed: count_timed(deliveries),
+        under_way: 0,
+        delivered: 0,
+        timed: 0,
     }
 }
 
 impl Counts {
+    /// The same with some deliveries more: those of one offer, of at most 1,000,000.
+    pub(crate) fn with(self, here: &[Delivery]) -> Counts
+        requires few { length here.now ≤ 64 }
+        requires early { AreCountsBefore 1000000 self }
+        ensures counts { (frames later : ℕ) (done : List ADelivery) → self ≡ counts_of frames later done →
+            result ≡ counts_of frames later (done ++ here.now) }
+        ensures more { (place : ℕ) → AreCountsBefore place self → AreCountsBefore (place + 1) result }
+    {
+        Counts {
+            frames: self.frames,
+            later: self.later,
+            under_way: self.under_way + count_under_way(here),
+            delivered: self.delivered + count_delivered(here),
+            timed: self.timed + count_timed(here),
+        }
+    }
+
     /// Whether all offers are of cycles that are run, and no delivery is under way.
     pub fn is_finished(self) -> bool
         ensures { result ≡ is_finished self }

@@ -3,16 +3,16 @@ ghost use Rattle.std.specs.Prelude.{◌≡◌, ◌≤◌, true, None, Ok, Err, I
 ghost use Rattle.cqf_admission.specs.Asking.{asked_of};
 ghost use Rattle.cqf_admission_ledger.specs.Ledger.{recorded_in};
 ghost use Rattle.cqf_admission_requests.specs.Orders.{StandsIn};
-ghost use Rattle.cqf_model.specs.Book.{contents_of};
 ghost use Rattle.cqf_program_scenario.specs.Calls.{history_of};
 ghost use Rattle.cqf_program_scenario.specs.Closing.{MayBeRun, scenario_given};
 ghost use Rattle.cqf_program_scenario.specs.Logged.{HasOrders};
-ghost use Rattle.cqf_program_scenario.specs.Ran.{IsRunOf};
 ghost use Rattle.cqf_program_stop.specs.Stops.{EndsWith, IsRefused};
-ghost use Rattle.cqf_program_runs.specs.Checked.{checked_by, complaint_line, finished, is_bad, unfinished_line, well_line};
+ghost use Rattle.cqf_program_runs.specs.Checked.{complaint_line, finished, is_bad, unfinished_line, well_line};
 ghost use Rattle.cqf_program_runs.specs.Deliveries.{fate_of};
 ghost use Rattle.cqf_program_runs.specs.DeliveriesText.{text_of_deliveries};
 ghost use Rattle.cqf_program_runs.specs.CheckOutput.{IsCheckRefusal, IsChecked};
+ghost use Rattle.cqf_program_runs.specs.Counting.{checked_over};
+ghost use Rattle.cqf_program_runs.specs.Ending.{IsNotedOf, IsOver, IsPassOf, over_of};
 ghost use Rattle.cqf_program_runs.specs.Checking.{IsCheckedGiven, IsRefusedGiven};
 ghost use Rattle.cqf_program_runs.specs.DeliveriesOutput.{IsDeliveriesOutput};
 ghost use Rattle.cqf_program_runs.specs.PlannedScenario.{planned_scenario};
@@ -20,15 +20,16 @@ ghost use Rattle.cqf_program_runs.specs.RefusedCalls.{first_refused, is_refused,
 ghost use Rattle.cqf_program_runs.specs.DeliveriesReading.{AreDeliveriesOf};
 ghost use Rattle.cqf_model.specs.Limits.{most_cycles};
 
-use crate::deliveries_made::{
-    deliveries_of_run, deliveries_of_scenario, later_offers, run_gathered,
-};
+use crate::checked::no_counts;
+use crate::deliveries_made::{Noted, later_offers, noted_of, noted_of_scenario, pass_of};
 use crate::deliveries_outputs::DeliveriesOutput;
 use crate::deliveries_reading::{PlannedGiven, read_planned_given};
+use crate::few::Few;
+use crate::made::{Ended, put_those_of};
 use crate::refused_calls::{first_refused, refused_line};
-use crate::{Counts, Delivery, complaint_about, counts_of, first_bad, unfinished_line, well_line};
+use crate::{Counts, Delivery, complaint_about, first_bad, unfinished_line, well_line};
 use cqf_admission_ledger::Logged;
-use cqf_model::Book;
+use cqf_instants::Pass;
 use cqf_program_press::Sheet;
 use cqf_program_scenario::Given;
 use cqf_program_stop::{REFUSED, Stop};
@@ -36,15 +37,22 @@ use cqf_units::Memory;
 use std::alloc::Global;
 
 /// The output for a scenario.
-fn output_of(alloc: Global, cycles: u32, planned: &PlannedGiven) -> Result<DeliveriesOutput, Memory>
+fn output_of(alloc: Global, cycles: u32, planned: PlannedGiven) -> Result<DeliveriesOutput, Memory>
     requires short { cycles ≤ most_cycles }
-    requires may { MayBeRun cycles (scenario_given planned.now.given) }
-    requires stand { HasOrders planned.now.given }
-    ensures { IfOk result (λ output. AreDeliveriesOf cycles planned.now output) }
+    requires may { MayBeRun cycles (scenario_given planned.given) }
+    requires stand { HasOrders planned.given }
+    ensures { IfOk result (λ output. AreDeliveriesOf cycles planned output) }
 {
-    let deliveries = deliveries_of_scenario(alloc, cycles, planned)?;
+    let noted = noted_of_scenario(alloc, cycles, &planned)?;
+    let here = Few::new(alloc)?;
     let sheet = Sheet::new(alloc)?;
-    Ok(DeliveriesOutput { deliveries, sheet })
+    Ok(DeliveriesOutput {
+        planned,
+        cycles,
+        noted,
+        here,
+        sheet,
+    })
 }
 
 /// The output of `deliveries` over so many cycles, 0 to 100,000, ready to be told: what becomes of each offer of these cycles, and
@@ -59,7 +67,7 @@ pub fn deliveries_output(alloc: Global, cycles: u32, input: &[u8]) -> Result<Del
     ensures err { IfErr result (IsRefused (planned_scenario cycles input.now)) }
 {
     let planned = read_planned_given(alloc, cycles, input)?;
-    match output_of(alloc, cycles, &planned) {
+    match output_of(alloc, cycles, planned) {
         Ok(output) => Ok(output),
         Err(_) => Err(Stop::memory(alloc)),
     }
@@ -102,34 +110,45 @@ fn finish(alloc: Global, counts: Counts) -> Result<Vec<u8>, Stop>
     }
 }
 
-/// What is told of some deliveries.
-fn check_deliveries(alloc: Global, deliveries: &[Delivery], counts: Counts) -> Result<Vec<u8>, Stop>
-    ensures ok { IfOk result (λ line. checked_by deliveries.now counts ≡ Ok line.items) }
-    ensures err { IfErr result (IsRefused (checked_by deliveries.now counts)) }
+/// What is told of the deliveries of a run that is over, of whose offers so many are of cycles that aren't run. What was there is room for the
+/// deliveries of one offer.
+fn check_each(alloc: Global, here: Few, ended: &Ended<'_>, later: usize) -> Result<Vec<u8>, Stop>
+    requires { IsOver (over_of ended.now) }
+    ensures ok { IfOk result (λ line. checked_over (over_of ended.now) later ≡ Ok line.items) }
+    ensures err { IfErr result (IsRefused (checked_over (over_of ended.now) later)) }
 {
-    match first_bad(deliveries) {
-        Some(delivery) => Err(complaint_stop(alloc, delivery)),
-        None => finish(alloc, counts),
+    let mut here = here;
+    let many = ended.offers.len();
+    let mut counts = no_counts(many, later);
+    for place in 0..many {
+        put_those_of(&mut here, ended, place);
+        if let Some(delivery) = first_bad(here.as_slice()) {
+            return Err(complaint_stop(alloc, delivery));
+        }
+        counts = counts.with(here.as_slice());
     }
+    finish(alloc, counts)
 }
 
-/// What is told of a scenario whose deliveries were made, where no call of its history is refused.
-fn check_made(
+/// What is told of a scenario of which this is noted, where no call of its history is refused.
+fn check_noted(
     alloc: Global,
     cycles: u32,
     planned: &PlannedGiven,
-    deliveries: &[Delivery],
+    noted: &Noted,
 ) -> Result<Vec<u8>, Stop>
     requires may { MayBeRun cycles (scenario_given planned.now.given) }
     requires granted { first_refused (history_of cycles (scenario_given planned.now.given)) ≡ None }
-    requires made { AreDeliveriesOf cycles planned.now deliveries.now }
+    requires noted { IsNotedOf cycles planned.now noted.now }
     ensures ok { IfOk result (λ line. IsCheckedGiven cycles planned.now (Ok line.items)) }
     ensures err { IfErr result (IsRefusedGiven cycles planned.now) }
 {
     let offers = planned.given.offers.as_slice();
     let later = later_offers(&planned.given.domain, cycles, offers);
-    let counts = counts_of(offers.len(), later, deliveries);
-    check_deliveries(alloc, deliveries, counts)
+    match Few::new(alloc) {
+        Ok(here) => check_each(alloc, here, &noted.over(planned, cycles), later),
+        Err(_) => Err(Stop::memory(alloc)),
+    }
 }
 
 /// What is told of a scenario that was run, where no call of its history is refused.
@@ -138,17 +157,17 @@ fn check_frames(
     cycles: u32,
     planned: &PlannedGiven,
     entries: &[Logged],
-    book: &Book,
+    pass: Pass,
 ) -> Result<Vec<u8>, Stop>
     requires short { cycles ≤ most_cycles }
     requires may { MayBeRun cycles (scenario_given planned.now.given) }
     requires granted { first_refused (history_of cycles (scenario_given planned.now.given)) ≡ None }
-    requires ran { IsRunOf cycles planned.now.given entries.now (contents_of book.now) }
+    requires ran { IsPassOf cycles planned.now.given entries.now pass }
     ensures ok { IfOk result (λ line. IsCheckedGiven cycles planned.now (Ok line.items)) }
     ensures err { IfErr result (IsRefusedGiven cycles planned.now) }
 {
-    match deliveries_of_run(alloc, cycles, planned, entries, book) {
-        Ok(deliveries) => check_made(alloc, cycles, planned, deliveries.as_slice()),
+    match noted_of(alloc, cycles, planned, entries, pass) {
+        Ok(noted) => check_noted(alloc, cycles, planned, &noted),
         Err(_) => Err(Stop::memory(alloc)),
     }
 }
@@ -172,17 +191,17 @@ fn check_ran(
     cycles: u32,
     planned: &PlannedGiven,
     entries: &[Logged],
-    book: &Book,
+    pass: Pass,
 ) -> Result<Vec<u8>, Stop>
     requires short { cycles ≤ most_cycles }
     requires may { MayBeRun cycles (scenario_given planned.now.given) }
-    requires ran { IsRunOf cycles planned.now.given entries.now (contents_of book.now) }
+    requires ran { IsPassOf cycles planned.now.given entries.now pass }
     ensures ok { IfOk result (λ line. IsCheckedGiven cycles planned.now (Ok line.items)) }
     ensures err { IfErr result (IsRefusedGiven cycles planned.now) }
 {
     match first_refused(entries) {
         Some((number, logged)) => Err(refused_stop(alloc, &planned.given, number, &logged)),
-        None => check_frames(alloc, cycles, planned, entries, book),
+        None => check_frames(alloc, cycles, planned, entries, pass),
     }
 }
 
@@ -194,8 +213,8 @@ fn check_scenario(alloc: Global, cycles: u32, planned: &PlannedGiven) -> Result<
     ensures ok { IfOk result (λ line. IsCheckedGiven cycles planned.now (Ok line.items)) }
     ensures err { IfErr result (IsRefusedGiven cycles planned.now) }
 {
-    match run_gathered(alloc, cycles, &planned.given) {
-        Ok((entries, book)) => check_ran(alloc, cycles, planned, entries.as_slice(), &book),
+    match pass_of(alloc, cycles, &planned.given) {
+        Ok((entries, pass)) => check_ran(alloc, cycles, planned, entries.as_slice(), pass),
         Err(_) => Err(Stop::memory(alloc)),
     }
 }

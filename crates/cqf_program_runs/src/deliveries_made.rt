@@ -1,40 +1,100 @@
-//! The deliveries of a scenario.
-ghost use Rattle.std.specs.Prelude.{◌≡◌, ◌≤◌, ◌<◌, IfOk, count_by, nat_le};
+//! What the deliveries of a scenario are told from.
+ghost use Rattle.std.specs.Prelude.{◌≡◌, ◌≤◌, ◌<◌, IfOk, count_by, map, nat_le};
 ghost use Rattle.cqf_units.specs.Timing.{cycle_at};
-ghost use Rattle.cqf_model.specs.Book.{contents_of};
+ghost use Rattle.cqf_model.specs.declared.frames.Offer.{Offer as AnOffer};
 ghost use Rattle.cqf_model.specs.Run.{AreOffers};
 ghost use Rattle.cqf_model.specs.Shift.{offer_cycle};
 ghost use Rattle.cqf_model.specs.Traffic.{numbered};
 ghost use Rattle.cqf_program_scenario.specs.Closing.{MayBeRun, scenario_given};
 ghost use Rattle.cqf_program_scenario.specs.Logged.{HasOrders};
-ghost use Rattle.cqf_program_scenario.specs.Ran.{IsRunOf};
-ghost use Rattle.cqf_program_runs.specs.DeliveriesReading.{AreDeliveriesOf};
+ghost use Rattle.cqf_program_runs.specs.Deadlines.{deadline_in};
+ghost use Rattle.cqf_program_runs.specs.Ending.{IsNotedOf, IsPassOf, over_by, over_of};
 ghost use Rattle.cqf_model.specs.Limits.{end_of_offers, most_cycles};
 
+use crate::Deadlines;
+use crate::arrivals::Arrivals;
 use crate::deliveries_reading::PlannedGiven;
-use crate::{Deadlines, Delivery, Ended, deliveries_of};
+use crate::made::Ended;
 use cqf_admission_granted::granted_of_log;
 use cqf_admission_ledger::Logged;
-use cqf_instants_coverage::cover;
+use cqf_instants::Pass;
+use cqf_instants_coverage::{Judgement, cover};
 use cqf_laws_report::offers_are_judged;
-use cqf_model::{Book, Offer};
+use cqf_model::{Offer, Row};
 use cqf_program_scenario::{Given, Ran, run_given};
 use cqf_topology::Domain;
 use cqf_units::{Memory, cycle_of};
 use std::alloc::Global;
 
-/// The deliveries of a scenario that was run over so many cycles.
-pub(crate) fn deliveries_of_run(
+/// What is noted of a scenario that was run.
+#[derive(Drop)]
+pub(crate) struct Noted {
+    /// The streams that were ever granted, by number.
+    pub(crate) rows: Vec<Row>,
+    /// What becomes of each offer, by its place.
+    pub(crate) judgements: Vec<Judgement>,
+    /// The deadline of each offer's frame, where it has one, by its place.
+    pub(crate) dues: Vec<Option<u32>>,
+    pub(crate) arrivals: Arrivals,
+}
+
+impl Noted {
+    /// What deliveries are told from: this, and what was read of the scenario.
+    pub(crate) fn over<'r>(&'r self, planned: &'r PlannedGiven, cycles: u32) -> Ended<'r>
+        ensures { over_of result ≡ over_by planned.now cycles self.now }
+    {
+        Ended {
+            domain: &planned.given.domain,
+            cycles,
+            offers: planned.given.offers.as_slice(),
+            rows: self.rows.as_slice(),
+            judgements: self.judgements.as_slice(),
+            requests: planned.given.requests.as_slice(),
+            deadlines: planned.deadlines.as_slice(),
+            dues: self.dues.as_slice(),
+            arrivals: &self.arrivals,
+        }
+    }
+}
+
+/// The deadline of each offer's frame, by its place.
+fn dues_of(
+    alloc: Global,
+    deadlines: &Deadlines<'_>,
+    offers: &[Offer],
+) -> Result<Vec<Option<u32>>, Memory>
+    ensures { IfOk result (λ dues. dues.items ≡ map (λ (offer : AnOffer). deadline_in deadlines.now offer.stream) offers.now) }
+{
+    let mut dues = Vec::with_capacity(alloc, offers.len())?;
+    for offer in offers {
+        dues.push(deadlines.of(&offer.stream))?;
+    }
+    Ok(dues)
+}
+
+/// The same of the offers of a scenario.
+fn dues_of_scenario(alloc: Global, planned: &PlannedGiven) -> Result<Vec<Option<u32>>, Memory>
+    ensures { IfOk result (λ dues. dues.items ≡ map (λ (offer : AnOffer).
+        deadline_in (record { requests = planned.now.given.requests.items; deadlines = planned.now.deadlines.items }) offer.stream)
+        planned.now.given.offers.items) }
+{
+    let requests = planned.given.requests.as_slice();
+    let deadlines = Deadlines::new(alloc, requests, planned.deadlines.as_slice())?;
+    dues_of(alloc, &deadlines, planned.given.offers.as_slice())
+}
+
+/// What is noted of a scenario that was run over so many cycles, with this log and the pass that tells its starts.
+pub(crate) fn noted_of(
     alloc: Global,
     cycles: u32,
     planned: &PlannedGiven,
     entries: &[Logged],
-    book: &Book,
-) -> Result<Vec<Delivery>, Memory>
+    pass: Pass,
+) -> Result<Noted, Memory>
     requires short { cycles ≤ most_cycles }
     requires may { MayBeRun cycles (scenario_given planned.now.given) }
-    requires ran { IsRunOf cycles planned.now.given entries.now (contents_of book.now) }
-    ensures { IfOk result (λ deliveries. AreDeliveriesOf cycles planned.now deliveries.items) }
+    requires ran { IsPassOf cycles planned.now.given entries.now pass }
+    ensures { IfOk result (λ noted. IsNotedOf cycles planned.now noted) }
 {
     offers_are_judged();
     let given = &planned.given;
@@ -44,55 +104,48 @@ pub(crate) fn deliveries_of_run(
     let requests = given.requests.as_slice();
     let script = given.script.as_slice();
     let offers = given.offers.as_slice();
-    let rows = granted_of_log(alloc, domain, requests, script, entries)?;
-    let rows = rows.as_slice();
+    let granted = granted_of_log(alloc, domain, requests, script, entries)?;
+    let rows = granted.as_slice();
     let judgements = cover(alloc, domain, rows, offers)?;
-    let judgements = judgements.as_slice();
-    let ends = planned.deadlines.as_slice();
-    let deadlines = Deadlines::new(alloc, requests, ends)?;
-    let starts = book.starts.as_slice();
-    let ended = Ended {
-        domain,
-        cycles,
-        offers,
-        rows,
+    let dues = dues_of_scenario(alloc, planned)?;
+    let arrivals = Arrivals::of_pass(alloc, domain, offers.len(), pass)?;
+    Ok(Noted {
+        rows: granted,
         judgements,
-        starts,
-    };
-    deliveries_of(alloc, &ended, &deadlines)
+        dues,
+        arrivals,
+    })
 }
 
-/// The log of a scenario's history over so many cycles, 0 to 100,000, and the book of that.
-pub(crate) fn run_gathered(
+/// The log of a scenario's history over so many cycles, 0 to 100,000, and the pass that tells its starts.
+pub(crate) fn pass_of(
     alloc: Global,
     cycles: u32,
     given: &Given,
-) -> Result<(Vec<Logged>, Book), Memory>
+) -> Result<(Vec<Logged>, Pass), Memory>
     requires short { cycles ≤ most_cycles }
     requires may { MayBeRun cycles (scenario_given given.now) }
     requires stand { HasOrders given.now }
-    ensures { IfOk result (λ ran. IsRunOf cycles given.now ran.0.items (contents_of ran.1)) }
+    ensures { IfOk result (λ ran. IsPassOf cycles given.now ran.0.items ran.1) }
 {
     let ran = run_given(alloc, cycles, given)?;
     let Ran { entries, book } = ran;
-    let gathered = book.gather(alloc)?;
-    Ok((entries, gathered))
+    Ok((entries, book.into_pass()))
 }
 
-/// The deliveries of a scenario over so many cycles, 0 to 100,000.
-pub(crate) fn deliveries_of_scenario(
+/// What is noted of a scenario over so many cycles, 0 to 100,000.
+pub(crate) fn noted_of_scenario(
     alloc: Global,
     cycles: u32,
     planned: &PlannedGiven,
-) -> Result<Vec<Delivery>, Memory>
+) -> Result<Noted, Memory>
     requires short { cycles ≤ most_cycles }
     requires may { MayBeRun cycles (scenario_given planned.now.given) }
     requires stand { HasOrders planned.now.given }
-    ensures { IfOk result (λ deliveries. AreDeliveriesOf cycles planned.now deliveries.items) }
+    ensures { IfOk result (λ noted. IsNotedOf cycles planned.now noted) }
 {
-    let (entries, book) = run_gathered(alloc, cycles, &planned.given)?;
-    let logged = entries.as_slice();
-    deliveries_of_run(alloc, cycles, planned, logged, &book)
+    let (entries, pass) = pass_of(alloc, cycles, &planned.given)?;
+    noted_of(alloc, cycles, planned, entries.as_slice(), pass)
 }
 
 /// Whether an offer is of a cycle that isn't run.

@@ -7,8 +7,11 @@ ghost use Rattle.cqf_program_plans.specs.LatencyText.{text_of_deadline};
 ghost use Rattle.cqf_program_runs.specs.DeliveriesText.{passage_fields, deliveries_header, delivery_fields};
 ghost use Rattle.cqf_program_runs.specs.DeliveriesText.{lines_of_deliveries, name_of_fate, text_of_deliveries};
 ghost use Rattle.cqf_program_runs.specs.DeliveriesText.{text_of_instant, text_of_listeners_latency};
+ghost use Rattle.cqf_program_runs.specs.Ending.{IsOver, deliveries_over, over_of};
 
 use crate::delivery::{Delivery, Fate, Journey, Passage, latency};
+use crate::few::Few;
+use crate::made::{Ended, put_those_of};
 use cqf_program_press::{Press, Sink};
 use cqf_report::reason_name;
 use cqf_units::Nanos;
@@ -121,10 +124,23 @@ fn put_each<W: Sink>(press: &mut Press<'_, W>, deliveries: &[Delivery])
     }
 }
 
-/// Puts the text of deliveries.
-pub fn put_deliveries<W: Sink>(press: &mut Press<'_, W>, deliveries: &[Delivery])
-    ensures { Puts W.contents press.old press.new (text_of_deliveries deliveries.now) }
+/// Puts a line for each delivery of a run that is over.
+fn put_all<W: Sink>(press: &mut Press<'_, W>, here: Few, ended: &Ended<'_>)
+    requires { IsOver (over_of ended.now) }
+    ensures { Puts W.contents press.old press.new (lines_of_deliveries (deliveries_over (over_of ended.now))) }
+{
+    let mut here = here;
+    for place in 0..ended.offers.len() {
+        put_those_of(&mut here, ended, place);
+        put_each(press, here.as_slice());
+    }
+}
+
+/// Puts the text of the deliveries of a run that is over; what was there is room for those of one offer.
+pub(crate) fn put_deliveries<W: Sink>(press: &mut Press<'_, W>, here: Few, ended: &Ended<'_>)
+    requires { IsOver (over_of ended.now) }
+    ensures { Puts W.contents press.old press.new (text_of_deliveries (deliveries_over (over_of ended.now))) }
 {
     put_header(press);
-    put_each(press, deliveries);
+    put_all(press, here, ended);
 }

@@ -9,11 +9,12 @@
 //! - [`deliveries_output`]: what becomes of the offers of a scenario, a row for each offer and listener ([`DeliveriesOutput`]).
 //! - [`check_output`]: the line that tells that all goes well, or the end of the run with the line that tells what doesn't.
 //!
-//! Deliveries are made of a run that is over, an [`Ended`], by the starts of its book ([`deliveries_of`]):
+//! No list of deliveries is kept: of each frame it is noted when it is whole at its listeners, while a pass tells the starts of the run, and
+//! deliveries are told, or looked at, offer by offer.
 //!
 //! - A [`Delivery`] is a frame on its way to one listener, or its drop; [`Delivery::fate`] is what becomes of it, a [`Fate`], by
 //!   the [`Deadlines`] of the streams' frames.
-//! - [`put_deliveries`] puts their text, and [`complaint_about`], [`unfinished_line`] and [`well_line`] are the lines of a check.
+//! - [`complaint_about`], [`unfinished_line`] and [`well_line`] are the lines of a check.
 //! - [`verdicts_tell_deliveries`] is the law that ties deliveries by the verdicts on offers to those of a book.
 //!   [`arrivals_are_the_shift`] says which have come, [`each_is_told_once`] what is told of an offer, and
 //!   [`check_is_well_exactly`] when a check tells that all is well.
@@ -29,7 +30,7 @@
 //!     is Ok of an output that tells "0 admit x accepted 0 0\n1 seal\n1 seal\n%%\nwhat,cycle,where,frame,octets,detail\nstart,1,a>s,1,64,125000\n"
 //! report_output(rt, alloc, 2, ..), where a stream's frame of 64 octets starts in cycle 1 on the one link,
 //!     is Ok(b"link,frames,octets,most\na>s,1,64,64\n")
-//! deliveries_of, where x is offered to the bridge a at 0 and at 10, with 64 octets left, and frame 1 starts at 125,000 on the
+//! the deliveries, where x is offered to the bridge a at 0 and at 10, with 64 octets left, and frame 1 starts at 125,000 on the
 //! link to its listener s,
 //!     has 1 x 64 0 whole at 126076 in s: Delivered, and 2 x 64 10: Dropped(Octets)
 //! check_output(alloc, 6, ..), where x is offered to the bridge b, at which it doesn't begin,
@@ -46,6 +47,7 @@ mod deliveries_outputs;
 mod deliveries_reading;
 mod delivery;
 mod delivery_lines;
+mod few;
 mod laws;
 mod line_command;
 mod line_domain;
@@ -58,18 +60,16 @@ mod report_command;
 mod run_command;
 mod run_outputs;
 
-pub use checked::{Counts, complaint_about, counts_of, first_bad, unfinished_line, well_line};
+pub use checked::{Counts, complaint_about, first_bad, unfinished_line, well_line};
 pub use deadlines::Deadlines;
 pub use deliveries_command::{check_output, deliveries_output};
 pub use deliveries_outputs::DeliveriesOutput;
 pub use delivery::{Delivery, Fate, Journey, Passage};
-pub use delivery_lines::put_deliveries;
 pub use laws::{
     arrivals_are_the_shift, check_is_well_exactly, each_is_told_once, verdicts_tell_deliveries,
 };
 pub use line_command::line_output;
 pub use line_outputs::LineOutput;
-pub use made::{Ended, deliveries_of};
 pub use report_command::report_output;
 pub use run_command::run_output;
 pub use run_outputs::RunOutput;

@@ -1,7 +1,9 @@
 use Rattle.cqf_program_press.proofs.PressLemmas.{Puts-then}
 use Rattle.cqf_report.specs.Written.{line_of_fields}
 use Rattle.cqf_program_runs.specs.DeliveriesText.{deliveries_header, lines_of_deliveries}
+use Rattle.cqf_program_runs.specs.Ending.{deliveries_over, over_of}
 use Rattle.cqf_program_runs.proofs.delivery_lines.put_deliveries.Goals as goal
 
 pub returns : goal.returns
-returns g c = Puts-then (line_of_fields deliveries_header) (lines_of_deliveries c.args.deliveries.now) c.put_header.ensures c.put_each.ensures
+returns g c =
+    Puts-then (line_of_fields deliveries_header) (lines_of_deliveries (deliveries_over (over_of c.args.ended.now))) c.put_header.ensures c.put_all.ensures

@@ -1,4 +1,4 @@
-use Rattle.std.proofs.Common.{◌∙◌, ℕ, List, arith, subst, sym}
+use Rattle.std.proofs.Common.{◌∙◌, arith, subst, sym}
 use Rattle.cqf_program_press.specs.Edge.{HasTold, writing}
 use Rattle.cqf_program_press.proofs.PressLemmas.{HasTold-pressed}
 use Rattle.cqf_program_runs.specs.RunOutput.{run_text}

@@ -1,0 +1,77 @@
+use Rattle.std.proofs.Common.{◌≡◌, ◌∙◌, ◌<◌, ◌++◌, List, None, Some, ap, arith, find, length, option_copied, subst, sym, take}
+use Rattle.std.proofs.lemmas.List.{take_all}
+use Rattle.std.proofs.lemmas.Result.{IfErr-weaker, IfOk-weaker}
+use Rattle.cqf_instants_columns.proofs.Offers.{numbered_all}
+use Rattle.cqf_lists.proofs.Members.{find_member}
+use Rattle.cqf_model.specs.declared.frames.Offered.{Offered}
+use Rattle.cqf_model.specs.Traffic.{numbered}
+use Rattle.cqf_program_runs.specs.declared.delivery.Delivery.{Delivery}
+use Rattle.cqf_program_runs.specs.Checked.{complaint_line, counts_of, finished}
+use Rattle.cqf_program_runs.specs.Counting.{NoneBad, checked_over}
+use Rattle.cqf_program_runs.specs.Ending.{deliveries_among, deliveries_over, over_of}
+use Rattle.cqf_program_runs.proofs.Counted.{ends_it, first_bad_of_all, none_bad_more}
+use Rattle.cqf_program_runs.proofs.OneMore.{among_more}
+use Rattle.cqf_program_runs.proofs.Told.{IsRefused-line, IsRefused-same, checked_none, checked_some}
+use Rattle.cqf_program_runs.proofs.deliveries_command.check_each.Goals as goal
+
+pub complaint_stop-requires : goal.complaint_stop-requires
+complaint_stop-requires c =
+    (find_member ends_it c.as_slice.result.now c.in-Some.delivery.now (sym c.first_bad.ensures ∙ ap option_copied c.in-Some.is)).1
+
+pub returns-in-Some-clause-err : goal.returns-in-Some-clause-err
+returns-in-Some-clause-err c =
+    let over = over_of c.args.ended.now in
+    let place = c.loop-place.place in
+    let bad = c.in-Some.delivery.now in
+    let within : place < length over.offers = omega (arith, c.loop-place-test.true) in
+    let found : find ends_it c.put_those_of.new.here ≡ Some bad =
+    ap (find ends_it) (sym c.as_slice.ensures.value) ∙ sym c.first_bad.ensures ∙ ap option_copied c.in-Some.is in
+    IsRefused-line (checked_over over c.args.later) (complaint_line bad) _
+    (checked_some (deliveries_over over) (counts_of (length over.offers) c.args.later (deliveries_over over)) bad
+    (first_bad_of_all over place c.put_those_of.new.here within c.put_those_of.ensures c.loop-place.invariant.well bad found))
+    c.complaint_stop.ensures
+
+pub loop-place-preserved : goal.loop-place-preserved
+loop-place-preserved c =
+    let over = over_of c.args.ended.now in
+    let place = c.loop-place.place in
+    let here = c.put_those_of.new.here in
+    let so_far = c.loop-place.invariant in
+    let done = deliveries_among over (take place (numbered over.offers)) in
+    let within : place < length over.offers = omega (arith, c.loop-place-test.true) in
+    let found : find ends_it here ≡ None =
+    ap (find ends_it) (sym c.as_slice.ensures.value) ∙ sym c.first_bad.ensures ∙ ap option_copied c.in_default.is in
+    record {
+      well = none_bad_more over place here within c.put_those_of.ensures so_far.well found;
+      counted = c.with-counts.ensures.counts (length over.offers) c.args.later done so_far.counted
+          ∙ ap (λ (more : List Delivery). counts_of (length over.offers) c.args.later (done ++ more)) c.as_slice-in-loop-place.ensures.value
+          ∙ ap (counts_of (length over.offers) c.args.later) (among_more over place here within c.put_those_of.ensures);
+      before = c.with-counts.ensures.more place so_far.before;
+    }
+
+pub returns-clause-ok : goal.returns-clause-ok
+returns-clause-ok c =
+    let over = over_of c.args.ended.now in
+    let n = length over.offers in
+    let so_far = c.loop-place.invariant in
+    let all : take c.loop-place.place (numbered over.offers) ≡ numbered over.offers =
+    take_all c.loop-place.place (numbered over.offers) (omega (arith, c.loop-place-test.false, numbered_all over.offers)) in
+    let well : NoneBad (deliveries_over over) = subst (λ (xs : List Offered). NoneBad (deliveries_among over xs)) all so_far.well in
+    let counted = so_far.counted ∙ ap (λ (xs : List Offered). counts_of n c.args.later (deliveries_among over xs)) all in
+    IfOk-weaker c.finish.result _ _
+    (λ line told. checked_none (deliveries_over over) (counts_of n c.args.later (deliveries_over over)) well ∙ ap finished (sym counted) ∙ told)
+    c.finish.ensures.ok
+
+pub returns-clause-err : goal.returns-clause-err
+returns-clause-err c =
+    let over = over_of c.args.ended.now in
+    let n = length over.offers in
+    let so_far = c.loop-place.invariant in
+    let all : take c.loop-place.place (numbered over.offers) ≡ numbered over.offers =
+    take_all c.loop-place.place (numbered over.offers) (omega (arith, c.loop-place-test.false, numbered_all over.offers)) in
+    let well : NoneBad (deliveries_over over) = subst (λ (xs : List Offered). NoneBad (deliveries_among over xs)) all so_far.well in
+    let counted = so_far.counted ∙ ap (λ (xs : List Offered). counts_of n c.args.later (deliveries_among over xs)) all in
+    IfErr-weaker c.finish.result _ _
+    (λ stop refused. IsRefused-same (checked_over over c.args.later) (finished c.loop-place.counts) stop
+    (checked_none (deliveries_over over) (counts_of n c.args.later (deliveries_over over)) well ∙ ap finished (sym counted)) refused)
+    c.finish.ensures.err

@@ -1,0 +1,32 @@
+use Rattle.std.proofs.Common.{◌∙◌, ◌+◌, ◌++◌, List, ap, arith, sym, take}
+use Rattle.std.proofs.lemmas.Grind.{flat_map-append}
+use Rattle.std.proofs.lemmas.List.{take_all}
+use Rattle.cqf_model.specs.declared.frames.Offered.{Offered}
+use Rattle.cqf_model.specs.Traffic.{numbered}
+use Rattle.cqf_instants_columns.proofs.Offers.{numbered_all}
+use Rattle.cqf_program_press.proofs.PressLemmas.{Puts-as, Puts-then}
+use Rattle.cqf_report.specs.Written.{line_of_fields}
+use Rattle.cqf_program_runs.specs.declared.delivery.Delivery.{Delivery}
+use Rattle.cqf_program_runs.specs.DeliveriesText.{delivery_fields, lines_of_deliveries}
+use Rattle.cqf_program_runs.specs.Ending.{deliveries_among, over_of}
+use Rattle.cqf_program_runs.proofs.OneMore.{among_more}
+use Rattle.cqf_program_runs.proofs.delivery_lines.put_all.Goals as goal
+
+pub loop-place-preserved : goal.loop-place-preserved
+loop-place-preserved g c =
+    let over = over_of c.args.ended.now in
+    let place = c.loop-place.place in
+    let done = deliveries_among over (take place (numbered over.offers)) in
+    let here = c.as_slice.result.now in
+    Puts-as (lines_of_deliveries done ++ lines_of_deliveries here) (lines_of_deliveries (deliveries_among over (take (place + 1) (numbered over.offers))))
+    (sym (flat_map-append (λ (delivery : Delivery). line_of_fields (delivery_fields delivery)) done here)
+    ∙ ap lines_of_deliveries (ap (λ (more : List Delivery). done ++ more) c.as_slice.ensures.value
+    ∙ among_more over place c.put_those_of.new.here (omega (arith, c.loop-place-test.true)) c.put_those_of.ensures))
+    (Puts-then (lines_of_deliveries done) (lines_of_deliveries here) c.loop-place.invariant c.put_each.ensures)
+
+pub returns : goal.returns
+returns g c =
+    let over = over_of c.args.ended.now in
+    Puts-as _ _
+    (ap (λ (xs : List Offered). lines_of_deliveries (deliveries_among over xs))
+    (take_all c.loop-place.place (numbered over.offers) (omega (arith, c.loop-place-test.false, numbered_all over.offers)))) c.loop-place.invariant

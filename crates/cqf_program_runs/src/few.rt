@@ -1,0 +1,57 @@
+//! The deliveries of one offer.
+ghost use Rattle.std.specs.Prelude.{◌≡◌, ◌≤◌, ◌<◌, ◌++◌, ◌∷◌, [], IfOk, length};
+
+use crate::delivery::Delivery;
+use cqf_units::Memory;
+use std::alloc::Global;
+use std::marker::Model;
+
+/// Room for the deliveries of one offer: a tree has at most 64 hops.
+#[derive(Drop)]
+pub(crate) struct Few {
+    deliveries: Vec<Delivery>,
+}
+
+impl Model for Few {
+    ghost use Rattle.std.specs.Prelude.{◌≤◌, List, length, vec_capacity};
+    ghost use Rattle.cqf_program_runs.specs.declared.delivery.Delivery.{Delivery as ADelivery};
+
+    ghost Value = { List ADelivery };
+
+    ghost view = { λ f. f.deliveries.items };
+
+    ghost invariant = { λ f. (64 ≤ vec_capacity f.deliveries) × (length f.deliveries.items ≤ 64) };
+}
+
+impl Few {
+    /// None so far. This alone asks for memory.
+    pub(crate) fn new(alloc: Global) -> Result<Few, Memory>
+        ensures { IfOk result (λ few. few ≡ []) }
+    {
+        let deliveries = Vec::with_capacity(alloc, 64)?;
+        Ok(Few { deliveries })
+    }
+
+    /// Takes them away.
+    pub(crate) fn clear(&mut self)
+        ensures { self.new ≡ [] }
+    {
+        self.deliveries.clear();
+    }
+
+    /// Puts one behind those that are there.
+    pub(crate) fn push(&mut self, delivery: Delivery)
+        requires { length self.old < 64 }
+        ensures { self.new ≡ self.old ++ delivery ∷ [] }
+    {
+        self.deliveries.push_reserved(delivery);
+    }
+
+    /// What is there.
+    pub(crate) fn as_slice(&self) -> &[Delivery]
+        ensures value { result.now ≡ self.now }
+        ensures fits { length result.now ≤ 64 }
+    {
+        self.deliveries.as_slice()
+    }
+}
