@@ -11,6 +11,7 @@ use Rattle.cqf_program_engine.specs.Edge.{IsHeard, Reading}
 use Rattle.cqf_program_press.specs.Edge.{HasTold, Writing}
 use Rattle.cqf_program_press.specs.Kinds.{SomeKind}
 use Rattle.cqf_program_plans.specs.CompileOutput.{compiled_input}
+use Rattle.cqf_program_offers.specs.OffersOutput.{offered_input}
 use Rattle.cqf_program_runs.specs.CheckOutput.{IsChecked, IsCheckRefusal}
 use Rattle.cqf_program_runs.specs.DeliveriesOutput.{IsDeliveriesOutput}
 use Rattle.cqf_program_runs.specs.PlannedScenario.{planned_scenario}
@@ -30,7 +31,7 @@ use Rattle.cqf_program_stop.specs.declared.stops.Stop.{Stop}
 use Rattle.cqf_program_engine.specs.declared.runs.TheConstants.{VERSION}
 use Rattle.cqf_program_words.specs.declared.words.Format.TheVariants as form
 use Rattle.cqf_program_words.specs.declared.words.Job.{Job}
-use Rattle.cqf_program_words.specs.declared.words.Job.TheVariants.{Check, Compile, Deliveries, Latency, Line, Load, Port, Report, Run}
+use Rattle.cqf_program_words.specs.declared.words.Job.TheVariants.{Check, Compile, Deliveries, Latency, Line, Load, Offers, Port, Report, Run}
 use Rattle.cqf_model.specs.Limits.{last_until, most_cycles}
 
 -- the job's numbers aren't above their limits
@@ -44,6 +45,7 @@ IsWithin (Run cycles threads) = cycles ≤ most_cycles
 IsWithin (Report cycles) = cycles ≤ most_cycles
 IsWithin (Deliveries cycles) = cycles ≤ most_cycles
 IsWithin (Check cycles) = cycles ≤ most_cycles
+IsWithin (Offers cycles seed) = cycles ≤ most_cycles
 
 -- whether the job is a run on threads
 abbrev pub is_threaded : Job → Bool
@@ -63,6 +65,7 @@ IsOutput (Run cycles true) input output = IsThreadsOutput cycles input output
 IsOutput (Report cycles) input output = IsReportOutput cycles input output
 IsOutput (Deliveries cycles) input output = IsDeliveriesOutput cycles input output
 IsOutput (Check cycles) input output = IsChecked cycles input (Ok output)
+IsOutput (Offers cycles seed) input output = offered_input cycles seed input ≡ Ok output
 
 -- the input of a job is refused, with the line of its first fault; or of a deadline that isn't kept for sure, where that is strict, or
 -- of what isn't well, where that is checked. `compile` refuses the same whatever its format
@@ -76,6 +79,7 @@ IsRefusal (Run cycles threads) input stop = IsRefused (scenario_input cycles inp
 IsRefusal (Report cycles) input stop = IsRefused (scenario_input cycles input) stop
 IsRefusal (Deliveries cycles) input stop = IsRefused (planned_scenario cycles input) stop
 IsRefusal (Check cycles) input stop = IsCheckRefusal cycles input stop
+IsRefusal (Offers cycles seed) input stop = IsRefused (offered_input cycles seed input) stop
 
 -- a run on threads fails, with the line of its fault: its input isn't refused. No other job fails
 abbrev pub IsFailure : Job → List ℕ → Stop → Type 0

@@ -18,6 +18,7 @@ use crate::heard::Heard;
 use crate::inputs::read_input;
 use crate::prepared::Prepared;
 use crate::sources::Source;
+use cqf_program_offers::offers_output;
 use cqf_program_plans::{compile_output, latency_output, load_output, port_output, tc_output};
 use cqf_program_press::{Sink, Told, write_out};
 use cqf_program_runs::{check_output, deliveries_output, line_output, report_output, run_output};
@@ -70,6 +71,9 @@ fn prepare(
             Ok(Prepared::Deliveries(deliveries_output(alloc, cycles, input)?))
         }
         Job::Check { cycles } => Ok(Prepared::Text(check_output(alloc, cycles, input)?)),
+        Job::Offers { cycles, seed } => {
+            Ok(Prepared::Text(offers_output(alloc, cycles, seed, input)?))
+        }
     }
 }
 

@@ -18,6 +18,6 @@ mod reading;
 mod sending;
 mod text;
 
-pub use command::{offered_by, offers_output};
+pub use command::{offered_by, offered_of, offers_output};
 pub use reading::flows_part;
 pub use sending::senders_of;
