@@ -55,12 +55,7 @@ fn whole_of(domain: &Domain, started: &Started) -> u64
 }
 
 /// Puts the line of a start of a frame of a stream.
-fn put_started<W: Sink>(
-    press: &mut Press<'_, W>,
-    domain: &Domain,
-    stream: &str,
-    started: &Started,
-)
+fn put_started<W: Sink>(press: &mut Press<'_, W>, domain: &Domain, stream: &str, started: &Started)
     requires { whole_of domain.now started.now < 2 ^ 64 }
     ensures { Puts W.contents press.old press.new (line_of_fields (started_fields domain.now stream.now started.now)) }
 {
@@ -93,12 +88,7 @@ fn put_reason<W: Sink>(press: &mut Press<'_, W>, reason: &[u8])
 }
 
 /// Puts the line of a drop of a frame of a stream.
-fn put_dropped<W: Sink>(
-    press: &mut Press<'_, W>,
-    domain: &Domain,
-    stream: &str,
-    dropped: &Dropped,
-)
+fn put_dropped<W: Sink>(press: &mut Press<'_, W>, domain: &Domain, stream: &str, dropped: &Dropped)
     ensures { Puts W.contents press.old press.new (line_of_fields (dropped_fields domain.now stream.now dropped.now)) }
 {
     press.put_number(dropped.frame);
