@@ -6,6 +6,7 @@ use crate::terminal::hint;
 use cqf_program_engine::{Heard, Texts, engine, tell};
 use cqf_program_explanations::{Source, explanation};
 use cqf_program_files::{Front, cycles_of, front_of, renumbered};
+use cqf_program_made::made_input;
 use cqf_program_press::{Told, write_out};
 use cqf_program_stop::{FAULT, REFUSED, Stop};
 use cqf_program_words::{Job, Operands, STANDARD, check_files, read_words, stop_of_file};
@@ -210,13 +211,42 @@ fn run_texts(
         return end(rt, &Stop::memory(given.alloc));
     }
     match front_of(given.alloc, given.job, names, given.texts) {
-        Ok(front) => run_front(rt, threads, given, &front),
-        Err(stop) => {
-            let ended = end(rt, &stop);
-            if stop.status == REFUSED {
-                explain(rt, given, stop.text.as_slice());
-            }
-            ended
+        Ok(front) => run_made(rt, threads, given, front),
+        Err(stop) => refuse(rt, given, &stop),
+    }
+}
+
+/// Tells the end before the engine has run, and explains a refusal.
+fn refuse(rt: &HostRuntime, given: &Given<'_>, stop: &Stop) -> ExitCode {
+    let ended = end(rt, stop);
+    if stop.status == REFUSED {
+        explain(rt, given, stop.text.as_slice());
+    }
+    ended
+}
+
+/// The same where the line of a script may be one of a file of calls.
+fn refuse_made(rt: &HostRuntime, given: &Given<'_>, front: &Front, stop: Stop) -> ExitCode {
+    let Stop { status, text } = stop;
+    match line_told(given.alloc, front, status, text) {
+        Ok(text) => refuse(rt, given, &Stop { status, text }),
+        Err(_) => end(rt, &Stop::memory(given.alloc)),
+    }
+}
+
+/// Runs what the files came to, with the calls and the offers that are made where they aren't given.
+fn run_made(
+    rt: &HostRuntime,
+    threads: &(impl Threads + Wait + Sync),
+    given: &Given<'_>,
+    front: Front,
+) -> ExitCode {
+    match made_input(given.alloc, given.job, front.input.as_slice()) {
+        Ok(None) => run_front(rt, threads, given, &front),
+        Ok(Some(input)) => {
+            let Front { numbers, .. } = front;
+            run_front(rt, threads, given, &Front { input, numbers })
         }
+        Err(stop) => refuse_made(rt, given, &front, stop),
     }
 }

@@ -14,10 +14,12 @@
 //! - `cqf report --cycles N` reads the same, and writes what each link carries.
 //! - `cqf deliveries --cycles N` reads the same, and writes what becomes of each offered frame at each listener of its stream.
 //! - `cqf check --cycles N` reads the same, and ends with status 1 where one of them is dropped, late or not yet there.
+//! - `cqf offers --cycles N [--seed S]` reads a domain and its streams, and writes what those with traffic offer.
 //!
 //! Behind the words may stand files, `-` for standard input among them. The input is then what their texts come to, one behind the
 //! other with a line `%%` between them; where the command takes a domain, a first file without such a line stands twice, as the domain and as
-//! its streams, and several first files whose names end with `.toml` are one plant. Behind the line of a refusal stands what explains it.
+//! its streams, and several first files whose names end with `.toml` are one plant. Where a run isn't given its calls or its offers, these are
+//! made: all streams are admitted before cycle 0, and those with traffic offer what their talkers promise. Behind the line of a refusal stands what explains it.
 //!
 //! Without a word after the program's name the words stand in the first line of the input:
 //!
