@@ -6,8 +6,8 @@
 //! - A [`Sheet`] has all the memory that a text needs on its way, however long it is. It alone asks for some.
 //! - A [`Press`] gathers text on a sheet, piece by piece, and tells each full sheet. Behind a refusal it tells nothing more.
 //!
-//! `specs/Kinds.antt` has the words on kinds of error, `specs/Edge.antt` says what became of a writer (`Writing`, `HasTold`), `specs/Press.antt` what a press was given (`HasPressed`,
-//! `Puts`).
+//! `specs/Kinds.antt` has the words on kinds of error, `specs/Edge.antt` says what became of a writer (`Writing`, `HasTold`), and
+//! `specs/Press.antt` what a press was given (`HasPressed`, `Puts`).
 //!
 //! ```text
 //! let mut press = Press::new(&mut told, Sheet::new(alloc)?);
