@@ -14,7 +14,10 @@
 //! - `cqf report --cycles N` reads the same, and writes what each link carries.
 //! - `cqf deliveries --cycles N` reads the same, and writes what becomes of each offered frame at each listener of its stream.
 //! - `cqf check --cycles N` reads the same, and ends with status 1 where one of them is dropped, late or not yet there.
+//! - `cqf hops --cycles N [--stream NAME] [--frame F]` reads the same, and writes the book by frame.
 //! - `cqf offers --cycles N [--seed S]` reads a domain and its streams, and writes what those with traffic offer.
+//! - `cqf plan [--table] [--cycle WORD]` reads a sketch of a domain and its streams, and writes a plant, or a table of the candidates for
+//!   its cycle time.
 //!
 //! Behind the words may stand files, `-` for standard input among them. The input is then what their texts come to, one behind the
 //! other with a line `%%` between them; where the command takes a domain, a first file without such a line stands twice, as the domain and as

@@ -24,7 +24,7 @@ use Rattle.cqf_program_stop.specs.declared.stops.Stop.{Stop}
 use Rattle.cqf_program_engine.specs.declared.heard.Broken.{Broken}
 use Rattle.cqf_program_engine.specs.declared.heard.Broken.TheVariants.{Memory, Fault}
 use Rattle.cqf_program_words.specs.declared.words.Job.{Job}
-use Rattle.cqf_program_words.specs.declared.words.Job.TheVariants.{Check, Compile, Deliveries, Latency, Line, Load, Offers, Port, Report, Run}
+use Rattle.cqf_program_words.specs.declared.words.Job.TheVariants.{Check, Compile, Deliveries, Hops, Latency, Line, Load, Offers, Plan, Port, Report, Run}
 
 -- words that are given and mean no job stop the run before anything is read
 pub IsStopped-by_words : (words : List (List ℕ)) (input : Reading) (stop : Stop) → words ≢ [] → input.failed ≡ false → EndsWords words stop
@@ -136,6 +136,8 @@ refusal_statuses (Report cycles) input stop h = h.statuses
 refusal_statuses (Deliveries cycles) input stop h = h.statuses
 refusal_statuses (Check cycles) input stop h = h.statuses
 refusal_statuses (Offers cycles seed) input stop h = h.statuses
+refusal_statuses (Hops cycles stream frame) input stop h = h.statuses
+refusal_statuses (Plan table given) input stop h = h.statuses
 
 -- a refused input with status 3 is told with no text
 refusal_memory : (job : Job) (input : List ℕ) (stop : Stop) → IsRefusal job input stop → stop.status ≡ 3 → stop.text.items ≡ []
@@ -149,6 +151,8 @@ refusal_memory (Report cycles) input stop h = h.memory
 refusal_memory (Deliveries cycles) input stop h = h.memory
 refusal_memory (Check cycles) input stop h = h.memory
 refusal_memory (Offers cycles seed) input stop h = h.memory
+refusal_memory (Hops cycles stream frame) input stop h = h.memory
+refusal_memory (Plan table given) input stop h = h.memory
 
 -- a job that fails has status 4
 failure_status : (job : Job) (input : List ℕ) (stop : Stop) → IsFailure job input stop → stop.status ≡ 4
@@ -163,6 +167,8 @@ failure_status (Report cycles) input stop h = absurd h
 failure_status (Deliveries cycles) input stop h = absurd h
 failure_status (Check cycles) input stop h = absurd h
 failure_status (Offers cycles seed) input stop h = absurd h
+failure_status (Hops cycles stream frame) input stop h = absurd h
+failure_status (Plan table given) input stop h = absurd h
 
 -- the end of a run on threads is that of its job
 pub IsEnd-threads : (cycles : ℕ) (job : Job) (input : List ℕ) (stop : Stop) → job ≡ Run cycles true → EndsThreads cycles input stop → IsEnd job input stop
@@ -373,6 +379,8 @@ job_within (Report cycles) name rows is = number_within 1 100000 cycles (first_o
 job_within (Deliveries cycles) name rows is = number_within 1 100000 cycles (first_of (codes "cycles") rows) is.1
 job_within (Check cycles) name rows is = number_within 1 100000 cycles (first_of (codes "cycles") rows) is.1
 job_within (Offers cycles seed) name rows is = number_within 1 100000 cycles (first_of (codes "cycles") rows) is.1
+job_within (Hops cycles stream frame) name rows is = number_within 1 100000 cycles (first_of (codes "cycles") rows) is.1
+job_within (Plan table given) name rows is = tt
 
 -- the numbers of a job that options give are within their ranges
 found_within : (job : Job) (found : Option (Text × List Row)) → IsJob job found → IsWithin job

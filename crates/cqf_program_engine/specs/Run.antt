@@ -1,5 +1,6 @@
 -- What a run of the program comes to, for the words that it is given and the bytes that its reader has (profile).
-use Rattle.std.specs.Prelude.{ℕ, ◌≡◌, ◌≢◌, ◌⊎◌, ◌≤◌, ◌<◌, ◌==◌, ◌++◌, Bool, true, false, List, [], ◌∷◌, Ok, ⊤, codes, length}
+use Rattle.std.specs.Prelude.{ℕ, ◌≡◌, ◌≢◌, ◌⊎◌, ◌≤◌, ◌<◌, ◌==◌, ◌++◌, Bool, true, false, List, [], ◌∷◌, Ok, Option, String, ⊤, codes, length, option_map, string_bytes}
+use Rattle.std.specs.declared.alloc.Global.{Global}
 use Rattle.std.specs.Io.KnownBytes.{Appends, IsAtEnd, Keeps}
 use Rattle.std.specs.List.{slice_split, before_first, after_first}
 use Rattle.std.specs.Str.{IsUtf8}
@@ -12,6 +13,8 @@ use Rattle.cqf_program_press.specs.Edge.{HasTold, Writing}
 use Rattle.cqf_program_press.specs.Kinds.{SomeKind}
 use Rattle.cqf_program_plans.specs.CompileOutput.{compiled_input}
 use Rattle.cqf_program_offers.specs.OffersOutput.{offered_input}
+use Rattle.cqf_program_hops.specs.HopsOutput.{IsHopsOutput}
+use Rattle.cqf_program_hops.specs.Legs.{Wanted}
 use Rattle.cqf_program_runs.specs.CheckOutput.{IsChecked, IsCheckRefusal}
 use Rattle.cqf_program_runs.specs.DeliveriesOutput.{IsDeliveriesOutput}
 use Rattle.cqf_program_runs.specs.PlannedScenario.{planned_scenario}
@@ -23,15 +26,17 @@ use Rattle.cqf_program_plans.specs.PortOutput.{IsPortOutput, port_input}
 use Rattle.cqf_program_runs.specs.ReportOutput.{IsReportOutput}
 use Rattle.cqf_program_runs.specs.RunOutput.{IsRunOutput}
 use Rattle.cqf_program_scenario.specs.Scenario.{scenario_input}
+use Rattle.cqf_program_sketch.specs.PlanOutput.{IsPlanOf, IsPlanRefusal}
 use Rattle.cqf_program_plans.specs.TcOutput.{tc_of_input}
 use Rattle.cqf_program_threads.specs.ThreadsOutput.{IsThreadsOutput, TellsFault}
+use Rattle.cqf_program_words.specs.Candidates.{times_of}
 use Rattle.cqf_program_words.specs.Shown.{ShowsBehind, ShowsLine, ShowsWords, no_command}
 use Rattle.cqf_program_words.specs.Words.{AreMistaken, AskForHelp, Mean}
 use Rattle.cqf_program_stop.specs.declared.stops.Stop.{Stop}
 use Rattle.cqf_program_engine.specs.declared.runs.TheConstants.{VERSION}
 use Rattle.cqf_program_words.specs.declared.words.Format.TheVariants as form
 use Rattle.cqf_program_words.specs.declared.words.Job.{Job}
-use Rattle.cqf_program_words.specs.declared.words.Job.TheVariants.{Check, Compile, Deliveries, Latency, Line, Load, Offers, Port, Report, Run}
+use Rattle.cqf_program_words.specs.declared.words.Job.TheVariants.{Check, Compile, Deliveries, Hops, Latency, Line, Load, Offers, Plan, Port, Report, Run}
 use Rattle.cqf_model.specs.Limits.{last_until, most_cycles}
 
 -- the job's numbers aren't above their limits
@@ -46,11 +51,17 @@ IsWithin (Report cycles) = cycles ≤ most_cycles
 IsWithin (Deliveries cycles) = cycles ≤ most_cycles
 IsWithin (Check cycles) = cycles ≤ most_cycles
 IsWithin (Offers cycles seed) = cycles ≤ most_cycles
+IsWithin (Hops cycles stream frame) = cycles ≤ most_cycles
+IsWithin (Plan table given) = ⊤
 
 -- whether the job is a run on threads
 abbrev pub is_threaded : Job → Bool
 is_threaded (Run cycles threads) = threads
 is_threaded job = false
+
+-- of which frames the book is told by frame: of those of a stream, of one alone
+abbrev pub wanted_of : Option (String Global) → Option ℕ → Wanted
+wanted_of stream frame = record { stream = option_map string_bytes stream; frame = frame }
 
 -- the output of a job for its input
 abbrev pub IsOutput : Job → List ℕ → List ℕ → Type 0
@@ -66,9 +77,11 @@ IsOutput (Report cycles) input output = IsReportOutput cycles input output
 IsOutput (Deliveries cycles) input output = IsDeliveriesOutput cycles input output
 IsOutput (Check cycles) input output = IsChecked cycles input (Ok output)
 IsOutput (Offers cycles seed) input output = offered_input cycles seed input ≡ Ok output
+IsOutput (Hops cycles stream frame) input output = IsHopsOutput cycles (wanted_of stream frame) input output
+IsOutput (Plan table given) input output = IsPlanOf table (option_map times_of given) input (Ok output)
 
 -- the input of a job is refused, with the line of its first fault; or of a deadline that isn't kept for sure, where that is strict, or
--- of what isn't well, where that is checked. `compile` refuses the same whatever its format
+-- of what isn't well, where that is checked; or no candidate for the cycle time is good. `compile` refuses the same whatever its format
 abbrev pub IsRefusal : Job → List ℕ → Stop → Type 0
 IsRefusal (Port until rate) input stop = IsRefused (port_input input) stop
 IsRefusal (Line cycles) input stop = IsRefused (line_input input) stop
@@ -80,6 +93,8 @@ IsRefusal (Report cycles) input stop = IsRefused (scenario_input cycles input) s
 IsRefusal (Deliveries cycles) input stop = IsRefused (planned_scenario cycles input) stop
 IsRefusal (Check cycles) input stop = IsCheckRefusal cycles input stop
 IsRefusal (Offers cycles seed) input stop = IsRefused (offered_input cycles seed input) stop
+IsRefusal (Hops cycles stream frame) input stop = IsRefused (scenario_input cycles input) stop
+IsRefusal (Plan table given) input stop = IsPlanRefusal table (option_map times_of given) input stop
 
 -- a run on threads fails, with the line of its fault: its input isn't refused. No other job fails
 abbrev pub IsFailure : Job → List ℕ → Stop → Type 0

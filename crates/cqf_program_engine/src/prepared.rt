@@ -3,6 +3,7 @@ ghost use Rattle.std.specs.Prelude.{ℕ, List};
 ghost use Rattle.cqf_program_engine.specs.Prepared.{IsTextOf};
 ghost use Rattle.cqf_program_press.specs.Edge.{HasTold, writing};
 
+use cqf_program_hops::HopsOutput;
 use cqf_program_plans::{ConfigOutput, LatencyOutput, LoadOutput, PortOutput, TcOutput};
 use cqf_program_press::{Sink, Told, write_out};
 use cqf_program_runs::{DeliveriesOutput, LineOutput, RunOutput};
@@ -31,6 +32,8 @@ pub enum Prepared {
     Account(ThreadsOutput),
     /// That of `deliveries`: what becomes of each offer at each listener.
     Deliveries(DeliveriesOutput),
+    /// That of `hops`: what a book tells of frames.
+    Hops(HopsOutput),
 }
 
 impl Prepared {
@@ -49,6 +52,7 @@ impl Prepared {
             Prepared::Run(output) => output.tell(told),
             Prepared::Account(output) => output.tell(told),
             Prepared::Deliveries(output) => output.tell(told),
+            Prepared::Hops(output) => output.tell(told),
         }
     }
 }

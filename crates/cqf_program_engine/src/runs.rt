@@ -1,5 +1,5 @@
 //! A run of the program, from its words and its input to its output or its end.
-ghost use Rattle.std.specs.Prelude.{ℕ, ◌≡◌, ◌≢◌, ◌≤◌, List, [], false, IfOk, IfErr, MatchOption, map, length, string_bytes, true};
+ghost use Rattle.std.specs.Prelude.{ℕ, ◌≡◌, ◌≢◌, ◌≤◌, List, [], false, IfOk, IfErr, IfSome, Ok, MatchOption, map, length, option_map, string_bytes, true};
 ghost use Rattle.std.specs.List.{slice_split};
 ghost use Rattle.cqf_program_engine.specs.Edge.{IsHeard, IsUnheard, reading};
 ghost use Rattle.cqf_program_engine.specs.Prepared.{HasText, IsTextOf};
@@ -7,10 +7,15 @@ ghost use Rattle.cqf_program_press.specs.Edge.{writing};
 ghost use Rattle.cqf_program_threads.specs.ThreadsOutput.{EndsThreads, IsThreadsOutput};
 ghost use Rattle.cqf_program_words.specs.Shown.{ShowsLine};
 ghost use Rattle.cqf_program_words.specs.Words.{EndsWords, Mean};
-ghost use Rattle.cqf_program_stop.specs.Stops.{EndsWith};
+ghost use Rattle.cqf_program_hops.specs.HopsOutput.{IsHopsOutput};
+ghost use Rattle.cqf_program_sketch.specs.PlanOutput.{IsPlanOf, IsPlanRefusal};
+ghost use Rattle.cqf_program_words.specs.Candidates.{times_of};
+ghost use Rattle.cqf_sketch.specs.SketchDomain.{AreCandidates};
+ghost use Rattle.cqf_program_scenario.specs.Scenario.{scenario_input};
+ghost use Rattle.cqf_program_stop.specs.Stops.{EndsWith, IsRefused};
 ghost use Rattle.cqf_program_engine.specs.Run.{version_line, IsAsking, IsVersionWord, IsWithin, IsOutput, IsEnd};
 ghost use Rattle.cqf_program_engine.specs.Run.{IsRefusal, IsBehindWords, Ends, EndsTold, HandsOver, HasCause, HasRun};
-ghost use Rattle.cqf_program_engine.specs.Run.{IsDone, IsStopped, TellsStop, is_space, is_threaded, first_line};
+ghost use Rattle.cqf_program_engine.specs.Run.{IsDone, IsStopped, TellsStop, is_space, is_threaded, first_line, wanted_of};
 ghost use Rattle.cqf_program_engine.specs.Run.{behind_first_line};
 ghost use Rattle.cqf_model.specs.Limits.{most_cycles};
 
@@ -18,13 +23,15 @@ use crate::heard::Heard;
 use crate::inputs::read_input;
 use crate::prepared::Prepared;
 use crate::sources::Source;
+use cqf_program_hops::{Choice, hops_output};
 use cqf_program_offers::offers_output;
 use cqf_program_plans::{compile_output, latency_output, load_output, port_output, tc_output};
 use cqf_program_press::{Sink, Told, write_out};
 use cqf_program_runs::{check_output, deliveries_output, line_output, report_output, run_output};
+use cqf_program_sketch::plan_output;
 use cqf_program_stop::{DONE, FAULT, NO_MEMORY, Stop, USAGE};
 use cqf_program_threads::threads_output;
-use cqf_program_words::{Format, Job, read_words, stop_of_line, stop_of_long_line};
+use cqf_program_words::{Candidates, Format, Job, read_words, stop_of_line, stop_of_long_line};
 use cqf_text::split_line;
 use cqf_units::Memory;
 use std::alloc::{AllocError, Global};
@@ -39,6 +46,66 @@ fn prepare_compiled(alloc: Global, format: Format, input: &[u8]) -> Result<Prepa
     match format {
         Format::List => Ok(Prepared::Config(compile_output(alloc, input)?)),
         Format::Tc => Ok(Prepared::Script(tc_output(alloc, input)?)),
+    }
+}
+
+/// The name, where there is one.
+fn name_of(name: &Option<String>) -> Option<&str>
+    ensures { option_map (λ text. text.now) result ≡ option_map string_bytes name.now }
+{
+    match *name {
+        Some(ref text) => Some(text.as_str()),
+        None => None,
+    }
+}
+
+/// The output of `hops` over so many cycles, of the frames of a stream and of one frame alone where these are named, ready to be told.
+/// `Err` as [`prepare`] has it.
+fn prepare_hops(
+    alloc: Global,
+    cycles: u32,
+    stream: &Option<String>,
+    frame: Option<u32>,
+    input: &[u8],
+) -> Result<Prepared, Stop>
+    requires { cycles ≤ most_cycles }
+    ensures ok { IfOk result (HasText (IsHopsOutput cycles (wanted_of stream.now frame) input.now)) }
+    ensures err { IfErr result (IsRefused (scenario_input cycles input.now)) }
+{
+    let choice = Choice {
+        stream: name_of(stream),
+        frame,
+    };
+    Ok(Prepared::Hops(hops_output(alloc, cycles, choice, input)?))
+}
+
+/// The candidates for the cycle time, where some are given.
+fn times_of(alloc: Global, given: Option<Candidates>) -> Result<Option<Vec<u32>>, Memory>
+    ensures times { IfOk result (λ times. option_map (λ cycles. cycles.items) times ≡ option_map times_of given) }
+    ensures are { IfOk result (λ times. IfSome times (λ cycles. AreCandidates cycles.items)) }
+{
+    match given {
+        Some(candidates) => {
+            let times = candidates.list(alloc)?;
+            Ok(Some(times))
+        }
+        None => Ok(None),
+    }
+}
+
+/// The output of `plan`, on candidates for the cycle time where some are given. `Err` as [`prepare`] has it.
+fn planned(
+    alloc: Global,
+    table: bool,
+    given: Option<Candidates>,
+    input: &[u8],
+) -> Result<Vec<u8>, Stop>
+    ensures ok { IfOk result (λ text. IsPlanOf table (option_map times_of given) input.now (Ok text.items)) }
+    ensures err { IfErr result (IsPlanRefusal table (option_map times_of given) input.now) }
+{
+    match times_of(alloc, given) {
+        Ok(times) => plan_output(alloc, table, times, input),
+        Err(_) => Err(Stop::memory(alloc)),
     }
 }
 
@@ -74,6 +141,12 @@ fn prepare(
         Job::Offers { cycles, seed } => {
             Ok(Prepared::Text(offers_output(alloc, cycles, seed, input)?))
         }
+        Job::Hops {
+            cycles,
+            ref stream,
+            frame,
+        } => prepare_hops(alloc, cycles, stream, frame, input),
+        Job::Plan { table, given } => Ok(Prepared::Text(planned(alloc, table, given, input)?)),
     }
 }
 

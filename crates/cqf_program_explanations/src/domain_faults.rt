@@ -4,6 +4,7 @@ use crate::given::Given;
 use crate::network::{Link, Network};
 use crate::places::{Grouped, Place};
 use crate::plant::{Found, Item, Kind};
+use crate::sketch::{candidates_of, is_duplex, is_of_plant, reads_sketch, talker_of};
 use crate::told::Told;
 use crate::words::shortened;
 use std::alloc::{AllocError, Global};
@@ -60,6 +61,28 @@ fn no_beginning(alloc: Global, network: &Network<'_>, name: &str) -> Result<Stri
     format!(in alloc; "no bridge {shown}{question}")
 }
 
+/// Whether a link may begin at a node: at a bridge, and in a sketch at a station too, which then leads to a bridge.
+fn may_begin(given: &Given<'_>, network: &Network<'_>, link: &Link<'_>) -> bool {
+    network.is_bridge(link.from) || reads_sketch(given) && network.is_node(link.from)
+}
+
+/// Tells of a talker's link that doesn't lead to a bridge.
+fn tell_talkers_end(
+    given: &Given<'_>,
+    told: &mut Told,
+    network: &Network<'_>,
+    link: &Link<'_>,
+) -> Result<(), AllocError> {
+    if network.is_bridge(link.from) || !network.is_node(link.from) || network.is_bridge(link.to) {
+        return Ok(());
+    }
+    let (place, label) = (link.item.place_of("to"), link.item.label(given.alloc)?);
+    let shown = shortened(given.alloc, link.to)?;
+    told.tell(format!(in given.alloc;
+        "{place}: {label}: to: {shown} is a station: a link from a station leads to a bridge"
+    )?)
+}
+
 /// Tells what is wrong with the ends of a link.
 fn tell_ends(
     given: &Given<'_>,
@@ -68,7 +91,7 @@ fn tell_ends(
     link: &Link<'_>,
 ) -> Result<(), AllocError> {
     let (alloc, label) = (given.alloc, link.item.label(given.alloc)?);
-    if !network.is_bridge(link.from) {
+    if !may_begin(given, network, link) {
         let (place, why) = (
             link.item.place_of("from"),
             no_beginning(alloc, network, link.from)?,
@@ -88,6 +111,8 @@ fn tell_ends(
         told.tell(format!(in alloc;
             "{place}: {label}: to: a link leads to another node than its from"
         )?)?;
+    } else if reads_sketch(given) {
+        tell_talkers_end(given, told, network, link)?;
     }
     Ok(())
 }
@@ -101,28 +126,76 @@ pub(crate) fn tell_unknown_names(given: &Given<'_>, told: &mut Told) -> Result<(
     Ok(())
 }
 
-/// Tells of each link whose ends are those of an earlier one.
+/// Tells of a link whose ends an earlier one has, there or back; keeps where others stand.
+fn tell_if_twice<'p>(
+    given: &Given<'_>,
+    told: &mut Told,
+    firsts: &mut BTreeMap<(&'p str, &'p str), Item<'p>>,
+    link: &Link<'p>,
+    ends: (&'p str, &'p str),
+) -> Result<(), AllocError> {
+    if let Some(first) = firsts.get(&ends) {
+        let (place, label) = (link.item.place(), link.item.label(given.alloc)?);
+        let (number, first) = (first.number, first.place());
+        return told.tell(format!(in given.alloc;
+            "{place}: {label}: link {number} at {first} has these ends already"
+        )?);
+    }
+    firsts.insert(ends, link.item)?;
+    Ok(())
+}
+
+/// Tells of each link whose ends are those of an earlier one, where a link may stand for two.
 pub(crate) fn tell_links_twice(given: &Given<'_>, told: &mut Told) -> Result<(), AllocError> {
     let network = given.network()?;
     let mut firsts: BTreeMap<(&str, &str), Item<'_>> = BTreeMap::new(given.alloc);
     for link in &network.links {
-        let ends = (link.from, link.to);
-        if let Some(first) = firsts.get(&ends) {
-            let (place, label) = (link.item.place(), link.item.label(given.alloc)?);
-            let (number, first) = (first.number, first.place());
-            told.tell(format!(in given.alloc;
-                "{place}: {label}: link {number} at {first} has these ends already"
-            )?)?;
-        } else {
-            firsts.insert(ends, link.item)?;
+        tell_if_twice(given, told, &mut firsts, link, (link.from, link.to))?;
+        if reads_sketch(given) && is_duplex(link) {
+            tell_if_twice(given, told, &mut firsts, link, (link.to, link.from))?;
         }
     }
     Ok(())
 }
 
+/// Tells of each station that gets a second talker's link.
+pub(crate) fn tell_two_talkers(given: &Given<'_>, told: &mut Told) -> Result<(), AllocError> {
+    let network = given.network()?;
+    let mut firsts: BTreeMap<&str, Item<'_>> = BTreeMap::new(given.alloc);
+    for link in &network.links {
+        let Some(station) = talker_of(&network, link) else {
+            continue;
+        };
+        if let Some(first) = firsts.get(station) {
+            let (place, label) = (link.item.place(), link.item.label(given.alloc)?);
+            let (number, first) = (first.number, first.place());
+            told.tell(format!(in given.alloc;
+                "{place}: {label}: {station} sends by link {number} at {first} already: a station has one talker's link"
+            )?)?;
+        } else {
+            firsts.insert(station, link.item)?;
+        }
+    }
+    Ok(())
+}
+
+/// The greatest cycle time that is given, in ns.
+fn greatest_cycle(given: &Given<'_>) -> Result<u64, AllocError> {
+    let mut most = 0;
+    for cycle in &candidates_of(given)? {
+        most = *cycle.max(&most);
+    }
+    Ok(most)
+}
+
+/// Whether the checks of delays and gaps ask for a link: in a sketch a talker's link is none of the plant's.
+fn is_checked(given: &Given<'_>, network: &Network<'_>, link: &Link<'_>) -> bool {
+    !reads_sketch(given) || is_of_plant(network, link)
+}
+
 /// Tells of a guard time that isn't below the cycle time.
 pub(crate) fn tell_guard(given: &Given<'_>, told: &mut Told) -> Result<(), AllocError> {
-    let (guard, cycle) = (given.plant.number("guard"), given.plant.number("cycle"));
+    let (guard, cycle) = (given.plant.number("guard"), greatest_cycle(given)?);
     if let Some(found) = given.plant.top("guard") {
         let (place, guard, cycle) = (found.place, Grouped(guard), Grouped(cycle));
         told.tell(format!(in given.alloc;
@@ -136,7 +209,7 @@ pub(crate) fn tell_guard(given: &Given<'_>, told: &mut Told) -> Result<(), Alloc
 pub(crate) fn tell_delays(given: &Given<'_>, told: &mut Told) -> Result<(), AllocError> {
     let network = given.network()?;
     for link in &network.links {
-        if link.delay >= network.guard {
+        if link.delay >= network.guard && is_checked(given, &network, link) {
             let (place, label) = (link.item.place_of("delay"), link.item.label(given.alloc)?);
             let (delay, guard) = (Grouped(link.delay), Grouped(network.guard));
             told.tell(format!(in given.alloc;
@@ -152,7 +225,7 @@ pub(crate) fn tell_gaps(given: &Given<'_>, told: &mut Told) -> Result<(), AllocE
     let network = given.network()?;
     for link in &network.links {
         let gap = link.octet_time().saturating_mul(GAP_OCTETS);
-        if gap > network.guard {
+        if gap > network.guard && is_checked(given, &network, link) {
             let (place, label) = (link.item.place_of("rate"), link.item.label(given.alloc)?);
             let (rate, gap, guard) = (link.rate, Grouped(gap), Grouped(network.guard));
             told.tell(format!(in given.alloc;
@@ -163,8 +236,23 @@ pub(crate) fn tell_gaps(given: &Given<'_>, told: &mut Told) -> Result<(), AllocE
     Ok(())
 }
 
+/// How many links a sketch's plant has.
+fn count_of_plant(given: &Given<'_>) -> Result<u64, AllocError> {
+    let network = given.network()?;
+    let mut count: u64 = 0;
+    for link in &network.links {
+        let there = network.is_bridge(link.from);
+        let back = is_duplex(link) && network.is_bridge(link.to);
+        count = count.saturating_add(u64::from(there) + u64::from(back));
+    }
+    Ok(count)
+}
+
 /// How many elements the arrays at a key of the top have together.
 fn count_of(given: &Given<'_>, key: &str) -> Result<u64, AllocError> {
+    if key == "links" && reads_sketch(given) {
+        return count_of_plant(given);
+    }
     let count = if key == "links" {
         given.plant.items(Kind::Link)?.len()
     } else {

@@ -5,10 +5,11 @@ ghost use Rattle.cqf_program_explanations.specs.Explanations.{IsExplanation};
 use crate::budgets::{Wanted, tell_refused};
 use crate::domain_faults::{
     tell_delays, tell_gaps, tell_guard, tell_links_twice, tell_name_taken, tell_too_many,
-    tell_unknown_names,
+    tell_two_talkers, tell_unknown_names,
 };
 use crate::given::{Given, given_of};
 use crate::part_faults::tell_parts;
+use crate::plan_faults::tell_plan;
 use crate::plant_faults::{tell_key_twice, tell_long_lines, tell_unknown_keys};
 use crate::refusal::{Refusal, refusal_of};
 use crate::script_faults::{
@@ -36,6 +37,7 @@ fn tell_text(given: &Given<'_>, told: &mut Told, refusal: Refusal<'_>) -> Result
         "NameTaken" => tell_name_taken(given, told),
         "UnknownName" => tell_unknown_names(given, told),
         "LinkTwice" => tell_links_twice(given, told),
+        "TwoTalkerLinks" => tell_two_talkers(given, told),
         "GuardTooLong" => tell_guard(given, told),
         "DelayTooLong" => tell_delays(given, told),
         "GapTooLong" => tell_gaps(given, told),
@@ -102,6 +104,7 @@ fn tell_refusal(
     match refusal.part {
         "domain" | "streams" => tell_text(given, told, refusal),
         "plant" => tell_plant(given, told, refusal),
+        "plan" => tell_plan(given, told, refusal),
         "script" => tell_script(given, told, refusal),
         "check" => tell_check(given, told, refusal),
         "parts" => tell_parts(given, told),

@@ -17,11 +17,17 @@ const PATH_FORM: &str =
 /// The form of several paths, in words.
 const PATHS_FORM: &str = "paths is an array of paths, as [[\"a\", \"s\"], [\"a\", \"b\", \"t\"]]";
 
+/// The form of the cycle times of a sketch, in words.
+pub(crate) const CYCLES_FORM: &str =
+    "a cycle time is a whole number, 10,000 to 10,000,000 ns, and a sketch may have an array of 1 to 1,000 of them";
+
 /// The form of a value.
 #[derive(Clone, Copy, Debug)]
 pub(crate) enum Form {
     /// A whole number of a range.
     Number(i64, i64),
+    /// A cycle time, or an array of some.
+    Cycles,
     /// 10, 100 or 1000.
     Rate,
     Name,
@@ -172,13 +178,34 @@ fn are_tables(value: &Value) -> bool {
     }
 }
 
+/// Whether the value is a whole number of a range.
+fn is_number(least: i64, most: i64, value: &Value) -> bool {
+    match value.as_integer() {
+        Some(number) => least <= number && number <= most,
+        None => false,
+    }
+}
+
+/// Whether the value is a cycle time.
+fn is_cycle(value: &Value) -> bool {
+    is_number(10_000, 10_000_000, value)
+}
+
+/// Whether the value is a cycle time, or an array of 1 to 1,000 of them.
+fn are_cycles(value: &Value) -> bool {
+    match value.as_array() {
+        Some(values) => {
+            (1..=1000).contains(&values.as_slice().len()) && values.iter().all(is_cycle)
+        }
+        None => is_cycle(value),
+    }
+}
+
 /// Whether the value has the form.
 pub(crate) fn fits(form: Form, value: &Value) -> bool {
     match form {
-        Form::Number(least, most) => match value.as_integer() {
-            Some(number) => least <= number && number <= most,
-            None => false,
-        },
+        Form::Number(least, most) => is_number(least, most, value),
+        Form::Cycles => are_cycles(value),
         Form::Rate => matches!(value.as_integer(), Some(10 | 100 | 1000)),
         Form::Name => is_name(value),
         Form::Text => value.is_str(),

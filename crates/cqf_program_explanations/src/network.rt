@@ -96,6 +96,15 @@ impl<'p> Network<'p> {
         self.bridges.iter().any(|bridge| *bridge == name)
     }
 
+    /// The bridge at which a talker's link ends, which a link is or stands for.
+    pub(crate) fn edge_of(&self, link: &Link<'p>) -> &'p str {
+        if self.is_bridge(link.from) {
+            link.from
+        } else {
+            link.to
+        }
+    }
+
     /// Whether the name is one of a bridge or a station.
     pub(crate) fn is_node(&self, name: &str) -> bool {
         self.nodes.iter().any(|node| *node == name)

@@ -192,8 +192,10 @@ impl Asked<'_> {
         let paths = self.paths.as_slice();
         if Name::new(self.name.as_bytes()).is_none() {
             Some(FormFault::BadName)
-        } else if self.octets < 64 || self.octets > 60_000 {
+        } else if self.item.get("octets").is_some() && (self.octets < 64 || self.octets > 60_000) {
             Some(FormFault::BadOctets)
+        } else if !self.has_paths() {
+            None
         } else if paths
             .iter()
             .any(|path| has_unknown(network, path.as_slice()))
@@ -208,6 +210,11 @@ impl Asked<'_> {
         } else {
             None
         }
+    }
+
+    /// Whether its paths are given, and not only the ends of its ways.
+    fn has_paths(&self) -> bool {
+        self.item.get("path").is_some() || self.item.get("paths").is_some()
     }
 
     /// The key of its paths.

@@ -1,10 +1,11 @@
 //! Texts that aren't TOML, keys that are missing, and values of another form.
 
-use crate::forms::{Form, NAME_FORM, fits, form_of, is_name, told_value, written};
+use crate::forms::{CYCLES_FORM, Form, NAME_FORM, fits, form_of, is_name, told_value, written};
 use crate::given::Given;
 use crate::outline::{Element, KeyLine, Outline};
 use crate::places::Place;
 use crate::plant::{Found, Item, Kind, PlantFile};
+use crate::sketch::reads_sketch;
 use crate::told::Told;
 use crate::words::{nearest, shown};
 use cqf_program_files::{LINK, STREAM, TOP};
@@ -23,7 +24,7 @@ pub(crate) fn known_keys(kind: Kind) -> &'static [&'static str] {
 /// Whose key it is that a part lacks or has in another form.
 fn kind_of(part: &str, key: &str) -> Kind {
     if part == "domain" {
-        if matches!(key, "from" | "to" | "rate" | "delay") {
+        if matches!(key, "from" | "to" | "rate" | "delay" | "duplex") {
             Kind::Link
         } else {
             Kind::Top
@@ -264,6 +265,15 @@ pub(crate) fn tell_missing(
     }
 }
 
+/// The form of a value of the top, for the command: a sketch may have several cycle times.
+fn form_at_top(given: &Given<'_>, key: &str) -> Option<(Form, &'static str)> {
+    if key == "cycle" && reads_sketch(given) {
+        Some((Form::Cycles, CYCLES_FORM))
+    } else {
+        form_of(Kind::Top, key)
+    }
+}
+
 /// The question whether a cycle time is meant in microseconds.
 fn unit_question(given: &Given<'_>, key: &str, value: &Value) -> Result<String, AllocError> {
     match value.as_integer() {
@@ -276,7 +286,7 @@ fn unit_question(given: &Given<'_>, key: &str, value: &Value) -> Result<String, 
 
 /// Tells of a value of the top that hasn't its form.
 fn tell_bad_top(given: &Given<'_>, told: &mut Told, key: &str) -> Result<(), AllocError> {
-    let Some((form, words)) = form_of(Kind::Top, key) else {
+    let Some((form, words)) = form_at_top(given, key) else {
         return Ok(());
     };
     for file in &given.plant.files {

@@ -21,7 +21,7 @@ pub struct Front {
     pub numbers: Option<Vec<u64>>,
 }
 
-/// The cycles of a job that reads a script: of `run`, `report`, `deliveries` and `check`.
+/// The cycles of a job that reads a script: of `run`, `report`, `deliveries`, `check` and `hops`.
 pub fn cycles_of(job: &Job) -> Option<u32>
     ensures { result ≡ cycles_of job.now }
 {
@@ -29,7 +29,8 @@ pub fn cycles_of(job: &Job) -> Option<u32>
         Job::Run { cycles, .. }
         | Job::Report { cycles }
         | Job::Deliveries { cycles }
-        | Job::Check { cycles } => Some(cycles),
+        | Job::Check { cycles }
+        | Job::Hops { cycles, .. } => Some(cycles),
         _ => None,
     }
 }

@@ -1,9 +1,8 @@
 -- What the verdicts of `latency` say of deliveries.
-use Rattle.std.proofs.Common.{◌≡◌, ◌≢◌, ◌∙◌, ◌+◌, ◌-◌, ◌≤◌, ◌∷◌, [], ◌==◌, ◌&&◌, ℕ, Bool, true, false, List, Option, Some, None, Ok}
+use Rattle.std.proofs.Common.{◌≡◌, ◌≢◌, ◌∙◌, ◌+◌, ◌-◌, ◌≤◌, ◌∷◌, [], ℕ, Bool, true, false, List, Option, Some, None, Ok}
 use Rattle.std.proofs.Common.{arith, ap, sym, subst, subst₂, refl, Contains, length, if◌then◌else◌, lt-ltb, nat_lt}
 use Rattle.std.specs.Prelude.{option_map}
 use Rattle.std.proofs.lemmas.Bool.{ltb-true}
-use Rattle.std.proofs.lemmas.Bool.Decides.{nat_tests}
 use Rattle.std.proofs.lemmas.Option.{same_Some}
 use Rattle.cqf_lists.proofs.Members.{contains_from_filter, contains_from_flat, contains_from_map, find_member}
 use Rattle.cqf_lists.proofs.Pairs.{one_of_pairs}
@@ -11,7 +10,6 @@ use Rattle.cqf_units.specs.declared.timing.Nanos.{Nanos}
 use Rattle.cqf_model.specs.declared.frames.Background.{Background}
 use Rattle.cqf_model.specs.declared.frames.Offer.{Offer}
 use Rattle.cqf_model.specs.declared.frames.Offered.{Offered}
-use Rattle.cqf_model.specs.declared.frames.Started.{Started}
 use Rattle.cqf_model.specs.declared.topology.Hop.{Hop}
 use Rattle.cqf_model.specs.declared.topology.Row.{Row}
 use Rattle.cqf_model.specs.Book.{Contents}
@@ -46,7 +44,7 @@ use Rattle.cqf_program_runs.specs.declared.delivery.Passage.{Passage}
 use Rattle.cqf_program_runs.specs.declared.delivery.Passage.TheVariants as passage
 use Rattle.cqf_program_runs.specs.ArrivalLaws.{ArrivalsAreTheShift, IsArrivalOfOffer, has_come}
 use Rattle.cqf_program_runs.specs.Deliveries.{arrival_at_listener, deadline_named, end_of_journey, end_of_passage, fate_of}
-use Rattle.cqf_program_runs.specs.Deliveries.{latency_of, start_on, whole_instant}
+use Rattle.cqf_program_runs.specs.Deliveries.{latency_of, whole_instant}
 use Rattle.cqf_program_runs.proofs.Arrived.{at_start, come_by}
 use Rattle.cqf_program_runs.proofs.Listeners.{one_listener}
 use Rattle.cqf_program_laws.specs.ScriptLaws.{AccountsAdmitOnly, HistoriesAdmitOnly, HistoriesAreLegal, PlannedScenariosAskOnly}
@@ -129,7 +127,7 @@ judged_by latency delivery bounds = record {
 -- ---- plans
 
 -- streams that are all admitted are granted, and the history is that of all
-all_granted : (d : Domain) (entries all : List Recorded) (place : ℕ) (streams : List Asked) → admitted_from d entries place streams ≡ Ok all →
+pub all_granted : (d : Domain) (entries all : List Recorded) (place : ℕ) (streams : List Asked) → admitted_from d entries place streams ≡ Ok all →
     AreGranted d entries streams × (all ≡ with_all d entries streams)
 all_granted d entries all place [] h = (tt, sym (same_ok entries all h))
 all_granted d entries all place (asked ∷ more) h =

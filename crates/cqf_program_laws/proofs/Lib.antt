@@ -2,3 +2,6 @@ pub mod Scripts
 pub mod Legal
 pub mod Deadlines
 pub mod Judged
+pub mod PlannedRows
+pub mod Promised
+pub mod Sketched

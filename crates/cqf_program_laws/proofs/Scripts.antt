@@ -42,13 +42,13 @@ use Rattle.cqf_program_laws.specs.ScriptLaws.{AccountsAdmitOnly, AskOnly, Histor
 -- ---- steps of reading
 
 -- what a step gave that another one followed
-stepped : {A B E : Type 0} (first : Result A E) (next : A → Result B E) (found : B) → and_then first next ≡ Ok found →
+pub stepped : {A B E : Type 0} (first : Result A E) (next : A → Result B E) (found : B) → and_then first next ≡ Ok found →
     (x : A) × (first ≡ Ok x) × (next x ≡ Ok found)
 stepped (Err e) next found h = absurd (cc)
 stepped (Ok x) next found h = (x, refl, h)
 
 -- what a step and the rest gave
-parted : {A E : Type 0} (first : Result A E) (rest : Result (List A) E) (found : List A) → and_first first rest ≡ Ok found →
+pub parted : {A E : Type 0} (first : Result A E) (rest : Result (List A) E) (found : List A) → and_first first rest ≡ Ok found →
     (x : A) × (xs : List A) × (first ≡ Ok x) × (rest ≡ Ok xs) × (found ≡ x ∷ xs)
 parted (Err e) rest found h = absurd (cc)
 parted (Ok x) (Err e) found h = absurd (cc)

@@ -1,2 +1,3 @@
 pub mod ScriptLaws
 pub mod VerdictLaws
+pub mod PlanLaws

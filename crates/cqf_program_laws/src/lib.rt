@@ -1,4 +1,4 @@
-//! Laws that tie the commands to one another: what `latency` tells of a plan holds of the runs over it.
+//! Laws that tie the commands to one another: what `latency` and `plan` tell of a plan holds of the runs over it.
 //!
 //! Each law is a function that ends at once: its contract is a statement of `specs/`, and its proof shows that the statement
 //! holds.
@@ -9,6 +9,8 @@
 //! ```
 #![tactic(auto)]
 
+ghost use Rattle.cqf_program_laws.specs.PlanLaws.{DeadlinesOfSketchesAreKept, DeadlinesRunFromTalkers, PlansKeepTheirWord};
+ghost use Rattle.cqf_program_laws.specs.PlanLaws.{PlansKeepTheirWordOnThreads, PlansKeepTheirWordToScripts, SettledStreamsAreOfSketches};
 ghost use Rattle.cqf_program_laws.specs.ScriptLaws.{AccountsAdmitOnly, HistoriesAdmitOnly, HistoriesAreLegal};
 ghost use Rattle.cqf_program_laws.specs.ScriptLaws.{PlannedScenariosAskOnly, ScenariosAskOnly, ScriptsAskOnly};
 ghost use Rattle.cqf_program_laws.specs.VerdictLaws.{VerdictsHoldOfAccounts, VerdictsHoldOfDeliveries, VerdictsHoldOfScripts};
@@ -41,4 +43,28 @@ pub fn told_verdicts_hold()
     cqf_laws_history::tables_are_orderly();
     cqf_laws_shift::book_of_history_says_the_shift();
     cqf_program_runs::arrivals_are_the_shift();
+}
+
+/// A plan keeps its word whose streams are all admitted before cycle 0, each with as much as its talker needs of a cycle, and none of
+/// which may miss its deadline. In each run that admits streams of the plan alone, whatever is withdrawn and offered by others, and
+/// beside any background frames, take a frame that a talker which keeps its own word offers of one of them at its edge, while the stream
+/// is live. It is covered, so it leaves on each link of its tree, and it is whole at each of the stream's listeners within its deadline,
+/// from its offer on. So it is in each script over the plan, on one thread and on threads.
+///
+/// Where the plan's deadline is what a talker's link leaves of that of a sketch, as it is of each stream that was settled, the frame is
+/// there within the sketch's deadline, from the instant at which the talker begins to send it (profile).
+pub fn told_plans_keep_their_word()
+    ensures runs { PlansKeepTheirWord }
+    ensures scripts { PlansKeepTheirWordToScripts }
+    ensures accounts { PlansKeepTheirWordOnThreads }
+    ensures talkers { DeadlinesRunFromTalkers }
+    ensures settled { SettledStreamsAreOfSketches }
+    ensures sketches { DeadlinesOfSketchesAreKept }
+{
+    scripts_admit_only();
+    cqf_laws_history::state_follows_history();
+    cqf_laws_latency::lists_bound_costs();
+    cqf_laws_latency::branches_end_at_listeners();
+    cqf_laws_traffic::conforming_stream_is_covered();
+    cqf_laws_traffic::conforming_stream_is_in_time();
 }

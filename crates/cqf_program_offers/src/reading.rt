@@ -10,8 +10,8 @@ use cqf_topology::{Domain, StreamsFault};
 use cqf_traffic::{Flow, FlowsFault, read_flows};
 use std::alloc::Global;
 
-/// The end where streams with traffic are refused.
-fn flows_stop(alloc: Global, fault: FlowsFault) -> Stop
+/// The end where streams with traffic are refused: with status 1 and the line of the fault, or with status 3 for want of memory.
+pub fn flows_stop(alloc: Global, fault: FlowsFault) -> Stop
     ensures refused { fault ≢ FlowsFault.Streams StreamsFault.Memory → EndsWith 1 (flows_line fault) result }
     ensures memory { fault ≡ FlowsFault.Streams StreamsFault.Memory → EndsWith 3 [] result }
 {

@@ -9,9 +9,8 @@ ghost use Rattle.cqf_program_plans.specs.LatencyInput.{asked_in, deadlines_in, l
 ghost use Rattle.cqf_program_plans.specs.LatencyOutput.{latency_of_plan, unless_strict};
 ghost use Rattle.cqf_topology.specs.PlannedText.{planned_text};
 
-use crate::latency_costs::Costs;
 use crate::latency_latencies::Latency;
-use crate::latency_listeners::latencies_of;
+use crate::latency_listeners::latencies_of_rows;
 use crate::latency_outputs::LatencyOutput;
 use crate::latency_reading::{parted, read_planned};
 use crate::rows_of_cycle_0;
@@ -79,8 +78,7 @@ fn latencies_ready(
     requires held { (next : ℕ) × AreHeld domain rows.items next 0 }
     ensures { IfOk result (λ output. output ≡ latencies_of domain rows.items deadlines.now) }
 {
-    let costs = Costs::new(alloc, domain, rows)?;
-    let latencies = latencies_of(alloc, &costs, deadlines)?;
+    let latencies = latencies_of_rows(alloc, &domain, rows.as_slice(), deadlines)?;
     let sheet = Sheet::new(alloc)?;
     Ok(LatencyOutput { latencies, sheet })
 }

@@ -15,21 +15,21 @@ use std::marker::Model;
 
 /// The rows of a domain's table, and what their streams cost of each link, in octets a cycle.
 #[derive(Drop)]
-pub(crate) struct Costs {
-    domain: Domain,
-    rows: Vec<Row>,
+pub(crate) struct Costs<'r> {
+    domain: &'r Domain,
+    rows: &'r [Row],
     /// One for each link, by number.
     costs: Vec<u32>,
 }
 
-impl Model for Costs {
+impl<'r> Model for Costs<'r> {
     ghost use Rattle.cqf_program_plans.specs.LatencyOutput.{AreCosts, DomainTable};
 
     ghost Value = { DomainTable };
 
-    ghost view = { λ c. record { domain = c.domain; rows = c.rows.items } };
+    ghost view = { λ c. record { domain = c.domain.now; rows = c.rows.now } };
 
-    ghost invariant = { λ c. AreCosts c.domain c.rows.items c.costs.items };
+    ghost invariant = { λ c. AreCosts c.domain.now c.rows.now c.costs.items };
 }
 
 /// What a row's stream costs of a link.
@@ -57,8 +57,11 @@ fn link_cost(rows: &[Row], link: u8) -> u32
     total
 }
 
-/// What the rows' streams cost of each link of their domain.
-fn link_costs(alloc: Global, domain: &Domain, rows: &[Row]) -> Result<Vec<u32>, Memory>
+/// What the streams of these rows of a table of the domain cost of each link, by number, in octets a cycle.
+///
+/// # Errors
+/// `Memory` where a growth is refused.
+pub fn link_costs(alloc: Global, domain: &Domain, rows: &[Row]) -> Result<Vec<u32>, Memory>
     requires { (next : ℕ) × AreHeld domain.now rows.now next 0 }
     ensures { IfOk result (λ costs. costs.items ≡ each_below (λ l. link_cost rows.now l ∷ []) (length domain.now.links)) }
 {
@@ -71,14 +74,18 @@ fn link_costs(alloc: Global, domain: &Domain, rows: &[Row]) -> Result<Vec<u32>, 
     Ok(costs)
 }
 
-impl Costs {
-    /// The costs of the streams of these rows of a table of the domain, which it takes along.
-    pub(crate) fn new(alloc: Global, domain: Domain, rows: Vec<Row>) -> Result<Costs, Memory>
-        requires along { AreAlongLinks domain rows.items }
-        requires held { (next : ℕ) × AreHeld domain rows.items next 0 }
-        ensures { IfOk result (λ costs. costs ≡ record { domain = domain; rows = rows.items }) }
+impl<'r> Costs<'r> {
+    /// The costs of the streams of these rows of a table of the domain.
+    pub(crate) fn new(
+        alloc: Global,
+        domain: &'r Domain,
+        rows: &'r [Row],
+    ) -> Result<Costs<'r>, Memory>
+        requires along { AreAlongLinks domain.now rows.now }
+        requires held { (next : ℕ) × AreHeld domain.now rows.now next 0 }
+        ensures { IfOk result (λ costs. costs ≡ record { domain = domain.now; rows = rows.now }) }
     {
-        let costs = link_costs(alloc, &domain, rows.as_slice())?;
+        let costs = link_costs(alloc, domain, rows)?;
         Ok(Costs {
             domain,
             rows,
@@ -90,7 +97,7 @@ impl Costs {
     pub(crate) fn domain(&self) -> &Domain
         ensures { result.now ≡ self.now.domain }
     {
-        &self.domain
+        self.domain
     }
 
     /// The rows of the streams, by number.
@@ -98,7 +105,7 @@ impl Costs {
         ensures rows { result.now ≡ self.now.rows }
         ensures along { AreAlongLinks self.now.domain self.now.rows }
     {
-        self.rows.as_slice()
+        self.rows
     }
 
     /// What the streams cost of a link, in octets a cycle.

@@ -1,5 +1,7 @@
 //! The latencies of the streams of a table to their listeners.
-ghost use Rattle.std.specs.Prelude.{◌≡◌, ◌<◌, ◌++◌, All, IfOk, OnOk, Some, None, if◌then◌else◌, length};
+ghost use Rattle.std.specs.Prelude.{ℕ, ◌≡◌, ◌<◌, ◌++◌, All, IfOk, OnOk, Some, None, if◌then◌else◌, length};
+ghost use Rattle.cqf_admission.specs.Tables.{AreAlongLinks};
+ghost use Rattle.cqf_laws_history.specs.StateLaws.{AreHeld};
 ghost use Rattle.cqf_laws_latency.specs.Latency.{least_of, most_of, window_of};
 ghost use Rattle.cqf_program_plans.specs.EndNames.{name_of_end};
 ghost use Rattle.cqf_program_plans.specs.LatencyText.{deadline_of, is_station, latencies_of, latencies_of_row, latency_to};
@@ -57,7 +59,7 @@ pub fn listener_at(domain: &Domain, link: u8) -> Option<Name>
 }
 
 /// The latency to the end of a hop of a row's tree, where a listener is there.
-fn latency_at(costs: &Costs, row: &Row, deadline: Option<u32>, hop: &Hop) -> Option<Latency>
+fn latency_at(costs: &Costs<'_>, row: &Row, deadline: Option<u32>, hop: &Hop) -> Option<Latency>
     requires { hop.now.link < length costs.now.domain.links }
     ensures { let cost = link_cost costs.now.rows hop.now.link in result
         ≡ (if is_station (end_of costs.now.domain hop.now.link) then Some (latency_to costs.now.domain cost row.now deadline hop.now) else None) }
@@ -79,7 +81,7 @@ fn latency_at(costs: &Costs, row: &Row, deadline: Option<u32>, hop: &Hop) -> Opt
 /// Puts the latencies to the listeners of a row behind those before it.
 fn push_listeners(
     latencies: &mut Vec<Latency>,
-    costs: &Costs,
+    costs: &Costs<'_>,
     row: &Row,
     deadline: Option<u32>,
 ) -> Result<(), Memory>
@@ -105,9 +107,9 @@ fn deadline_of(deadlines: &[Option<u32>], number: u32) -> Option<u32>
 }
 
 /// The latencies of the streams of a table to each of their listeners, where the deadlines are by stream number.
-pub(crate) fn latencies_of(
+fn latencies_of(
     alloc: Global,
-    costs: &Costs,
+    costs: &Costs<'_>,
     deadlines: &[Option<u32>],
 ) -> Result<Vec<Latency>, Memory>
     ensures { IfOk result (λ latencies. latencies.items ≡ latencies_of costs.now.domain costs.now.rows deadlines.now) }
@@ -116,5 +118,25 @@ pub(crate) fn latencies_of(
     for row in costs.rows() {
         push_listeners(&mut latencies, costs, row, deadline_of(deadlines, row.no))?;
     }
+    Ok(latencies)
+}
+
+/// How long the frames of the streams of a table's rows take to each of their listeners, in the order of the rows, and of the listeners in
+/// each stream's tree. The deadlines, in nanoseconds, are by stream number; a stream has none where there are fewer.
+///
+/// # Errors
+/// `Memory` where a growth is refused.
+pub fn latencies_of_rows(
+    alloc: Global,
+    domain: &Domain,
+    rows: &[Row],
+    deadlines: &[Option<u32>],
+) -> Result<Vec<Latency>, Memory>
+    requires along { AreAlongLinks domain.now rows.now }
+    requires held { (next : ℕ) × AreHeld domain.now rows.now next 0 }
+    ensures { IfOk result (λ latencies. latencies.items ≡ latencies_of domain.now rows.now deadlines.now) }
+{
+    let costs = Costs::new(alloc, domain, rows)?;
+    let latencies = latencies_of(alloc, &costs, deadlines)?;
     Ok(latencies)
 }

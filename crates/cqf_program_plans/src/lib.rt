@@ -15,9 +15,9 @@
 //!   ([`LoadOutput`]). [`greatest_fits`] says of the column `fits` that it is the greatest reservation that would be accepted,
 //!   and [`plan_fits`] of `left` that it is nowhere below 0 just where all streams are admitted.
 //! - [`latency_output`]: how long the frames of each stream take to each of its listeners, at least and at most, and whether
-//!   they keep their deadline for sure ([`LatencyOutput`], with a [`Latency`] a row, and its [`Verdict`]). [`parted`] parts
-//!   streams from their deadlines. [`told_latencies_hold`] says that frames take no less and no more in any run over the plan,
-//!   and that the verdicts are true.
+//!   they keep their deadline for sure ([`LatencyOutput`], with a [`Latency`] a row, and its [`Verdict`]). [`latencies_of_rows`] has
+//!   this of the rows of a table, and [`link_costs`] what they cost of each link. [`parted`] parts streams from their deadlines.
+//!   [`told_latencies_hold`] says that frames take no less and no more in any run over the plan, and that the verdicts are true.
 //!
 //! `specs/` has the value of an input (`PortOutput`, `CompileOutput`, `TcOutput`, `LoadOutput`, `LatencyInput`), and what an
 //! output tells (`PortOutput`, `ConfigTold`, `TcText` with `TcChecks`, `TcBridge` and `TcWords`, `LoadText`, `LatencyText`).
@@ -84,9 +84,10 @@ mod tc_words;
 pub use compile_command::{compile_output, read_plan, rows_of_cycle_0, stream_stop};
 pub use compile_outputs::ConfigOutput;
 pub use latency_command::latency_output;
+pub use latency_costs::link_costs;
 pub use latency_latencies::{Latency, Verdict};
 pub use latency_laws::told_latencies_hold;
-pub use latency_listeners::listener_at;
+pub use latency_listeners::{latencies_of_rows, listener_at};
 pub use latency_outputs::LatencyOutput;
 pub use latency_reading::parted;
 pub use load_command::load_output;

@@ -1,5 +1,8 @@
 -- Values of a command, and the jobs that they rule out.
-use Rattle.std.proofs.Common.{◌≡◌, ◌≢◌, ◌∙◌, ◌+◌, ◌*◌, ℕ, true, refl, List, [], Option, Some, None, sym, ap, ap₂, subst, slice_index, codes, arith, inl, inr, ◌⊎◌}
+use Rattle.std.specs.Prelude.{String}
+use Rattle.std.specs.declared.alloc.Global.{Global}
+use Rattle.std.proofs.Common.{◌≡◌, ◌≢◌, ◌∙◌, ◌+◌, ◌*◌, ℕ, true, refl, List, [], Option, Some, None, sym, ap, ap₂, subst}
+use Rattle.std.proofs.Common.{slice_index, codes, arith, inl, inr, ◌⊎◌, Bool}
 use Rattle.clap.specs.Words.{App, Row, Text, first_of, fault_of, is_simple, is_simple_and_free, HasKind, HasMatchesOf, IsAmong, Kinds, kind_of, subcommand_of}
 use Rattle.clap.specs.Words.{Rule, rule_of, subcommand_rows_of}
 use Rattle.clap.specs.declared.builder.arg.Arg.{Arg}
@@ -9,11 +12,16 @@ use Rattle.clap.specs.declared.parser.matches.ArgMatches.{ArgMatches}
 use Rattle.clap.specs.declared.error.kind.ErrorKind.{ErrorKind}
 use Rattle.clap.specs.declared.error.kind.ErrorKind.TheVariants.{DisplayHelp, DisplayVersion, InvalidValue, OutOfMemory}
 use Rattle.cqf_units.specs.declared.timing.Rate.{Rate}
+use Rattle.cqf_program_words.specs.declared.candidates.Candidates.{Candidates}
 use Rattle.cqf_program_words.specs.declared.words.Format.{Format}
 use Rattle.cqf_program_words.specs.declared.words.Job.{Job}
-use Rattle.cqf_program_words.specs.declared.words.Job.TheVariants.{Check, Compile, Deliveries, Latency, Line, Load, Offers, Port, Report, Run}
+use Rattle.cqf_program_words.specs.declared.words.Job.TheVariants.{Check, Compile, Deliveries, Hops, Latency, Line}
+use Rattle.cqf_program_words.specs.declared.words.Job.TheVariants.{Load, Offers, Plan, Port, Report, Run}
+use Rattle.cqf_program_stop.specs.Stops.{EndsWith, line_of}
 use Rattle.cqf_program_stop.specs.declared.stops.Stop.{Stop}
-use Rattle.cqf_program_words.specs.Words.{cqf_app, format_text, rate_text, IsJob, IsJobOf, IsNumberIn, IsSeed, Mean, AskForHelp, EndsBy, EndsWords}
+use Rattle.cqf_program_words.specs.Candidates.{AreNamed}
+use Rattle.cqf_program_words.specs.Words.{cqf_app, format_text, rate_text, IsJob, IsFreeIn, IsJobOf, IsNumberIn, AreGiven}
+use Rattle.cqf_program_words.specs.Words.{Mean, AskForHelp, EndsBy, EndsWords, TellsNoCandidates, is_plan}
 
 -- an option whose parser was set goes by the rule that it went by, but for the parser
 pub with_parser : (before after : Arg) (rule : Rule) (parser : ValueParser) → after ≡ record before { value_parser = after.value_parser } →
@@ -29,103 +37,163 @@ mark name = 256 * slice_index name 0 + slice_index name 2
 marked : (one two : Text) → one ≡ two → mark one ≡ mark two
 marked one two e = ap mark e
 
--- with no number there is no job of `port`
+-- of `port` there are only its own jobs
+pub only_port : (rows : List Row) → ((until : ℕ) (rate : Rate) → ¬ IsJobOf (Port until rate) (codes "port") rows) →
+    (job : Job) → ¬ IsJobOf job (codes "port") rows
+only_port rows none (Port until rate) job = none until rate job
+only_port rows none (Line cycles) job = omega (arith, marked (codes "port") (codes "line") job.0)
+only_port rows none (Compile format) job = omega (arith, marked (codes "port") (codes "compile") job.0)
+only_port rows none Load job = omega (arith, marked (codes "port") (codes "load") job)
+only_port rows none (Latency strict) job = omega (arith, marked (codes "port") (codes "latency") job.0)
+only_port rows none (Run cycles threads) job = omega (arith, marked (codes "port") (codes "run") job.0)
+only_port rows none (Report cycles) job = omega (arith, marked (codes "port") (codes "report") job.0)
+only_port rows none (Deliveries cycles) job = omega (arith, marked (codes "port") (codes "deliveries") job.0)
+only_port rows none (Check cycles) job = omega (arith, marked (codes "port") (codes "check") job.0)
+only_port rows none (Offers cycles seed) job = omega (arith, marked (codes "port") (codes "offers") job.0)
+only_port rows none (Hops cycles stream frame) job = omega (arith, marked (codes "port") (codes "hops") job.0)
+only_port rows none (Plan table given) job = omega (arith, marked (codes "port") (codes "plan") job.0)
+
+-- and so of `compile`
+pub only_compile : (rows : List Row) → ((format : Format) → ¬ IsJobOf (Compile format) (codes "compile") rows) →
+    (job : Job) → ¬ IsJobOf job (codes "compile") rows
+only_compile rows none (Port until rate) job = omega (arith, marked (codes "compile") (codes "port") job.0)
+only_compile rows none (Line cycles) job = omega (arith, marked (codes "compile") (codes "line") job.0)
+only_compile rows none (Compile format) job = none format job
+only_compile rows none Load job = omega (arith, marked (codes "compile") (codes "load") job)
+only_compile rows none (Latency strict) job = omega (arith, marked (codes "compile") (codes "latency") job.0)
+only_compile rows none (Run cycles threads) job = omega (arith, marked (codes "compile") (codes "run") job.0)
+only_compile rows none (Report cycles) job = omega (arith, marked (codes "compile") (codes "report") job.0)
+only_compile rows none (Deliveries cycles) job = omega (arith, marked (codes "compile") (codes "deliveries") job.0)
+only_compile rows none (Check cycles) job = omega (arith, marked (codes "compile") (codes "check") job.0)
+only_compile rows none (Offers cycles seed) job = omega (arith, marked (codes "compile") (codes "offers") job.0)
+only_compile rows none (Hops cycles stream frame) job = omega (arith, marked (codes "compile") (codes "hops") job.0)
+only_compile rows none (Plan table given) job = omega (arith, marked (codes "compile") (codes "plan") job.0)
+
+-- of `offers`
+pub only_offers : (rows : List Row) → ((cycles : ℕ) (seed : Option ℕ) → ¬ IsJobOf (Offers cycles seed) (codes "offers") rows) →
+    (job : Job) → ¬ IsJobOf job (codes "offers") rows
+only_offers rows none (Port until rate) job = omega (arith, marked (codes "offers") (codes "port") job.0)
+only_offers rows none (Line cycles) job = omega (arith, marked (codes "offers") (codes "line") job.0)
+only_offers rows none (Compile format) job = omega (arith, marked (codes "offers") (codes "compile") job.0)
+only_offers rows none Load job = omega (arith, marked (codes "offers") (codes "load") job)
+only_offers rows none (Latency strict) job = omega (arith, marked (codes "offers") (codes "latency") job.0)
+only_offers rows none (Run cycles threads) job = omega (arith, marked (codes "offers") (codes "run") job.0)
+only_offers rows none (Report cycles) job = omega (arith, marked (codes "offers") (codes "report") job.0)
+only_offers rows none (Deliveries cycles) job = omega (arith, marked (codes "offers") (codes "deliveries") job.0)
+only_offers rows none (Check cycles) job = omega (arith, marked (codes "offers") (codes "check") job.0)
+only_offers rows none (Offers cycles seed) job = none cycles seed job
+only_offers rows none (Hops cycles stream frame) job = omega (arith, marked (codes "offers") (codes "hops") job.0)
+only_offers rows none (Plan table given) job = omega (arith, marked (codes "offers") (codes "plan") job.0)
+
+-- of `hops`
+pub only_hops : (rows : List Row) →
+    ((cycles : ℕ) (stream : Option (String Global)) (frame : Option ℕ) → ¬ IsJobOf (Hops cycles stream frame) (codes "hops") rows) →
+    (job : Job) → ¬ IsJobOf job (codes "hops") rows
+only_hops rows none (Port until rate) job = omega (arith, marked (codes "hops") (codes "port") job.0)
+only_hops rows none (Line cycles) job = omega (arith, marked (codes "hops") (codes "line") job.0)
+only_hops rows none (Compile format) job = omega (arith, marked (codes "hops") (codes "compile") job.0)
+only_hops rows none Load job = omega (arith, marked (codes "hops") (codes "load") job)
+only_hops rows none (Latency strict) job = omega (arith, marked (codes "hops") (codes "latency") job.0)
+only_hops rows none (Run cycles threads) job = omega (arith, marked (codes "hops") (codes "run") job.0)
+only_hops rows none (Report cycles) job = omega (arith, marked (codes "hops") (codes "report") job.0)
+only_hops rows none (Deliveries cycles) job = omega (arith, marked (codes "hops") (codes "deliveries") job.0)
+only_hops rows none (Check cycles) job = omega (arith, marked (codes "hops") (codes "check") job.0)
+only_hops rows none (Offers cycles seed) job = omega (arith, marked (codes "hops") (codes "offers") job.0)
+only_hops rows none (Hops cycles stream frame) job = none cycles stream frame job
+only_hops rows none (Plan table given) job = omega (arith, marked (codes "hops") (codes "plan") job.0)
+
+-- and of `plan`
+pub only_plan : (rows : List Row) → ((table : Bool) (given : Option Candidates) → ¬ IsJobOf (Plan table given) (codes "plan") rows) →
+    (job : Job) → ¬ IsJobOf job (codes "plan") rows
+only_plan rows none (Port until rate) job = omega (arith, marked (codes "plan") (codes "port") job.0)
+only_plan rows none (Line cycles) job = omega (arith, marked (codes "plan") (codes "line") job.0)
+only_plan rows none (Compile format) job = omega (arith, marked (codes "plan") (codes "compile") job.0)
+only_plan rows none Load job = omega (arith, marked (codes "plan") (codes "load") job)
+only_plan rows none (Latency strict) job = omega (arith, marked (codes "plan") (codes "latency") job.0)
+only_plan rows none (Run cycles threads) job = omega (arith, marked (codes "plan") (codes "run") job.0)
+only_plan rows none (Report cycles) job = omega (arith, marked (codes "plan") (codes "report") job.0)
+only_plan rows none (Deliveries cycles) job = omega (arith, marked (codes "plan") (codes "deliveries") job.0)
+only_plan rows none (Check cycles) job = omega (arith, marked (codes "plan") (codes "check") job.0)
+only_plan rows none (Offers cycles seed) job = omega (arith, marked (codes "plan") (codes "offers") job.0)
+only_plan rows none (Hops cycles stream frame) job = omega (arith, marked (codes "plan") (codes "hops") job.0)
+only_plan rows none (Plan table given) job = none table given job
+
+-- so with no number there is no job of `port`
 pub no_port-until : (rows : List Row) (text : Option Text) → text ≡ first_of (codes "until") rows → ((n : ℕ) → ¬ IsNumberIn 1 100000000 n text) → (job : Job) →
     ¬ IsJobOf job (codes "port") rows
-no_port-until rows text same none (Port until rate) job =
-    let P : Option Text → Type 0 = λ t. IsNumberIn 1 100000000 until t in
-    none until (subst P (sym same) job.1)
-no_port-until rows text same none (Line cycles) job = omega (arith, marked (codes "port") (codes "line") job.0)
-no_port-until rows text same none (Compile format) job = omega (arith, marked (codes "port") (codes "compile") job.0)
-no_port-until rows text same none Load job = omega (arith, marked (codes "port") (codes "load") job)
-no_port-until rows text same none (Latency strict) job = omega (arith, marked (codes "port") (codes "latency") job.0)
-no_port-until rows text same none (Run cycles threads) job = omega (arith, marked (codes "port") (codes "run") job.0)
-no_port-until rows text same none (Report cycles) job = omega (arith, marked (codes "port") (codes "report") job.0)
-no_port-until rows text same none (Deliveries cycles) job = omega (arith, marked (codes "port") (codes "deliveries") job.0)
-no_port-until rows text same none (Check cycles) job = omega (arith, marked (codes "port") (codes "check") job.0)
-no_port-until rows text same none (Offers cycles seed) job = omega (arith, marked (codes "port") (codes "offers") job.0)
+no_port-until rows text same none =
+    only_port rows (λ until rate job. let P : Option Text → Type 0 = λ t. IsNumberIn 1 100000000 until t in none until (subst P (sym same) job.1))
 
 -- nor with no rate
 pub no_port-rate : (rows : List Row) (text : Option Text) → text ≡ first_of (codes "rate") rows → ((rate : Rate) → ¬ (text ≡ Some (rate_text rate))) →
     (job : Job) → ¬ IsJobOf job (codes "port") rows
-no_port-rate rows text same none (Port until rate) job = none rate (same ∙ job.2)
-no_port-rate rows text same none (Line cycles) job = omega (arith, marked (codes "port") (codes "line") job.0)
-no_port-rate rows text same none (Compile format) job = omega (arith, marked (codes "port") (codes "compile") job.0)
-no_port-rate rows text same none Load job = omega (arith, marked (codes "port") (codes "load") job)
-no_port-rate rows text same none (Latency strict) job = omega (arith, marked (codes "port") (codes "latency") job.0)
-no_port-rate rows text same none (Run cycles threads) job = omega (arith, marked (codes "port") (codes "run") job.0)
-no_port-rate rows text same none (Report cycles) job = omega (arith, marked (codes "port") (codes "report") job.0)
-no_port-rate rows text same none (Deliveries cycles) job = omega (arith, marked (codes "port") (codes "deliveries") job.0)
-no_port-rate rows text same none (Check cycles) job = omega (arith, marked (codes "port") (codes "check") job.0)
-no_port-rate rows text same none (Offers cycles seed) job = omega (arith, marked (codes "port") (codes "offers") job.0)
+no_port-rate rows text same none = only_port rows (λ until rate job. none rate (same ∙ job.2))
 
 -- with no format there is no job of `compile`
 pub no_compile-format : (rows : List Row) (text : Option Text) → text ≡ first_of (codes "format") rows →
     ((format : Format) → ¬ (text ≡ Some (format_text format))) →
     (job : Job) → ¬ IsJobOf job (codes "compile") rows
-no_compile-format rows text same none (Port until rate) job = omega (arith, marked (codes "compile") (codes "port") job.0)
-no_compile-format rows text same none (Line cycles) job = omega (arith, marked (codes "compile") (codes "line") job.0)
-no_compile-format rows text same none (Compile format) job = none format (same ∙ job.1)
-no_compile-format rows text same none Load job = omega (arith, marked (codes "compile") (codes "load") job)
-no_compile-format rows text same none (Latency strict) job = omega (arith, marked (codes "compile") (codes "latency") job.0)
-no_compile-format rows text same none (Run cycles threads) job = omega (arith, marked (codes "compile") (codes "run") job.0)
-no_compile-format rows text same none (Report cycles) job = omega (arith, marked (codes "compile") (codes "report") job.0)
-no_compile-format rows text same none (Deliveries cycles) job = omega (arith, marked (codes "compile") (codes "deliveries") job.0)
-no_compile-format rows text same none (Check cycles) job = omega (arith, marked (codes "compile") (codes "check") job.0)
-no_compile-format rows text same none (Offers cycles seed) job = omega (arith, marked (codes "compile") (codes "offers") job.0)
+no_compile-format rows text same none = only_compile rows (λ format job. none format (same ∙ job.1))
 
 -- with no number of cycles there is no job of a command that takes them alone
 pub no_cycles : (name : Text) (rows : List Row) → name ≢ codes "port" → name ≢ codes "compile" → name ≢ codes "load" → name ≢ codes "latency" →
-    name ≢ codes "offers" → ((n : ℕ) → ¬ IsNumberIn 1 100000 n (first_of (codes "cycles") rows)) → (job : Job) → ¬ IsJobOf job name rows
-no_cycles name rows not_port not_compile not_load not_latency not_offers none (Port until rate) job = not_port job.0
-no_cycles name rows not_port not_compile not_load not_latency not_offers none (Line cycles) job = none cycles job.1
-no_cycles name rows not_port not_compile not_load not_latency not_offers none (Compile format) job = not_compile job.0
-no_cycles name rows not_port not_compile not_load not_latency not_offers none Load job = not_load job
-no_cycles name rows not_port not_compile not_load not_latency not_offers none (Latency strict) job = not_latency job.0
-no_cycles name rows not_port not_compile not_load not_latency not_offers none (Run cycles threads) job = none cycles job.1
-no_cycles name rows not_port not_compile not_load not_latency not_offers none (Report cycles) job = none cycles job.1
-no_cycles name rows not_port not_compile not_load not_latency not_offers none (Deliveries cycles) job = none cycles job.1
-no_cycles name rows not_port not_compile not_load not_latency not_offers none (Check cycles) job = none cycles job.1
-no_cycles name rows not_port not_compile not_load not_latency not_offers none (Offers cycles seed) job = not_offers job.0
+    name ≢ codes "offers" → name ≢ codes "hops" → name ≢ codes "plan" → ((n : ℕ) → ¬ IsNumberIn 1 100000 n (first_of (codes "cycles") rows)) →
+    (job : Job) → ¬ IsJobOf job name rows
+no_cycles name rows not_port not_compile not_load not_latency not_offers not_hops not_plan none (Port until rate) job = not_port job.0
+no_cycles name rows not_port not_compile not_load not_latency not_offers not_hops not_plan none (Line cycles) job = none cycles job.1
+no_cycles name rows not_port not_compile not_load not_latency not_offers not_hops not_plan none (Compile format) job = not_compile job.0
+no_cycles name rows not_port not_compile not_load not_latency not_offers not_hops not_plan none Load job = not_load job
+no_cycles name rows not_port not_compile not_load not_latency not_offers not_hops not_plan none (Latency strict) job = not_latency job.0
+no_cycles name rows not_port not_compile not_load not_latency not_offers not_hops not_plan none (Run cycles threads) job = none cycles job.1
+no_cycles name rows not_port not_compile not_load not_latency not_offers not_hops not_plan none (Report cycles) job = none cycles job.1
+no_cycles name rows not_port not_compile not_load not_latency not_offers not_hops not_plan none (Deliveries cycles) job = none cycles job.1
+no_cycles name rows not_port not_compile not_load not_latency not_offers not_hops not_plan none (Check cycles) job = none cycles job.1
+no_cycles name rows not_port not_compile not_load not_latency not_offers not_hops not_plan none (Offers cycles seed) job = not_offers job.0
+no_cycles name rows not_port not_compile not_load not_latency not_offers not_hops not_plan none (Hops cycles stream frame) job = not_hops job.0
+no_cycles name rows not_port not_compile not_load not_latency not_offers not_hops not_plan none (Plan table given) job = not_plan job.0
 
 -- with no number of cycles there is no job of `offers`
 pub no_offers-cycles : (rows : List Row) → ((n : ℕ) → ¬ IsNumberIn 1 100000 n (first_of (codes "cycles") rows)) → (job : Job) →
     ¬ IsJobOf job (codes "offers") rows
-no_offers-cycles rows none (Port until rate) job = omega (arith, marked (codes "offers") (codes "port") job.0)
-no_offers-cycles rows none (Line cycles) job = none cycles job.1
-no_offers-cycles rows none (Compile format) job = omega (arith, marked (codes "offers") (codes "compile") job.0)
-no_offers-cycles rows none Load job = omega (arith, marked (codes "offers") (codes "load") job)
-no_offers-cycles rows none (Latency strict) job = omega (arith, marked (codes "offers") (codes "latency") job.0)
-no_offers-cycles rows none (Run cycles threads) job = none cycles job.1
-no_offers-cycles rows none (Report cycles) job = none cycles job.1
-no_offers-cycles rows none (Deliveries cycles) job = none cycles job.1
-no_offers-cycles rows none (Check cycles) job = none cycles job.1
-no_offers-cycles rows none (Offers cycles seed) job = none cycles job.1
+no_offers-cycles rows none = only_offers rows (λ cycles seed job. none cycles job.1)
 
 -- nor with something else than a seed
-pub no_offers-seed : (rows : List Row) → ((seed : Option ℕ) → ¬ IsSeed seed (first_of (codes "seed") rows)) → (job : Job) →
+pub no_offers-seed : (rows : List Row) → ((seed : Option ℕ) → ¬ IsFreeIn 0 4294967295 seed (first_of (codes "seed") rows)) → (job : Job) →
     ¬ IsJobOf job (codes "offers") rows
-no_offers-seed rows none (Port until rate) job = omega (arith, marked (codes "offers") (codes "port") job.0)
-no_offers-seed rows none (Line cycles) job = omega (arith, marked (codes "offers") (codes "line") job.0)
-no_offers-seed rows none (Compile format) job = omega (arith, marked (codes "offers") (codes "compile") job.0)
-no_offers-seed rows none Load job = omega (arith, marked (codes "offers") (codes "load") job)
-no_offers-seed rows none (Latency strict) job = omega (arith, marked (codes "offers") (codes "latency") job.0)
-no_offers-seed rows none (Run cycles threads) job = omega (arith, marked (codes "offers") (codes "run") job.0)
-no_offers-seed rows none (Report cycles) job = omega (arith, marked (codes "offers") (codes "report") job.0)
-no_offers-seed rows none (Deliveries cycles) job = omega (arith, marked (codes "offers") (codes "deliveries") job.0)
-no_offers-seed rows none (Check cycles) job = omega (arith, marked (codes "offers") (codes "check") job.0)
-no_offers-seed rows none (Offers cycles seed) job = none seed job.2
+no_offers-seed rows none = only_offers rows (λ cycles seed job. none seed job.2)
+
+-- with no number of cycles there is no job of `hops`
+pub no_hops-cycles : (rows : List Row) → ((n : ℕ) → ¬ IsNumberIn 1 100000 n (first_of (codes "cycles") rows)) → (job : Job) →
+    ¬ IsJobOf job (codes "hops") rows
+no_hops-cycles rows none = only_hops rows (λ cycles stream frame job. none cycles job.1)
+
+-- nor with something else than a frame
+pub no_hops-frame : (rows : List Row) → ((frame : Option ℕ) → ¬ IsFreeIn 1 1000000 frame (first_of (codes "frame") rows)) → (job : Job) →
+    ¬ IsJobOf job (codes "hops") rows
+no_hops-frame rows none = only_hops rows (λ cycles stream frame job. none frame job.3)
+
+-- with something else than candidates there is no job of `plan`
+pub no_plan-given : (rows : List Row) → ((given : Option Candidates) → ¬ AreGiven given (first_of (codes "cycle") rows)) → (job : Job) →
+    ¬ IsJobOf job (codes "plan") rows
+no_plan-given rows none = only_plan rows (λ table given job. none given job.2)
 
 -- a number of a value is one of its text
 pub number_of-text : (least most number : ℕ) (text value : Option Text) → text ≡ value → IsNumberIn least most number text → IsNumberIn least most number value
 number_of-text least most number text value same h =
     let P : Option Text → Type 0 = λ t. IsNumberIn least most number t in subst P same h
 
--- where the text of a seed writes none, there is no seed, and not nothing
-pub no_seed : (text : Text) (value : Option Text) → Some text ≡ value → ((n : ℕ) → ¬ IsNumberIn 0 4294967295 n (Some text)) → (seed : Option ℕ) →
-    ¬ IsSeed seed value
-no_seed text value same none None is = absurd (cc)
-no_seed text value same none (Some seed) is = none seed (number_of-text 0 4294967295 seed value (Some text) (sym same) is)
+-- where a text that is given writes no number, there is none, and not nothing
+pub no_free_number : (least most : ℕ) (text : Text) (value : Option Text) → Some text ≡ value → ((n : ℕ) → ¬ IsNumberIn least most n (Some text)) →
+    (number : Option ℕ) → ¬ IsFreeIn least most number value
+no_free_number least most text value same none None is = absurd (cc)
+no_free_number least most text value same none (Some number) is = none number (number_of-text least most number value (Some text) (sym same) is)
+
+-- where a word that is given names no candidates, there are none, and not nothing
+pub none_given : (word : Text) (value : Option Text) → Some word ≡ value → ((given : Candidates) → ¬ AreNamed word given) → (given : Option Candidates) →
+    ¬ AreGiven given value
+none_given word value same none None is = absurd (cc)
+none_given word value same none (Some given) is =
+    let P : Option Text → Type 0 = λ v. AreGiven (Some given) v in none given (subst P (sym same) is)
 
 -- where clap's error is one of the words' faults, and isn't for memory, they mean no job
 pub no_job-by_fault : (words : List Text) (kind : ErrorKind) → (kind ≡ OutOfMemory) ⊎ IsAmong kind (fault_of cqf_app words) → kind ≢ OutOfMemory → (job : Job) →
@@ -225,3 +293,19 @@ EndsWords-told words stop told e (inr three) memory = record {
   mistake = λ two. absurd (omega arith);
   memory = memory;
 }
+
+-- where clap takes the words, its matches say whether they are for `plan`
+pub TellsNoCandidates-by_matches : (app : App) (words : List Text) (matches : ArgMatches) (stop : Stop) → app ≡ cqf_app → HasMatchesOf app words matches →
+    (is_plan (subcommand_rows_of matches) ≡ true → EndsWith 2 (line_of (codes "cqf: words")) stop) → TellsNoCandidates words stop
+TellsNoCandidates-by_matches app words matches stop same has ends = λ taken plan two.
+    let rows : subcommand_rows_of matches ≡ subcommand_of cqf_app words = (has (ap is_simple same ∙ refl)).1 ∙ ap (λ (a : App). subcommand_of a words) same in
+    (ends (ap is_plan rows ∙ plan)).line_is two
+
+-- where clap refuses the words, it doesn't take them
+pub TellsNoCandidates-by_error : (app : App) (words : List Text) (error : Error) (stop : Stop) → app ≡ cqf_app →
+    (is_simple_and_free app ≡ true → HasKind (fault_of app words) error) → EndsBy (kind_of error) stop → TellsNoCandidates words stop
+TellsNoCandidates-by_error app words error stop same fails e = λ taken plan two.
+    let P : App → Type 0 = λ a. HasKind (fault_of a words) error in
+    let among = among_faults words (kind_of error) (subst P same (fails (ap is_simple_and_free same ∙ simple))) (e.known (λ three. omega arith)) in
+    let Q : Kinds → Type 0 = λ kinds. IsAmong (kind_of error) kinds in
+    absurd (subst Q taken among)

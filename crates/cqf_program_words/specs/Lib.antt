@@ -1,4 +1,5 @@
 pub mod Operands
 pub mod Words
+pub mod Candidates
 pub mod Composing
 pub mod Shown

@@ -10,12 +10,14 @@ abbrev pub is_command : Text → Bool
 is_command word = bytes_eq word (codes "port") || (bytes_eq word (codes "line") || (bytes_eq word (codes "compile")
     || (bytes_eq word (codes "load") || (bytes_eq word (codes "latency")
     || (bytes_eq word (codes "run") || (bytes_eq word (codes "report")
-    || (bytes_eq word (codes "deliveries") || (bytes_eq word (codes "check") || bytes_eq word (codes "offers")))))))))
+    || (bytes_eq word (codes "deliveries") || (bytes_eq word (codes "check") || (bytes_eq word (codes "offers")
+    || (bytes_eq word (codes "hops") || bytes_eq word (codes "plan")))))))))))
 
 -- an option behind which its value stands as a word of its own
 abbrev pub wants_value : Text → Bool
 wants_value word = bytes_eq word (codes "--until") || (bytes_eq word (codes "--rate") || (bytes_eq word (codes "--cycles")
-    || (bytes_eq word (codes "--format") || bytes_eq word (codes "--seed"))))
+    || (bytes_eq word (codes "--format") || (bytes_eq word (codes "--seed")
+    || (bytes_eq word (codes "--stream") || (bytes_eq word (codes "--frame") || bytes_eq word (codes "--cycle")))))))
 
 -- the word that ends the options
 abbrev pub ends_options : Text → Bool

@@ -1,5 +1,5 @@
 -- What the words of a command line mean (profile): clap's reading of them, for the command that is written out here.
-use Rattle.std.specs.Prelude.{ℕ, ◌≡◌, ◌≢◌, ◌⊎◌, ◌≤◌, Bool, true, false, List, [], ◌∷◌, Option, Some, None, codes}
+use Rattle.std.specs.Prelude.{ℕ, ◌≡◌, ◌≢◌, ◌⊎◌, ◌≤◌, Bool, true, false, List, [], ◌∷◌, Option, Some, None, codes, bytes_eq, option_map, string_bytes}
 use Rattle.std.specs.Str.Parse.{IsNumeral, digits_value, without_leading_plus}
 use Rattle.clap.specs.Words.{App, Row, Rule, Text, first_of, fault_of, new_app, new_rule, subcommand_of, with_rule, with_subcommand, IsAmong}
 use Rattle.clap.specs.Simple.{on_top}
@@ -9,12 +9,16 @@ use Rattle.clap.specs.declared.error.kind.ErrorKind.{ErrorKind}
 use Rattle.clap.specs.declared.error.kind.ErrorKind.TheVariants.{DisplayHelp, DisplayVersion, OutOfMemory}
 use Rattle.cqf_units.specs.declared.timing.Rate.{Rate}
 use Rattle.cqf_units.specs.declared.timing.Rate.TheVariants.{Mb10, Mb100, Mb1000}
+use Rattle.cqf_program_words.specs.declared.candidates.Candidates.{Candidates}
 use Rattle.cqf_program_words.specs.declared.words.Format.{Format}
 use Rattle.cqf_program_words.specs.declared.words.Format.TheVariants as form
 use Rattle.cqf_program_words.specs.declared.words.Job.{Job}
-use Rattle.cqf_program_words.specs.declared.words.Job.TheVariants.{Check, Compile, Deliveries, Latency, Line, Load, Offers, Port, Report, Run}
+use Rattle.cqf_program_words.specs.declared.words.Job.TheVariants.{Check, Compile, Deliveries, Hops, Latency, Line}
+use Rattle.cqf_program_words.specs.declared.words.Job.TheVariants.{Load, Offers, Plan, Port, Report, Run}
+use Rattle.cqf_program_stop.specs.Stops.{line_of}
 use Rattle.cqf_program_stop.specs.declared.stops.Stop.{Stop}
-use Rattle.cqf_model.specs.Limits.{last_until, most_cycles}
+use Rattle.cqf_model.specs.Limits.{last_until, most_cycles, most_rows}
+use Rattle.cqf_program_words.specs.Candidates.{AreNamed}
 
 -- an option `--NAME N` that has to be given
 abbrev pub wanted_rule : Text → Rule
@@ -40,9 +44,17 @@ format_rule = default_rule (codes "format") (codes "list")
 abbrev pub free_rule : Text → Rule
 free_rule name = record (new_rule name) { long = Some name; action = Some Set; value_names = 1 }
 
+-- and where it is a number from least to most
+abbrev pub free_number_rule : Text → ℕ → ℕ → Rule
+free_number_rule name least most = record (free_rule name) { parser = Some (Unsigned least most) }
+
 -- the option `--seed S`
 abbrev pub seed_rule : Rule
-seed_rule = record (free_rule (codes "seed")) { parser = Some (Unsigned 0 4294967295) }
+seed_rule = free_number_rule (codes "seed") 0 4294967295
+
+-- the option `--frame F`
+abbrev pub frame_rule : Rule
+frame_rule = free_number_rule (codes "frame") 1 most_rows
 
 -- a flag `--NAME`
 abbrev pub flag_rule : Text → Rule
@@ -88,12 +100,21 @@ check_app = with_rule (new_app (codes "check")) (number_rule (codes "cycles") 1 
 abbrev pub offers_app : App
 offers_app = with_rule (with_rule (new_app (codes "offers")) (number_rule (codes "cycles") 1 most_cycles)) seed_rule
 
+-- `hops --cycles N [--stream NAME] [--frame F]`
+abbrev pub hops_app : App
+hops_app =
+    with_rule (with_rule (with_rule (new_app (codes "hops")) (number_rule (codes "cycles") 1 most_cycles)) (free_rule (codes "stream"))) frame_rule
+
+-- `plan [--table] [--cycle WORD]`
+abbrev pub plan_app : App
+plan_app = with_rule (with_rule (new_app (codes "plan")) (flag_rule (codes "table"))) (free_rule (codes "cycle"))
+
 -- the program's name, and settings: the words come without the program's name, and one of the commands has to be given
 abbrev pub named_app : App
 named_app = on_top (λ s. record s { no_binary_name = true; subcommand_required = true }) (new_app (codes "cqf"))
 
--- the commands that take no domain, those that run no scenario, those that tell nothing of deliveries, those
--- that read what is offered, and all of the program's
+-- the commands that take no domain, those that run no scenario, those that tell nothing of deliveries, those that judge deliveries
+-- too, those that read what is offered, and all of the program's
 abbrev pub app_without_domain : App
 app_without_domain = with_subcommand (with_subcommand named_app port_app.top) line_app.top
 
@@ -106,8 +127,11 @@ app_without_deliveries = with_subcommand (with_subcommand first_app run_app.top)
 abbrev pub app_of_runs : App
 app_of_runs = with_subcommand (with_subcommand app_without_deliveries deliveries_app.top) check_app.top
 
+abbrev pub app_of_scenarios : App
+app_of_scenarios = with_subcommand app_of_runs hops_app.top
+
 abbrev pub cqf_app : App
-cqf_app = with_subcommand app_of_runs offers_app.top
+cqf_app = with_subcommand (with_subcommand app_of_scenarios offers_app.top) plan_app.top
 
 -- the text of a value writes a number from least to most: digits, and a plus may stand first
 abbrev pub IsNumberIn : ℕ → ℕ → ℕ → Option Text → Type 0
@@ -131,10 +155,19 @@ abbrev pub IsFlagGiven : Bool → Option Text → Type 0
 IsFlagGiven true value = value ≡ Some (codes "true")
 IsFlagGiven false value = value ≢ Some (codes "true")
 
--- a seed is a number, and there may be none
-abbrev pub IsSeed : Option ℕ → Option Text → Type 0
-IsSeed None value = value ≡ None
-IsSeed (Some seed) value = IsNumberIn 0 4294967295 seed value
+-- a number from least to most that may be given
+abbrev pub IsFreeIn : ℕ → ℕ → Option ℕ → Option Text → Type 0
+IsFreeIn least most None value = value ≡ None
+IsFreeIn least most (Some number) value = IsNumberIn least most number value
+
+-- the text of a value names candidates for a cycle time, and there may be none
+abbrev pub AreNamedBy : Option Text → Candidates → Type 0
+AreNamedBy None given = ⊥
+AreNamedBy (Some word) given = AreNamed word given
+
+abbrev pub AreGiven : Option Candidates → Option Text → Type 0
+AreGiven None value = value ≡ None
+AreGiven (Some given) value = AreNamedBy value given
 
 -- the job of a command with its values
 abbrev pub IsJobOf : Job → Text → List Row → Type 0
@@ -159,7 +192,14 @@ IsJobOf (Check cycles) name rows = (name ≡ codes "check")
     × IsNumberIn 1 most_cycles cycles (first_of (codes "cycles") rows)
 IsJobOf (Offers cycles seed) name rows = (name ≡ codes "offers")
     × IsNumberIn 1 most_cycles cycles (first_of (codes "cycles") rows)
-    × IsSeed seed (first_of (codes "seed") rows)
+    × IsFreeIn 0 4294967295 seed (first_of (codes "seed") rows)
+IsJobOf (Hops cycles stream frame) name rows = (name ≡ codes "hops")
+    × IsNumberIn 1 most_cycles cycles (first_of (codes "cycles") rows)
+    × (option_map string_bytes stream ≡ first_of (codes "stream") rows)
+    × IsFreeIn 1 most_rows frame (first_of (codes "frame") rows)
+IsJobOf (Plan table given) name rows = (name ≡ codes "plan")
+    × IsFlagGiven table (first_of (codes "table") rows)
+    × AreGiven given (first_of (codes "cycle") rows)
 
 -- whether the input of a job begins with a domain, behind which its streams stand
 abbrev pub takes_domain : Job → Bool
@@ -207,3 +247,13 @@ pub record EndsWords (words : List Text) (stop : Stop) : Type 0 where
   pub help : stop.status ≡ 0 → AskForHelp words
   pub mistake : stop.status ≡ 2 → AreMistaken words
   pub memory : stop.status ≡ 3 → stop.text.items ≡ []
+
+-- the command that was named is `plan`
+abbrev pub is_plan : Option (Text × List Row) → Bool
+is_plan None = false
+is_plan (Some command) = bytes_eq command.0 (codes "plan")
+
+-- where clap takes the words, for `plan`, and they are a mistake, the word for candidates names none: the line is the program's own
+abbrev pub TellsNoCandidates : List Text → Stop → Type 0
+TellsNoCandidates words stop = fault_of cqf_app words ≡ [] → is_plan (subcommand_of cqf_app words) ≡ true → stop.status ≡ 2
+    → stop.text.items ≡ line_of (codes "cqf: words")

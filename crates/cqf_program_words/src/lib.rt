@@ -27,14 +27,18 @@
 //! ```
 #![tactic(auto)]
 
+mod candidates;
 mod composing;
+mod naming;
 mod operands;
 mod shown;
 mod words;
 
+pub use candidates::Candidates;
 pub use composing::{
     composed, composed_behind, composed_between, is_plant, is_toml, is_undivided, joined,
 };
+pub use naming::candidates_named;
 pub use operands::{Operands, STANDARD, check_files, operands_of, split_operands};
 pub use shown::{stop_of_file, stop_of_line, stop_of_long_line};
 pub use words::{Format, Job, read_words};

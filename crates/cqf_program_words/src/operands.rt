@@ -44,6 +44,8 @@ fn is_command(word: &str) -> bool
         || word == "deliveries"
         || word == "check"
         || word == "offers"
+        || word == "hops"
+        || word == "plan"
 }
 
 /// Whether the word is an option behind which its value stands as a word of its own.
@@ -55,6 +57,9 @@ fn wants_value(word: &str) -> bool
         || word == "--cycles"
         || word == "--format"
         || word == "--seed"
+        || word == "--stream"
+        || word == "--frame"
+        || word == "--cycle"
 }
 
 /// Whether the word is the one that ends the options.

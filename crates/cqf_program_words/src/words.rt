@@ -1,5 +1,5 @@
 //! The words of a command line (profile).
-ghost use Rattle.std.specs.Prelude.{◌≡◌, ◌≢◌, ◌⊎◌, IfOk, IfErr, MatchOption, Option, ℕ, Some, codes, false, map, option_map};
+ghost use Rattle.std.specs.Prelude.{◌≡◌, ◌≢◌, ◌⊎◌, ◌<◌, ◌^◌, IfOk, IfErr, MatchOption, Option, ℕ, Some, codes, false, map, option_map, string_bytes, true};
 ghost use Rattle.clap.specs.declared.error.kind.ErrorKind.TheVariants.{InvalidValue};
 ghost use Rattle.cqf_units.specs.declared.timing.Rate.{Rate};
 ghost use Rattle.clap.specs.declared.builder.command.Command.TheViews.{out-Command};
@@ -10,15 +10,20 @@ ghost use Rattle.cqf_program_words.specs.Words.{app_without_deliveries, app_with
 ghost use Rattle.cqf_program_words.specs.Words.{compile_app, deliveries_app, first_app, latency_app, line_app, load_app};
 ghost use Rattle.cqf_program_words.specs.Words.{named_app, port_app, report_app, run_app, default_rule, flag_rule};
 ghost use Rattle.cqf_program_words.specs.Words.{format_rule, format_text, number_rule, rate_rule, rate_text};
-ghost use Rattle.cqf_program_words.specs.Words.{app_of_runs, free_rule, offers_app, seed_rule, wanted_rule, IsFlagGiven, IsSeed, IsJob, IsJobOf, IsNumberIn, Mean, EndsBy};
-ghost use Rattle.cqf_program_words.specs.Shown.{ShowsWords};
-ghost use Rattle.cqf_program_words.specs.Words.{EndsWords, takes_domain};
-ghost use Rattle.cqf_model.specs.Limits.{last_until, most_cycles};
+ghost use Rattle.cqf_program_words.specs.Words.{app_of_runs, app_of_scenarios, free_number_rule, free_rule, frame_rule, hops_app, offers_app, plan_app};
+ghost use Rattle.cqf_program_words.specs.Words.{seed_rule, wanted_rule, AreGiven, IsFlagGiven, IsFreeIn, IsJob, IsJobOf, IsNumberIn, Mean, EndsBy};
+ghost use Rattle.cqf_program_words.specs.declared.candidates.Candidates.{Candidates};
+ghost use Rattle.cqf_program_stop.specs.Stops.{EndsWith, line_of};
+ghost use Rattle.cqf_program_words.specs.Shown.{ShowsWords, are_printable};
+ghost use Rattle.cqf_program_words.specs.Words.{EndsWords, TellsNoCandidates, is_plan, takes_domain};
+ghost use Rattle.cqf_model.specs.Limits.{last_until, most_cycles, most_rows};
 
+use crate::candidates::Candidates;
+use crate::naming::candidates_named;
 use crate::shown::stop_of_words;
 use clap::error::ErrorKind;
 use clap::{Arg, ArgAction, ArgMatches, Command, value_parser};
-use cqf_model::{LAST_UNTIL, MOST_CYCLES};
+use cqf_model::{LAST_UNTIL, MOST_CYCLES, MOST_ROWS};
 use cqf_program_stop::{DONE, Stop, USAGE};
 use cqf_units::Rate;
 use std::alloc::{AllocError, Global};
@@ -194,6 +199,43 @@ is within N cycles; by instant, then by the stream's place, then in order. With
 a seed each block is late by chance, up to its stream's jitter, but comes no
 earlier than the one before it; the same seed gives the same offers."#;
 
+/// What the help of `hops` says of standard input and of its output.
+const HOPS_INPUT: &str =
+    r"Standard input has the four or five parts of the command run, or they are files:
+  cqf hops --cycles 5 --stream x plant.toml calls.txt offers.csv
+
+The output is the book of the run by frame. It has a line for each start of a
+frame on a link: the frame with its stream and its octets, the cycle, the link as
+FROM>TO, and the instants at which the frame starts and ends there and is whole
+at the link's end, in ns. A frame that is dropped at its edge has one line, with
+the bridge and the reason. With --stream, with --frame, only the lines of that
+stream, of that frame are told, and with both those of both. Background frames
+have no line.";
+
+/// What the help of `plan` says of standard input and of its output.
+const PLAN_INPUT: &str = r#"Standard input is a sketch in two parts, which a line of %% divides:
+  a domain       cycle = [250000, 125000]
+                 links = [{ from = "a", to = "s", rate = 1000, delay = 500 },
+                   { from = "t", to = "a", rate = 100, delay = 500 }]
+  its streams    streams = [{ name = "x", from = "t", to = ["s"],
+                   interval = 125000, size = 256, deadline = 500000 }]
+or they are one file with both, or 2 to 16 whose names end with .toml:
+  cqf plan sketch.toml
+
+A sketch is a plant in which less is settled. Its cycle may be several, the
+candidates, in the order of wish; with --cycle they are N alone, or FROM,
+FROM + STEP, .. up to TO, at most 1000. A link with duplex = true stands for two,
+there and back. One from a station is a talker's link. A stream may have from, a
+talker or its edge bridge, and to, its listeners, in place of octets and a path,
+and then has the traffic that it promises: frames of size octets in each
+interval, up to jitter late. Its deadline runs from the talker.
+
+The output is a plant for the first candidate that has room for each stream and
+keeps each deadline. Streams are placed in order, each by the first way of
+fewest links with room, with as many octets as it needs. Where no candidate is
+good the status is 1, and standard error says what hinders the one that places
+most. With --table the output has a line for each candidate instead."#;
+
 /// What the program's help says of files and of its version.
 const MORE_WORDS: &str =
     r"Behind a command stand files, - for standard input; without one all is read
@@ -211,28 +253,60 @@ pub enum Format {
 }
 
 /// What the program is asked to do.
-#[derive(Clone, Copy, Debug, PartialEq, Eq)]
+#[derive(Clone, Debug, Drop, PartialEq, Eq)]
 pub enum Job {
     /// The starts of one port before an instant.
-    Port { until: u64, rate: Rate },
+    Port {
+        until: u64,
+        rate: Rate,
+    },
     /// The book of one bridge with one stream.
-    Line { cycles: u32 },
+    Line {
+        cycles: u32,
+    },
     /// The configuration of a domain and its streams, in a form.
-    Compile { format: Format },
+    Compile {
+        format: Format,
+    },
     /// What each link holds and has left.
     Load,
     /// How long the frames of each stream take to each listener; strict where a deadline that isn't kept for sure ends the run.
-    Latency { strict: bool },
+    Latency {
+        strict: bool,
+    },
     /// The history and the book of a scenario, on one thread or on threads of its bridges and administrators.
-    Run { cycles: u32, threads: bool },
+    Run {
+        cycles: u32,
+        threads: bool,
+    },
     /// The sums by link of a scenario's book.
-    Report { cycles: u32 },
+    Report {
+        cycles: u32,
+    },
     /// What becomes of each offered frame of a scenario at each listener.
-    Deliveries { cycles: u32 },
+    Deliveries {
+        cycles: u32,
+    },
     /// Whether all offered frames of a scenario come to their listeners, in time.
-    Check { cycles: u32 },
+    Check {
+        cycles: u32,
+    },
     /// What the streams of a plant offer, each block late by chance where there is a seed.
-    Offers { cycles: u32, seed: Option<u32> },
+    Offers {
+        cycles: u32,
+        seed: Option<u32>,
+    },
+    /// A scenario's book by frame, of the frames of a stream or of one frame alone where these are named.
+    Hops {
+        cycles: u32,
+        stream: Option<String>,
+        frame: Option<u32>,
+    },
+    /// A plant for the first good candidate of a sketch, or the table of all of its candidates; these may be given.
+    Plan {
+        table: bool,
+        given: Option<Candidates>,
+    },
 }
 
 impl Job {
@@ -249,7 +323,9 @@ impl Job {
             | Job::Report { .. }
             | Job::Deliveries { .. }
             | Job::Check { .. }
-            | Job::Offers { .. } => true,
+            | Job::Offers { .. }
+            | Job::Hops { .. }
+            | Job::Plan { .. } => true,
         }
     }
 }
@@ -336,6 +412,43 @@ fn free_option<'a>(
         .action(ArgAction::Set)
         .value_name(value)
         .help(help)
+}
+
+/// The option `--stream NAME`.
+fn stream_option<'a>(alloc: Global) -> Arg<'a>
+    ensures rule { rule_of result ≡ free_rule (codes "stream") }
+    ensures own { result.global ≡ false }
+{
+    free_option(alloc, "stream", "NAME", "only frames of this stream")
+}
+
+/// The option `--frame F`.
+fn frame_option<'a>(alloc: Global) -> Arg<'a>
+    ensures rule { rule_of result ≡ frame_rule }
+    ensures own { result.global ≡ false }
+{
+    let help = "only this frame, 1 to 1000000";
+    free_option(alloc, "frame", "F", help).value_parser(value_parser!(u64).range(1..1_000_001))
+}
+
+/// The option `--cycle WORD`.
+fn cycle_option<'a>(alloc: Global) -> Arg<'a>
+    ensures rule { rule_of result ≡ free_rule (codes "cycle") }
+    ensures own { result.global ≡ false }
+{
+    let help = "the candidates for the cycle time in ns: N or FROM..TO/STEP";
+    free_option(alloc, "cycle", "WORD", help)
+}
+
+/// The flag `--table`.
+fn table_flag<'a>(alloc: Global) -> Arg<'a>
+    ensures rule { rule_of result ≡ flag_rule (codes "table") }
+    ensures own { result.global ≡ false }
+{
+    Arg::new(alloc, "table")
+        .long("table")
+        .action(ArgAction::SetTrue)
+        .help("a line for each candidate in place of a plant")
 }
 
 /// The option `--seed S`.
@@ -481,6 +594,31 @@ fn offers_command<'a>(alloc: Global) -> Result<Command<'a>, AllocError>
         .arg(seed_option(alloc))
 }
 
+/// `hops --cycles N [--stream NAME] [--frame F]`.
+fn hops_command<'a>(alloc: Global) -> Result<Command<'a>, AllocError>
+    ensures app { IfOk result (λ command. app_of command ≡ hops_app) }
+    ensures local { IfOk result (λ command. (out-Command command).has_globals ≡ false) }
+{
+    Command::new(alloc, "hops")
+        .about("the book of a run by frame: when each is on which link")
+        .after_help(HOPS_INPUT)
+        .arg(cycles_option(alloc))?
+        .arg(stream_option(alloc))?
+        .arg(frame_option(alloc))
+}
+
+/// `plan [--table] [--cycle WORD]`.
+fn plan_command<'a>(alloc: Global) -> Result<Command<'a>, AllocError>
+    ensures app { IfOk result (λ command. app_of command ≡ plan_app) }
+    ensures local { IfOk result (λ command. (out-Command command).has_globals ≡ false) }
+{
+    Command::new(alloc, "plan")
+        .about("a plant for a sketch: its cycle time, and the way of each stream")
+        .after_help(PLAN_INPUT)
+        .arg(table_flag(alloc))?
+        .arg(cycle_option(alloc))
+}
+
 /// The program without its commands. Its name stands in the usage of each command.
 fn named_command<'a>(alloc: Global) -> Result<Command<'a>, AllocError>
     ensures app { IfOk result (λ command. app_of command ≡ named_app) }
@@ -529,7 +667,7 @@ fn commands_without_deliveries<'a>(alloc: Global) -> Result<Command<'a>, AllocEr
     first_commands(alloc)?.subcommand(run)?.subcommand(report)
 }
 
-/// The commands that read what is offered.
+/// The commands that judge deliveries, and those before them.
 fn commands_of_runs<'a>(alloc: Global) -> Result<Command<'a>, AllocError>
     ensures app { IfOk result (λ command. app_of command ≡ app_of_runs) }
     ensures local { IfOk result (λ command. (out-Command command).has_globals ≡ false) }
@@ -541,13 +679,25 @@ fn commands_of_runs<'a>(alloc: Global) -> Result<Command<'a>, AllocError>
         .subcommand(check)
 }
 
+/// The commands that read a scenario, and those before them.
+fn commands_of_scenarios<'a>(alloc: Global) -> Result<Command<'a>, AllocError>
+    ensures app { IfOk result (λ command. app_of command ≡ app_of_scenarios) }
+    ensures local { IfOk result (λ command. (out-Command command).has_globals ≡ false) }
+{
+    let hops = hops_command(alloc)?;
+    commands_of_runs(alloc)?.subcommand(hops)
+}
+
 /// The program's commands.
 fn commands<'a>(alloc: Global) -> Result<Command<'a>, AllocError>
     ensures app { IfOk result (λ command. app_of command ≡ cqf_app) }
     ensures local { IfOk result (λ command. (out-Command command).has_globals ≡ false) }
 {
     let offers = offers_command(alloc)?;
-    commands_of_runs(alloc)?.subcommand(offers)
+    let plan = plan_command(alloc)?;
+    commands_of_scenarios(alloc)?
+        .subcommand(offers)?
+        .subcommand(plan)
 }
 
 /// The text of an error of clap's, or what there is of it where memory lacks.
@@ -647,18 +797,27 @@ fn cycles_of(values: &ArgMatches<'_>) -> Option<u32>
     }
 }
 
-/// The seed of the command with these values, which may have none; `None` where something else is given.
-fn seed_of(values: &ArgMatches<'_>) -> Option<Option<u32>>
-    ensures { MatchOption result ((seed : Option ℕ) → ¬ IsSeed seed (first_of (codes "seed") (rows_of (found_of values.now))))
-        (λ seed. IsSeed seed (first_of (codes "seed") (rows_of (found_of values.now)))) }
+/// The number that the text writes from `least` to `most`, if there is a text; `None` where it writes something else.
+fn free_number_in(text: Option<&str>, least: u64, most: u64) -> Option<Option<u32>>
+    requires { most < 2 ^ 32 }
+    ensures { MatchOption result ((number : Option ℕ) → ¬ IsFreeIn least most number (option_map (λ text. text.now) text.entry))
+        (λ number. IsFreeIn least most number (option_map (λ text. text.now) text.entry)) }
 {
-    match text_of(values, "seed") {
+    match text {
         None => Some(None),
-        Some(text) => match number_in(Some(text), 0, LAST_SEED) {
-            Some(seed) => Some(Some(seed as u32)),
+        Some(text) => match number_in(Some(text), least, most) {
+            Some(number) => Some(Some(number as u32)),
             None => None,
         },
     }
+}
+
+/// The seed of the command with these values, which may have none; `None` where something else is given.
+fn seed_of(values: &ArgMatches<'_>) -> Option<Option<u32>>
+    ensures { MatchOption result ((seed : Option ℕ) → ¬ IsFreeIn 0 4294967295 seed (first_of (codes "seed") (rows_of (found_of values.now))))
+        (λ seed. IsFreeIn 0 4294967295 seed (first_of (codes "seed") (rows_of (found_of values.now)))) }
+{
+    free_number_in(text_of(values, "seed"), 0, LAST_SEED)
 }
 
 /// The job of the command `offers` with its values.
@@ -673,6 +832,74 @@ fn offers_job(values: &ArgMatches<'_>) -> Option<Job>
         return None;
     };
     Some(Job::Offers { cycles, seed })
+}
+
+/// The name of a stream of the command with these values, which may have none. The error is want of memory.
+fn stream_of(alloc: Global, values: &ArgMatches<'_>) -> Result<Option<String>, AllocError>
+    ensures { IfOk result (λ stream. option_map string_bytes stream ≡ first_of (codes "stream") (rows_of (found_of values.now))) }
+{
+    match text_of(values, "stream") {
+        None => Ok(None),
+        Some(text) => {
+            let name = String::from_str(alloc, text)?;
+            Ok(Some(name))
+        }
+    }
+}
+
+/// The number of a frame of the command with these values, which may have none; `None` where something else is given.
+fn frame_of(values: &ArgMatches<'_>) -> Option<Option<u32>>
+    ensures { MatchOption result ((frame : Option ℕ) → ¬ IsFreeIn 1 most_rows frame (first_of (codes "frame") (rows_of (found_of values.now))))
+        (λ frame. IsFreeIn 1 most_rows frame (first_of (codes "frame") (rows_of (found_of values.now)))) }
+{
+    free_number_in(text_of(values, "frame"), 1, u64::from(MOST_ROWS))
+}
+
+/// The job of the command `hops` with its values. The error is want of memory.
+fn hops_job(alloc: Global, values: &ArgMatches<'_>) -> Result<Option<Job>, AllocError>
+    ensures { IfOk result (λ found. MatchOption found ((job : Job) → ¬ IsJobOf job (codes "hops") (rows_of (found_of values.now)))
+        (λ job. IsJobOf job (codes "hops") (rows_of (found_of values.now)))) }
+{
+    let Some(cycles) = cycles_of(values) else {
+        return Ok(None);
+    };
+    let Some(frame) = frame_of(values) else {
+        return Ok(None);
+    };
+    let stream = stream_of(alloc, values)?;
+    Ok(Some(Job::Hops {
+        cycles,
+        stream,
+        frame,
+    }))
+}
+
+/// The candidates of the command with these values, which may have none; `None` where something else is given.
+fn given_of(values: &ArgMatches<'_>) -> Option<Option<Candidates>>
+    ensures { MatchOption result ((given : Option Candidates) → ¬ AreGiven given (first_of (codes "cycle") (rows_of (found_of values.now))))
+        (λ given. AreGiven given (first_of (codes "cycle") (rows_of (found_of values.now)))) }
+{
+    match text_of(values, "cycle") {
+        None => Some(None),
+        Some(word) => match candidates_named(word) {
+            Some(given) => Some(Some(given)),
+            None => None,
+        },
+    }
+}
+
+/// The job of the command `plan` with its values.
+fn plan_job(values: &ArgMatches<'_>) -> Option<Job>
+    ensures { MatchOption result ((job : Job) → ¬ IsJobOf job (codes "plan") (rows_of (found_of values.now)))
+        (λ job. IsJobOf job (codes "plan") (rows_of (found_of values.now))) }
+{
+    let Some(given) = given_of(values) else {
+        return None;
+    };
+    Some(Job::Plan {
+        table: is_given(values, "table"),
+        given,
+    })
 }
 
 /// Whether the flag is given.
@@ -692,6 +919,8 @@ fn cycles_job(name: &str, values: &ArgMatches<'_>) -> Option<Job>
     requires not_load { name.now ≢ codes "load" }
     requires not_latency { name.now ≢ codes "latency" }
     requires not_offers { name.now ≢ codes "offers" }
+    requires not_hops { name.now ≢ codes "hops" }
+    requires not_plan { name.now ≢ codes "plan" }
     ensures { MatchOption result ((job : Job) → ¬ IsJobOf job name.now (rows_of (found_of values.now)))
         (λ job. IsJobOf job name.now (rows_of (found_of values.now))) }
 {
@@ -711,12 +940,12 @@ fn cycles_job(name: &str, values: &ArgMatches<'_>) -> Option<Job>
     }
 }
 
-/// The job of the command that was named.
-fn job_of(matches: &ArgMatches<'_>) -> Option<Job>
-    ensures { MatchOption result ((job : Job) → ¬ IsJob job (subcommand_rows_of matches.now))
-        (λ job. IsJob job (subcommand_rows_of matches.now)) }
+/// The job of the command that was named, where it isn't `hops`.
+fn job_by_name(name: &str, values: &ArgMatches<'_>) -> Option<Job>
+    requires { name.now ≢ codes "hops" }
+    ensures { MatchOption result ((job : Job) → ¬ IsJobOf job name.now (rows_of (found_of values.now)))
+        (λ job. IsJobOf job name.now (rows_of (found_of values.now))) }
 {
-    let (name, values) = matches.subcommand()?;
     match name {
         "port" => port_job(values),
         "compile" => compile_job(values),
@@ -725,7 +954,32 @@ fn job_of(matches: &ArgMatches<'_>) -> Option<Job>
             strict: is_given(values, "strict"),
         }),
         "offers" => offers_job(values),
+        "plan" => plan_job(values),
         _ => cycles_job(name, values),
+    }
+}
+
+/// The job of the command that was named. The error is want of memory.
+fn job_of(alloc: Global, matches: &ArgMatches<'_>) -> Result<Option<Job>, AllocError>
+    ensures { IfOk result (λ found. MatchOption found ((job : Job) → ¬ IsJob job (subcommand_rows_of matches.now))
+        (λ job. IsJob job (subcommand_rows_of matches.now))) }
+{
+    let Some((name, values)) = matches.subcommand() else {
+        return Ok(None);
+    };
+    match name {
+        "hops" => hops_job(alloc, values),
+        _ => Ok(job_by_name(name, values)),
+    }
+}
+
+/// Whether the command that was named is `plan`.
+fn is_plan(matches: &ArgMatches<'_>) -> bool
+    ensures { result ≡ is_plan (subcommand_rows_of matches.now) }
+{
+    match matches.subcommand() {
+        Some((name, _)) => name == "plan",
+        None => false,
     }
 }
 
@@ -747,30 +1001,46 @@ fn no_such_value(alloc: Global, command: &mut Command<'_>, wanted: &str) -> Stop
     }
 }
 
+/// The end where clap takes the words, and no job is read of them: for `plan`, whose word for candidates names none, with the line
+/// `cqf: words`, and else with what the value has to be.
+fn no_job(alloc: Global, command: &mut Command<'_>, matches: &ArgMatches<'_>) -> Stop
+    ensures ends { EndsBy InvalidValue result }
+    ensures plan { is_plan (subcommand_rows_of matches.now) ≡ true → EndsWith 2 (line_of (codes "cqf: words")) result }
+{
+    if is_plan(matches) {
+        return Stop::with_line(alloc, USAGE, "cqf: words\n");
+    }
+    no_such_value(alloc, command, wanted_value(matches))
+}
+
 /// The job that the words mean. `Err` as [`read_words`] has it, but with clap's text also where that echoes unprintable characters.
 fn read_plainly<'a>(alloc: Global, words: &'a [&'a str]) -> Result<Job, Stop>
     ensures ok { IfOk result (Mean (map (λ word. word.now) words.now)) }
     ensures err { IfErr result (EndsWords (map (λ word. word.now) words.now)) }
+    ensures line { IfErr result (TellsNoCandidates (map (λ word. word.now) words.now)) }
 {
     let Ok(mut command) = commands(alloc) else {
         return Err(Stop::memory(alloc));
     };
     match command.try_get_matches_from_mut(words) {
-        Ok(matches) => match job_of(&matches) {
-            Some(job) => Ok(job),
-            None => Err(no_such_value(alloc, &mut command, wanted_value(&matches))),
+        Ok(matches) => match job_of(alloc, &matches) {
+            Ok(Some(job)) => Ok(job),
+            Ok(None) => Err(no_job(alloc, &mut command, &matches)),
+            Err(_) => Err(Stop::memory(alloc)),
         },
         Err(error) => Err(stop_of(alloc, &error)),
     }
 }
 
-/// The job that the words mean, which come without the program's name. `Err` with status 2 and clap's text where clap refuses them, or
-/// where one has a character that a terminal would not print, a line that shows them escaped; with status 0 and clap's text where they ask
-/// for help, and with status 3 for want of memory.
+/// The job that the words mean, which come without the program's name. `Err` with status 2 and clap's text where clap refuses them, with
+/// the line `cqf: words` where candidates for `plan` are named by a word that names none, or where one has a character that a terminal
+/// would not print, a line that shows them escaped; with status 0 and clap's text where they ask for help, and with status 3 for want of
+/// memory.
 pub fn read_words<'a>(alloc: Global, words: &'a [&'a str]) -> Result<Job, Stop>
     ensures ok { IfOk result (Mean (map (λ word. word.now) words.now)) }
     ensures err { IfErr result (EndsWords (map (λ word. word.now) words.now)) }
     ensures own { IfErr result (ShowsWords (map (λ word. word.now) words.now)) }
+    ensures line { IfErr result (λ stop. are_printable (map (λ word. word.now) words.now) ≡ true → TellsNoCandidates (map (λ word. word.now) words.now) stop) }
 {
     match read_plainly(alloc, words) {
         Ok(job) => Ok(job),

@@ -17,6 +17,7 @@ use std::thread::Threads;
 /// The names of the trials.
 pub const NAMES: &[&str] = &[
     "read_words",
+    "read_words with a name",
     "read_words of a misuse",
     "read_words of a call for help",
     "read_input",
@@ -34,6 +35,7 @@ pub const NAMES: &[&str] = &[
 fn input_told(alloc: Global, name: &str) -> Option<Told> {
     match name {
         "read_words" => Some(words::job_told(alloc)),
+        "read_words with a name" => Some(words::named_told(alloc)),
         "read_words of a misuse" => Some(words::misuse_told(alloc)),
         "read_words of a call for help" => Some(words::help_told(alloc)),
         "read_input" => Some(inputs::input_told(alloc)),

@@ -6,8 +6,8 @@ use std::alloc::Global;
 
 /// What is to come of words: a job, or an end with this status whose text has this in it.
 #[derive(Clone, Copy)]
-enum Wanted {
-    Job(Job),
+enum Wanted<'w> {
+    Job(&'w Job),
     End(u8, &'static str),
 }
 
@@ -20,9 +20,9 @@ fn has(text: &[u8], part: &str) -> bool {
 }
 
 /// Whether it comes.
-fn is_wanted(read: &Result<Job, Stop>, wanted: Wanted) -> bool {
+fn is_wanted(read: &Result<Job, Stop>, wanted: Wanted<'_>) -> bool {
     match (read, wanted) {
-        (Ok(job), Wanted::Job(other)) => *job == other,
+        (Ok(job), Wanted::Job(other)) => *job == *other,
         (Err(stop), Wanted::End(status, part)) => {
             stop.status == status && has(stop.text.as_slice(), part)
         }
@@ -39,7 +39,7 @@ fn is_wanting(read: &Result<Job, Stop>) -> bool {
 }
 
 /// The words are read.
-fn read(alloc: Global, words: &[&str], wanted: Wanted) -> Told {
+fn read(alloc: Global, words: &[&str], wanted: Wanted<'_>) -> Told {
     mark(alloc);
     let first = read_words(alloc, words);
     mark(alloc);
@@ -54,7 +54,20 @@ pub(crate) fn job_told(alloc: Global) -> Told {
         cycles: 5,
         threads: false,
     };
-    read(alloc, &["run", "--cycles", "5"], Wanted::Job(job))
+    read(alloc, &["run", "--cycles", "5"], Wanted::Job(&job))
+}
+
+pub(crate) fn named_told(alloc: Global) -> Told {
+    let Ok(name) = String::from_str(alloc, "mic-l") else {
+        return once(false);
+    };
+    let job = Job::Hops {
+        cycles: 5,
+        stream: Some(name),
+        frame: Some(7),
+    };
+    let words = ["hops", "--cycles", "5", "--stream", "mic-l", "--frame", "7"];
+    read(alloc, &words, Wanted::Job(&job))
 }
 
 pub(crate) fn misuse_told(alloc: Global) -> Told {

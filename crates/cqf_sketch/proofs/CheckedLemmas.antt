@@ -1,64 +1,103 @@
 -- What the checks of a sketch's domain give, one after the other.
-use Rattle.std.proofs.Common.{◌≡◌, ◌∙◌, ◌≤◌, ℕ, All, Bool, true, false, List, [], Option, Some, None, Result, Ok, Err, length, nat_lt, ap, refl, sym, arith}
-use Rattle.std.specs.Prelude.{◌||◌}
+use Rattle.std.proofs.Common.{◌≡◌, ◌∙◌, ◌≤◌, ℕ, All, false, List, [], Option, Some, None, Result, Ok, Err}
+use Rattle.std.proofs.Common.{length, map, nat_lt, option_map, ap, refl, sym, arith}
+use Rattle.std.specs.Prelude.{◌||◌, find}
 use Rattle.std.proofs.lemmas.Bool.Decides.{nat_tests}
 use Rattle.cqf_lists.specs.Results.{refuse}
 use Rattle.cqf_model.specs.declared.topology.Node.{Node}
 use Rattle.cqf_model.specs.declared.topology.Node.TheVariants.{Bridge, Station}
 use Rattle.cqf_topology.specs.DomainText.{first_taken, if_so}
+use Rattle.cqf_topology.specs.declared.faults.DomainFault.{DomainFault}
+use Rattle.cqf_topology.proofs.Passed.{not_so}
 use Rattle.cqf_topology.proofs.Refusals.{refuse-Ok}
 use Rattle.cqf_sketch.specs.declared.faults.SketchFault.{SketchFault}
 use Rattle.cqf_sketch.specs.declared.faults.SketchFault.TheVariants.{Domain, TwoTalkerLinks}
 use Rattle.cqf_topology.specs.declared.faults.DomainFault.TheVariants as domain
-use Rattle.cqf_sketch.specs.Edges.{Edge, first_long_delay, first_long_gap, first_twice, plant_count}
-use Rattle.cqf_sketch.specs.SketchDomain.{EdgeInside, NodeInside, SketchDomain, checked, is_guard_too_long, is_too_many, name_taken, second_talker, sketch_with, with_edges, with_names}
+use Rattle.cqf_sketch.specs.Edges.{Edge, element_at, ends_of, first_long_delay, first_long_gap, first_repeat, first_twice, from_alone}
+use Rattle.cqf_sketch.specs.Edges.{from_at, has_long_delay, has_long_gap, plant_count, talkers_of}
+use Rattle.cqf_sketch.specs.SketchDomain.{EdgeInside, HasNumberedNames, IsReadableSketch, NodeInside, SketchDomain, checked, is_guard_too_long, is_too_many}
+use Rattle.cqf_sketch.specs.SketchDomain.{name_taken, second_talker, sketch_with, station_named, with_edges, with_names}
 use Rattle.cqf_sketch.specs.SketchText.{SketchText}
 
--- what is refused is refused whatever follows
-pub refused : {X A B E : Type 0} (o : Option X) (fault : X → E) (x : A) (rest : Result B E) (e : E) → refuse o fault (Ok x) ≡ Err e → refuse o fault rest ≡ Err e
-refused None fault x rest e h = absurd cc
-refused (Some y) fault x rest e h = let same : fault y ≡ e = cc in ap Err same
+-- a name that stood earlier is refused as a sketch refuses it, whatever follows
+pub refused : {A B : Type 0} (o : Option (List ℕ)) (x : A) (rest : Result B SketchFault) (e : DomainFault) → refuse o domain.NameTaken (Ok x) ≡ Err e →
+    refuse o name_taken rest ≡ Err (Domain e)
+refused None x rest e h = absurd cc
+refused (Some name) x rest e h = let same : domain.NameTaken name ≡ e = cc in ap (λ (f : DomainFault). Err (Domain f)) same
 
--- and what isn't leaves it to what follows
-pub passed : {X A B E : Type 0} (o : Option X) (fault : X → E) (x y : A) (rest : Result B E) → refuse o fault (Ok x) ≡ Ok y → refuse o fault rest ≡ rest
-passed None fault x y rest h = refl
-passed (Some z) fault x y rest h = absurd cc
+-- and where none did it is left to what follows
+pub passed : {A B : Type 0} (o : Option (List ℕ)) (x y : A) (rest : Result B SketchFault) → refuse o domain.NameTaken (Ok x) ≡ Ok y →
+    refuse o name_taken rest ≡ rest
+passed None x y rest h = refl
+passed (Some name) x y rest h = absurd cc
 
 pub kept : {X A E : Type 0} (o : Option X) (fault : X → E) (x y : A) → refuse o fault (Ok x) ≡ Ok y → x ≡ y
 kept None fault x y h = cc
 kept (Some z) fault x y h = absurd cc
 
--- the same of equal names
-pub taken_at : (earlier earlier' names names' : List (List ℕ)) → earlier ≡ earlier' → names ≡ names' → (r : Result (List (List ℕ)) SketchFault) →
-    refuse (first_taken earlier names) name_taken (Ok names) ≡ r → refuse (first_taken earlier' names') name_taken (Ok names') ≡ r
-taken_at earlier earlier' names names' p q r h = (λ i. refuse (first_taken (sym p i) (sym q i)) name_taken (Ok (sym q i))) ∙ h
-
 -- a text whose names are numbered has the checks of its links left
 pub names_passed : (text : SketchText) (bridges stations : List (List ℕ)) →
-    refuse (first_taken [] text.bridges) name_taken (Ok text.bridges) ≡ Ok bridges →
-    refuse (first_taken text.bridges text.stations) name_taken (Ok text.stations) ≡ Ok stations → checked text ≡ with_names text
+    refuse (first_taken [] text.bridges) domain.NameTaken (Ok text.bridges) ≡ Ok bridges →
+    refuse (first_taken text.bridges text.stations) domain.NameTaken (Ok text.stations) ≡ Ok stations → checked text ≡ with_names text
 names_passed text bridges stations first second =
-    passed (first_taken [] text.bridges) name_taken text.bridges bridges _ first
-    ∙ passed (first_taken text.bridges text.stations) name_taken text.stations stations (with_names text) second
+    passed (first_taken [] text.bridges) text.bridges bridges _ first
+    ∙ passed (first_taken text.bridges text.stations) text.stations stations (with_names text) second
 
--- a test whose unit isn't there failed
-not_so : (b : Bool) → if_so b ≡ None → b ≡ false
-not_so true e = absurd cc
-not_so false e = refl
+-- and its names are those of the text, none of them twice
+pub numbered_names_are : (text : SketchText) (bridges stations : List (List ℕ)) → IsReadableSketch text →
+    refuse (first_taken [] text.bridges) domain.NameTaken (Ok text.bridges) ≡ Ok bridges →
+    refuse (first_taken bridges text.stations) domain.NameTaken (Ok text.stations) ≡ Ok stations → HasNumberedNames text bridges stations
+numbered_names_are text bridges stations readable first second =
+    let (bridges_apart, bridges_same) = refuse-Ok (first_taken [] text.bridges) domain.NameTaken (Ok text.bridges) bridges first in
+    let (stations_apart, stations_same) = refuse-Ok (first_taken bridges text.stations) domain.NameTaken (Ok text.stations) stations second in
+    let bridges_are : bridges ≡ text.bridges = cc in
+    record {
+      readable = readable;
+      bridges_are = bridges_are;
+      stations_are = cc;
+      bridges_apart = bridges_apart;
+      stations_apart = ap (λ front. first_taken front text.stations) (sym bridges_are) ∙ stations_apart;
+    }
 
--- a domain that passes all checks has few nodes
-pub few_nodes : (text : SketchText) (edges : List Edge) (d : SketchDomain) → with_edges text edges ≡ Ok d → (length text.bridges ≤ 32) × (length text.stations ≤ 64)
-few_nodes text edges d e =
+-- what wasn't found in a list isn't there for what is told of it either
+unmapped : {X Y : Type 0} (f : X → Y) (o : Option X) → option_map f o ≡ None → o ≡ None
+unmapped f None e = refl
+unmapped f (Some x) e = absurd cc
+
+-- what the checks give
+pub record PassesSketch (text : SketchText) (edges : List Edge) : Type 0 where
+  pub no_twice : first_repeat [] (map ends_of edges) ≡ None
+  pub no_again : first_repeat [] (map from_alone (talkers_of edges)) ≡ None
+  pub some_open : is_guard_too_long text ≡ false
+  pub no_delay : find (has_long_delay text.guard) edges ≡ None
+  pub no_gap : find (has_long_gap text.guard) edges ≡ None
+  pub few_bridges : length text.bridges ≤ 32
+  pub few_stations : length text.stations ≤ 64
+  pub few_links : plant_count edges ≤ 64
+
+-- a domain that is told has passed
+pub passes_sketch : (text : SketchText) (edges : List Edge) (d : SketchDomain) → with_edges text edges ≡ Ok d → PassesSketch text edges
+passes_sketch text edges d e =
     let a = refuse-Ok (first_twice edges) (λ (element : ℕ). Domain (domain.LinkTwice element)) _ d e in
     let b = refuse-Ok (second_talker text edges) (λ (station : List ℕ). TwoTalkerLinks station) _ d a.1 in
     let c = refuse-Ok (if_so (is_guard_too_long text)) (λ (u : Unit {0}). Domain domain.GuardTooLong) _ d b.1 in
     let f = refuse-Ok (first_long_delay text.guard edges) (λ (element : ℕ). Domain (domain.DelayTooLong element)) _ d c.1 in
     let g = refuse-Ok (first_long_gap text.guard edges) (λ (element : ℕ). Domain (domain.GapTooLong element)) _ d f.1 in
     let h = refuse-Ok (if_so (is_too_many text edges)) (λ (u : Unit {0}). Domain domain.TooMany) (Ok (sketch_with text edges)) d g.1 in
-    counted (length text.bridges) (length text.stations) (plant_count edges) (not_so (is_too_many text edges) h.0)
+    let few = counted (length text.bridges) (length text.stations) (plant_count edges) (not_so (is_too_many text edges) h.0) in
+    record {
+      no_twice = unmapped (element_at edges) _ a.0;
+      no_again = unmapped (from_at (talkers_of edges)) _ (unmapped (station_named text.stations) _ b.0);
+      some_open = not_so (is_guard_too_long text) c.0;
+      no_delay = unmapped (λ (edge : Edge). edge.element) _ f.0;
+      no_gap = unmapped (λ (edge : Edge). edge.element) _ g.0;
+      few_bridges = few.0;
+      few_stations = few.1;
+      few_links = few.2;
+    }
   where
-    counted : (b s l : ℕ) → (nat_lt 32 b || nat_lt 64 s || nat_lt 64 l) ≡ false → (b ≤ 32) × (s ≤ 64)
-    counted b s l e = grind (arith, nat_tests)
+    counted : (b s l : ℕ) → (nat_lt 32 b || nat_lt 64 s || nat_lt 64 l) ≡ false → (b ≤ 32) × (s ≤ 64) × (l ≤ 64)
+    counted b s l e = (grind (arith, nat_tests), grind (arith, nat_tests), grind (arith, nat_tests))
 
 -- ends among few nodes
 pub inside_few : (bridges stations : ℕ) (edges : List Edge) → bridges ≤ 32 → stations ≤ 64 → All (EdgeInside bridges stations) edges → All (EdgeInside 32 64) edges

@@ -1,14 +1,16 @@
 -- The ends of a sketch's links are nodes that it has.
-use Rattle.std.proofs.Common.{◌≡◌, ◌<◌, ℕ, All, Bool, true, false, Contains, List, [], ◌∷◌, ◌++◌, Option, Some, None, Result, Ok, Err, cond, length, ok_or, refl, subst}
+use Rattle.std.proofs.Common.{◌≡◌, ◌≤◌, ℕ, All, Bool, true, false, Contains, List, [], ◌∷◌, ◌++◌, Option, Some, None, Result, Ok, Err, cond, length, ok_or, arith, refl, subst}
 use Rattle.std.specs.Prelude.{suc}
+use Rattle.std.proofs.lemmas.Bool.Decides.{nat_tests}
 use Rattle.std.proofs.lemmas.List.Elements.{All-append, All-cons, All-nil}
-use Rattle.std.proofs.lemmas.List.Quantifiers.{position-Some}
 use Rattle.cqf_lists.proofs.Members.{all_from_members, contains_from_filter}
 use Rattle.cqf_model.specs.declared.topology.Node.{Node}
 use Rattle.cqf_model.specs.declared.topology.Node.TheVariants.{Bridge, Station}
 use Rattle.cqf_model.specs.Domain.{node_or}
+use Rattle.cqf_model.specs.Limits.{longest_cycle}
 use Rattle.cqf_topology.specs.declared.faults.DomainFault.TheVariants.{UnknownName}
 use Rattle.cqf_topology.specs.DomainText.{place_of, with_front}
+use Rattle.cqf_topology.proofs.Accepted.{place-within}
 use Rattle.cqf_topology.proofs.Refusals.{and_then-Ok, ok_or-Ok}
 use Rattle.cqf_sketch.specs.declared.draft.DraftLink.{DraftLink}
 use Rattle.cqf_sketch.specs.declared.draft.OneWay.{OneWay}
@@ -17,10 +19,6 @@ use Rattle.cqf_sketch.specs.declared.faults.SketchFault.TheVariants.{Domain}
 use Rattle.cqf_sketch.specs.Edges.{Edge, back_of, edges_of, end_named, is_talkers, joined, joined_edge, may_lead, talkers_of}
 use Rattle.cqf_sketch.specs.SketchDomain.{EdgeInside, NodeInside, StationInside}
 
--- a place among names is one of them
-place_within : (name : List ℕ) (names : List (List ℕ)) (k : ℕ) → place_of name names ≡ Some k → k < length names
-place_within name names k e = (position-Some _ names k [] e).0
-
 -- a node that is found is there
 named_inside : (bridges stations : List (List ℕ)) (name : List ℕ) (node : Node) → end_named bridges stations name ≡ Some node →
     NodeInside (length bridges) (length stations) node
@@ -28,57 +26,90 @@ named_inside bridges stations name node e = by (place_of name bridges) (place_of
   where
     by : (b s : Option ℕ) → place_of name bridges ≡ b → place_of name stations ≡ s → node_or b s ≡ Some node → NodeInside (length bridges) (length stations) node
     by (Some b) s is_b is_s found =
-        let same : Bridge b ≡ node = cc in subst (NodeInside (length bridges) (length stations)) same (place_within name bridges b is_b)
+        let same : Bridge b ≡ node = cc in subst (NodeInside (length bridges) (length stations)) same (place-within name bridges b is_b)
     by None (Some s) is_b is_s found =
-        let same : Station s ≡ node = cc in subst (NodeInside (length bridges) (length stations)) same (place_within name stations s is_s)
+        let same : Station s ≡ node = cc in subst (NodeInside (length bridges) (length stations)) same (place-within name stations s is_s)
     by None None is_b is_s found = absurd cc
 
--- so are the ends of a link that is joined
-edge_inside : (bridges stations : List (List ℕ)) (element : ℕ) (way : OneWay) (edge : Edge) → joined_edge bridges stations element way ≡ Ok edge →
-    EdgeInside (length bridges) (length stations) edge
-edge_inside bridges stations element way edge e =
+-- what joining gives of an edge: its ends are there, it may lead from the one to the other, and its delay is in range
+pub record IsJoinedEdge (bridges stations : ℕ) (edge : Edge) : Type 0 where
+  pub inside : EdgeInside bridges stations edge
+  pub may : may_lead edge.from edge.to ≡ true
+  pub delay_most : edge.delay ≤ longest_cycle
+
+-- so is a link that is joined
+edge_joined : (bridges stations : List (List ℕ)) (element : ℕ) (way : OneWay) (edge : Edge) → way.delay ≤ longest_cycle →
+    joined_edge bridges stations element way ≡ Ok edge → IsJoinedEdge (length bridges) (length stations) edge
+edge_joined bridges stations element way edge most e =
     let (from, from_is, rest) = and_then-Ok (ok_or (end_named bridges stations way.from) (Domain (UnknownName way.from))) _ edge e in
     let (to, to_is, last) = and_then-Ok (ok_or (end_named bridges stations way.to) (Domain (UnknownName way.to))) _ edge rest in
-    by from to (may_lead from to)
+    by from to (may_lead from to) refl
     (named_inside bridges stations way.from from (ok_or-Ok _ (Domain (UnknownName way.from)) from from_is))
     (named_inside bridges stations way.to to (ok_or-Ok _ (Domain (UnknownName way.to)) to to_is)) last
   where
-    by : (from to : Node) (may : Bool) → NodeInside (length bridges) (length stations) from → NodeInside (length bridges) (length stations) to →
+    by : (from to : Node) (may : Bool) → may_lead from to ≡ may → NodeInside (length bridges) (length stations) from →
+        NodeInside (length bridges) (length stations) to →
         cond may (Ok (record { from = from; to = to; rate = way.rate; delay = way.delay; element = element })) (Err (Domain (UnknownName way.to))) ≡ Ok edge →
-        EdgeInside (length bridges) (length stations) edge
-    by from to true from_in to_in found =
+        IsJoinedEdge (length bridges) (length stations) edge
+    by from to true may from_in to_in found =
         let made : Edge = record { from = from; to = to; rate = way.rate; delay = way.delay; element = element } in
         let same : made ≡ edge = cc in
-        subst (EdgeInside (length bridges) (length stations)) same (record { from_inside = from_in; to_inside = to_in })
-    by from to false from_in to_in found = absurd cc
+        subst (IsJoinedEdge (length bridges) (length stations)) same
+        (record { inside = record { from_inside = from_in; to_inside = to_in }; may = may; delay_most = most })
+    by from to false may from_in to_in found = absurd cc
 
--- and of a link's directions
-directions_inside : (bridges stations : ℕ) (duplex : Bool) (edge : Edge) → EdgeInside bridges stations edge → All (EdgeInside bridges stations) (edges_of duplex edge)
-directions_inside bridges stations true edge inside =
-    All-cons (EdgeInside bridges stations) edge (back_of edge ∷ []) inside
-    (All-cons (EdgeInside bridges stations) (back_of edge) [] (record { from_inside = inside.to_inside; to_inside = inside.from_inside })
-    (All-nil (EdgeInside bridges stations)))
-directions_inside bridges stations false edge inside = All-cons (EdgeInside bridges stations) edge [] inside (All-nil (EdgeInside bridges stations))
+-- a way that may lead there may lead back
+may_lead_back : (from to : Node) → may_lead from to ≡ true → may_lead to from ≡ true
+may_lead_back (Bridge a) (Bridge b) may = grind (arith, nat_tests)
+may_lead_back (Bridge a) (Station s) may = refl
+may_lead_back (Station s) (Bridge b) may = refl
+may_lead_back (Station s) (Station t) may = absurd cc
+
+-- and so are a link's directions
+directions_joined : (bridges stations : ℕ) (duplex : Bool) (edge : Edge) → IsJoinedEdge bridges stations edge →
+    All (IsJoinedEdge bridges stations) (edges_of duplex edge)
+directions_joined bridges stations true edge is =
+    All-cons (IsJoinedEdge bridges stations) edge (back_of edge ∷ []) is
+    (All-cons (IsJoinedEdge bridges stations) (back_of edge) []
+    (record {
+      inside = record { from_inside = is.inside.to_inside; to_inside = is.inside.from_inside };
+      may = may_lead_back edge.from edge.to is.may;
+      delay_most = is.delay_most;
+    })
+    (All-nil (IsJoinedEdge bridges stations)))
+directions_joined bridges stations false edge is = All-cons (IsJoinedEdge bridges stations) edge [] is (All-nil (IsJoinedEdge bridges stations))
+
+-- the delays of the links behind the first
+later_delays : (link : DraftLink) (links : List DraftLink) → All (λ (l : DraftLink). l.there.delay ≤ longest_cycle) (link ∷ links) →
+    All (λ (l : DraftLink). l.there.delay ≤ longest_cycle) links
+later_delays link links most k d within = most (suc k) d (omega (arith, within))
 
 -- and of all
-pub joined_inside : (bridges stations : List (List ℕ)) (element : ℕ) (links : List DraftLink) (edges : List Edge) → joined bridges stations element links ≡ Ok edges →
-    All (EdgeInside (length bridges) (length stations)) edges
-joined_inside bridges stations element [] edges e =
-    let same : [] ≡ edges = cc in subst (All (EdgeInside (length bridges) (length stations))) same (All-nil (EdgeInside (length bridges) (length stations)))
-joined_inside bridges stations element (link ∷ links) edges e =
+pub all_joined : (bridges stations : List (List ℕ)) (element : ℕ) (links : List DraftLink) (edges : List Edge) →
+    All (λ (l : DraftLink). l.there.delay ≤ longest_cycle) links → joined bridges stations element links ≡ Ok edges →
+    All (IsJoinedEdge (length bridges) (length stations)) edges
+all_joined bridges stations element [] edges most e =
+    let same : [] ≡ edges = cc in subst (All (IsJoinedEdge (length bridges) (length stations))) same (All-nil (IsJoinedEdge (length bridges) (length stations)))
+all_joined bridges stations element (link ∷ links) edges most e =
     let (edge, edge_is, more) = and_then-Ok (joined_edge bridges stations element link.there) _ edges e in
-    by (λ rest is. joined_inside bridges stations (suc element) links rest is) edge (joined bridges stations (suc element) links) refl
-    (edge_inside bridges stations element link.there edge edge_is) more
+    by (λ rest is. all_joined bridges stations (suc element) links rest (later_delays link links most) is) edge
+    (joined bridges stations (suc element) links) refl
+    (edge_joined bridges stations element link.there edge (most 0 link (omega arith)) edge_is) more
   where
-    by : ((rest : List Edge) → joined bridges stations (suc element) links ≡ Ok rest → All (EdgeInside (length bridges) (length stations)) rest) →
+    by : ((rest : List Edge) → joined bridges stations (suc element) links ≡ Ok rest → All (IsJoinedEdge (length bridges) (length stations)) rest) →
         (edge : Edge) (r : Result (List Edge) SketchFault) → joined bridges stations (suc element) links ≡ r →
-        EdgeInside (length bridges) (length stations) edge → with_front (edges_of link.duplex edge) r ≡ Ok edges → All (EdgeInside (length bridges) (length stations)) edges
+        IsJoinedEdge (length bridges) (length stations) edge → with_front (edges_of link.duplex edge) r ≡ Ok edges →
+        All (IsJoinedEdge (length bridges) (length stations)) edges
     by later edge (Ok rest) is inside whole =
         let same : edges_of link.duplex edge ++ rest ≡ edges = cc in
-        subst (All (EdgeInside (length bridges) (length stations))) same
-        (All-append (EdgeInside (length bridges) (length stations)) (edges_of link.duplex edge) rest
-        (directions_inside (length bridges) (length stations) link.duplex edge inside) (later rest is))
+        subst (All (IsJoinedEdge (length bridges) (length stations))) same
+        (All-append (IsJoinedEdge (length bridges) (length stations)) (edges_of link.duplex edge) rest
+        (directions_joined (length bridges) (length stations) link.duplex edge inside) (later rest is))
     by later edge (Err fault) is inside whole = absurd cc
+
+-- their ends are there
+pub all_inside : (bridges stations : ℕ) (edges : List Edge) → All (IsJoinedEdge bridges stations) edges → All (EdgeInside bridges stations) edges
+all_inside bridges stations edges all k d within = (all k d within).inside
 
 -- a talker's edge leaves a station that is there
 pub talkers_inside : (bridges stations : ℕ) (edges : List Edge) → All (EdgeInside bridges stations) edges →

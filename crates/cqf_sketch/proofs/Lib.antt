@@ -3,3 +3,5 @@ pub mod PairLemmas
 pub mod PlaceLemmas
 pub mod InsideLemmas
 pub mod CheckedLemmas
+pub mod ReadLemmas
+pub mod OpenLemmas

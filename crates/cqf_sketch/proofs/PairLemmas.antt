@@ -3,18 +3,11 @@ use Rattle.std.proofs.Common.{◌≡◌, ◌∙◌, ◌+◌, ◌<◌, ℕ, true,
 use Rattle.std.proofs.lemmas.List.{drop_more, length-map, length-take-le, map-append, take_more}
 use Rattle.std.specs.List.{list_any}
 use Rattle.cqf_model.specs.declared.topology.Node.{Node}
-use Rattle.cqf_model.specs.Domain.{same_node}
-use Rattle.cqf_sketch.specs.declared.ends.End.{End}
-use Rattle.cqf_sketch.specs.declared.ends.End.TheVariants.{Bridge, Station}
-use Rattle.cqf_sketch.specs.contracts.ends.EndPartialEq.TheImpl.{ghosts as end}
-use Rattle.cqf_sketch.specs.Edges.{first_repeat, node_of, pair_of, same_pair}
-
--- two ends are equal where their nodes are the same
-end_eq-node : (a b : End) → end.eq a b ≡ same_node (node_of a) (node_of b)
-end_eq-node (Bridge a) (Bridge b) = refl
-end_eq-node (Bridge a) (Station b) = refl
-end_eq-node (Station a) (Bridge b) = refl
-end_eq-node (Station a) (Station b) = refl
+use Rattle.cqf_topology.specs.declared.joined.End.{End}
+use Rattle.cqf_topology.specs.contracts.joined.EndPartialEq.TheImpl.{ghosts as end}
+use Rattle.cqf_topology.specs.JoinedLink.{node_of}
+use Rattle.cqf_topology.proofs.HeldEnds.{end_eq-node}
+use Rattle.cqf_sketch.specs.Edges.{first_repeat, pair_of, same_pair}
 
 -- what the set of pairs finds
 pub list_any-held : (from to : End) (keys : List (End × End)) →

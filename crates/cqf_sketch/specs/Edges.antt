@@ -10,11 +10,11 @@ use Rattle.cqf_model.specs.declared.topology.Node.{Node}
 use Rattle.cqf_model.specs.declared.topology.Node.TheVariants.{Bridge, Station}
 use Rattle.cqf_model.specs.Domain.{node_or, same_node}
 use Rattle.cqf_topology.specs.declared.faults.DomainFault.TheVariants as domain
+use Rattle.cqf_topology.specs.declared.joined.End.{End}
 use Rattle.cqf_topology.specs.DomainText.{place_of, with_front}
+use Rattle.cqf_topology.specs.JoinedLink.{node_of}
 use Rattle.cqf_sketch.specs.declared.draft.DraftLink.{DraftLink}
 use Rattle.cqf_sketch.specs.declared.draft.OneWay.{OneWay}
-use Rattle.cqf_sketch.specs.declared.ends.End.{End}
-use Rattle.cqf_sketch.specs.declared.ends.End.TheVariants as end
 use Rattle.cqf_sketch.specs.declared.faults.SketchFault.{SketchFault}
 use Rattle.cqf_sketch.specs.declared.faults.SketchFault.TheVariants as fault
 
@@ -25,15 +25,6 @@ pub record Edge : Type 0 where
   pub rate : Rate
   pub delay : ℕ
   pub element : ℕ
-
--- the node that an end is, and the end that a node is
-abbrev pub node_of : End → Node
-node_of (end.Bridge b) = Bridge b
-node_of (end.Station s) = Station s
-
-abbrev pub end_of_node : Node → End
-end_of_node (Bridge b) = end.Bridge b
-end_of_node (Station s) = end.Station s
 
 -- the node of a name: a bridge, or else a station
 abbrev pub end_named : List (List ℕ) → List (List ℕ) → List ℕ → Option Node

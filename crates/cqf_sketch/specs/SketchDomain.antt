@@ -1,12 +1,17 @@
 -- The domain of a sketch, or the first fault of its text (profile).
-use Rattle.std.specs.Prelude.{ℕ, ◌<◌, ◌++◌, List, [], ◌||◌, Bool, filter, length, map, nat_le, nat_lt, not, option_map, slice_index_or, Option, Result, Ok}
-use Rattle.std.specs.List.{list_all}
+use Rattle.std.specs.Prelude.{ℕ, ◌≡◌, ◌≢◌, ◌<◌, ◌≤◌, List, [], ◌||◌, All, AllPairs, Bool, IsTrue, filter, find, length, map, nat_le, nat_lt, not}
+use Rattle.std.specs.Prelude.{option_map, slice_index_or, unwrap_or, Option, None, Result, Ok}
+use Rattle.std.specs.List.{list_all, list_any}
 use Rattle.cqf_lists.specs.Results.{and_then, refuse}
+use Rattle.cqf_units.specs.Name.{is_name}
+use Rattle.cqf_model.specs.Domain.{Domain}
+use Rattle.cqf_model.specs.Limits.{longest_cycle}
 use Rattle.cqf_model.specs.declared.topology.Link.{Link}
 use Rattle.cqf_model.specs.declared.topology.Node.{Node}
 use Rattle.cqf_model.specs.declared.topology.Node.TheVariants.{Bridge, Station}
 use Rattle.cqf_topology.specs.declared.faults.DomainFault.TheVariants as domain
-use Rattle.cqf_topology.specs.DomainText.{first_taken, if_so}
+use Rattle.cqf_topology.specs.DomainText.{IsDomain, domain_with, first_taken, if_so}
+use Rattle.cqf_sketch.specs.declared.draft.DraftLink.{DraftLink}
 use Rattle.cqf_sketch.specs.declared.domain.TalkerLink.{TalkerLink}
 use Rattle.cqf_sketch.specs.declared.faults.SketchFault.{SketchFault}
 use Rattle.cqf_sketch.specs.declared.faults.SketchFault.TheVariants as fault
@@ -22,6 +27,49 @@ pub record SketchDomain : Type 0 where
   pub stations : List (List ℕ)
   pub links : List Link
   pub talkers : List TalkerLink
+
+-- the plant's domain with a cycle time
+abbrev pub domain_at : SketchDomain → ℕ → Domain
+domain_at sketch cycle_time = domain_with cycle_time sketch.guard sketch.bridges sketch.stations sketch.links
+
+-- what a cycle may take, in nanoseconds
+pub record IsCycleTime (cycle_time : ℕ) : Type 0 where
+  pub least : 10000 ≤ cycle_time
+  pub most : cycle_time ≤ longest_cycle
+
+-- a cycle time is open to a sketch: the plant can have it, for the guard time is below it
+pub record IsOpenCycle (sketch : SketchDomain) (cycle_time : ℕ) : Type 0 where
+  pub in_range : IsCycleTime cycle_time
+  pub above_guard : sketch.guard < cycle_time
+
+-- the first candidate above the guard time
+abbrev pub open_cycle : SketchDomain → ℕ
+open_cycle sketch = unwrap_or (find (nat_lt sketch.guard) sketch.candidates) 0
+
+-- candidates for a cycle time: 1 to 1,000 of them
+pub record AreCandidates (cycles : List ℕ) : Type 0 where
+  pub some_cycle : 1 ≤ length cycles
+  pub few_cycles : length cycles ≤ 1000
+  pub cycle_times : All IsCycleTime cycles
+
+-- a talker's link leaves a station of the sketch and ends in one of its bridges
+pub record IsTalkerLink (sketch : SketchDomain) (link : TalkerLink) : Type 0 where
+  pub station_there : link.station < length sketch.stations
+  pub bridge_there : link.bridge < length sketch.bridges
+  pub delay_most : link.delay ≤ longest_cycle
+
+-- so does each, and no station has two
+pub record HasTalkerLinks (sketch : SketchDomain) : Type 0 where
+  pub each_there : All (IsTalkerLink sketch) sketch.talkers
+  pub station_once : AllPairs (λ (a b : TalkerLink). a.station ≢ b.station) sketch.talkers
+
+-- what a sketch's text gives: with each cycle time that is open the plant's domain is accepted, its names are apart and no link
+-- stands twice; some candidate is open; and talkers' links are the sketch's
+pub record IsSketch (sketch : SketchDomain) : Type 0 where
+  pub domains : (cycle_time : ℕ) → IsOpenCycle sketch cycle_time → IsDomain (domain_at sketch cycle_time)
+  pub are_candidates : AreCandidates sketch.candidates
+  pub some_open : IsTrue (list_any (nat_lt sketch.guard) sketch.candidates)
+  pub has_talkers : HasTalkerLinks sketch
 
 -- the number of a node among its like
 abbrev pub number_of : Node → ℕ
@@ -76,12 +124,9 @@ with_edges text edges =
     refuse (if_so (is_too_many text edges)) (λ _. fault.Domain domain.TooMany) (
     Ok (sketch_with text edges)))))))
 
--- a name that stood earlier, as a fault, and names behind those that are numbered, none of them among these or the others
+-- a name that stood earlier, as a fault
 abbrev pub name_taken : List ℕ → SketchFault
 name_taken name = fault.Domain (domain.NameTaken name)
-
-abbrev pub numbered_with : List (List ℕ) → List (List ℕ) → List (List ℕ) → Result (List (List ℕ)) SketchFault
-numbered_with others done names = refuse (first_taken (others ++ done) names) name_taken (Ok (done ++ names))
 
 -- the domain that the text says, where the names are numbered
 abbrev pub with_names : SketchText → Result SketchDomain SketchFault
@@ -111,3 +156,25 @@ pub record EdgeInside (bridges stations : ℕ) (edge : Edge) : Type 0 where
 abbrev pub StationInside : ℕ → Node → Type 0
 StationInside stations (Bridge b) = ⊥
 StationInside stations (Station s) = s < stations
+
+-- what the ranges and forms of the values give, where candidates that are given are such
+pub record IsReadableSketch (text : SketchText) : Type 0 where
+  pub are_candidates : AreCandidates text.candidates
+  pub guard_some : 0 < text.guard
+  pub some_bridge : 0 < length text.bridges
+  pub bridges_named : All (λ name. IsTrue (is_name name)) text.bridges
+  pub stations_named : All (λ name. IsTrue (is_name name)) text.stations
+  pub delays_most : All (λ (link : DraftLink). link.there.delay ≤ longest_cycle) text.links
+
+-- a text's names by number: none of them stands twice
+pub record HasNumberedNames (text : SketchText) (bridges stations : List (List ℕ)) : Type 0 where
+  pub readable : IsReadableSketch text
+  pub bridges_are : bridges ≡ text.bridges
+  pub stations_are : stations ≡ text.stations
+  pub bridges_apart : first_taken [] text.bridges ≡ None
+  pub stations_apart : first_taken text.bridges text.stations ≡ None
+
+-- its links, one direction each by number: the checks passed them
+pub record AreCheckedEdges (text : SketchText) (edges : List Edge) : Type 0 where
+  pub joined_are : joined text.bridges text.stations 0 text.links ≡ Ok edges
+  pub passed : with_edges text edges ≡ Ok (sketch_with text edges)

@@ -6,10 +6,10 @@ ghost use Rattle.cqf_sketch.specs.Edges.{element_at, ends_of, first_again, first
 
 use crate::SketchFault;
 use crate::draft::Draft;
-use crate::ends::{End, JoinedEdge};
+use crate::ends::JoinedEdge;
 use crate::repeats::find_repeat;
 use cqf_model::Node;
-use cqf_topology::DomainFault;
+use cqf_topology::{DomainFault, End};
 use cqf_units::{Memory, Name};
 use std::alloc::Global;
 

@@ -1,16 +1,16 @@
 //! The domain of a sketch.
-ghost use Rattle.std.specs.Prelude.{◌≡◌, All, IfOk, map, option_map};
+ghost use Rattle.std.specs.Prelude.{◌≡◌, All, IfOk, IfSome, find, map, nat_lt, option_map};
 ghost use Rattle.cqf_sketch.specs.Edges.{talkers_of};
 ghost use Rattle.cqf_topology_fields.specs.Fields.{Gives};
+ghost use Rattle.cqf_sketch.specs.SketchDomain.{AreCandidates, AreCheckedEdges, HasNumberedNames, HasTalkerLinks, IsOpenCycle, IsReadableSketch, domain_at, open_cycle};
 ghost use Rattle.cqf_sketch.specs.SketchDomain.{EdgeInside, checked, link_of, plant_of, sketch_domain_of_text, sketch_with, talker_of, with_names};
 
 use crate::SketchFault;
 use crate::checks::check;
 use crate::draft::{Draft, read_draft};
 use crate::ends::{JoinedEdge, join_edges};
-use crate::names::numbered_names;
 use cqf_model::Link;
-use cqf_topology::DomainFault;
+use cqf_topology::{Domain, DomainFault, copied_names, numbered_names};
 use cqf_units::{Memory, Name, Rate};
 use indexmap::IndexSet;
 use std::alloc::Global;
@@ -41,7 +41,7 @@ pub struct SketchDomain {
 }
 
 impl Model for SketchDomain {
-    ghost use Rattle.cqf_sketch.specs.SketchDomain.{SketchDomain as SketchValue};
+    ghost use Rattle.cqf_sketch.specs.SketchDomain.{SketchDomain as SketchValue, IsSketch};
 
     ghost Value = { SketchValue };
 
@@ -53,6 +53,27 @@ impl Model for SketchDomain {
       links = d.links.items;
       talkers = d.talkers.items;
     } };
+
+    ghost invariant = { λ d. IsSketch (record {
+      candidates = d.candidates.items;
+      guard = d.guard;
+      bridges = d.bridges.keys;
+      stations = d.stations.keys;
+      links = d.links.items;
+      talkers = d.talkers.items;
+    }) };
+}
+
+/// The first candidate above the guard time.
+fn first_above(candidates: &[u32], guard: u32) -> Option<u32>
+    ensures { result ≡ find (nat_lt guard) candidates.now }
+{
+    for cycle in candidates {
+        if guard < *cycle {
+            return Some(*cycle);
+        }
+    }
+    None
 }
 
 /// The plant's links, where nodes are few.
@@ -90,9 +111,9 @@ fn checked_edges(
     bridges: &IndexSet<Name>,
     stations: &IndexSet<Name>,
 ) -> Result<Vec<JoinedEdge>, SketchFault>
-    requires bridges { bridges.now.keys ≡ draft.now.bridges }
-    requires stations { stations.now.keys ≡ draft.now.stations }
+    requires { HasNumberedNames draft.now bridges.now.keys stations.now.keys }
     ensures given { Gives (SketchFault.Domain DomainFault.Memory) (λ edges. sketch_with draft.now edges.items) result (with_names draft.now) }
+    ensures checked { IfOk result (λ edges. AreCheckedEdges draft.now edges.items) }
     ensures few { IfOk result (λ edges. All (EdgeInside 32 64) edges.items) }
 {
     let edges = join_edges(alloc, bridges, stations, draft.links())?;
@@ -108,8 +129,7 @@ impl SketchDomain {
         bridges: IndexSet<Name>,
         stations: IndexSet<Name>,
     ) -> Result<SketchDomain, SketchFault>
-        requires bridges { bridges.keys ≡ draft.now.bridges }
-        requires stations { stations.keys ≡ draft.now.stations }
+        requires { HasNumberedNames draft.now bridges.keys stations.keys }
         ensures { Gives (SketchFault.Domain DomainFault.Memory) (λ domain. domain) result (with_names draft.now) }
     {
         let edges = checked_edges(alloc, draft, &bridges, &stations)?;
@@ -128,6 +148,7 @@ impl SketchDomain {
 
     /// The domain that a draft means, or the first check that it fails.
     fn of_draft(alloc: Global, draft: &Draft) -> Result<SketchDomain, SketchFault>
+        requires { IsReadableSketch draft.now }
         ensures { Gives (SketchFault.Domain DomainFault.Memory) (λ domain. domain) result (checked draft.now) }
     {
         let none = IndexSet::new(alloc);
@@ -137,7 +158,8 @@ impl SketchDomain {
     }
 
     /// The domain that a sketch's text means, or the first fault of the text (profile). Where candidates for the cycle time are
-    /// given, the text's `cycle` isn't read. Keys that mean nothing here are passed over.
+    /// given, 1 to 1,000 of them and each from 10,000 to 10,000,000 ns, the text's `cycle` isn't read. Keys that mean nothing here
+    /// are passed over.
     ///
     /// # Errors
     /// What is wrong in being read, as of [`read_draft`]; and then, each over the whole before the next: `NameTaken`, of the first name,
@@ -152,6 +174,7 @@ impl SketchDomain {
         text: &[u8],
         given: Option<Vec<u32>>,
     ) -> Result<SketchDomain, SketchFault>
+        requires { IfSome given (λ cycles. AreCandidates cycles.items) }
         ensures { Gives (SketchFault.Domain DomainFault.Memory) (λ domain. domain) result
             (sketch_domain_of_text (option_map (λ cycles. cycles.items) given) text.now) }
     {
@@ -159,11 +182,39 @@ impl SketchDomain {
         SketchDomain::of_draft(alloc, &draft)
     }
 
-    /// The candidates for the cycle time, in the order of wish.
+    /// The plant's domain with a cycle time that is open, in nanoseconds: 10,000 to 10,000,000, and above the guard time. It is
+    /// accepted.
+    ///
+    /// # Errors
+    /// `Memory` where a growth is refused.
+    pub fn at(&self, alloc: Global, cycle_time: u32) -> Result<Domain, Memory>
+        requires { IsOpenCycle self.now cycle_time }
+        ensures { IfOk result (λ domain. domain ≡ domain_at self.now cycle_time) }
+    {
+        let links = Vec::from_slice(alloc, self.links.as_slice())?;
+        let bridges = copied_names(&self.bridges)?;
+        let stations = copied_names(&self.stations)?;
+        Ok(Domain::of_parts(cycle_time, self.guard, bridges, stations, links))
+    }
+
+    /// The candidates for the cycle time, in the order of wish: 1 to 1,000 of them, each from 10,000 to 10,000,000 ns. Each that is
+    /// above the guard time is open.
     pub fn candidates(&self) -> &[u32]
-        ensures { result.now ≡ self.now.candidates }
+        ensures value { result.now ≡ self.now.candidates }
+        ensures few { AreCandidates result.now }
     {
         self.candidates.as_slice()
+    }
+
+    /// The first candidate above the guard time, in nanoseconds. There is one.
+    pub fn open_cycle(&self) -> u32
+        ensures first { result ≡ open_cycle self.now }
+        ensures is_open { IsOpenCycle self.now result }
+    {
+        match first_above(self.candidates.as_slice(), self.guard) {
+            Some(cycle) => cycle,
+            None => unreachable!(),
+        }
     }
 
     /// The guard time, in nanoseconds.
@@ -180,9 +231,10 @@ impl SketchDomain {
         self.links.as_slice()
     }
 
-    /// The talkers' links.
+    /// The talkers' links, each from a station to a bridge of the sketch. No station has two.
     pub fn talkers(&self) -> &[TalkerLink]
-        ensures { result.now ≡ self.now.talkers }
+        ensures value { result.now ≡ self.now.talkers }
+        ensures there { HasTalkerLinks self.now }
     {
         self.talkers.as_slice()
     }

@@ -3,15 +3,15 @@ ghost use Rattle.std.specs.Prelude.{◌≡◌, codes, drop, if◌then◌else◌,
 ghost use Rattle.toml.specs.View.{items_view, table_view, view};
 ghost use Rattle.toml.specs.Data.{as_bool, as_table, get_member};
 ghost use Rattle.cqf_lists.specs.Results.{and_then};
-ghost use Rattle.cqf_topology_fields.specs.Fields.{Gives, names_at, read_at};
-ghost use Rattle.cqf_topology.specs.DomainText.{if_some, rate_from, rate_of};
+ghost use Rattle.cqf_topology_fields.specs.Fields.{Gives, names_at};
+ghost use Rattle.cqf_topology.specs.DomainText.{if_some};
 ghost use Rattle.cqf_sketch.specs.Faults.{sketch_fault};
 ghost use Rattle.cqf_sketch.specs.SketchText.{candidates_read, duplex_at, link_read, links_from, links_read, one_way_read, sketch_from, sketch_of_text};
 
 use crate::SketchFault;
 use crate::cycles::candidates_at;
 use cqf_model::LONGEST_CYCLE;
-use cqf_topology::DomainFault;
+use cqf_topology::{DomainFault, rate_at};
 use cqf_topology_fields::{
     Key, TomlFault, are_all_tables, array_at, name_at, names_at, number_at, read_document, value_at,
 };
@@ -99,38 +99,6 @@ const KEYS: [Key; 5] = [
 
 /// The keys of a link's table that each has, in reading order.
 const LINK_KEYS: [Key; 4] = [Key::From, Key::To, Key::Rate, Key::Delay];
-
-/// The rate of so many Mb/s.
-fn rate_of_number(number: i64) -> Option<Rate>
-    ensures { result ≡ rate_of number }
-{
-    match number {
-        10 => Some(Rate::Mb10),
-        100 => Some(Rate::Mb100),
-        1000 => Some(Rate::Mb1000),
-        _ => None,
-    }
-}
-
-/// The rate that a value means.
-fn rate_of_value(value: &Value) -> Option<Rate>
-    ensures { result ≡ rate_from (view value.now) }
-{
-    match value.as_integer() {
-        Some(number) => rate_of_number(number),
-        None => None,
-    }
-}
-
-/// The rate at a key.
-fn rate_at(table: &Table) -> Result<Rate, TomlFault>
-    ensures { result ≡ read_at Key.Rate rate_from (table_view table.now) }
-{
-    match value_at(table, Key::Rate).and_then(rate_of_value) {
-        Some(rate) => Ok(rate),
-        None => Err(TomlFault::BadValue(Key::Rate)),
-    }
-}
 
 /// The way there of a link's table.
 fn read_one_way(table: &Table) -> Result<OneWay, TomlFault>

@@ -1,26 +1,19 @@
 //! Links one direction each, by the numbers of their ends.
-ghost use Rattle.std.specs.Prelude.{◌≡◌, ◌++◌, option_map, OnOk};
+ghost use Rattle.std.specs.Prelude.{◌≡◌, ◌++◌, OnOk};
 ghost use Rattle.cqf_topology_fields.specs.Fields.{Gives};
+ghost use Rattle.cqf_topology.specs.JoinedLink.{node_of};
 ghost use Rattle.cqf_sketch.specs.SketchDomain.{EdgeInside, NodeInside, link_of, number_of, talker_of};
-ghost use Rattle.cqf_sketch.specs.Edges.{back_of, edges_of, end_named, ends_of, from_alone, has_long_delay, has_long_gap, is_talkers, joined, joined_edge, may_lead, node_of, pair_of};
+ghost use Rattle.cqf_sketch.specs.Edges.{back_of, edges_of, ends_of, from_alone, has_long_delay, has_long_gap, is_talkers, joined, joined_edge, may_lead, pair_of};
 
 use crate::SketchFault;
 use crate::domain::TalkerLink;
 use crate::draft::{DraftLink, OneWay};
-use crate::names::number_of_name;
 use cqf_model::{Link, Node};
-use cqf_topology::DomainFault;
+use cqf_topology::{DomainFault, End, end_of_name};
 use cqf_units::{Memory, Name, Rate, octet_time};
 use indexmap::IndexSet;
 use std::alloc::Global;
 use std::marker::Model;
-
-/// A node by its number among the bridges or among the stations, however many there are.
-#[derive(Clone, Copy, Debug, PartialEq, Eq, Hash)]
-pub(crate) enum End {
-    Bridge(usize),
-    Station(usize),
-}
 
 /// A link in one direction, with its element's place in the text.
 #[derive(Clone, Copy)]
@@ -33,26 +26,14 @@ pub(crate) struct JoinedEdge {
 }
 
 impl Model for JoinedEdge {
-    ghost use Rattle.cqf_sketch.specs.Edges.{Edge, end_of_node, node_of};
+    ghost use Rattle.cqf_sketch.specs.Edges.{Edge};
+    ghost use Rattle.cqf_topology.specs.JoinedLink.{end_of_joined, node_of};
 
     ghost Value = { Edge };
 
     ghost view = { λ e. record { from = node_of e.from; to = node_of e.to; rate = e.rate; delay = e.delay; element = e.element } };
 
-    ghost inverse = { λ e. record { from = end_of_node e.from; to = end_of_node e.to; rate = e.rate; delay = e.delay; element = e.element } };
-}
-
-/// The node of a name.
-fn end_of_name(bridges: &IndexSet<Name>, stations: &IndexSet<Name>, name: &Name) -> Option<End>
-    ensures { option_map node_of result ≡ end_named bridges.now.keys stations.now.keys name.now }
-{
-    if let Some(bridge) = number_of_name(bridges, name) {
-        return Some(End::Bridge(bridge));
-    }
-    match number_of_name(stations, name) {
-        Some(station) => Some(End::Station(station)),
-        None => None,
-    }
+    ghost inverse = { λ e. record { from = end_of_joined e.from; to = end_of_joined e.to; rate = e.rate; delay = e.delay; element = e.element } };
 }
 
 /// Whether a link may lead from a node to a node.

@@ -43,6 +43,17 @@ impl From<TomlFault> for SketchFault {
     }
 }
 
+/// A fault of a plant's domain, as a sketch has it.
+impl From<DomainFault> for SketchFault {
+    ghost use Rattle.cqf_sketch.specs.declared.faults.SketchFault.TheVariants as variant;
+
+    ghost from_gives = { λ found fault. fault ≡ variant.Domain found };
+
+    fn from(found: DomainFault) -> SketchFault {
+        SketchFault::Domain(found)
+    }
+}
+
 /// Want of memory, as a fault.
 impl From<Memory> for SketchFault {
     ghost use Rattle.cqf_topology.specs.declared.faults.DomainFault.TheVariants as domain;

@@ -26,7 +26,6 @@ mod domain;
 mod draft;
 mod ends;
 mod faults;
-mod names;
 mod repeats;
 
 pub use domain::{SketchDomain, TalkerLink};

@@ -3,7 +3,7 @@ ghost use Rattle.std.specs.Prelude.{◌≡◌, ◌<◌, ◌++◌, ◌∷◌, [],
 ghost use Rattle.std.specs.List.{list_any};
 ghost use Rattle.cqf_sketch.specs.Edges.{first_repeat, pair_of, same_pair};
 
-use crate::ends::End;
+use cqf_topology::End;
 use cqf_units::Memory;
 use indexmap::IndexSet;
 use std::alloc::Global;

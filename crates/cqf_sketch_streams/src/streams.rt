@@ -9,9 +9,9 @@ ghost use Rattle.cqf_sketch_streams.specs.StreamsText.{octets_from, sketch_strea
 
 use crate::lacks::first_lack_of;
 use crate::wanted::{Wanted, read_wanted};
-use cqf_topology::{Key, StreamsFault};
+use cqf_topology::{Key, StreamsFault, deadline_of};
 use cqf_topology_fields::{are_all_tables, array_at, number_at, read_document, text_at, value_at};
-use cqf_traffic::{FlowsFault, Traffic, deadline_of, traffic_of};
+use cqf_traffic::{FlowsFault, Traffic, traffic_of};
 use std::alloc::Global;
 use toml::{Table, Value};
 

@@ -8,9 +8,8 @@ ghost use Rattle.cqf_topology.specs.DomainText.{first_taken, is_among};
 ghost use Rattle.cqf_sketch_streams.specs.StreamsText.{along_from, between_from, first_end, if_listeners, listeners_of, wanted_from, wanted_text};
 
 use crate::lacks::has_path;
-use cqf_topology::{Key, StreamsFault};
+use cqf_topology::{Key, StreamsFault, branches_of};
 use cqf_topology_fields::{name_at, names_at, value_at};
-use cqf_traffic::branches_of;
 use cqf_units::Name;
 use std::alloc::Global;
 use toml::Table;

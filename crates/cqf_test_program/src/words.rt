@@ -1,32 +1,70 @@
 //! Words read.
 use cqf_program_stop::{DONE, USAGE};
-use cqf_program_words::{Format, Job, read_words};
+use cqf_program_words::{Format, Job, candidates_named, read_words};
 use cqf_units::Rate;
 use std::alloc::Global;
 
-const FIVE: Job = Job::Port {
+/// A job whose words name no stream and no candidates: a job of `cqf_program_words` may hold what no table can.
+enum Meant {
+    Port { until: u64, rate: Rate },
+    Line { cycles: u32 },
+    Compile { format: Format },
+    Load,
+    Latency { strict: bool },
+    Run { cycles: u32, threads: bool },
+    Report { cycles: u32 },
+    Deliveries { cycles: u32 },
+    Check { cycles: u32 },
+    Offers { cycles: u32, seed: Option<u32> },
+    Hops { cycles: u32, frame: Option<u32> },
+    Plan { table: bool },
+}
+
+/// The job.
+fn job_of(meant: &Meant) -> Job {
+    match *meant {
+        Meant::Port { until, rate } => Job::Port { until, rate },
+        Meant::Line { cycles } => Job::Line { cycles },
+        Meant::Compile { format } => Job::Compile { format },
+        Meant::Load => Job::Load,
+        Meant::Latency { strict } => Job::Latency { strict },
+        Meant::Run { cycles, threads } => Job::Run { cycles, threads },
+        Meant::Report { cycles } => Job::Report { cycles },
+        Meant::Deliveries { cycles } => Job::Deliveries { cycles },
+        Meant::Check { cycles } => Job::Check { cycles },
+        Meant::Offers { cycles, seed } => Job::Offers { cycles, seed },
+        Meant::Hops { cycles, frame } => Job::Hops {
+            cycles,
+            stream: None,
+            frame,
+        },
+        Meant::Plan { table } => Job::Plan { table, given: None },
+    }
+}
+
+const FIVE: Meant = Meant::Port {
     until: 5,
     rate: Rate::Mb1000,
 };
 
-const FIVE_SLOWLY: Job = Job::Port {
+const FIVE_SLOWLY: Meant = Meant::Port {
     until: 5,
     rate: Rate::Mb10,
 };
 
-const MOST_AT_THE_MIDDLE_RATE: Job = Job::Port {
+const MOST_AT_THE_MIDDLE_RATE: Meant = Meant::Port {
     until: 100_000_000,
     rate: Rate::Mb100,
 };
 
-const LISTED: Job = Job::Compile {
+const LISTED: Meant = Meant::Compile {
     format: Format::List,
 };
 
-const AS_SCRIPT: Job = Job::Compile { format: Format::Tc };
+const AS_SCRIPT: Meant = Meant::Compile { format: Format::Tc };
 
 /// Words, the job that they mean, and the status that they end with where they mean none.
-const CASES: &[(&[&str], Option<Job>, u8)] = &[
+const CASES: &[(&[&str], Option<Meant>, u8)] = &[
     (&["port", "--until", "5"], Some(FIVE), DONE),
     (
         &["port", "--rate", "10", "--until", "5"],
@@ -40,7 +78,7 @@ const CASES: &[(&[&str], Option<Job>, u8)] = &[
     ),
     (
         &["line", "--cycles", "100000"],
-        Some(Job::Line { cycles: 100_000 }),
+        Some(Meant::Line { cycles: 100_000 }),
         DONE,
     ),
     (&["compile"], Some(LISTED), DONE),
@@ -62,11 +100,11 @@ const CASES: &[(&[&str], Option<Job>, u8)] = &[
     (&["--format", "tc", "compile"], None, USAGE),
     (&["load", "--format", "tc"], None, USAGE),
     (&["port", "--until", "5", "--format", "tc"], None, USAGE),
-    (&["load"], Some(Job::Load), DONE),
-    (&["latency"], Some(Job::Latency { strict: false }), DONE),
+    (&["load"], Some(Meant::Load), DONE),
+    (&["latency"], Some(Meant::Latency { strict: false }), DONE),
     (
         &["latency", "--strict"],
-        Some(Job::Latency { strict: true }),
+        Some(Meant::Latency { strict: true }),
         DONE,
     ),
     (&["load", "--strict"], None, USAGE),
@@ -76,7 +114,7 @@ const CASES: &[(&[&str], Option<Job>, u8)] = &[
     (&["load", "--cycles", "5"], None, USAGE),
     (
         &["run", "--cycles", "1"],
-        Some(Job::Run {
+        Some(Meant::Run {
             cycles: 1,
             threads: false,
         }),
@@ -84,7 +122,7 @@ const CASES: &[(&[&str], Option<Job>, u8)] = &[
     ),
     (
         &["run", "--cycles", "1", "--threads"],
-        Some(Job::Run {
+        Some(Meant::Run {
             cycles: 1,
             threads: true,
         }),
@@ -92,7 +130,7 @@ const CASES: &[(&[&str], Option<Job>, u8)] = &[
     ),
     (
         &["run", "--threads", "--cycles", "100000"],
-        Some(Job::Run {
+        Some(Meant::Run {
             cycles: 100_000,
             threads: true,
         }),
@@ -100,22 +138,22 @@ const CASES: &[(&[&str], Option<Job>, u8)] = &[
     ),
     (
         &["report", "--cycles", "100000"],
-        Some(Job::Report { cycles: 100_000 }),
+        Some(Meant::Report { cycles: 100_000 }),
         DONE,
     ),
     (
         &["deliveries", "--cycles", "1"],
-        Some(Job::Deliveries { cycles: 1 }),
+        Some(Meant::Deliveries { cycles: 1 }),
         DONE,
     ),
     (
         &["deliveries", "--cycles", "100000"],
-        Some(Job::Deliveries { cycles: 100_000 }),
+        Some(Meant::Deliveries { cycles: 100_000 }),
         DONE,
     ),
     (
         &["check", "--cycles=100000"],
-        Some(Job::Check { cycles: 100_000 }),
+        Some(Meant::Check { cycles: 100_000 }),
         DONE,
     ),
     (&["deliveries"], None, USAGE),
@@ -148,24 +186,170 @@ const CASES: &[(&[&str], Option<Job>, u8)] = &[
     (&["port", "--until", "100000001"], None, USAGE),
     (&["port", "--cycles", "5"], None, USAGE),
     (&["port", "--until", "5", "--rate", "20"], None, USAGE),
+    (
+        &["hops", "--cycles", "5"],
+        Some(Meant::Hops {
+            cycles: 5,
+            frame: None,
+        }),
+        DONE,
+    ),
+    (
+        &["hops", "--frame", "1000000", "--cycles", "100000"],
+        Some(Meant::Hops {
+            cycles: 100_000,
+            frame: Some(1_000_000),
+        }),
+        DONE,
+    ),
+    (&["hops"], None, USAGE),
+    (&["hops", "--cycles", "5", "--frame", "0"], None, USAGE),
+    (
+        &["hops", "--cycles", "5", "--frame", "1000001"],
+        None,
+        USAGE,
+    ),
+    (&["hops", "--cycles", "5", "--frame"], None, USAGE),
+    (&["hops", "--cycles", "5", "--stream"], None, USAGE),
+    (
+        &["hops", "--cycles", "5", "--stream", "x", "--stream", "y"],
+        None,
+        USAGE,
+    ),
+    (&["hops", "--cycles", "100001"], None, USAGE),
+    (&["run", "--cycles", "5", "--frame", "1"], None, USAGE),
+    (&["plan"], Some(Meant::Plan { table: false }), DONE),
+    (
+        &["plan", "--table"],
+        Some(Meant::Plan { table: true }),
+        DONE,
+    ),
+    (&["plan", "--cycle"], None, USAGE),
+    (&["plan", "--cycle", "9999"], None, USAGE),
+    (&["plan", "--cycle", "10000..20000/0"], None, USAGE),
+    (&["plan", "--cycles", "5"], None, USAGE),
     (&["gate", "--until", "5"], None, USAGE),
     (&[""], None, USAGE),
     (&["--help"], None, DONE),
 ];
 
 /// Whether the words mean this job, or end with this status.
-fn is_read(alloc: Global, words: &[&str], job: Option<Job>, status: u8) -> bool {
+fn is_read(alloc: Global, words: &[&str], meant: &Option<Meant>, status: u8) -> bool {
     match read_words(alloc, words) {
-        Ok(found) => job == Some(found),
-        Err(stop) => job.is_none() && stop.status == status,
+        Ok(found) => match *meant {
+            Some(ref meant) => found == job_of(meant),
+            None => false,
+        },
+        Err(stop) => meant.is_none() && stop.status == status,
     }
 }
 
 #[test]
 fn words_mean_a_job_or_are_misuse(rt: HostRuntime) {
-    for (words, job, status) in CASES {
-        assert!(rt; is_read(rt.alloc(), words, *job, *status));
+    for (words, meant, status) in CASES {
+        assert!(rt; is_read(rt.alloc(), words, meant, *status));
     }
+}
+
+/// Whether the words mean hops of the frames of this stream.
+fn is_of_stream(alloc: Global, words: &[&str], name: &str) -> bool {
+    match read_words(alloc, words) {
+        Ok(
+            Job::Hops {
+                cycles: 5,
+                stream: Some(stream),
+                frame: None,
+            },
+        ) => stream.as_str() == name,
+        _ => false,
+    }
+}
+
+#[test]
+fn hops_are_of_a_stream_of_any_name(rt: HostRuntime) {
+    let alloc = rt.alloc();
+    assert!(rt;
+        is_of_stream(
+            alloc,
+            &["hops", "--cycles", "5", "--stream", "mic-l"],
+            "mic-l"
+        )
+    );
+    assert!(rt; is_of_stream(alloc, &["hops", "--stream=", "--cycles", "5"], ""));
+    assert!(rt; is_of_stream(alloc, &["hops", "--stream=-x", "--cycles=5"], "-x"));
+}
+
+/// Words for candidates, and the cycle times that they name: none where they name none.
+const CANDIDATES: &[(&str, &[u32])] = &[
+    ("10000", &[10_000]),
+    ("00000000000010000000", &[10_000_000]),
+    ("20000..100000/40000", &[20_000, 60_000, 100_000]),
+    ("20000..99999/40000", &[20_000, 60_000]),
+    ("10000..10000/1", &[10_000]),
+    // a step beyond the last one leaves the first alone, however many digits it has
+    ("200000..300000/100001", &[200_000]),
+    ("200000..300000/99999999999999999999", &[200_000]),
+    ("200000..300000/100000000000000000000", &[]),
+    ("", &[]),
+    ("9999", &[]),
+    ("10000001", &[]),
+    ("10000..", &[]),
+    ("10000..20000", &[]),
+    ("10000..20000/", &[]),
+    ("10000..20000/0", &[]),
+    ("20000..10000/1", &[]),
+    ("10000..10000001/1000000", &[]),
+    ("9999..20000/1000", &[]),
+    ("10000.20000/1000", &[]),
+    ("10000...20000/1000", &[]),
+    ("10000..20000/1000/1000", &[]),
+    ("10000/1000", &[]),
+    ("+10000", &[]),
+    ("10000..11000/1", &[]),
+];
+
+/// Whether the word names these candidates.
+fn names_these(alloc: Global, word: &str, wanted: &[u32]) -> bool {
+    match candidates_named(word) {
+        Some(candidates) => match candidates.list(alloc) {
+            Ok(times) => times.as_slice() == wanted,
+            Err(_) => false,
+        },
+        None => wanted.is_empty(),
+    }
+}
+
+#[test]
+fn words_name_candidates(rt: HostRuntime) {
+    for (word, wanted) in CANDIDATES {
+        assert!(rt; names_these(rt.alloc(), word, wanted));
+    }
+}
+
+/// How many candidates the word for `plan` gives, and its first and last.
+fn given_by(alloc: Global, word: &str) -> Option<(usize, u32, u32)> {
+    let Ok(
+        Job::Plan {
+            table: true,
+            given: Some(given),
+        },
+    ) = read_words(alloc, &["plan", "--table", "--cycle", word])
+    else {
+        return None;
+    };
+    match given.list(alloc) {
+        Ok(times) => Some((times.len(), *times.first()?, *times.last()?)),
+        Err(_) => None,
+    }
+}
+
+#[test]
+fn a_plan_is_given_at_most_1000_candidates(rt: HostRuntime) {
+    let alloc = rt.alloc();
+    assert!(rt; given_by(alloc, "200000..300000/2000") == Some((51, 200_000, 300_000)));
+    assert!(rt; given_by(alloc, "10000..10999/1") == Some((1_000, 10_000, 10_999)));
+    assert!(rt; given_by(alloc, "10000..10000000/10000") == Some((1_000, 10_000, 10_000_000)));
+    assert!(rt; given_by(alloc, "10000..11000/1").is_none());
 }
 
 /// Whether the help that the words ask for has this text in it.
@@ -215,6 +399,16 @@ const HELP: &[(&[&str], &str)] = &[
     (&["load", "--help"], "cqf load plant.toml\n"),
     (&["latency", "--help"], "Usage: cqf latency [OPTIONS]\n"),
     (&["latency", "--help"], "cqf latency --strict plant.toml\n"),
+    (
+        &["hops", "--help"],
+        "Usage: cqf hops [OPTIONS] --cycles <N>\n",
+    ),
+    (
+        &["hops", "--help"],
+        "cqf hops --cycles 5 --stream x plant.toml calls.txt offers.csv\n",
+    ),
+    (&["plan", "--help"], "Usage: cqf plan [OPTIONS]\n"),
+    (&["plan", "--help"], "cqf plan sketch.toml\n"),
 ];
 
 #[test]

@@ -86,3 +86,29 @@ fn links_are_numbered_there_before_back(rt: HostRuntime) {
         Err(_) => assert!(rt; false),
     }
 }
+
+/// Whether the plant of a sketch with the first cycle time that is open has this one.
+fn opens_at(alloc: Global, text: &str, cycle: u64) -> bool {
+    let Ok(sketch) = SketchDomain::read(alloc, text.as_bytes(), None) else {
+        return false;
+    };
+    match sketch.at(alloc, sketch.open_cycle()) {
+        Ok(plant) => plant.cycle_time().0 == cycle && plant.links() == 3,
+        Err(_) => false,
+    }
+}
+
+/// A candidate that the guard time reaches isn't open.
+#[test]
+fn the_plant_has_the_first_open_cycle(rt: HostRuntime) {
+    assert!(rt; opens_at(rt.alloc(), SKETCH, 250_000));
+    match SKETCH.replacen(
+        rt.alloc(),
+        "[250000, 125000]\nguard = 4000",
+        "[125000, 250000]\nguard = 125000",
+        1,
+    ) {
+        Ok(text) => assert!(rt; opens_at(rt.alloc(), text.as_str(), 250_000)),
+        Err(_) => assert!(rt; false),
+    }
+}

@@ -167,7 +167,7 @@ pub record HasEnds (d : Domain) (link : Link) : Type 0 where
   pub not_to_itself : link.to ≢ Bridge link.from
 
 -- the place of a name is one of the names'
-place-within : (name : List ℕ) (names : List (List ℕ)) (i : ℕ) → place_of name names ≡ Some i → i < length names
+pub place-within : (name : List ℕ) (names : List (List ℕ)) (i : ℕ) → place_of name names ≡ Some i → i < length names
 place-within name names i h = (position-Some _ names i [] h).0
 
 -- the node of a name is one of the domain's

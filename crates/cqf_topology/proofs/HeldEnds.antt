@@ -14,7 +14,7 @@ use Rattle.cqf_topology.specs.DomainText.{same_ends, first_twice}
 use Rattle.cqf_topology.specs.JoinedLink.{node_of, ends_held, ends_of, are_same_ends}
 
 -- two ends are equal where their nodes are the same
-end_eq-node : (a b : End) → end.eq a b ≡ same_node (node_of a) (node_of b)
+pub end_eq-node : (a b : End) → end.eq a b ≡ same_node (node_of a) (node_of b)
 end_eq-node (Bridge a) (Bridge b) = refl
 end_eq-node (Bridge a) (Station b) = refl
 end_eq-node (Station a) (Bridge b) = refl

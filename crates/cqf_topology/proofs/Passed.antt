@@ -18,7 +18,7 @@ pub record Passes (d : DomainText) (links : List Link) : Type 0 where
   pub few_links : length links ≤ 64
 
 -- what isn't so fails its test
-not_so : (b : Bool) → if_so b ≡ None → b ≡ false
+pub not_so : (b : Bool) → if_so b ≡ None → b ≡ false
 not_so true e = absurd (cc)
 not_so false e = refl
 

@@ -35,7 +35,7 @@ and_then-Some f None y h = absurd (cc)
 and_then-Some f (Some x) y h = (x, refl, h)
 
 -- a number that was read is in its range
-within_range-Some : (least most : ℕ) (z : ℤ) (n : ℕ) → within_range least most z ≡ Some n → (least ≤ n) × (n ≤ most)
+pub within_range-Some : (least most : ℕ) (z : ℤ) (n : ℕ) → within_range least most z ≡ Some n → (least ≤ n) × (n ≤ most)
 within_range-Some least most (pos m) n h = by (nat_le least m && nat_le m most) refl h
   where
     -- what is taken because it is in the range is in it

@@ -213,6 +213,11 @@ NoLinkTwice links = AllPairs (λ (a b : Link). ¬ ((a.from ≡ b.from) × (a.to 
 abbrev pub IsOnlyLink : Domain → ℕ → Node → Option ℕ → Type 0
 IsOnlyLink d from to found = (number : ℕ) (link : Link) → slice_get d.links number ≡ Some link → link.from ≡ from → link.to ≡ to → found ≡ Some number
 
+-- the domain of these parts
+abbrev pub domain_with : ℕ → ℕ → List (List ℕ) → List (List ℕ) → List Link → Domain
+domain_with cycle_time guard bridges stations links =
+    record { cycle_time = cycle_time; guard = guard; bridges = bridges; stations = stations; links = links }
+
 -- what a domain's text gives beyond being accepted: each name has the form of a name, no two are equal, and no two links
 -- have the same ends
 pub record IsDomain (d : Domain) : Type 0 where

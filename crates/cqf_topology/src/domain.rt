@@ -3,7 +3,7 @@ ghost use Rattle.std.specs.Prelude.{◌≡◌, ◌<◌, ◌==◌, ◌&&◌, leng
 ghost use Rattle.cqf_model.specs.Domain.{IsAccepted, node_named, link_between, same_node};
 ghost use Rattle.cqf_topology_fields.specs.Fields.{Gives};
 ghost use Rattle.cqf_topology.specs.DomainText.{IsDomain, IsOnlyLink, IsReadable, HasBridges, HasNames, IsNumberedDomain};
-ghost use Rattle.cqf_topology.specs.DomainText.{with_links, with_these, checked, domain_of_text};
+ghost use Rattle.cqf_topology.specs.DomainText.{with_links, with_these, checked, domain_of_text, domain_with};
 
 use crate::DomainFault;
 use crate::draft::{Draft, read_draft};
@@ -136,6 +136,27 @@ impl Domain {
             stations,
             links,
         })
+    }
+
+    /// The domain of these parts, which is an accepted one: its times in nanoseconds, its bridges and stations by number, and its
+    /// links by number (profile).
+    pub fn of_parts(
+        cycle_time: u32,
+        guard: u32,
+        bridges: IndexSet<Name>,
+        stations: IndexSet<Name>,
+        links: Vec<Link>,
+    ) -> Domain
+        requires { IsDomain (domain_with cycle_time guard bridges.keys stations.keys links.items) }
+        ensures { result ≡ domain_with cycle_time guard bridges.keys stations.keys links.items }
+    {
+        Domain {
+            cycle_time,
+            guard,
+            bridges,
+            stations,
+            links,
+        }
     }
 
     /// The cycle time: all bridges divide time into cycles of it (IEEE 802.1Q, Annex T). It is 10,000 to 10,000,000 ns.

@@ -109,8 +109,11 @@ fn rate_of_value(value: &Value) -> Option<Rate>
     }
 }
 
-/// The rate at a key.
-fn rate_at(table: &Table) -> Result<Rate, TomlFault>
+/// The rate of a link's table.
+///
+/// # Errors
+/// `BadValue` of `rate`, where none of the integers 10, 100 and 1000 stands there.
+pub fn rate_at(table: &Table) -> Result<Rate, TomlFault>
     ensures { result ≡ read_at Key.Rate rate_from (table_view table.now) }
 {
     match value_at(table, Key::Rate).and_then(rate_of_value) {

@@ -20,7 +20,7 @@ use std::marker::Model;
 
 /// A node by its number among the bridges or among the stations, however many there are.
 #[derive(Clone, Copy, PartialEq, Eq, Hash)]
-pub(crate) enum End {
+pub enum End {
     Bridge(usize),
     Station(usize),
 }
@@ -69,8 +69,11 @@ fn number_names(
     Ok(())
 }
 
-/// The names, numbered: none of them is among the others, and none stands twice.
-pub(crate) fn numbered_names(
+/// The names, numbered from 0 in their order: none of them is among the others, and none stands twice.
+///
+/// # Errors
+/// `NameTaken` of the first name that stood earlier, or is among the others; `Memory` where a growth is refused.
+pub fn numbered_names(
     alloc: Global,
     names: &[Name],
     others: &IndexSet<Name>,
@@ -83,12 +86,8 @@ pub(crate) fn numbered_names(
     Ok(numbered)
 }
 
-/// The node of a name.
-pub(crate) fn end_of_name(
-    bridges: &IndexSet<Name>,
-    stations: &IndexSet<Name>,
-    name: &Name,
-) -> Option<End>
+/// The node of a name, or `None` where neither a bridge nor a station has it.
+pub fn end_of_name(bridges: &IndexSet<Name>, stations: &IndexSet<Name>, name: &Name) -> Option<End>
     ensures { option_map node_of result ≡ node_or (place_of name.now bridges.now.keys) (place_of name.now stations.now.keys) }
 {
     if let Some(bridge) = number_of_name(bridges, name) {

@@ -28,8 +28,8 @@ pub(crate) fn add_name(names: &mut IndexSet<Name>, name: &Name) -> Result<(), Me
     Ok(())
 }
 
-/// The same names again, unless memory runs out.
-pub(crate) fn copied_names(names: &IndexSet<Name>) -> Result<IndexSet<Name>, Memory>
+/// The same names again, in the same order, unless memory runs out.
+pub fn copied_names(names: &IndexSet<Name>) -> Result<IndexSet<Name>, Memory>
     ensures { IfOk result (λ copy. copy.keys ≡ names.now.keys) }
 {
     names.clone()

@@ -21,8 +21,11 @@ pub struct Planned {
     pub deadline: Option<u32>,
 }
 
-/// The deadline of a stream's table.
-fn deadline_of(table: &Table) -> Result<Option<u32>, StreamsFault>
+/// The deadline of a stream's table, in nanoseconds, where it has one.
+///
+/// # Errors
+/// `BadValue` of `deadline`, where no integer from 1 to 4,294,967,295 stands there.
+pub fn deadline_of(table: &Table) -> Result<Option<u32>, StreamsFault>
     ensures { result ≡ deadline_from (table_view table.now) }
 {
     if value_at(table, Key::Deadline).is_none() {
@@ -34,8 +37,12 @@ fn deadline_of(table: &Table) -> Result<Option<u32>, StreamsFault>
     }
 }
 
-/// A stream's table.
-fn read_planned(alloc: Global, table: &Table) -> Result<Planned, StreamsFault>
+/// The request of a stream's table, and its deadline.
+///
+/// # Errors
+/// `BadValue` of the first key, in reading order, at which something else stands than must, or nothing; `Memory` where a growth is
+/// refused.
+pub fn read_planned(alloc: Global, table: &Table) -> Result<Planned, StreamsFault>
     ensures { Gives StreamsFault.Memory planned_text result (planned_from (table_view table.now)) }
 {
     let request = read_request(alloc, table)?;

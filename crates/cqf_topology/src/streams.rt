@@ -60,8 +60,11 @@ fn copied(alloc: Global, texts: &[String]) -> Result<Vec<String>, Memory>
     Ok(copies)
 }
 
-/// The branches of a stream's table: the one of `path`, or those of `paths`.
-fn branches_of(alloc: Global, table: &Table) -> Result<Vec<Vec<String>>, StreamsFault>
+/// The branches of a stream's table: the one of `path`, or those of `paths`, and not both.
+///
+/// # Errors
+/// `BadValue` of the key at which something else stands, or nothing; `Memory` where a growth is refused.
+pub fn branches_of(alloc: Global, table: &Table) -> Result<Vec<Vec<String>>, StreamsFault>
     ensures { Gives StreamsFault.Memory (λ paths. map (λ path. map string_bytes path.items) paths.items) result (branches_from (table_view table.now)) }
 {
     if value_at(table, Key::Path).is_none() {

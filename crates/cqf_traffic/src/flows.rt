@@ -8,10 +8,9 @@ ghost use Rattle.cqf_topology.specs.StreamsText.{stream_keys, streams_keys};
 ghost use Rattle.cqf_traffic.specs.FlowsText.{first_lack, first_lack_of, first_lack_within, flow_from, flow_text, flows_from, flows_in};
 ghost use Rattle.cqf_traffic.specs.FlowsText.{flows_of_array, flows_of_text, traffic_or};
 
-use crate::requests::read_planned;
 use crate::traffic::{Traffic, traffic_of};
 use crate::{FlowsFault, first_owed};
-use cqf_topology::{Key, Planned, StreamsFault};
+use cqf_topology::{Key, Planned, StreamsFault, read_planned};
 use cqf_topology_fields::{are_all_tables, array_at, read_document, value_at};
 use std::alloc::Global;
 use toml::{Table, Value};

@@ -3,7 +3,7 @@
 //! - [`Traffic`] is such a promise: in each interval at most so many frames of at most so many octets, each at most so late.
 //!   [`Traffic::needed`] is what it needs of a cycle.
 //! - [`read_flows`] gives the streams of a text, each a [`Flow`], with its deadline and its traffic, or a [`FlowsFault`], the first
-//!   thing wrong. [`read_planned`], [`traffic_of`] and [`first_owed`] read a single stream's table.
+//!   thing wrong. [`traffic_of`] and [`first_owed`] read a single stream's table.
 //!
 //! ```text
 //! [[streams]]
@@ -22,12 +22,10 @@ mod faults;
 mod flows;
 mod keys;
 mod owed;
-mod requests;
 mod traffic;
 
 pub use faults::FlowsFault;
 pub use flows::{Flow, read_flows};
 pub use keys::TrafficKey;
 pub use owed::first_owed;
-pub use requests::{branches_of, deadline_of, read_planned};
 pub use traffic::{Traffic, traffic_of};

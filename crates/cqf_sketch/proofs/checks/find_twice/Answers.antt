@@ -1,6 +1,6 @@
 use Rattle.std.proofs.Common.{◌<◌, List, Option, length, subst, ℕ}
 use Rattle.std.specs.Prelude.{IfSome}
-use Rattle.cqf_sketch.specs.declared.ends.End.{End}
+use Rattle.cqf_topology.specs.declared.joined.End.{End}
 use Rattle.cqf_sketch.specs.Edges.{ends_of, pair_of}
 use Rattle.cqf_sketch.proofs.PlaceLemmas.{place_across}
 use Rattle.cqf_sketch.proofs.checks.find_twice.Goals as goal

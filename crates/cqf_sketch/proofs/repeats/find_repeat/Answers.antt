@@ -1,7 +1,7 @@
 use Rattle.std.proofs.Common.{◌∙◌, arith, get_or, sym}
 use Rattle.std.proofs.lemmas.List.{get_or_default}
-use Rattle.cqf_sketch.specs.declared.ends.End.{End}
-use Rattle.cqf_sketch.specs.declared.ends.End.TheVariants.{Bridge}
+use Rattle.cqf_topology.specs.declared.joined.End.{End}
+use Rattle.cqf_topology.specs.declared.joined.End.TheVariants.{Bridge}
 use Rattle.cqf_sketch.proofs.PairLemmas.{held_more, repeat_here, repeat_later}
 use Rattle.cqf_sketch.proofs.repeats.find_repeat.Goals as goal
 

@@ -1,0 +1,159 @@
+-- What a domain's table says passes the checks of a domain, and is that domain.
+use Rattle.std.proofs.Common.{◌≡◌, ◌≢◌, ◌*◌, ◌<◌, ◌≤◌, ℕ, suc, List, [], ◌∷◌, ◌++◌, ◌||◌, Bool, false, Option, Some, None, Result, Ok, MatchOption}
+use Rattle.std.proofs.Common.{length, map, get_or, slice_get, nat_le, nat_lt, ok_or, position, refl, ap, sym, ◌∙◌, inl, inr, arith}
+use Rattle.std.proofs.lemmas.Bool.{cases_Bool, true≢false}
+use Rattle.std.proofs.lemmas.Bool.Decides.{nat_tests}
+use Rattle.std.proofs.lemmas.List.Quantifiers.{position-Some}
+use Rattle.std.proofs.lemmas.Option.{get_or_from_slice_get, slice_get-get_or, slice_get_within}
+use Rattle.cqf_units.specs.Timing.{nanos_of_octet}
+use Rattle.cqf_units.specs.declared.timing.Rate.TheVariants.{Mb10}
+use Rattle.cqf_model.specs.declared.topology.Link.{Link}
+use Rattle.cqf_model.specs.declared.topology.Node.{Node}
+use Rattle.cqf_model.specs.declared.topology.Node.TheVariants.{Bridge, Station}
+use Rattle.cqf_model.specs.Domain.{Domain, IsAcceptedLink, IsNode, node_or, same_node}
+use Rattle.cqf_model.proofs.Links.{same_node_true}
+use Rattle.cqf_lists.specs.Results.{and_then, refuse}
+use Rattle.cqf_topology_fields.specs.Fields.{and_first}
+use Rattle.cqf_topology.specs.declared.faults.DomainFault.{DomainFault}
+use Rattle.cqf_topology.specs.declared.faults.DomainFault.TheVariants as fault
+use Rattle.cqf_topology.specs.DomainText.{DomainText, IsDomain, NoLinkTwice, apart, checked, first_long_delay, first_long_gap, first_twice, if_so}
+use Rattle.cqf_topology.specs.DomainText.{is_too_many, joined, joined_link, place_of, with_links, with_these}
+use Rattle.cqf_topology.specs.FirstFaults.{HasTwin, IsFirstTwin}
+use Rattle.cqf_topology.proofs.Told.{twice-told}
+use Rattle.cqf_plants.specs.DomainMembers.{name_of}
+use Rattle.cqf_plants.proofs.NamesApart.{AreApart, apart_across, behind_apart, front_apart, no_place, none_taken, place_is}
+
+-- a domain's text with some links, each by the names of its ends
+abbrev pub told_links : Domain → List Link → DomainText
+told_links d links = record {
+  cycle_time = d.cycle_time;
+  guard = d.guard;
+  bridges = d.bridges;
+  stations = d.stations;
+  links = map (λ link. record { from = name_of d (Bridge link.from); to = name_of d link.to; rate = link.rate; delay = link.delay }) links;
+}
+
+abbrev pub told_domain : Domain → DomainText
+told_domain d = told_links d d.links
+
+-- no link of some is told as standing twice, where none does
+none_twice : (links : List Link) → NoLinkTwice links → first_twice [] links ≡ None
+none_twice links once = by (first_twice [] links) (twice-told links)
+  where
+    -- a link that is told would have a twin
+    by : (o : Option ℕ) → MatchOption o ((number : ℕ) → ¬ HasTwin links number) (λ number. IsFirstTwin links number) → o ≡ None
+    by None none = refl
+    by (Some number) first =
+        let twin = first.repeats in
+        let one = get_or_from_slice_get links twin.before twin.twin twin.link twin.stood in
+        let other = get_or_from_slice_get links number twin.link twin.link twin.stands in
+        absurd (once twin.before number twin.link twin.earlier (slice_get_within links number twin.link twin.stands) (
+          ap (λ (x : Link). x.from) one ∙ sym twin.same_from ∙ ap (λ (x : Link). x.from) (sym other),
+          ap (λ (x : Link). x.to) one ∙ sym twin.same_to ∙ ap (λ (x : Link). x.to) (sym other),
+        ))
+
+-- a test that no link passes finds none
+finds_none : (p : Link → Bool) (links : List Link) → ((k : ℕ) (link : Link) → slice_get links k ≡ Some link → p link ≡ false) → position p links ≡ None
+finds_none p links none = by (position p links) refl
+  where
+    -- some link
+    some_link : Link
+    some_link = record { from = 0; to = Bridge 0; rate = Mb10; delay = 0 }
+
+    -- a place that is found would pass
+    by : (o : Option ℕ) → position p links ≡ o → o ≡ None
+    by None is = refl
+    by (Some i) found =
+        let at = position-Some p links i some_link found in
+        absurd (true≢false (sym at.1 ∙ none i (get_or links i some_link) (slice_get-get_or links i some_link at.0)))
+
+module _ (d : Domain) (good : IsDomain d) where
+  -- the bridges are apart, and so are the stations
+  bridges_apart : AreApart d.bridges
+  bridges_apart = front_apart d.bridges d.stations good.distinct
+
+  stations_apart : AreApart d.stations
+  stations_apart = behind_apart d.bridges d.stations good.distinct
+
+  -- a node is found by its name
+  node_is : (node : Node) → IsNode d node → node_or (place_of (name_of d node) d.bridges) (place_of (name_of d node) d.stations) ≡ Some node
+  node_is (Bridge b) inside = ap (λ o. node_or o (place_of (name_of d (Bridge b)) d.stations)) (place_is d.bridges bridges_apart b inside)
+  node_is (Station s) inside =
+      let no_bridge : place_of (name_of d (Station s)) d.bridges ≡ None =
+      no_place (name_of d (Station s)) d.bridges (λ i there. apart_across d.bridges d.stations good.distinct i s there inside) in
+      (λ i. node_or (no_bridge i) (place_is d.stations stations_apart s inside i))
+
+  -- a node that isn't a bridge is told from it
+  is_other : (node : Node) (b : ℕ) → node ≢ Bridge b → same_node node (Bridge b) ≡ false
+  is_other node b other = elim (cases_Bool (same_node node (Bridge b))) [
+    | inl same ↦ absurd (other (same_node_true node (Bridge b) same))
+    | inr not_same ↦ not_same
+  ]
+
+  -- a link is joined by the names of its ends
+  link_is : (link : Link) → IsAcceptedLink d link →
+      joined_link d.bridges d.stations (record { from = name_of d (Bridge link.from); to = name_of d link.to; rate = link.rate; delay = link.delay }) ≡ Ok link
+  link_is link accepted =
+      let from_is = place_is d.bridges bridges_apart link.from accepted.from_bridge in
+      let to_is = node_is link.to accepted.to_node in
+      let tell : ℕ → Node → Result Link DomainFault =
+      λ from to. apart (name_of d link.to)
+      (record { from = name_of d (Bridge link.from); to = name_of d link.to; rate = link.rate; delay = link.delay }) from to in
+      let unknown_from : DomainFault = fault.UnknownName (name_of d (Bridge link.from)) in
+      let unknown_to : DomainFault = fault.UnknownName (name_of d link.to) in
+      (λ i. and_then (ok_or (from_is i) unknown_from) (λ from. and_then (ok_or (to_is i) unknown_to) (λ to. tell from to)))
+      ∙ rw (is_other link.to link.from accepted.not_to_itself) refl
+
+  -- and so is each
+  links_are : (links : List Link) → ((k : ℕ) (link : Link) → slice_get links k ≡ Some link → IsAcceptedLink d link)
+      → joined d.bridges d.stations (told_links d links).links ≡ Ok links
+  links_are [] accepted = refl
+  links_are (link ∷ links) accepted =
+      let rest = links_are links (λ k other at. accepted (suc k) other at) in
+      (λ i. and_first (link_is link (accepted 0 link refl) i) (rest i))
+
+  -- no delay is too long, and no gap is
+  short_delays : first_long_delay d.guard d.links ≡ None
+  short_delays = finds_none (λ (link : Link). nat_le d.guard link.delay) d.links (λ k link at. short link (good.accepted.links_good k link at).delay_short)
+    where
+      short : (link : Link) → link.delay < d.guard → nat_le d.guard link.delay ≡ false
+      short link below = grind (arith, nat_tests)
+
+  short_gaps : first_long_gap d.guard d.links ≡ None
+  short_gaps =
+      finds_none (λ (link : Link). nat_lt d.guard (12 * nanos_of_octet link.rate)) d.links
+      (λ k link at. short link (good.accepted.links_good k link at).gap_short)
+    where
+      short : (link : Link) → 12 * nanos_of_octet link.rate ≤ d.guard → nat_lt d.guard (12 * nanos_of_octet link.rate) ≡ false
+      short link most = grind (arith, nat_tests)
+
+  -- the guard time is within the cycle, and nothing is too many
+  guard_is_short : nat_le d.cycle_time d.guard ≡ false
+  guard_is_short = let short : d.guard < d.cycle_time = good.accepted.guard_short in grind (arith, nat_tests)
+
+  are_few : is_too_many d.bridges d.stations d.links ≡ false
+  are_few =
+      let one : nat_lt 32 (length d.bridges) ≡ false = few (length d.bridges) 32 good.accepted.few_bridges in
+      let two : nat_lt 64 (length d.stations) ≡ false = few (length d.stations) 64 good.accepted.few_stations in
+      let three : nat_lt 64 (length d.links) ≡ false = few (length d.links) 64 good.accepted.few_links in
+      (λ i. one i || two i || three i)
+    where
+      few : (n most : ℕ) → n ≤ most → nat_lt most n ≡ false
+      few n most h = grind (arith, nat_tests)
+
+  -- the links pass
+  links_pass : with_links (told_domain d) d.links ≡ Ok d
+  links_pass =
+      (λ i. refuse (none_twice d.links good.no_link_twice i) fault.LinkTwice (
+      refuse (if_so (guard_is_short i)) (λ _. fault.GuardTooLong) (
+      refuse (short_delays i) fault.DelayTooLong (
+      refuse (short_gaps i) fault.GapTooLong (
+      refuse (if_so (are_few i)) (λ _. fault.TooMany) (
+      Ok (with_these (told_domain d) d.links)))))))
+
+  -- what the domain's table says is the domain
+  pub domain_passes : checked (told_domain d) ≡ Ok d
+  domain_passes =
+      (λ i. refuse (none_taken (d.bridges ++ d.stations) good.distinct i) fault.NameTaken (
+      and_then (links_are d.links good.accepted.links_good i) (with_links (told_domain d))))
+      ∙ links_pass

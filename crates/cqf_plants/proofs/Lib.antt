@@ -1,0 +1,9 @@
+pub mod Putting
+pub mod NamesApart
+pub mod DomainChecks
+pub mod DomainReading
+pub mod StreamValues
+pub mod StreamReading
+pub mod Shapes
+pub mod Reading
+pub mod Ranges

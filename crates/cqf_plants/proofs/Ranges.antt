@@ -1,0 +1,150 @@
+-- What is read of a stream's table can be told.
+use Rattle.std.proofs.Common.{◌≡◌, ◌≤◌, ℕ, Bool, true, false, cond, Option, Some, None, Result, Ok, Err, IfSome, List, [], All, ok_or, subst, ap, arith}
+use Rattle.std.specs.Result.{result_map_both}
+use Rattle.toml.specs.Data.{Data, Items, Members, as_array, as_str, as_table, member, no_members}
+use Rattle.cqf_lists.specs.Results.{and_then}
+use Rattle.cqf_topology_fields.specs.declared.keys.Key.TheVariants as key
+use Rattle.cqf_topology_fields.specs.declared.faults.TomlFault.TheVariants.{BadValue}
+use Rattle.cqf_topology_fields.specs.Fields.{are_tables, key_text, number_from, read_at, value_at, whole_document}
+use Rattle.cqf_topology.specs.PlannedText.{deadline_by, deadline_from, planned_from}
+use Rattle.cqf_topology.specs.StreamsText.{RequestText, branches_from, request_from, streams_keys}
+use Rattle.cqf_topology.proofs.Refusals.{and_then-Ok, each_from-All, number-range, ok_or-Ok, refuse-Ok}
+use Rattle.cqf_traffic.specs.declared.faults.FlowsFault.{FlowsFault}
+use Rattle.cqf_traffic.specs.declared.faults.FlowsFault.TheVariants as flows_fault
+use Rattle.cqf_traffic.specs.declared.keys.TrafficKey.{TrafficKey}
+use Rattle.cqf_traffic.specs.declared.keys.TrafficKey.TheVariants.{Interval, Frames, Size, Jitter, Offset}
+use Rattle.cqf_traffic.specs.FlowsText.{FlowText, first_lack_of, flow_from, flows_from, flows_in, flows_of_array, or_streams, traffic_or}
+use Rattle.cqf_traffic.specs.Keys.{default_of, least_of, most_of}
+use Rattle.cqf_traffic.specs.TrafficText.{IsInRange, IsTrafficText, TrafficText, has_traffic, number_at, number_by, numbers_from, traffic_from}
+use Rattle.cqf_traffic.specs.TrafficText.{value_at as traffic_at}
+use Rattle.cqf_plants.specs.Plants.{IsTellable, ReadStreamsAreTellable}
+
+-- a number that is read is in its range
+number_in_range : (least most : ℕ) (d : Data) (n : ℕ) → number_from least most d ≡ Some n → (least ≤ n) × (n ≤ most)
+number_in_range least most d n h =
+    number-range key.Octets least most (member (key_text key.Octets) d no_members) n (ap (λ o. ok_or o (BadValue key.Octets)) h)
+
+-- and so is what stands for one that is absent
+default_in_range : (at : TrafficKey) (n : ℕ) → default_of at ≡ Some n → IsInRange at n
+default_in_range Interval n h = absurd (cc)
+default_in_range Frames n h = let e : 1 ≡ n = cc in subst (IsInRange Frames) e (record { least = omega arith; most = omega arith })
+default_in_range Size n h = absurd (cc)
+default_in_range Jitter n h = let e : 0 ≡ n = cc in subst (IsInRange Jitter) e (record { least = omega arith; most = omega arith })
+default_in_range Offset n h = let e : 0 ≡ n = cc in subst (IsInRange Offset) e (record { least = omega arith; most = omega arith })
+
+-- what was read behind a fault of another kind
+map_both-Ok : {A E F : Type 0} (f : E → F) (r : Result A E) (x : A) → result_map_both (λ y. y) f r ≡ Ok x → r ≡ Ok x
+map_both-Ok f (Ok y) x h = cc
+map_both-Ok f (Err e) x h = absurd (cc)
+
+module _ (table : Members) where
+  -- each number of traffic
+  number_in : (at : TrafficKey) (n : ℕ) → number_at at table ≡ Ok n → IsInRange at n
+  number_in at n h = by (traffic_at at table) h
+    where
+      -- whether it stands there or not
+      by : (o : Option Data) → number_by o at ≡ Ok n → IsInRange at n
+      by None h = default_in_range at n (ok_or-Ok (default_of at) at n h)
+      by (Some d) h =
+          let range = number_in_range (least_of at) (most_of at) d n (ok_or-Ok (number_from (least_of at) (most_of at) d) at n h) in
+          record { least = range.0; most = range.1 }
+
+  numbers_in : (t : TrafficText) → numbers_from table ≡ Ok t → IsTrafficText t
+  numbers_in t h =
+      let (interval, at_interval, h1) = and_then-Ok (number_at Interval table) _ t h in
+      let (frames, at_frames, h2) = and_then-Ok (number_at Frames table) _ t h1 in
+      let (size, at_size, h3) = and_then-Ok (number_at Size table) _ t h2 in
+      let (jitter, at_jitter, h4) = and_then-Ok (number_at Jitter table) _ t h3 in
+      let (offset, at_offset, h5) = and_then-Ok (number_at Offset table) _ t h4 in
+      let read : TrafficText = record { interval = interval; frames = frames; size = size; jitter = jitter; offset = offset } in
+      let same : read ≡ t = cc in
+      let good : IsTrafficText read = record {
+        interval = number_in Interval interval at_interval;
+        frames = number_in Frames frames at_frames;
+        size = number_in Size size at_size;
+        jitter = number_in Jitter jitter at_jitter;
+        offset = number_in Offset offset at_offset;
+      } in
+      subst IsTrafficText same good
+
+  -- traffic that is read is in the ranges of its keys
+  pub traffic_in_range : (traffic : Option TrafficText) → traffic_from table ≡ Ok traffic → IfSome traffic IsTrafficText
+  traffic_in_range traffic h = by (has_traffic table) h
+    where
+      -- whether there is some or not
+      by : (b : Bool) → cond b (and_then (numbers_from table) (λ t. Ok (Some t))) (Ok None) ≡ Ok traffic → IfSome traffic IsTrafficText
+      by true h =
+          let (t, read, some) = and_then-Ok (numbers_from table) (λ t. Ok (Some t)) traffic h in
+          let same : Some t ≡ traffic = cc in
+          subst (λ (o : Option TrafficText). IfSome o IsTrafficText) same (numbers_in t read)
+      by false h = let same : None ≡ traffic = cc in subst (λ (o : Option TrafficText). IfSome o IsTrafficText) same tt
+
+  -- so is a deadline
+  pub deadline_in_range : (deadline : Option ℕ) → deadline_from table ≡ Ok deadline → IfSome deadline (λ n. (1 ≤ n) × (n ≤ 4294967295))
+  deadline_in_range deadline h = by (value_at key.Deadline table) h
+    where
+      -- what a deadline has to be
+      InRange : Option ℕ → Type 0
+      InRange = λ (o : Option ℕ). IfSome o (λ n. (1 ≤ n) × (n ≤ 4294967295))
+
+      -- whether there is one or not
+      by : (o : Option Data) → deadline_by o table ≡ Ok deadline → InRange deadline
+      by None h = let same : None ≡ deadline = cc in subst InRange same tt
+      by (Some d) h =
+          let (n, read, some) = and_then-Ok (read_at key.Deadline (number_from 1 4294967295) table) (λ n. Ok (Some n)) deadline h in
+          let same : Some n ≡ deadline = cc in
+          subst InRange same (number-range key.Deadline 1 4294967295 table n read)
+
+  -- and a reservation
+  pub octets_in_range : (request : RequestText) → request_from table ≡ Ok request → request.octets ≤ 4294967295
+  octets_in_range request h =
+      let (name, at_name, h1) = and_then-Ok (read_at key.Name as_str table) _ request h in
+      let (octets, at_octets, h2) = and_then-Ok (read_at key.Octets (number_from 0 4294967295) table) _ request h1 in
+      let (paths, at_paths, h3) = and_then-Ok (branches_from table) _ request h2 in
+      let same : octets ≡ request.octets = cc in
+      subst (λ n. n ≤ 4294967295) same (number-range key.Octets 0 4294967295 table octets at_octets).1
+
+  -- a stream that is read can be told
+  pub flow_is_tellable : (flow : FlowText) → flow_from table ≡ Ok flow → IsTellable flow
+  flow_is_tellable flow h =
+      let (planned, at_planned, h1) = and_then-Ok (or_streams (planned_from table)) _ flow h in
+      let (traffic, at_traffic, h2) = and_then-Ok (traffic_or table) _ flow h1 in
+      let (request, at_request, h3) = and_then-Ok (request_from table) _ planned (map_both-Ok flows_fault.Streams (planned_from table) planned at_planned) in
+      let (deadline, at_deadline, h4) = and_then-Ok (deadline_from table) _ planned h3 in
+      let read : FlowText = ((request, deadline), traffic) in
+      let same : read ≡ flow = cc in
+      let good : IsTellable read = record {
+        octets = octets_in_range request at_request;
+        deadline = deadline_in_range deadline at_deadline;
+        traffic = traffic_in_range traffic (map_both-Ok flows_fault.BadValue (traffic_from table) traffic at_traffic);
+      } in
+      subst IsTellable same good
+
+-- the streams of an array that is read can be told
+array_is_tellable : (items : Items) (flows : List FlowText) → flows_of_array items ≡ Ok flows → All IsTellable flows
+array_is_tellable items flows h = by (are_tables items) h
+  where
+    -- no table
+    fault : FlowsFault
+    fault = flows_fault.Streams (BadValue key.Streams)
+
+    -- a reader of values
+    reader : Data → Result FlowText FlowsFault
+    reader = λ (d : Data). and_then (ok_or (as_table d) fault) flow_from
+
+    -- a value that is read is a table that is read
+    good : (d : Data) (flow : FlowText) → reader d ≡ Ok flow → IsTellable flow
+    good d flow is = let (table, at, read) = and_then-Ok (ok_or (as_table d) fault) flow_from flow is in flow_is_tellable table flow read
+
+    -- the elements are tables
+    by : (b : Bool) → cond b (flows_from items) (Err fault) ≡ Ok flows → All IsTellable flows
+    by true read = each_from-All IsTellable reader good items flows read
+    by false read = absurd (cc)
+
+-- and so those of a text
+pub read_is_tellable : ReadStreamsAreTellable
+read_is_tellable text flows h =
+    let (table, whole, read) = and_then-Ok (or_streams (whole_document streams_keys key.Streams [] text)) _ flows h in
+    let (lack, all) = refuse-Ok (first_lack_of table) (λ fault. fault) (flows_in table) flows read in
+    let (items, at, each) = and_then-Ok (or_streams (read_at key.Streams as_array table)) flows_of_array flows all in
+    array_is_tellable items flows each

@@ -1,0 +1,3 @@
+pub mod DomainMembers
+pub mod StreamMembers
+pub mod Plants

@@ -1,0 +1,46 @@
+-- A plant's text (profile), and what every command reads in it.
+use Rattle.std.specs.Prelude.{ℕ, ◌≡◌, ◌≤◌, false, true, List, map, Some, Ok, All, IfSome}
+use Rattle.std.specs.Str.{is_utf8}
+use Rattle.toml.specs.Data.{Members}
+use Rattle.toml.specs.Parse.{parse_document}
+use Rattle.toml.specs.Text.{IsDocumentText}
+use Rattle.cqf_model.specs.Domain.{Domain}
+use Rattle.cqf_topology.specs.DomainText.{IsDomain, domain_of_text}
+use Rattle.cqf_topology.specs.PlannedText.{planned_of_text}
+use Rattle.cqf_topology.specs.StreamsText.{streams_of_text}
+use Rattle.cqf_traffic.specs.FlowsText.{FlowText, flows_of_text}
+use Rattle.cqf_traffic.specs.TrafficText.{IsTrafficText}
+use Rattle.cqf_plants.specs.DomainMembers.{domain_members}
+use Rattle.cqf_plants.specs.StreamMembers.{streams_data}
+
+-- a plant's table: a domain and its streams
+abbrev pub plant_members : Domain → List FlowText → Members
+plant_members d flows = domain_members d (streams_data flows)
+
+-- a text tells a plant: it is UTF-8 and writes the plant's table, and it is TOML of just that table
+pub record IsToldPlant (d : Domain) (flows : List FlowText) (text : List ℕ) : Type 0 where
+  pub encoded : is_utf8 text ≡ true
+  pub written : IsDocumentText false (plant_members d flows) text
+  pub document : parse_document text ≡ Some (plant_members d flows)
+
+-- a stream's numbers are such as may stand in a text
+pub record IsTellable (flow : FlowText) : Type 0 where
+  pub octets : flow.0.0.octets ≤ 4294967295
+  pub deadline : IfSome flow.0.1 (λ deadline. (1 ≤ deadline) × (deadline ≤ 4294967295))
+  pub traffic : IfSome flow.1 IsTrafficText
+
+-- a text reads as a plant: as its domain, and as its streams by each reader, with traffic, with deadlines alone, and as requests
+pub record ReadsAsPlant (d : Domain) (flows : List FlowText) (text : List ℕ) : Type 0 where
+  pub domain_is : domain_of_text text ≡ Ok d
+  pub flows_are : flows_of_text text ≡ Ok flows
+  pub planned_are : planned_of_text text ≡ Ok (map (λ flow. flow.0) flows)
+  pub requests_are : streams_of_text text ≡ Ok (map (λ flow. flow.0.0) flows)
+
+-- a text that tells an accepted domain and streams that can be told reads as just these
+abbrev pub ToldPlantsReadBack : Type 0
+ToldPlantsReadBack = (d : Domain) (flows : List FlowText) (text : List ℕ) → IsDomain d → All IsTellable flows → IsToldPlant d flows text →
+    ReadsAsPlant d flows text
+
+-- streams that are read from any text can be told
+abbrev pub ReadStreamsAreTellable : Type 0
+ReadStreamsAreTellable = (text : List ℕ) (flows : List FlowText) → flows_of_text text ≡ Ok flows → All IsTellable flows

@@ -1,0 +1,89 @@
+-- The tables that streams are told by (profile): their keys in the order of their bytes.
+use Rattle.std.specs.Prelude.{ℕ, pos, List, [], ◌∷◌, Option, Some, None, map}
+use Rattle.toml.specs.Data.{Data, string, integer, array, table, Members, no_members, member}
+use Rattle.toml.specs.View.{items_of}
+use Rattle.cqf_topology_fields.specs.declared.keys.Key.TheVariants.{Deadline, Name, Octets, Path, Paths}
+use Rattle.cqf_topology_fields.specs.Fields.{key_text}
+use Rattle.cqf_topology.specs.StreamsText.{RequestText}
+use Rattle.cqf_traffic.specs.declared.keys.TrafficKey.{TrafficKey}
+use Rattle.cqf_traffic.specs.declared.keys.TrafficKey.TheVariants.{Interval, Frames, Size, Jitter, Offset}
+use Rattle.cqf_traffic.specs.Keys.{key_text as traffic_key_text}
+use Rattle.cqf_traffic.specs.TrafficText.{TrafficText}
+use Rattle.cqf_traffic.specs.FlowsText.{FlowText}
+use Rattle.cqf_plants.specs.DomainMembers.{put, texts_data}
+
+-- several branches, as an array of arrays
+abbrev pub branches_data : List (List (List ℕ)) → Data
+branches_data paths = array (items_of (map texts_data paths))
+
+-- a number at a key, in front of other members
+abbrev pub number_then : List ℕ → ℕ → Members → Members
+number_then key n more = member key (integer (pos n)) more
+
+-- a deadline in front of them, where there is one
+abbrev pub deadline_then : Option ℕ → Members → Members
+deadline_then None more = more
+deadline_then (Some deadline) more = number_then (key_text Deadline) deadline more
+
+-- the branches of a stream: the only one is its `path`, and none or several are its `paths`
+abbrev pub branches_then : List (List (List ℕ)) → Members → Members
+branches_then [] more = member (key_text Paths) (branches_data []) more
+branches_then (path ∷ []) more = member (key_text Path) (texts_data path) more
+branches_then (path ∷ other ∷ paths) more = member (key_text Paths) (branches_data (path ∷ other ∷ paths)) more
+
+-- the number that traffic has at a key
+abbrev pub number_of_traffic : TrafficKey → TrafficText → ℕ
+number_of_traffic Interval t = t.interval
+number_of_traffic Frames t = t.frames
+number_of_traffic Size t = t.size
+number_of_traffic Jitter t = t.jitter
+number_of_traffic Offset t = t.offset
+
+abbrev pub traffic_then : TrafficKey → TrafficText → Members → Members
+traffic_then key t more = number_then (traffic_key_text key) (number_of_traffic key t) more
+
+-- a stream's table, of its name, reservation, branches, deadline and traffic: all five keys of traffic stand, or none
+abbrev pub members_by : List ℕ → ℕ → List (List (List ℕ)) → Option ℕ → Option TrafficText → Members
+members_by name octets paths deadline None =
+    deadline_then deadline (
+    member (key_text Name) (string name) (
+    number_then (key_text Octets) octets (
+    branches_then paths no_members)))
+members_by name octets paths deadline (Some t) =
+    deadline_then deadline (
+    traffic_then Frames t (
+    traffic_then Interval t (
+    traffic_then Jitter t (
+    member (key_text Name) (string name) (
+    number_then (key_text Octets) octets (
+    traffic_then Offset t (
+    branches_then paths (
+    traffic_then Size t no_members))))))))
+
+abbrev pub stream_members : FlowText → Members
+stream_members flow = members_by flow.0.0.name flow.0.0.octets flow.0.0.paths flow.0.1 flow.1
+
+-- the streams, in order
+abbrev pub streams_data : List FlowText → Data
+streams_data flows = array (items_of (map (λ flow. table (stream_members flow)) flows))
+
+-- the same, put one after the other into a table
+abbrev pub put_branches : List (List (List ℕ)) → Members → Members
+put_branches [] members = put (key_text Paths) (branches_data []) members
+put_branches (path ∷ []) members = put (key_text Path) (texts_data path) members
+put_branches (path ∷ other ∷ paths) members = put (key_text Paths) (branches_data (path ∷ other ∷ paths)) members
+
+abbrev pub put_request : RequestText → Members → Members
+put_request request members =
+    put_branches request.paths (put (key_text Octets) (integer (pos request.octets)) (put (key_text Name) (string request.name) members))
+
+abbrev pub put_deadline : Option ℕ → Members → Members
+put_deadline None members = members
+put_deadline (Some deadline) members = put (key_text Deadline) (integer (pos deadline)) members
+
+abbrev pub put_number : TrafficKey → TrafficText → Members → Members
+put_number key t members = put (traffic_key_text key) (integer (pos (number_of_traffic key t))) members
+
+abbrev pub put_traffic : Option TrafficText → Members → Members
+put_traffic None members = members
+put_traffic (Some t) members = put_number Offset t (put_number Jitter t (put_number Size t (put_number Frames t (put_number Interval t members))))

@@ -1,0 +1,93 @@
+//! The tables of a domain.
+ghost use Rattle.std.specs.Prelude.{◌≡◌, ◌<◌, IfOk, length};
+ghost use Rattle.toml.specs.View.{table_view, view};
+ghost use Rattle.cqf_model.specs.Domain.{IsNode};
+ghost use Rattle.cqf_model.specs.declared.topology.Node.TheVariants.{Bridge};
+ghost use Rattle.cqf_plants.specs.DomainMembers.{link_members, links_data, megabits_of, name_of, texts_data};
+
+use crate::tables::{put_number, put_text};
+use cqf_model::{Link, Node};
+use cqf_topology::{Domain, Key};
+use cqf_units::{Memory, Name, Rate};
+use std::alloc::Global;
+use toml::{Table, Value};
+
+/// A rate in Mb/s.
+fn megabits_of(rate: Rate) -> u32
+    ensures { result ≡ megabits_of rate }
+{
+    match rate {
+        Rate::Mb10 => 10,
+        Rate::Mb100 => 100,
+        Rate::Mb1000 => 1000,
+    }
+}
+
+/// The name of a node.
+fn name_of(domain: &Domain, node: Node) -> &Name
+    requires { IsNode domain.now node }
+    ensures { result.now ≡ name_of domain.now node }
+{
+    match node {
+        Node::Bridge(bridge) => domain.bridge_name(bridge),
+        Node::Station(station) => domain.station_name(station),
+    }
+}
+
+/// A link's table. The error is want of memory.
+fn link_table(alloc: Global, domain: &Domain, link: Link) -> Result<Table, Memory>
+    requires from { IsNode domain.now (Bridge link.from) }
+    requires to { IsNode domain.now link.to }
+    ensures { IfOk result (λ table. table_view table ≡ link_members domain.now link) }
+{
+    let from = name_of(domain, Node::Bridge(link.from)).as_str();
+    let to = name_of(domain, link.to).as_str();
+    let mut table = Table::new(alloc);
+    put_number(alloc, &mut table, Key::Delay.as_str(), link.delay)?;
+    put_text(alloc, &mut table, Key::From.as_str(), from)?;
+    put_number(
+        alloc,
+        &mut table,
+        Key::Rate.as_str(),
+        megabits_of(link.rate),
+    )?;
+    put_text(alloc, &mut table, Key::To.as_str(), to)?;
+    Ok(table)
+}
+
+/// The tables of the links, by number. The error is want of memory.
+pub(crate) fn links_value(alloc: Global, domain: &Domain) -> Result<Value, Memory>
+    ensures { IfOk result (λ value. view value ≡ links_data domain.now) }
+{
+    let _accepted = domain.cycle_time();
+    let mut links = Vec::new(alloc);
+    for number in 0..domain.links() {
+        let table = link_table(alloc, domain, domain.link(number))?;
+        links.push(Value::Table(table))?;
+    }
+    Ok(Value::Array(links))
+}
+
+/// The names of the bridges, by number. The error is want of memory.
+pub(crate) fn bridges_value(alloc: Global, domain: &Domain) -> Result<Value, Memory>
+    ensures { IfOk result (λ value. view value ≡ texts_data domain.now.bridges) }
+{
+    let mut names = Vec::new(alloc);
+    for number in 0..domain.bridges() {
+        let name = Value::string(alloc, domain.bridge_name(number).as_str())?;
+        names.push(name)?;
+    }
+    Ok(Value::Array(names))
+}
+
+/// The names of the stations, by number. The error is want of memory.
+pub(crate) fn stations_value(alloc: Global, domain: &Domain) -> Result<Value, Memory>
+    ensures { IfOk result (λ value. view value ≡ texts_data domain.now.stations) }
+{
+    let mut names = Vec::new(alloc);
+    for number in 0..domain.stations() {
+        let name = Value::string(alloc, domain.station_name(number).as_str())?;
+        names.push(name)?;
+    }
+    Ok(Value::Array(names))
+}

@@ -1,0 +1,40 @@
+//! A plant as a text: an accepted domain and its streams, with their deadlines and traffic, written in TOML.
+//!
+//! [`write_plant`] gives the text of a plant. [`told_plants_read_back`] is the law that such a text is read by every command as just
+//! that domain and just these streams.
+//!
+//! ```text
+//! bridges = ["stage"]
+//! cycle = 125000
+//! guard = 4000
+//! stations = ["mixer"]
+//!
+//! [[links]]
+//! delay = 500
+//! from = "stage"
+//! rate = 1000
+//! to = "mixer"
+//!
+//! [[streams]]
+//! deadline = 193804
+//! frames = 1
+//! interval = 125000
+//! jitter = 0
+//! name = "mic"
+//! octets = 704
+//! offset = 0
+//! path = ["stage", "mixer"]
+//! size = 704
+//! ```
+//!
+//! is the text of a domain with one link, and one stream with a deadline and traffic.
+#![tactic(auto)]
+
+mod domain;
+mod laws;
+mod plant;
+mod streams;
+mod tables;
+
+pub use laws::{read_streams_are_tellable, told_plants_read_back};
+pub use plant::write_plant;

@@ -1,0 +1,67 @@
+//! The text of a plant.
+ghost use Rattle.std.specs.Prelude.{◌≡◌, IfOk, map, string_bytes};
+ghost use Rattle.toml.specs.View.{table_view};
+ghost use Rattle.cqf_traffic.specs.FlowsText.{flow_text};
+ghost use Rattle.cqf_plants.specs.Plants.{IsToldPlant, plant_members};
+
+use crate::domain::{bridges_value, links_value, stations_value};
+use crate::streams::streams_value;
+use crate::tables::{put_number, put_value};
+use cqf_topology::{Domain, Key};
+use cqf_traffic::Flow;
+use cqf_units::Memory;
+use std::alloc::{AllocError, Global};
+use toml::Table;
+
+/// The table of a plant. The error is want of memory.
+fn plant_table(alloc: Global, domain: &Domain, flows: &[Flow]) -> Result<Table, Memory>
+    ensures { IfOk result (λ table. table_view table ≡ plant_members domain.now (map flow_text flows.now)) }
+{
+    let cycle_time = domain.cycle_time().0 as u32;
+    let guard = domain.guard().0 as u32;
+    let mut table = Table::new(alloc);
+    put_value(
+        alloc,
+        &mut table,
+        Key::Bridges.as_str(),
+        bridges_value(alloc, domain)?,
+    )?;
+    put_number(alloc, &mut table, Key::Cycle.as_str(), cycle_time)?;
+    put_number(alloc, &mut table, Key::Guard.as_str(), guard)?;
+    put_value(
+        alloc,
+        &mut table,
+        Key::Links.as_str(),
+        links_value(alloc, domain)?,
+    )?;
+    put_value(
+        alloc,
+        &mut table,
+        Key::Stations.as_str(),
+        stations_value(alloc, domain)?,
+    )?;
+    put_value(
+        alloc,
+        &mut table,
+        Key::Streams.as_str(),
+        streams_value(alloc, flows)?,
+    )?;
+    Ok(table)
+}
+
+/// The text of a plant, in TOML: the domain, and then its streams in order, each with its deadline and traffic, where it has them. Keys
+/// stand in the order of their bytes; a stream's only branch is its `path`, none or several are its `paths` (profile). It reads back
+/// as this domain and these streams ([`crate::told_plants_read_back`]).
+///
+/// # Errors
+/// Where a growth is refused.
+pub fn write_plant(alloc: Global, domain: &Domain, flows: &[Flow]) -> Result<String, Memory>
+    ensures { IfOk result (λ text. IsToldPlant domain.now (map flow_text flows.now) (string_bytes text)) }
+{
+    let table = plant_table(alloc, domain, flows)?;
+    match toml::table_to_string(alloc, &table) {
+        Ok(text) => Ok(text),
+        Err(toml::ser::Error::DateInvalid) => unreachable!(),
+        Err(toml::ser::Error::OutOfMemory) => Err(AllocError),
+    }
+}

@@ -1,0 +1,290 @@
+//! Streams of a sketch that aren't placed, or may be late (profile).
+
+use crate::domain_faults::tell_guard;
+use crate::given::Given;
+use crate::network::Network;
+use crate::places::Grouped;
+use crate::plant::{Item, Kind};
+use crate::refusal::Refusal;
+use crate::sketch::{listeners_of, longest_frame, talkers_link, time_on};
+use crate::stream_faults::{form_fault_of, tell_form_faults};
+use crate::told::Told;
+use crate::words::{question, shortened};
+use std::alloc::{AllocError, Global};
+use std::collections::BTreeMap;
+
+/// What a line of the command says of a stream: its name, the fault, and what stands behind the fault.
+#[derive(Clone, Copy, Debug)]
+struct Unplaced<'a> {
+    stream: &'a str,
+    fault: &'a str,
+    value: &'a str,
+}
+
+/// What stands behind `; at CYCLE ` in a line that tells of several cycle times; in others the whole.
+fn behind_cycle<'a>(refusal: Refusal<'a>) -> Option<&'a str> {
+    let (_, behind) = refusal.value.split_once("; at ")?;
+    let (_, fault) = behind.split_once(' ')?;
+    Some(fault)
+}
+
+/// The stream that a line tells of.
+fn unplaced_of<'a>(refusal: Refusal<'a>) -> Option<Unplaced<'a>> {
+    let (stream, told) = match behind_cycle(refusal) {
+        Some(text) => text.split_once(": ")?,
+        None => (refusal.fault.strip_suffix(":")?, refusal.value),
+    };
+    let (fault, value) = told.split_once(' ').unwrap_or((told, ""));
+    Some(Unplaced {
+        stream,
+        fault,
+        value,
+    })
+}
+
+/// A number of a line.
+fn number_in(text: Option<&str>) -> u64 {
+    let mut number: u64 = 0;
+    for byte in text.unwrap_or("").bytes() {
+        let digit = u64::from(byte.saturating_sub(b'0'));
+        number = number.saturating_mul(10).saturating_add(digit);
+    }
+    number
+}
+
+/// Why a stream's `from` is where no talker is.
+fn no_talker(alloc: Global, network: &Network<'_>, name: &str) -> Result<String, AllocError> {
+    let shown = shortened(alloc, name)?;
+    if network.is_node(name) {
+        return format!(in alloc;
+            "the station {shown} has no talker's link: a link from it to a bridge"
+        );
+    }
+    let question = network.node_question(alloc, name)?;
+    format!(in alloc; "no bridge or station {shown}{question}")
+}
+
+/// Tells of each stream that comes from where no talker is.
+fn tell_no_talkers(given: &Given<'_>, told: &mut Told) -> Result<(), AllocError> {
+    let network = given.network()?;
+    for item in &given.plant.items(Kind::Stream)? {
+        let Some(name) = item.text("from") else {
+            continue;
+        };
+        if network.is_bridge(name) || talkers_link(&network, name).is_some() {
+            continue;
+        }
+        let (place, label) = (item.place_of("from"), item.label(given.alloc)?);
+        let why = no_talker(given.alloc, &network, name)?;
+        told.tell(format!(in given.alloc; "{place}: {label}: from: {why}")?)?;
+    }
+    Ok(())
+}
+
+/// The names of the stations.
+fn stations_of<'p>(alloc: Global, network: &Network<'p>) -> Result<Vec<&'p str>, AllocError> {
+    let mut stations = Vec::new(alloc);
+    for name in &network.nodes {
+        if !network.is_bridge(name) {
+            stations.push(*name)?;
+        }
+    }
+    Ok(stations)
+}
+
+/// Why a name is no listener's.
+fn no_listener(alloc: Global, network: &Network<'_>, name: &str) -> Result<String, AllocError> {
+    let shown = shortened(alloc, name)?;
+    if network.is_bridge(name) {
+        return format!(in alloc; "{shown} is a bridge: a listener is a station");
+    }
+    let stations = stations_of(alloc, network)?;
+    let question = question(alloc, name, stations.as_slice())?;
+    format!(in alloc; "no station {shown}{question}")
+}
+
+/// Tells of each listener that is no station.
+fn tell_no_listeners(given: &Given<'_>, told: &mut Told) -> Result<(), AllocError> {
+    let network = given.network()?;
+    for item in &given.plant.items(Kind::Stream)? {
+        for name in &listeners_of(given.alloc, item)? {
+            if network.is_node(name) && !network.is_bridge(name) || told.is_counted() {
+                continue;
+            }
+            let (place, label) = (item.place_of("to"), item.label(given.alloc)?);
+            let why = no_listener(given.alloc, &network, name)?;
+            told.tell(format!(in given.alloc; "{place}: {label}: to: {why}")?)?;
+        }
+    }
+    Ok(())
+}
+
+/// Tells of each stream whose name an earlier one has.
+fn tell_names_twice(given: &Given<'_>, told: &mut Told) -> Result<(), AllocError> {
+    let mut firsts: BTreeMap<&str, Item<'_>> = BTreeMap::new(given.alloc);
+    for item in &given.plant.items(Kind::Stream)? {
+        let name = item.text("name").unwrap_or("");
+        if let Some(first) = firsts.get(name) {
+            let (place, label) = (item.place_of("name"), item.counted(given.alloc)?);
+            let (number, first) = (first.number.saturating_add(1), first.place_of("name"));
+            told.tell(format!(in given.alloc;
+                "{place}: {label}: stream {number} at {first} has this name already"
+            )?)?;
+        } else {
+            firsts.insert(name, *item)?;
+        }
+    }
+    Ok(())
+}
+
+/// Tells of a deadline that is over before a frame is whole at its edge bridge.
+fn tell_too_soon(given: &Given<'_>, told: &mut Told, item: &Item<'_>) -> Result<(), AllocError> {
+    let network = given.network()?;
+    let (place, label) = (item.place_of("deadline"), item.label(given.alloc)?);
+    let Some(link) = talkers_link(&network, item.text("from").unwrap_or("")) else {
+        return Ok(());
+    };
+    let (from, to) = (item.text("from").unwrap_or(""), network.edge_of(link));
+    let (taken, deadline) = (
+        Grouped(time_on(link, longest_frame(item))),
+        Grouped(item.number("deadline")),
+    );
+    told.tell(format!(in given.alloc;
+        "{place}: {label}: the talker's link {from}>{to} takes {taken} ns, and its deadline is {deadline}"
+    )?)
+}
+
+/// Tells of a stream whose traffic needs more than it may reserve, or does.
+fn tell_needs(
+    given: &Given<'_>,
+    told: &mut Told,
+    item: &Item<'_>,
+    unplaced: Unplaced<'_>,
+) -> Result<(), AllocError> {
+    let label = item.label(given.alloc)?;
+    let needed = Grouped(number_in(Some(unplaced.value)));
+    if unplaced.fault == "TooLittle" {
+        let (place, octets) = (item.place_of("octets"), Grouped(item.number("octets")));
+        return told.tell(format!(in given.alloc;
+            "{place}: {label} reserves {octets} octets a cycle, and its traffic needs {needed}"
+        )?);
+    }
+    let place = item.place_of("interval");
+    told.tell(format!(in given.alloc;
+        "{place}: {label}: its traffic needs {needed} octets a cycle, and a reservation is at most 60,000: a shorter cycle, or several streams"
+    )?)
+}
+
+/// Tells of a stream for which a link has too little left, by the words of its line: `LISTENER COST LINK LEFT`.
+fn tell_full(
+    given: &Given<'_>,
+    told: &mut Told,
+    item: &Item<'_>,
+    value: &str,
+) -> Result<(), AllocError> {
+    let mut words = value.split(' ');
+    let listener = words.next().unwrap_or("");
+    let cost = Grouped(number_in(words.next()));
+    let link = words.next().unwrap_or("");
+    let left = Grouped(number_in(words.next()));
+    let (place, label) = (item.place_of("to"), item.label(given.alloc)?);
+    told.tell(format!(in given.alloc;
+        "{place}: {label} needs {cost} octets a cycle on a way to {listener}; on the shortest {link} has {left} left"
+    )?)
+}
+
+/// Tells of a stream for which a link of its branches has too little left, by the words of its line: `LINK LEFT`.
+fn tell_short(
+    given: &Given<'_>,
+    told: &mut Told,
+    item: &Item<'_>,
+    value: &str,
+) -> Result<(), AllocError> {
+    let (link, left) = value.split_once(' ').unwrap_or((value, ""));
+    let left = Grouped(number_in(Some(left)));
+    let (place, label) = (item.place(), item.label(given.alloc)?);
+    told.tell(format!(in given.alloc;
+        "{place}: {label} needs more octets a cycle than the {left} that {link} of its path has left"
+    )?)
+}
+
+/// Tells of a stream that may be late, by the words of its line: `LISTENER MOST DEADLINE`.
+fn tell_late(
+    given: &Given<'_>,
+    told: &mut Told,
+    item: &Item<'_>,
+    value: &str,
+) -> Result<(), AllocError> {
+    let mut words = value.split(' ');
+    let listener = words.next().unwrap_or("");
+    let (most, deadline) = (number_in(words.next()), number_in(words.next()));
+    let over = Grouped(most.saturating_sub(deadline));
+    let (most, deadline) = (Grouped(most), Grouped(deadline));
+    let (place, label) = (item.place_of("deadline"), item.label(given.alloc)?);
+    told.tell(format!(in given.alloc;
+        "{place}: {label}: a frame may take {most} ns from its edge bridge to {listener}, {over} more than the {deadline} that its deadline leaves"
+    )?)
+}
+
+/// Tells of a listener to which no links lead.
+fn tell_no_way(
+    given: &Given<'_>,
+    told: &mut Told,
+    item: &Item<'_>,
+    listener: &str,
+) -> Result<(), AllocError> {
+    let (place, label) = (item.place_of("to"), item.label(given.alloc)?);
+    told.tell(format!(in given.alloc;
+        "{place}: {label}: no links lead from its edge bridge to {listener}, 16 of them at most"
+    )?)
+}
+
+/// Tells of a stream of a name why it isn't placed.
+fn tell_unplaced(
+    given: &Given<'_>,
+    told: &mut Told,
+    item: &Item<'_>,
+    unplaced: Unplaced<'_>,
+) -> Result<(), AllocError> {
+    match unplaced.fault {
+        "NoWay" => tell_no_way(given, told, item, unplaced.value),
+        "TooSoon" => tell_too_soon(given, told, item),
+        "TooMuch" | "TooLittle" => tell_needs(given, told, item, unplaced),
+        "BudgetShort" => tell_short(given, told, item, unplaced.value),
+        "Full" => tell_full(given, told, item, unplaced.value),
+        "Late" => tell_late(given, told, item, unplaced.value),
+        "TooManyStreams" => {
+            let (place, label) = (item.place(), item.counted(given.alloc)?);
+            told.tell(format!(in given.alloc;
+                "{place}: {label}: at most 1,024 streams are held at once"
+            )?)
+        }
+        _ => Ok(()),
+    }
+}
+
+/// Tells why a sketch comes to no plant: of each stream that is wrong in this way whatever the cycle time is, or of the one that isn't placed.
+pub(crate) fn tell_plan(
+    given: &Given<'_>,
+    told: &mut Told,
+    refusal: Refusal<'_>,
+) -> Result<(), AllocError> {
+    let Some(unplaced) = unplaced_of(refusal) else {
+        return tell_guard(given, told);
+    };
+    match unplaced.fault {
+        "NoTalker" => return tell_no_talkers(given, told),
+        "NoListener" => return tell_no_listeners(given, told),
+        "NameHeld" => return tell_names_twice(given, told),
+        _ => {}
+    }
+    if let Some(fault) = form_fault_of(unplaced.fault) {
+        return tell_form_faults(given, told, fault);
+    }
+    for item in &given.plant.items(Kind::Stream)? {
+        if item.text("name") == Some(unplaced.stream) {
+            return tell_unplaced(given, told, item, unplaced);
+        }
+    }
+    Ok(())
+}

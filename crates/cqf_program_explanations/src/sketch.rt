@@ -1,0 +1,104 @@
+//! A sketch as it is written: what it has beyond a plant (profile).
+
+use crate::given::Given;
+use crate::network::{Link, Network};
+use crate::plant::{Item, number_of};
+use std::alloc::{AllocError, Global};
+use toml::Value;
+
+/// The longest frame with one VLAN tag, in octets (IEEE 802.3).
+const LONGEST_FRAME: u64 = 1522;
+
+/// The octets of preamble and start delimiter (IEEE 802.3).
+const PREAMBLE: u64 = 8;
+
+/// Whether the command reads a sketch.
+pub(crate) fn reads_sketch(given: &Given<'_>) -> bool {
+    given.command == "plan"
+}
+
+/// The candidates for the cycle time, as far as they are numbers.
+pub(crate) fn candidates_of(given: &Given<'_>) -> Result<Vec<u64>, AllocError> {
+    let mut candidates = Vec::new(given.alloc);
+    if let Some(found) = given.plant.top("cycle") {
+        match found.value.as_array() {
+            Some(values) => {
+                for value in values {
+                    candidates.push(number_of(value))?;
+                }
+            }
+            None => candidates.push(number_of(found.value))?,
+        }
+    }
+    Ok(candidates)
+}
+
+/// Whether a link stands for two, there and back.
+pub(crate) fn is_duplex(link: &Link<'_>) -> bool {
+    link.item
+        .get("duplex")
+        .and_then(Value::as_bool)
+        .unwrap_or(false)
+}
+
+/// Whether a link is in the plant: one direction of it leaves a bridge.
+pub(crate) fn is_of_plant(network: &Network<'_>, link: &Link<'_>) -> bool {
+    network.is_bridge(link.from) || is_duplex(link) && network.is_bridge(link.to)
+}
+
+/// The station that a talker's link leaves, which a link has or stands for.
+pub(crate) fn talker_of<'p>(network: &Network<'_>, link: &Link<'p>) -> Option<&'p str> {
+    if !network.is_bridge(link.from) {
+        Some(link.from)
+    } else if is_duplex(link) && !network.is_bridge(link.to) {
+        Some(link.to)
+    } else {
+        None
+    }
+}
+
+/// The link by which a station's talker sends.
+pub(crate) fn talkers_link<'n, 'p>(
+    network: &'n Network<'p>,
+    station: &str,
+) -> Option<&'n Link<'p>> {
+    network
+        .links
+        .iter()
+        .find(|link| talker_of(network, link) == Some(station))
+}
+
+/// How many octets a stream's frame may have.
+pub(crate) fn longest_frame(item: &Item<'_>) -> u64 {
+    let size = item.number("size");
+    if size > 0 {
+        size
+    } else {
+        item.number("octets").min(LONGEST_FRAME)
+    }
+}
+
+/// What a talker's link takes until a frame is whole at the edge bridge, in ns.
+pub(crate) fn time_on(link: &Link<'_>, octets: u64) -> u64 {
+    let octets = octets.saturating_add(PREAMBLE);
+    octets
+        .saturating_mul(link.octet_time())
+        .saturating_add(link.delay)
+}
+
+/// The listeners of a stream that has ends: one name, or an array of them.
+pub(crate) fn listeners_of<'p>(alloc: Global, item: &Item<'p>) -> Result<Vec<&'p str>, AllocError> {
+    let mut names = Vec::new(alloc);
+    let Some(value) = item.get("to") else {
+        return Ok(names);
+    };
+    if let Some(name) = value.as_str() {
+        names.push(name)?;
+    }
+    if let Some(values) = value.as_array() {
+        for element in values {
+            names.push(element.as_str().unwrap_or(""))?;
+        }
+    }
+    Ok(names)
+}

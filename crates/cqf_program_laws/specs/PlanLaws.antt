@@ -1,0 +1,145 @@
+-- A plan that was told keeps its word: of a stream whose talker keeps its own, no frame is lost and none is late (profile).
+use Rattle.std.specs.Prelude.{ℕ, ◌≡◌, ◌⊎◌, ◌+◌, ◌<◌, ◌≤◌, List, [], All, Contains, false, map, Option, Some, Ok, slice_get}
+use Rattle.std.specs.Option.{ForSome}
+use Rattle.cqf_model.specs.declared.frames.Background.{Background}
+use Rattle.cqf_model.specs.declared.frames.Offer.{Offer}
+use Rattle.cqf_model.specs.declared.frames.Offered.{Offered}
+use Rattle.cqf_model.specs.declared.topology.Row.{Row}
+use Rattle.cqf_model.specs.Book.{Contents}
+use Rattle.cqf_model.specs.Domain.{Domain, IsAccepted}
+use Rattle.cqf_model.specs.Headline.{IsAccountOf}
+use Rattle.cqf_model.specs.History.{Act, Asked, Branch, Recorded, held_in}
+use Rattle.cqf_model.specs.HistoryBook.{run_of_history}
+use Rattle.cqf_model.specs.Limits.{most_cycles}
+use Rattle.cqf_model.specs.Run.{Run}
+use Rattle.cqf_model.specs.Shift.{IsCovered, offer_cycle}
+use Rattle.cqf_laws_latency.specs.Latency.{whole_of}
+use Rattle.cqf_laws_latency.specs.Listeners.{EndsAtListener}
+use Rattle.cqf_laws_traffic.specs.Covered.{IsAtItsEdge, own_offers}
+use Rattle.cqf_laws_traffic.specs.InTime.{ArrivesInTime, ComesThrough, IsBookOverList}
+use Rattle.cqf_laws_traffic.specs.Traffic.{Conforms, IsTraffic, needed, offers_named}
+use Rattle.cqf_sketch.specs.declared.domain.TalkerLink.{TalkerLink}
+use Rattle.cqf_sketch.specs.SketchDomain.{SketchDomain}
+use Rattle.cqf_traffic.specs.FlowsText.{FlowText}
+use Rattle.cqf_traffic.specs.TrafficText.{TrafficText, promise_of}
+use Rattle.cqf_sketch_streams.specs.StreamsText.{StreamText}
+use Rattle.cqf_program_scenario.specs.Books.{IsBookOfScenario}
+use Rattle.cqf_program_scenario.specs.Closing.{MayBeRun}
+use Rattle.cqf_program_scenario.specs.Opening.{opening_history}
+use Rattle.cqf_program_scenario.specs.Parting.{AreCommandsBehind}
+use Rattle.cqf_program_scenario.specs.Scenario.{Scenario}
+use Rattle.cqf_program_plans.specs.declared.latency_latencies.Latency.{Latency}
+use Rattle.cqf_program_plans.specs.CompileOutput.{admitted_from}
+use Rattle.cqf_program_plans.specs.LatencyText.{is_not_sure, latencies_of}
+use Rattle.cqf_program_offers.specs.OffersOutput.{asked_in}
+use Rattle.cqf_program_placing.specs.Settled.{SettledStream, deadline_behind, deadline_of_stream, open_domain, settled_of, taken_on, talker_of_stream}
+use Rattle.cqf_program_runs.specs.PlannedScenario.{planned_scenario, run_of_scenario}
+
+-- what a plan has that was told: its streams are all admitted before cycle 0, each reserves what its talker needs of a cycle, and the
+-- frames of none may miss its deadline
+pub record IsKeptPlan (d : Domain) (flows : List FlowText) : Type 0 where
+  pub entries : List Recorded
+  pub admitted : admitted_from d [] 1 (map asked_in flows) ≡ Ok entries
+  pub enough : All (λ (flow : FlowText). ForSome flow.1 (λ (t : TrafficText). needed d.cycle_time (promise_of t) ≤ flow.0.0.octets)) flows
+  pub in_time : All (λ (latency : Latency). is_not_sure latency ≡ false)
+      (latencies_of d (held_in d entries 0) (map (λ (flow : FlowText). flow.0.1) flows))
+
+-- a frame that is promised to come: it is offered of a stream of the plan at its edge, while a row of the stream's name is live, and its
+-- talker keeps its word, in all that is offered by that name, or in the stream's own offers
+pub record IsPromised (run : Run) (flows : List FlowText) (flow : FlowText) (t : TrafficText) (x : Offered) (row : Row) : Type 0 where
+  pub listed : Contains flows flow
+  pub has : flow.1 ≡ Some t
+  pub is_traffic : IsTraffic (promise_of t)
+  pub name : row.name ≡ flow.0.0.name
+  pub at_edge : IsAtItsEdge run x row
+  pub keeps : Conforms (promise_of t) (offers_named flow.0.0.name run.offers) ⊎ Conforms (promise_of t) (own_offers run row.no)
+
+-- the frame leaves on a link of this depth as many cycles after its own, and is whole at the link's end within the plan's bounds, and
+-- within a deadline that runs from an instant, where there is one
+pub record ArrivesWithin (d : Domain) (streams : List Asked) (book : Contents) (x : Offered) (depth link since : ℕ) (deadline : Option ℕ) : Type 0 where
+  pub arrival : ArrivesInTime d streams book x depth link
+  pub within : ForSome deadline (λ (most : ℕ). whole_of d arrival.start ≤ since + most)
+
+-- the last link of a branch, so many bridges on, ends in its listener's station, and the frame arrives there within the deadline, where
+-- the run lasts so long
+pub record IsHeardWithin (d : Domain) (streams : List Asked) (cycles : ℕ) (book : Contents) (x : Offered) (branch : Branch) (since : ℕ)
+    (deadline : Option ℕ) : Type 0 where
+  pub bridges : ℕ
+  pub link : ℕ
+  pub station : ℕ
+  pub ends_at : EndsAtListener d branch bridges link station
+  pub arrives : offer_cycle d x + bridges < cycles → ArrivesWithin d streams book x bridges link since deadline
+
+-- the frame is covered, so it isn't dropped and leaves on each link of its row's tree; and it arrives within the deadline at each
+-- listener that the plan has for its stream
+pub record ComesAsPromised (run : Run) (flows : List FlowText) (flow : FlowText) (cycles : ℕ) (book : Contents) (x : Offered) (row : Row) (since : ℕ)
+    (deadline : Option ℕ) : Type 0 where
+  pub covered : IsCovered run x row
+  pub through : ComesThrough run.domain (map asked_in flows) cycles book x row
+  pub heard : (branch : Branch) → Contains flow.0.0.paths branch → IsHeardWithin run.domain (map asked_in flows) cycles book x branch since deadline
+
+-- a plan keeps its word in the book of a run over so many cycles: each frame that is promised to come does so within the plan's deadline
+-- from its offer on. And where that is what is over of a wished deadline when the longest frame that the traffic allows is whole at its
+-- edge bridge, it does so within the wished one, from the instant at which the talker begins to send it: a talker's link brings the
+-- stream's frames, or its talker is the edge bridge itself
+pub record PlanKeepsItsWord (run : Run) (flows : List FlowText) (cycles : ℕ) (book : Contents) : Type 0 where
+  pub from_edge : (flow : FlowText) (t : TrafficText) (x : Offered) (row : Row) → IsPromised run flows flow t x row →
+      ComesAsPromised run flows flow cycles book x row x.offer.at.0 flow.0.1
+  pub from_talker : (flow : FlowText) (t : TrafficText) (x : Offered) (row : Row) (talker : Option TalkerLink) (wished : Option ℕ) (sent : ℕ) →
+      IsPromised run flows flow t x row → deadline_behind (taken_on talker t.size) wished ≡ Ok flow.0.1 →
+      x.offer.at.0 ≡ sent + taken_on talker x.offer.octets → ComesAsPromised run flows flow cycles book x row sent wished
+
+-- so it does in the book of each history that admits streams of the plan alone, whatever is withdrawn and offered by others, and beside
+-- any background frames
+abbrev pub PlansKeepTheirWord : Type 0
+PlansKeepTheirWord =
+    (d : Domain) (flows : List FlowText) (entries : List Recorded) (offers : List Offer) (background : List Background) (cycles : ℕ) (book : Contents) →
+    IsKeptPlan d flows → IsBookOverList d (map asked_in flows) entries offers background cycles book →
+    PlanKeepsItsWord (run_of_history d entries offers background cycles) flows cycles book
+
+-- in that of each script over the plan
+abbrev pub PlansKeepTheirWordToScripts : Type 0
+PlansKeepTheirWordToScripts =
+    (cycles : ℕ) (input : List ℕ) (s : Scenario) (flows : List FlowText) (book : Contents) → cycles ≤ most_cycles →
+    planned_scenario cycles input ≡ Ok (s, map (λ (flow : FlowText). flow.0) flows) → IsAccepted s.domain → MayBeRun cycles s →
+    IsKeptPlan s.domain flows → IsBookOfScenario cycles s book → PlanKeepsItsWord (run_of_scenario cycles s) flows cycles book
+
+-- and in that of each account of such a script's run on threads
+abbrev pub PlansKeepTheirWordOnThreads : Type 0
+PlansKeepTheirWordOnThreads =
+    (cycles : ℕ) (input : List ℕ) (s : Scenario) (flows : List FlowText) (entries : List Recorded) (asked : List (List Act)) (book : Contents) →
+    planned_scenario cycles input ≡ Ok (s, map (λ (flow : FlowText). flow.0) flows) → IsAccepted s.domain → MayBeRun cycles s →
+    IsKeptPlan s.domain flows → AreCommandsBehind s.calls s.sealer asked →
+    IsAccountOf s.domain (opening_history s) s.offers s.background cycles asked entries book →
+    PlanKeepsItsWord (run_of_history s.domain entries s.offers s.background cycles) flows cycles book
+
+-- what is over of a deadline when the longest frame is whole at its edge bridge is enough for each: one that is whole so long behind the
+-- instant at which the talker's link has brought it there is whole within the deadline from the instant at which the talker begins to
+-- send it
+abbrev pub DeadlinesRunFromTalkers : Type 0
+DeadlinesRunFromTalkers =
+    (talker : Option TalkerLink) (octets longest wished deadline sent at whole : ℕ) →
+    deadline_behind (taken_on talker longest) (Some wished) ≡ Ok (Some deadline) → octets ≤ longest → at ≡ sent + taken_on talker octets →
+    whole ≤ at + deadline → whole ≤ sent + wished
+
+-- a settled stream has its name and its traffic from the sketch, and its deadline is what is over of the sketch's at its edge bridge
+pub record IsOfSketch (sketch : SketchDomain) (stream : StreamText) (settled : SettledStream) : Type 0 where
+  pub name : settled.name ≡ stream.name
+  pub traffic : settled.traffic ≡ stream.traffic
+  pub deadline : deadline_of_stream sketch (open_domain sketch) stream ≡ Ok settled.deadline
+
+-- so is each, in its place
+abbrev pub SettledStreamsAreOfSketches : Type 0
+SettledStreamsAreOfSketches =
+    (sketch : SketchDomain) (streams : List StreamText) (all : List SettledStream) (place : ℕ) (stream : StreamText) (settled : SettledStream) →
+    settled_of sketch streams ≡ Ok all → slice_get streams place ≡ Some stream → slice_get all place ≡ Some settled → IsOfSketch sketch stream settled
+
+-- so where a stream of a plan that keeps its word has its traffic and its deadline from a settled one, each frame that is promised to come
+-- does so within the sketch's deadline, from the instant at which the talker begins to send it
+abbrev pub DeadlinesOfSketchesAreKept : Type 0
+DeadlinesOfSketchesAreKept =
+    (sketch : SketchDomain) (stream : StreamText) (settled : SettledStream) (run : Run) (flows : List FlowText) (cycles : ℕ) (book : Contents)
+    (flow : FlowText) (t : TrafficText) (x : Offered) (row : Row) (sent : ℕ) → IsOfSketch sketch stream settled → flow.0.1 ≡ settled.deadline →
+    flow.1 ≡ settled.traffic → PlanKeepsItsWord run flows cycles book → IsPromised run flows flow t x row →
+    x.offer.at.0 ≡ sent + taken_on (talker_of_stream sketch (open_domain sketch) stream.way) x.offer.octets →
+    ComesAsPromised run flows flow cycles book x row sent stream.deadline

@@ -1,0 +1,5 @@
+pub mod LedLemmas
+pub mod SettledLemmas
+pub mod RouteLemmas
+pub mod AskLemmas
+pub mod PlaceLemmas

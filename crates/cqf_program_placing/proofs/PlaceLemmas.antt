@@ -1,0 +1,180 @@
+-- Streams placed one after the other.
+use Rattle.std.proofs.Common.{◌≡◌, ◌∙◌, ◌+◌, ◌-◌, ◌*◌, ◌<◌, ◌≤◌, ◌^◌, ℕ, All, Bool, true, false, List, [], ◌∷◌, ◌++◌, Option, Some, None, Result, Ok, Err, length, cond, get_or, map, nat_le, nat_lt, take, length-append, ap, arith, refl, subst, sym, div-le_self}
+use Rattle.std.proofs.Math.Nat.{mul-le-mul_right}
+use Rattle.std.proofs.lemmas.Bool.{and_parts, leb-true}
+use Rattle.std.proofs.lemmas.Bool.Decides.{nat_tests}
+use Rattle.std.proofs.lemmas.List.{get_or-map, length-map, map_more, map_push}
+use Rattle.cqf_model.specs.Domain.{Domain}
+use Rattle.cqf_model.specs.History.{Admits, Asked, Branch, IsLegalHistory, Recorded, held_in, next_number, refusal_of, reply_to, seals}
+use Rattle.cqf_model.specs.declared.topology.Row.{Row}
+use Rattle.cqf_units.specs.Timing.{cost_of}
+use Rattle.cqf_admission.specs.Admission.{Administration, held_of}
+use Rattle.cqf_laws_history.specs.StateLaws.{AreHeld, HeldAreSound, SealsAreCounted}
+use Rattle.cqf_program_plans.specs.CompileOutput.{with_asked}
+use Rattle.cqf_program_placing.specs.declared.outcomes.Outcome.{Outcome}
+use Rattle.cqf_program_placing.specs.declared.settled.Settled.{Settled}
+use Rattle.cqf_laws_traffic.specs.Traffic.{intervals_in, needed}
+use Rattle.cqf_traffic.specs.TrafficText.{IsTrafficText, TrafficText, promise_of}
+use Rattle.cqf_program_placing.specs.declared.faults.PlanFault.{PlanFault}
+use Rattle.cqf_program_placing.specs.declared.faults.PlanFault.TheVariants as fault
+use Rattle.cqf_program_placing.specs.Placing.{ArePlacedFrom, IsAnswered, IsPlacedBy, IsPlacing, IsRouted, IsRoutedAndAnswered, PlacedOr, Unplaced, answered, if_enough, outcome_value}
+use Rattle.cqf_program_placing.specs.Placing.{reserved_by, reserved_on}
+use Rattle.cqf_program_placing.specs.Settled.{IsPlaceable, SettledStream, are_reservable, settled_value}
+
+-- one stream more is placed behind the others
+pub placed_more : (d : Domain) (start entries after : List Recorded) (streams : List SettledStream) (stream : SettledStream) (outcomes : List PlacedOr)
+    (become : PlacedOr) → ArePlacedFrom d start streams outcomes entries → IsPlacing d entries stream become after →
+    ArePlacedFrom d start (streams ++ stream ∷ []) (outcomes ++ become ∷ []) after
+placed_more d start entries after [] stream [] become placed last =
+    (after, subst (λ (xs : List Recorded). IsPlacing d xs stream become after) placed last, refl)
+placed_more d start entries after [] stream (other ∷ outcomes) become placed last = absurd placed
+placed_more d start entries after (first ∷ streams) stream [] become placed last = absurd placed
+placed_more d start entries after (first ∷ streams) stream (other ∷ outcomes) become placed last =
+    (placed.0, placed.1, placed_more d placed.0 entries after streams stream outcomes become placed.2 last)
+
+-- octets that may be reserved are no more than the most
+few_octets : (octets : ℕ) → are_reservable (Some octets) ≡ true → octets ≤ 60000
+few_octets octets may = let most : nat_le octets 60000 ≡ true = (and_parts (nat_le 64 octets) (nat_le octets 60000) may).1 in leb-true octets 60000 most
+
+-- and so is what is reserved
+pub reserved_few : (octets needs : Option ℕ) (reserved : ℕ) → are_reservable octets ≡ true → reserved_by octets needs ≡ Ok reserved → reserved ≤ 60000
+reserved_few None None reserved may e = let none : 0 ≡ reserved = cc in omega (arith, none)
+reserved_few (Some octets) None reserved may e = let same : octets ≡ reserved = cc in omega (arith, same, few_octets octets may)
+reserved_few octets (Some needs) reserved may e = by_needs (nat_lt 60000 needs) refl e
+  where
+    by_octets : (o : Option ℕ) → are_reservable o ≡ true → needs ≤ 60000 → if_enough o needs ≡ Ok reserved → reserved ≤ 60000
+    by_octets None may few e = let same : needs ≡ reserved = cc in omega (arith, same, few)
+    by_octets (Some asked) may few e = by_asked (nat_lt asked needs) e
+      where
+        by_asked : (b : Bool) → cond b (Err (fault.TooLittle needs)) (Ok asked) ≡ Ok reserved → reserved ≤ 60000
+        by_asked true e = absurd cc
+        by_asked false e = let same : asked ≡ reserved = cc in omega (arith, same, few_octets asked may)
+
+    by_needs : (b : Bool) → nat_lt 60000 needs ≡ b → cond b (Err (fault.TooMuch needs)) (if_enough octets needs) ≡ Ok reserved → reserved ≤ 60000
+    by_needs true is e = absurd cc
+    by_needs false is e = by_octets octets may (grind (arith, nat_tests)) e
+
+-- what a cycle needs of a stream is far from the greatest number of 64 bits
+pub needed_few : (cycle_time : ℕ) (t : TrafficText) → cycle_time ≤ 10000000 → IsTrafficText t → needed cycle_time (promise_of t) < 2 ^ 64
+needed_few cycle_time t short inside =
+    let intervals : ℕ = intervals_in cycle_time (promise_of t) in
+    let some : intervals ≤ cycle_time + t.jitter + t.interval - 1 = div-le_self (cycle_time + t.jitter + t.interval - 1) t.interval in
+    let few : intervals ≤ 2010000000 = omega (arith, some, short, inside.jitter.most, inside.interval.most) in
+    let frames : intervals * t.frames ≤ 2010000000 * t.frames = mul-le-mul_right t.frames few in
+    let octets : intervals * t.frames * t.size ≤ 2010000000000 * t.size = mul-le-mul_right t.size (omega (arith, frames, inside.frames.most)) in
+    omega (arith, octets, inside.size.most)
+
+-- placing a stream closes no cycle, and makes one call at most
+record AreFew (entries after : List Recorded) : Type 0 where
+  no_seal : seals after ≡ 0
+  one_more : length after ≤ length entries + 1
+
+few_same : (entries after : List Recorded) → seals entries ≡ 0 → after ≡ entries → AreFew entries after
+few_same entries after none same = record { no_seal = ap seals same ∙ none; one_more = omega (arith, ap length same) }
+
+few_asked : (d : Domain) (entries after : List Recorded) (asked : Asked) → SealsAreCounted → seals entries ≡ 0 → after ≡ with_asked d entries asked →
+    AreFew entries after
+few_asked d entries after asked counted none same = record {
+  no_seal = omega (arith, ap seals same, counted entries 0 (Admits asked) (reply_to d entries (Admits asked)), none);
+  one_more = omega (arith, ap length same, length-append entries (record { seat = 0; act = Admits asked; reply = reply_to d entries (Admits asked) } ∷ []));
+}
+
+few_placed : (d : Domain) (entries : List Recorded) (stream : SettledStream) (become : PlacedOr) (after : List Recorded) → SealsAreCounted → seals entries ≡ 0 →
+    IsPlacing d entries stream become after → AreFew entries after
+few_placed d entries stream become after counted none placed = by_reserved (reserved_on d.cycle_time stream) placed
+  where
+    by_routed : (octets : ℕ) (routed : Result (List Branch) PlanFault) → IsAnswered d entries stream.name octets routed become after → AreFew entries after
+    by_routed octets (Err found) is = few_same entries after none is.1
+    by_routed octets (Ok paths) is = few_asked d entries after (record { name = stream.name; octets = octets; paths = paths }) counted none is.1
+
+    by_reserved : (reserved : Result ℕ PlanFault) → IsPlacedBy d entries stream reserved become after → AreFew entries after
+    by_reserved (Err found) is = few_same entries after none is.1
+    by_reserved (Ok octets) is = by_routed octets is.routed is.is_answered
+
+-- the streams so far are placed, and no call but theirs was made
+pub record ArePlacedSoFar (d : Domain) (streams : List Settled) (k : ℕ) (a : Administration) (outcomes : List Outcome) : Type 0 where
+  pub domain : a.domain ≡ d
+  pub placed : ArePlacedFrom d [] (map settled_value (take k streams)) (map outcome_value outcomes) a.entries
+  pub no_seal : seals a.entries ≡ 0
+  pub few : length a.entries ≤ k
+
+pub none_placed : (d : Domain) (streams : List Settled) (a : Administration) → a.domain ≡ d → a.entries ≡ [] → ArePlacedSoFar d streams 0 a []
+none_placed d streams a domain none = record { domain = domain; placed = none; no_seal = ap seals none; few = omega (arith, ap length none) }
+
+pub one_placed : (d : Domain) (streams : List Settled) (k : ℕ) (stream : Settled) (old new : Administration) (outcomes after : List Outcome) (outcome : Outcome) →
+    SealsAreCounted → k < length streams → stream ≡ get_or streams k stream → ArePlacedSoFar d streams k old outcomes → new.domain ≡ d →
+    IsPlacing d old.entries (settled_value stream) (outcome_value outcome) new.entries → after ≡ outcomes ++ outcome ∷ [] →
+    ArePlacedSoFar d streams (k + 1) new after
+one_placed d streams k stream old new outcomes after outcome counted inside at so_far domain last more =
+    let few = few_placed d old.entries (settled_value stream) (outcome_value outcome) new.entries counted so_far.no_seal last in
+    let streams_are : map settled_value (take k streams) ++ settled_value stream ∷ [] ≡ map settled_value (take (k + 1) streams) =
+    ap (λ (s : Settled). map settled_value (take k streams) ++ settled_value s ∷ []) at ∙ sym (map_more settled_value streams k stream inside) in
+    let outcomes_are : map outcome_value outcomes ++ outcome_value outcome ∷ [] ≡ map outcome_value after =
+    sym (map_push outcome_value outcomes outcome) ∙ ap (map outcome_value) (sym more) in
+    record {
+      domain = domain;
+      placed = subst (λ (xs : List PlacedOr). ArePlacedFrom d [] (map settled_value (take (k + 1) streams)) xs new.entries) outcomes_are
+          (subst (λ (xs : List SettledStream). ArePlacedFrom d [] xs (map outcome_value outcomes ++ outcome_value outcome ∷ []) new.entries) streams_are
+          (placed_more d [] old.entries new.entries (map settled_value (take k streams)) (settled_value stream) (map outcome_value outcomes) (outcome_value outcome)
+          so_far.placed last));
+      no_seal = few.no_seal;
+      few = omega (arith, few.one_more, so_far.few);
+    }
+
+-- a stream without a reservation isn't placed
+pub unreserved : (d : Domain) (entries : List Recorded) (stream : SettledStream) (found : PlanFault) → Err found ≡ reserved_on d.cycle_time stream →
+    IsPlacing d entries stream (Unplaced found) entries
+unreserved d entries stream found is =
+    let P : Result ℕ PlanFault → Type 0 = λ reserved. IsPlacedBy d entries stream reserved (Unplaced found) entries in subst P is (refl, refl)
+
+-- what becomes of one with this reservation becomes of it
+pub reserved_so : (d : Domain) (entries : List Recorded) (stream : SettledStream) (octets : ℕ) (become : PlacedOr) (after : List Recorded) →
+    Ok octets ≡ reserved_on d.cycle_time stream → IsRoutedAndAnswered d entries stream octets become after → IsPlacing d entries stream become after
+reserved_so d entries stream octets become after is placed =
+    let P : Result ℕ PlanFault → Type 0 = λ reserved. IsPlacedBy d entries stream reserved become after in subst P is placed
+
+-- a stream without branches isn't placed
+pub unrouted_so : (d : Domain) (entries : List Recorded) (stream : SettledStream) (octets cost : ℕ) (found : PlanFault) → cost ≡ cost_of octets →
+    IsRouted d (held_in d entries (seals entries)) cost stream.way (Err found) → IsRoutedAndAnswered d entries stream octets (Unplaced found) entries
+unrouted_so d entries stream octets cost found is routed = record {
+  routed = Err found;
+  is_routed = subst (λ (c : ℕ). IsRouted d (held_in d entries (seals entries)) c stream.way (Err found)) is routed;
+  is_answered = (refl, refl);
+}
+
+-- one with branches is asked for
+pub routed_so : (d : Domain) (entries : List Recorded) (stream : SettledStream) (octets cost : ℕ) (asked : Asked) (become : PlacedOr) (after : List Recorded) →
+    cost ≡ cost_of octets → IsRouted d (held_in d entries (seals entries)) cost stream.way (Ok asked.paths) → asked.name ≡ stream.name →
+    asked.octets ≡ octets → become ≡ answered d asked (refusal_of d (held_in d entries (seals entries)) asked) → after ≡ with_asked d entries asked →
+    IsRoutedAndAnswered d entries stream octets become after
+routed_so d entries stream octets cost asked become after is routed named reserves answer entered =
+    let one : Asked = record { name = stream.name; octets = octets; paths = asked.paths } in
+    let same : asked ≡ one = λ i. record { name = named i; octets = reserves i; paths = asked.paths } in
+    record {
+      routed = Ok asked.paths;
+      is_routed = subst (λ (c : ℕ). IsRouted d (held_in d entries (seals entries)) c stream.way (Ok asked.paths)) is routed;
+      is_answered = (
+        answer ∙ ap (λ (a : Asked). answered d a (refusal_of d (held_in d entries (seals entries)) a)) same,
+        entered ∙ ap (with_asked d entries) same,
+      );
+    }
+
+-- a stream of a slice can be placed as all can
+pub placeable_there : (d : Domain) (streams : List Settled) (k : ℕ) (stream : Settled) → k < length streams → stream ≡ get_or streams k stream →
+    All (IsPlaceable d) (map settled_value streams) → IsPlaceable d (settled_value stream)
+placeable_there d streams k stream inside at all =
+    let there : get_or (map settled_value streams) k (settled_value stream) ≡ settled_value stream =
+    get_or-map settled_value streams k stream (settled_value stream) inside ∙ ap settled_value (sym at) in
+    subst (IsPlaceable d) there (all k (settled_value stream) (omega (arith, inside, length-map streams settled_value)))
+
+-- the rows of the streams that are held, where no cycle is closed, are what held streams are in cycle 0
+pub sound_rows : (a : Administration) (rows : List Row) → HeldAreSound → IsLegalHistory a.domain a.entries → seals a.entries ≡ 0 → rows ≡ held_of a →
+    (next : ℕ) × AreHeld a.domain rows next 0
+sound_rows a rows sound legal none same =
+    let next : ℕ = next_number a.domain a.entries in
+    let held : AreHeld a.domain (held_of a) next (seals a.entries) =
+    sound a.domain a.entries (held_of a) next legal (record { held = refl; number = refl }) in (
+      next,
+      subst (λ (rs : List Row). AreHeld a.domain rs next 0) (sym same)
+          (subst (λ (cycle : ℕ). AreHeld a.domain (held_of a) next cycle) none held),
+    )

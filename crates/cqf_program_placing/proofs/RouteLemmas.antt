@@ -1,0 +1,194 @@
+-- Ways of a domain as branches, and links that lack room.
+use Rattle.std.proofs.Common.{◌≡◌, ◌∙◌, ◌+◌, ◌<◌, ◌++◌, ℕ, Bool, true, List, [], ◌∷◌, Option, Some, None, Contains, inl, inr, length, get_or, map, take, arith, ap, refl, subst, sym, append_assoc}
+use Rattle.std.specs.Prelude.{not, option_and_then, option_map, slice_get}
+use Rattle.std.specs.List.{list_all}
+use Rattle.std.specs.Option.{option_map_or}
+use Rattle.std.proofs.lemmas.List.{map_more, map_push}
+use Rattle.std.proofs.lemmas.Simd.{map-map}
+use Rattle.std.proofs.lemmas.Option.{get_or_from_slice_get, slice_get-get_or, slice_get_within}
+use Rattle.cqf_lists.proofs.EachBelow.{get_or-singles, length-singles}
+use Rattle.cqf_lists.proofs.Members.{contains_cases, contains_none, find_member}
+use Rattle.cqf_model.specs.declared.topology.Link.{Link}
+use Rattle.cqf_model.specs.declared.topology.Node.{Node}
+use Rattle.cqf_model.specs.declared.topology.Node.TheVariants.{Bridge, Station}
+use Rattle.cqf_model.specs.declared.topology.Row.{Row}
+use Rattle.cqf_model.specs.Domain.{Domain, IsAccepted, IsNode, bridge_of}
+use Rattle.cqf_model.specs.History.{Branch, left_on}
+use Rattle.arrayvec.specs.ArrayVec.{ArrayVec}
+use Rattle.cqf_ways.specs.Listeners.{AreFirstWays, IsFirstWithout}
+use Rattle.cqf_ways.specs.WayLaws.{FullWaysHaveAShortLink, NothingHasRoomEverywhere}
+use Rattle.cqf_ways.specs.Steps.{led_along}
+use Rattle.cqf_ways.specs.Ways.{IsFirstWay, NoWay, has_room, led_by, led_to, most_links, short_link}
+use Rattle.cqf_report.specs.Books.{name_of_bridge, name_of_node}
+use Rattle.cqf_program_plans.specs.EndNames.{name_of_end}
+use Rattle.cqf_program_placing.specs.declared.faults.PlanFault.{PlanFault}
+use Rattle.cqf_program_placing.specs.declared.faults.PlanFault.TheVariants as fault
+use Rattle.cqf_program_placing.specs.Placing.{AreFound, IsFull, IsFullTo, lefts_on, names_along}
+use Rattle.cqf_program_placing.specs.Routes.{AreReached, IsReached}
+use Rattle.cqf_program_placing.specs.Settled.{Between, IsOnWay, is_led}
+use Rattle.cqf_program_placing.proofs.LedLemmas.{led_has_way}
+
+-- what is made of the elements so far, with that of one more
+pub made_more : {X Y Z : Type 0} (value : Z → Y) (f : X → Y) (xs : List X) (k : ℕ) (x d : X) (front : List Y) (done after : List Z) (new : Z) → k < length xs →
+    x ≡ get_or xs k d → after ≡ done ++ new ∷ [] → value new ≡ f x → map value done ≡ front ++ map f (take k xs) →
+    map value after ≡ front ++ map f (take (k + 1) xs)
+made_more value f xs k x d front done after new inside at more same before =
+    ap (map value) more ∙ map_push value done new ∙ (λ i. before i ++ same i ∷ [])
+    ∙ append_assoc front (map f (take k xs)) (f x ∷ [])
+    ∙ ap (λ y. front ++ (map f (take k xs) ++ f y ∷ [])) at
+    ∙ ap (λ ys. front ++ ys) (sym (map_more f xs k d inside))
+
+-- the ends of a link of a domain are nodes of it
+pub from_node : (d : Domain) (l : ℕ) (link : Link) → IsAccepted d → slice_get d.links l ≡ Some link → link.from < length d.bridges
+from_node d l link accepted is = (accepted.links_good l link is).from_bridge
+
+pub to_node : (d : Domain) (l : ℕ) (link : Link) → IsAccepted d → slice_get d.links l ≡ Some link → IsNode d link.to
+to_node d l link accepted is = (accepted.links_good l link is).to_node
+
+pub bridge_of_link : (d : Domain) (l : ℕ) (link : Link) → slice_get d.links l ≡ Some link → bridge_of d l ≡ link.from
+bridge_of_link d l link is = ap (λ o. option_map_or (λ (x : Link). x.from) o 0) is
+
+-- the name of the node that it ends in
+pub name_at_end : (d : Domain) (l : ℕ) (link : Link) (node : Node) → slice_get d.links l ≡ Some link → link.to ≡ node → name_of_end d l ≡ name_of_node d node
+name_at_end d l link node is to =
+    ap (λ o. option_map_or (name_of_node d) o []) (ap (option_map (λ (x : Link). x.to)) is) ∙ ap (name_of_node d) to
+
+-- what leads on is a link
+link_there : (links : List Link) (node end : Node) (l : ℕ) → led_to links node l ≡ Some end → l < length links
+link_there links node end l e = by_link (slice_get links l) refl e
+  where
+    by_link : (o : Option Link) → slice_get links l ≡ o → option_and_then (led_by node) o ≡ Some end → l < length links
+    by_link None is none = absurd cc
+    by_link (Some link) is some = slice_get_within links l link is
+
+-- so the links of a way are
+way_inside : (links : List Link) (from to : Node) (way : List ℕ) → led_along (led_to links) from way ≡ Some to → (l : ℕ) → Contains way l → l < length links
+way_inside links from to [] leads l c = absurd (contains_none l c)
+way_inside links from to (step ∷ way) leads l c = by_step (λ end more later. way_inside links end to way more l later) (led_to links from step) refl leads
+  where
+    by_step : ((end : Node) → led_along (led_to links) end way ≡ Some to → Contains way l → l < length links) → (o : Option Node) → led_to links from step ≡ o →
+        option_and_then (λ end. led_along (led_to links) end way) o ≡ Some to → l < length links
+    by_step rest None is none = absurd cc
+    by_step rest (Some end) is more = elim (contains_cases step way l c) [
+      | inl here ↦ subst (λ (k : ℕ). k < length links) here (link_there links from end step is)
+      | inr later ↦ rest end more later
+    ]
+
+-- and so is the first that lacks room
+pub short_inside : (links : List Link) (left : List ℕ) (cost : ℕ) (from to : Node) (way : List ℕ) (l : ℕ) → led_along (led_to links) from way ≡ Some to →
+    short_link left cost way ≡ Some l → l < length links
+short_inside links left cost from to way l leads short =
+    way_inside links from to way leads l (find_member (λ k. not (has_room left cost k)) way l short).0
+
+-- what a link has left stands at its place
+pub lefts_many : (d : Domain) (rows : List Row) → length (lefts_on d rows) ≡ length d.links
+lefts_many d rows = length-singles (left_on d rows) (length d.links)
+
+pub left_there : (d : Domain) (rows : List Row) (l : ℕ) → l < length d.links → get_or (lefts_on d rows) l 0 ≡ left_on d rows l
+left_there d rows l inside = get_or-singles (left_on d rows) (length d.links) l 0 inside
+
+-- a way asks for nothing where each link has room
+all_pass : (way : List ℕ) → list_all (λ l. true) way ≡ true
+all_pass [] = refl
+all_pass (l ∷ way) = all_pass way
+
+-- where links lead to a station, it is reached
+led_reached : (d : Domain) (most bridge station : ℕ) → most ≡ most_links → station < length d.stations →
+    is_led d.links most (Bridge bridge) (Station station) ≡ true → IsReached d bridge station
+led_reached d most bridge station is inside led =
+    let w = led_has_way d.links most (Bridge bridge) (Station station) led in
+    record {
+      is_there = inside;
+      way = w.way;
+      is_way = record { leads = w.leads; roomy = all_pass w.way; few = omega (arith, w.few, is) };
+    }
+
+-- so the stations of a settled stream are
+pub all_reached : (d : Domain) (bridge : ℕ) (stations : List ℕ) → IsOnWay d (Between bridge stations) → AreReached d bridge stations
+all_reached d bridge stations on_way k station stands =
+    let below = slice_get_within stations k station stands in
+    let here = on_way.1 k station below in
+    let same : get_or stations k station ≡ station = get_or_from_slice_get stations k station station stands in
+    led_reached d 16 bridge station refl (subst (λ (s : ℕ). s < length d.stations) same here.0)
+    (subst (λ (s : ℕ). is_led d.links 16 (Bridge bridge) (Station s) ≡ true) same here.1)
+
+-- of a reached station: a way leads to it at no cost
+pub must_lead : (d : Domain) (links : List Link) (left : List ℕ) (bridge station : ℕ) → NothingHasRoomEverywhere → links ≡ d.links →
+    length left ≡ length d.links → IsReached d bridge station → NoWay links (has_room left 0) (Bridge bridge) (Station station) → ⊥
+must_lead d links left bridge station for_nothing are many reached none =
+    let none_there : NoWay d.links (has_room left 0) (Bridge bridge) (Station station) =
+    subst (λ (ls : List Link). NoWay ls (has_room left 0) (Bridge bridge) (Station station)) are none in
+    (for_nothing d.links left (Bridge bridge) (Station station) [] many).1 none_there reached.way reached.is_way
+
+-- the first at no cost is the first of all
+pub first_of_all : (d : Domain) (links : List Link) (left : List ℕ) (bridge station : ℕ) (way : List ℕ) → NothingHasRoomEverywhere → links ≡ d.links →
+    length left ≡ length d.links → IsFirstWay links (has_room left 0) (Bridge bridge) (Station station) way →
+    IsFirstWay d.links (λ l. true) (Bridge bridge) (Station station) way
+first_of_all d links left bridge station way for_nothing are many first =
+    (for_nothing d.links left (Bridge bridge) (Station station) way many).0
+    (subst (λ (ls : List Link). IsFirstWay ls (has_room left 0) (Bridge bridge) (Station station) way) are first)
+
+-- where no way has room, it lacks room
+pub must_lack : (d : Domain) (left : List ℕ) (cost bridge station : ℕ) (way : List ℕ) → FullWaysHaveAShortLink →
+    NoWay d.links (has_room left cost) (Bridge bridge) (Station station) → IsFirstWay d.links (λ l. true) (Bridge bridge) (Station station) way →
+    short_link left cost way ≡ None → ⊥
+must_lack d left cost bridge station way short none first all =
+    let (link, lacks) = short d.links left cost (Bridge bridge) (Station station) way none first.is_way in absurd cc
+
+-- and the station is full
+pub full_found : (d : Domain) (rows : List Row) (left : List ℕ) (cost bridge station : ℕ) (way : List ℕ) (link : ℕ) (found : PlanFault) →
+    IsFirstWay d.links (λ l. true) (Bridge bridge) (Station station) way → short_link left cost way ≡ Some link →
+    found ≡ fault.Full (name_of_node d (Station station)) cost (name_of_bridge d (bridge_of d link)) (name_of_end d link) (get_or left link 0) →
+    left ≡ lefts_on d rows → IsFullTo d rows cost bridge station found
+full_found d rows left cost bridge station way link found first short is are =
+    let inside : link < length d.links = short_inside d.links left cost (Bridge bridge) (Station station) way link first.is_way.leads short in
+    record {
+      way = way;
+      is_first = first;
+      link = link;
+      lacks = subst (λ (xs : List ℕ). short_link xs cost way ≡ Some link) are short;
+      is = is ∙ ap (λ octets. fault.Full (name_of_node d (Station station)) cost (name_of_bridge d (bridge_of d link)) (name_of_end d link) octets)
+          (ap (λ xs. get_or xs link 0) are ∙ left_there d rows link inside);
+    }
+
+-- it is the first that is
+pub first_full : (d : Domain) (rows : List Row) (links : List Link) (left : List ℕ) (cost bridge : ℕ) (stations : List ℕ) (place station : ℕ) (found : PlanFault) →
+    links ≡ d.links → IsFirstWithout links (has_room left cost) (Bridge bridge) stations place → slice_get stations place ≡ Some station →
+    left ≡ lefts_on d rows → IsFullTo d rows cost bridge station found → IsFull d rows cost bridge stations found
+first_full d rows links left cost bridge stations place station found are without stands lefts full = record {
+  place = place;
+  station = station;
+  without = subst (λ (xs : List ℕ). IsFirstWithout d.links (has_room xs cost) (Bridge bridge) stations place) lefts
+      (subst (λ (ls : List Link). IsFirstWithout ls (has_room left cost) (Bridge bridge) stations place) are without);
+  stands = stands;
+  is_full = full;
+}
+
+-- there is a station at the place of the first without a way
+pub stands_there : (links : List Link) (room : ℕ → Bool) (from : Node) (stations : List ℕ) (place : ℕ) → IsFirstWithout links room from stations place →
+    slice_get stations place ≡ Some (get_or stations place 0)
+stands_there links room from stations place without =
+    slice_get-get_or stations place 0 (slice_get_within stations place without.station without.stands)
+
+-- and it has none
+pub none_there : (d : Domain) (links : List Link) (left : List ℕ) (cost bridge : ℕ) (stations : List ℕ) (place station : ℕ) → links ≡ d.links →
+    IsFirstWithout links (has_room left cost) (Bridge bridge) stations place → slice_get stations place ≡ Some station →
+    NoWay d.links (has_room left cost) (Bridge bridge) (Station station)
+none_there d links left cost bridge stations place station are without stands =
+    let stood = without.stands in
+    let same : without.station ≡ station = cc in
+    subst (λ (ls : List Link). NoWay ls (has_room left cost) (Bridge bridge) (Station station)) are
+    (subst (λ (s : ℕ). NoWay links (has_room left cost) (Bridge bridge) (Station s)) same without.none)
+
+-- the branches of the first ways are found
+pub ways_found : (d : Domain) (rows : List Row) (links : List Link) (left : List ℕ) (cost bridge : ℕ) (stations : List ℕ) (ways : List (ArrayVec ℕ))
+    (paths : List Branch) → links ≡ d.links → AreFirstWays links (has_room left cost) (Bridge bridge) stations (map (λ (way : ArrayVec ℕ). way.items) ways) →
+    paths ≡ map (λ (way : ArrayVec ℕ). names_along d bridge way.items) ways → left ≡ lefts_on d rows → AreFound d rows cost bridge stations paths
+ways_found d rows links left cost bridge stations ways paths are first paths_are lefts =
+    let items = λ (way : ArrayVec ℕ). way.items in
+    record {
+      ways = map items ways;
+      first = subst (λ (xs : List ℕ). AreFirstWays d.links (has_room xs cost) (Bridge bridge) stations (map items ways)) lefts
+          (subst (λ (ls : List Link). AreFirstWays ls (has_room left cost) (Bridge bridge) stations (map items ways)) are first);
+      are = paths_are ∙ sym (map-map (names_along d bridge) items ways);
+    }

@@ -1,0 +1,285 @@
+-- What settled streams are, by the definition.
+use Rattle.std.proofs.Common.{◌≡◌, ◌∙◌, ◌+◌, ◌-◌, ◌<◌, ◌≤◌, ℕ, Bool, true, false, List, [], ◌∷◌, ◌++◌, Option, Some, None, Result, Ok, Err, All, IsTrue}
+use Rattle.std.proofs.Common.{length, refl, sym, IfOk, Vec, ap, map, subst, append_assoc, arith, cond, find, length-append, not, ok_or}
+use Rattle.std.specs.Prelude.{◌==◌, if◌then◌else◌, nat_le, nat_lt, option_map}
+use Rattle.std.proofs.lemmas.Bool.{leb-false, ltb-true}
+use Rattle.std.specs.Option.{ForSome}
+use Rattle.std.specs.declared.alloc.Global.{Global}
+use Rattle.std.proofs.lemmas.List.{length-map}
+use Rattle.std.proofs.lemmas.List.Elements.{All-cons, All-contains, All-nil}
+use Rattle.cqf_lists.proofs.Members.{find_member}
+use Rattle.cqf_units.specs.Name.{is_name}
+use Rattle.cqf_model.specs.declared.history.Refused.TheVariants as refused
+use Rattle.cqf_model.specs.declared.topology.Node.{Node}
+use Rattle.cqf_model.specs.declared.topology.Node.TheVariants.{Bridge, Station}
+use Rattle.cqf_model.specs.Domain.{Domain, node_named, node_or}
+use Rattle.cqf_model.specs.Limits.{most_streams}
+use Rattle.cqf_ways.specs.Ways.{most_links}
+use Rattle.cqf_topology_fields.specs.Fields.{Gives, and_first}
+use Rattle.cqf_topology.specs.DomainText.{if_so, is_among, place_of, with_front}
+use Rattle.cqf_topology.proofs.Accepted.{place-within}
+use Rattle.cqf_topology.proofs.Passed.{not_so}
+use Rattle.cqf_topology.proofs.Refusals.{and_then-Ok, ok_or-Ok, refuse-Ok}
+use Rattle.cqf_sketch.specs.declared.domain.TalkerLink.{TalkerLink}
+use Rattle.cqf_sketch.specs.SketchDomain.{HasTalkerLinks, IsTalkerLink, SketchDomain}
+use Rattle.cqf_sketch_streams.specs.StreamsText.{StreamText, WantedText, Along as AlongText, Between as BetweenText}
+use Rattle.cqf_admission_trees.specs.Branches.{tree_refusal}
+use Rattle.cqf_program_placing.specs.declared.entrances.Entrance.{Entrance}
+use Rattle.cqf_program_placing.specs.declared.faults.PlanFault.{PlanFault}
+use Rattle.cqf_program_placing.specs.declared.faults.PlanFault.TheVariants as fault
+use Rattle.cqf_program_placing.specs.declared.settled.Settled.{Settled}
+use Rattle.cqf_program_placing.specs.declared.settled.Unsettled.{Unsettled}
+use Rattle.cqf_program_placing.specs.declared.settled.Unsettled.TheVariants as unsettled
+use Rattle.cqf_program_placing.specs.Settled.{Along, Between, IsOnWay, IsPlaceable, SettledStream, SettledWay, are_reservable, deadline_behind}
+use Rattle.cqf_program_placing.specs.Settled.{deadline_of_stream, entrance_at, entrance_behind, first_apart, has_way, is_led, open_domain, or_unsettled}
+use Rattle.cqf_program_placing.specs.Settled.{refusal_behind, settled_behind, settled_next, settled_of, settled_stream, settled_value, settled_way, station_at}
+use Rattle.cqf_program_placing.specs.Settled.{station_by_name, stations_by_name}
+
+-- what is there was right
+or_unsettled-Ok : {A : Type 0} (name : List ℕ) (r : Result A PlanFault) (x : A) → or_unsettled name r ≡ Ok x → r ≡ Ok x
+or_unsettled-Ok name (Ok y) x e = cc
+or_unsettled-Ok name (Err fault) x e = absurd cc
+
+-- the first was right, and so were the others
+record AreBoth {A E : Type 0} (first : Result A E) (others : Result (List A) E) (xs : List A) : Type 0 where
+  one : A
+  more : List A
+  first_is : first ≡ Ok one
+  others_are : others ≡ Ok more
+  all : xs ≡ one ∷ more
+
+and_first-Ok : {A E : Type 0} (first : Result A E) (others : Result (List A) E) (xs : List A) → and_first first others ≡ Ok xs → AreBoth first others xs
+and_first-Ok (Err e) others xs h = absurd cc
+and_first-Ok (Ok x) (Err e) xs h = absurd cc
+and_first-Ok {A} {E} (Ok x) (Ok ys) xs h = let e : xs ≡ x ∷ ys = cc in record { one = x; more = ys; first_is = refl; others_are = refl; all = e }
+
+-- a test that doesn't fail passes
+not_not : (b : Bool) → not b ≡ false → b ≡ true
+not_not true e = refl
+not_not false e = absurd cc
+
+-- none is found behind one that fails, and it fails
+found_none : {X : Type 0} (test : X → Bool) (x : X) (xs : List X) → find test (x ∷ xs) ≡ None → (test x ≡ false) × (find test xs ≡ None)
+found_none {X} test x xs e = by (test x) refl e
+  where
+    by : (b : Bool) → test x ≡ b → cond b (Some x) (find test xs) ≡ None → (test x ≡ false) × (find test xs ≡ None)
+    by true is h = absurd cc
+    by false is h = (is, h)
+
+-- the node of a name is one of the plant's
+bridge_there : (d : Domain) (name : List ℕ) (b : ℕ) → node_named d name ≡ Some (Bridge b) → b < length d.bridges
+bridge_there d name b e = by (place_of name d.bridges) (place_of name d.stations) refl e
+  where
+    by : (o p : Option ℕ) → place_of name d.bridges ≡ o → node_or o p ≡ Some (Bridge b) → b < length d.bridges
+    by (Some k) p at h = let same : k ≡ b = cc in subst (λ (n : ℕ). n < length d.bridges) same (place-within name d.bridges k at)
+    by None (Some k) at h = absurd cc
+    by None None at h = absurd cc
+
+station_there : (d : Domain) (name : List ℕ) (s : ℕ) → node_named d name ≡ Some (Station s) → s < length d.stations
+station_there d name s e = by (place_of name d.bridges) (place_of name d.stations) refl e
+  where
+    by : (o p : Option ℕ) → place_of name d.stations ≡ p → node_or o p ≡ Some (Station s) → s < length d.stations
+    by (Some k) p at h = absurd cc
+    by None (Some k) at h = let same : k ≡ s = cc in subst (λ (n : ℕ). n < length d.stations) same (place-within name d.stations k at)
+    by None None at h = absurd cc
+
+-- so is an edge bridge
+entrance_there : (sketch : SketchDomain) (d : Domain) (from : List ℕ) (entrance : Entrance) → HasTalkerLinks sketch → d.bridges ≡ sketch.bridges →
+    entrance_at sketch (node_named d from) ≡ Some entrance → entrance.bridge < length d.bridges
+entrance_there sketch d from entrance talkers same e = by_node (node_named d from) refl e
+  where
+    by_talker : (found : Option TalkerLink) (s : ℕ) → find (λ (talker : TalkerLink). talker.station == s) sketch.talkers ≡ found →
+        option_map entrance_behind found ≡ Some entrance → entrance.bridge < length d.bridges
+    by_talker None s is h = absurd cc
+    by_talker (Some talker) s is h =
+        let member = (find_member (λ (t : TalkerLink). t.station == s) sketch.talkers talker is).0 in
+        let there = All-contains (IsTalkerLink sketch) sketch.talkers talker talkers.each_there member in
+        let ends : talker.bridge ≡ entrance.bridge = cc in
+        subst (λ (b : ℕ). b < length d.bridges) ends (subst (λ (bs : List (List ℕ)). talker.bridge < length bs) (sym same) there.bridge_there)
+
+    by_node : (node : Option Node) → node_named d from ≡ node → entrance_at sketch node ≡ Some entrance → entrance.bridge < length d.bridges
+    by_node None is h = absurd cc
+    by_node (Some (Bridge b)) is h = let ends : b ≡ entrance.bridge = cc in subst (λ (n : ℕ). n < length d.bridges) ends (bridge_there d from b is)
+    by_node (Some (Station s)) is h = by_talker (find (λ (talker : TalkerLink). talker.station == s) sketch.talkers) s refl h
+
+-- a listener that is taken is a station
+station_named_by : (d : Domain) (name : List ℕ) (s : ℕ) → station_by_name d name ≡ Ok s → node_named d name ≡ Some (Station s)
+station_named_by d name s e = by (node_named d name) refl (ok_or-Ok (station_at (node_named d name)) (fault.NoListener name) s e)
+  where
+    by : (node : Option Node) → node_named d name ≡ node → station_at node ≡ Some s → node_named d name ≡ Some (Station s)
+    by None is h = absurd cc
+    by (Some (Bridge b)) is h = absurd cc
+    by (Some (Station t)) is h = let same : t ≡ s = cc in is ∙ ap (λ n. Some (Station n)) same
+
+-- a station to which a way leads
+abbrev StationReached : Domain → ℕ → ℕ → Type 0
+StationReached d bridge station = (station < length d.stations) × IsTrue (is_led d.links most_links (Bridge bridge) (Station station))
+
+-- so all listeners are, where none is apart
+stations_reached : (d : Domain) (bridge : ℕ) (names : List (List ℕ)) (stations : List ℕ) → stations_by_name d names ≡ Ok stations →
+    first_apart d bridge names ≡ None →
+    All (StationReached d bridge) stations
+stations_reached d bridge [] stations e none = let nil : [] ≡ stations = cc in subst (All (StationReached d bridge)) nil (All-nil (StationReached d bridge))
+stations_reached d bridge (name ∷ names) stations e none =
+    let both = and_first-Ok (station_by_name d name) (stations_by_name d names) stations e in
+    let parts = found_none (λ n. not (has_way d bridge (node_named d n))) name names none in
+    let node = station_named_by d name both.one both.first_is in
+    let led : is_led d.links most_links (Bridge bridge) (Station both.one) ≡ true =
+    sym (ap (has_way d bridge) node) ∙ not_not (has_way d bridge (node_named d name)) parts.0 in
+    subst (All (StationReached d bridge)) (sym both.all)
+    (All-cons (StationReached d bridge) both.one both.more (station_there d name both.one node, led)
+    (stations_reached d bridge names both.more both.others_are parts.1))
+
+-- a way that is settled leads through the plant
+on_way : (sketch : SketchDomain) (d : Domain) (wanted : WantedText) (way : SettledWay) → HasTalkerLinks sketch → d.bridges ≡ sketch.bridges →
+    settled_way sketch d wanted ≡ Ok way → IsOnWay d way
+on_way sketch d (AlongText paths) way talkers same e =
+    let parts = refuse-Ok (tree_refusal d paths) fault.Refused (Ok (Along paths)) way e in
+    let is : Along paths ≡ way = let h = parts.1 in cc in
+    subst (IsOnWay d) is tt
+on_way sketch d (BetweenText from to) way talkers same e =
+    let (entrance, entered, rest) = and_then-Ok (ok_or (entrance_at sketch (node_named d from)) fault.NoTalker) _ way e in
+    let (stations, named, more) = and_then-Ok (stations_by_name d to) _ way rest in
+    let parts = refuse-Ok (first_apart d entrance.bridge to) fault.NoWay (Ok (Between entrance.bridge stations)) way more in
+    let is : Between entrance.bridge stations ≡ way = let h = parts.1 in cc in
+    subst (IsOnWay d) is (
+      entrance_there sketch d from entrance talkers same (ok_or-Ok _ fault.NoTalker entrance entered),
+      stations_reached d entrance.bridge to stations named parts.0,
+    )
+
+-- of a deadline that is taken something is left
+some_left : (taken : ℕ) (given left : Option ℕ) → deadline_behind taken given ≡ Ok left → ForSome left (λ deadline. 1 ≤ deadline)
+some_left taken None left e deadline is = absurd (let none : None ≡ left = cc in cc)
+some_left taken (Some whole) left e deadline is = by (nat_lt taken whole) refl e
+  where
+    by : (b : Bool) → nat_lt taken whole ≡ b → (if b then Ok (Some (whole - taken)) else Err fault.TooSoon) ≡ Ok left → 1 ≤ deadline
+    by true less h =
+        let same : whole - taken ≡ deadline = cc in
+        let below : taken < whole = ltb-true taken whole less in
+        omega (arith, same, below)
+    by false less h = absurd cc
+
+-- what a stream has that is settled
+record IsSettledBy (sketch : SketchDomain) (d : Domain) (before : List (List ℕ)) (stream : StreamText) (one : SettledStream) : Type 0 where
+  named : is_name stream.name ≡ true
+  reservable : are_reservable one.octets ≡ true
+  way_is : settled_way sketch d stream.way ≡ Ok one.way
+  stands : refusal_behind before stream.name ≡ None
+  deadline_is : deadline_of_stream sketch d stream ≡ Ok one.deadline
+  name_is : stream.name ≡ one.name
+
+settled_by : (sketch : SketchDomain) (d : Domain) (before : List (List ℕ)) (stream : StreamText) (one : SettledStream) →
+    settled_next sketch d before stream ≡ Ok one → IsSettledBy sketch d before stream one
+settled_by sketch d before stream one e =
+    let (unnamed, e1) = refuse-Ok (if_so (not (is_name stream.name))) (λ _. unsettled.BadName (length before + 1))
+    (or_unsettled stream.name (settled_stream sketch d before stream)) one e in
+    let e2 = or_unsettled-Ok stream.name (settled_stream sketch d before stream) one e1 in
+    let (reservable, e3) = refuse-Ok (if_so (not (are_reservable stream.octets))) (λ _. fault.Refused refused.BadOctets) _ one e2 in
+    let (way, way_is, e4) = and_then-Ok (settled_way sketch d stream.way) _ one e3 in
+    let (stands, e5) = refuse-Ok (refusal_behind before stream.name) fault.Refused _ one e4 in
+    let (deadline, deadline_is, e6) = and_then-Ok (deadline_of_stream sketch d stream) _ one e5 in
+    let made : SettledStream = record { name = stream.name; octets = stream.octets; way = way; deadline = deadline; traffic = stream.traffic } in
+    let same : made ≡ one = cc in
+    record {
+      named = not_not (is_name stream.name) (not_so (not (is_name stream.name)) unnamed);
+      reservable = subst (λ (s : SettledStream). are_reservable s.octets ≡ true) same
+          (not_not (are_reservable stream.octets) (not_so (not (are_reservable stream.octets)) reservable));
+      way_is = way_is ∙ ap (λ (s : SettledStream). Ok s.way) same;
+      stands = stands;
+      deadline_is = deadline_is ∙ ap (λ (s : SettledStream). Ok s.deadline) same;
+      name_is = ap (λ (s : SettledStream). s.name) same;
+    }
+
+-- a stream of this name stands behind those of other names: it isn't one of theirs, and there are fewer than there may be
+pub record StandsNext (before : List (List ℕ)) (name own : List ℕ) : Type 0 where
+  pub own_name : own ≡ name
+  pub not_held : is_among name before ≡ false
+  pub few : length before < most_streams
+
+-- so it stands
+pub next_stands : (sketch : SketchDomain) (d : Domain) (before : List (List ℕ)) (stream : StreamText) (one : SettledStream) →
+    settled_next sketch d before stream ≡ Ok one → StandsNext before stream.name one.name
+next_stands sketch d before stream one e =
+    let by_name = settled_by sketch d before stream one e in
+    let tests = by (is_among stream.name before) (nat_le most_streams (length before)) refl refl by_name.stands in
+    record { own_name = sym by_name.name_is; not_held = tests.0; few = leb-false most_streams (length before) tests.1 }
+  where
+    by : (held full : Bool) → is_among stream.name before ≡ held → nat_le most_streams (length before) ≡ full →
+        (if held then Some refused.NameHeld else (if full then Some refused.TooManyStreams else None)) ≡ None →
+        (is_among stream.name before ≡ false) × (nat_le most_streams (length before) ≡ false)
+    by true full is more h = absurd cc
+    by false true is more h = absurd cc
+    by false false is more h = (is, more)
+
+-- and it can be placed
+next_is_placeable : (sketch : SketchDomain) (d : Domain) (before : List (List ℕ)) (stream : StreamText) (one : SettledStream) →
+    HasTalkerLinks sketch → d.bridges ≡ sketch.bridges → settled_next sketch d before stream ≡ Ok one → IsPlaceable d one
+next_is_placeable sketch d before stream one talkers same e =
+    let by_name = settled_by sketch d before stream one e in
+    record {
+      named = subst (λ (n : List ℕ). IsTrue (is_name n)) by_name.name_is by_name.named;
+      on_way = on_way sketch d stream.way one.way talkers same by_name.way_is;
+      reservable = by_name.reservable;
+      some_deadline = some_left _ stream.deadline one.deadline by_name.deadline_is;
+    }
+
+behind_are_placeable : (sketch : SketchDomain) (d : Domain) (before : List (List ℕ)) (streams : List StreamText) (settled : List SettledStream) →
+    HasTalkerLinks sketch → d.bridges ≡ sketch.bridges → settled_behind sketch d before streams ≡ Ok settled → All (IsPlaceable d) settled
+behind_are_placeable sketch d before [] settled talkers same e =
+    let nil : [] ≡ settled = cc in subst (All (IsPlaceable d)) nil (All-nil (IsPlaceable d))
+behind_are_placeable sketch d before (stream ∷ streams) settled talkers same e =
+    let both = and_first-Ok (settled_next sketch d before stream) (settled_behind sketch d (before ++ stream.name ∷ []) streams) settled e in
+    subst (All (IsPlaceable d)) (sym both.all)
+    (All-cons (IsPlaceable d) both.one both.more (next_is_placeable sketch d before stream both.one talkers same both.first_is)
+    (behind_are_placeable sketch d (before ++ stream.name ∷ []) streams both.more talkers same both.others_are))
+
+-- so can all
+settled_are_placeable : (sketch : SketchDomain) (streams : List StreamText) (settled : List SettledStream) → HasTalkerLinks sketch →
+    settled_of sketch streams ≡ Ok settled → All (IsPlaceable (open_domain sketch)) settled
+settled_are_placeable sketch streams settled talkers e = behind_are_placeable sketch (open_domain sketch) [] streams settled talkers refl e
+
+-- and they are few
+behind_are_few : (sketch : SketchDomain) (d : Domain) (before : List (List ℕ)) (streams : List StreamText) (settled : List SettledStream) →
+    length before ≤ most_streams → settled_behind sketch d before streams ≡ Ok settled → length before + length settled ≤ most_streams
+behind_are_few sketch d before [] settled few e =
+    let nil : [] ≡ settled = cc in subst (λ (ss : List SettledStream). length before + length ss ≤ most_streams) nil (omega (arith, few))
+behind_are_few sketch d before (stream ∷ streams) settled few e =
+    let both = and_first-Ok (settled_next sketch d before stream) (settled_behind sketch d (before ++ stream.name ∷ []) streams) settled e in
+    let next = next_stands sketch d before stream both.one both.first_is in
+    let longer : length (before ++ stream.name ∷ []) ≡ length before + 1 = length-append before (stream.name ∷ []) in
+    let room : length (before ++ stream.name ∷ []) ≤ most_streams = omega (arith, longer, next.few) in
+    let rest = behind_are_few sketch d (before ++ stream.name ∷ []) streams both.more room both.others_are in
+    subst (λ (ss : List SettledStream). length before + length ss ≤ most_streams) (sym both.all) (omega (arith, rest, longer))
+
+-- a stream more behind those that are settled
+with_more : {A E : Type 0} (done : List A) (x : A) (rest : Result (List A) E) → with_front (done ++ x ∷ []) rest ≡ with_front done (and_first (Ok x) rest)
+with_more done x (Ok rest) = ap Ok (append_assoc done (x ∷ []) rest)
+with_more done x (Err e) = refl
+
+pub settled_more : (sketch : SketchDomain) (d : Domain) (held held' : List (List ℕ)) (stream : StreamText) (rest : List StreamText)
+    (done done' : List SettledStream) (one : SettledStream) → settled_next sketch d held stream ≡ Ok one → one.name ≡ stream.name →
+    held' ≡ held ++ one.name ∷ [] → done' ≡ done ++ one ∷ [] →
+    with_front done' (settled_behind sketch d held' rest) ≡ with_front done (settled_behind sketch d held (stream ∷ rest))
+settled_more sketch d held held' stream rest done done' one is name holds more =
+    let held_is : held' ≡ held ++ stream.name ∷ [] = holds ∙ ap (λ (n : List ℕ). held ++ n ∷ []) name in
+    (λ i. with_front (more i) (settled_behind sketch d (held_is i) rest))
+    ∙ with_more done one (settled_behind sketch d (held ++ stream.name ∷ []) rest)
+    ∙ ap (λ r. with_front done (and_first r (settled_behind sketch d (held ++ stream.name ∷ []) rest))) (sym is)
+
+-- what is given is settled so
+pub given_are_placeable : (sketch : SketchDomain) (plant : Domain) (streams : List StreamText) (given : Result (Vec Settled Global) Unsettled) →
+    HasTalkerLinks sketch → plant ≡ open_domain sketch →
+    Gives unsettled.Memory (λ settled. map settled_value settled.items) given (settled_behind sketch plant [] streams) →
+    IfOk given (λ settled. All (IsPlaceable (open_domain sketch)) (map settled_value settled.items))
+given_are_placeable sketch plant streams (Ok settled) talkers is gives =
+    settled_are_placeable sketch streams (map settled_value settled.items) talkers
+    (subst (λ (d : Domain). settled_behind sketch d [] streams ≡ Ok (map settled_value settled.items)) is gives)
+given_are_placeable sketch plant streams (Err e) talkers is gives = tt
+
+pub given_are_few : (sketch : SketchDomain) (plant : Domain) (streams : List StreamText) (given : Result (Vec Settled Global) Unsettled) →
+    Gives unsettled.Memory (λ settled. map settled_value settled.items) given (settled_behind sketch plant [] streams) →
+    IfOk given (λ settled. length settled.items ≤ most_streams)
+given_are_few sketch plant streams (Ok settled) gives =
+    let all = behind_are_few sketch plant [] streams (map settled_value settled.items) (omega arith) gives in
+    omega (arith, all, length-map settled.items settled_value)
+given_are_few sketch plant streams (Err e) gives = tt

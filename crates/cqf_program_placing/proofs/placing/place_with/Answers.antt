@@ -1,0 +1,25 @@
+use Rattle.std.proofs.Common.{◌∙◌, refl, string_bytes, subst}
+use Rattle.cqf_admission_trees.specs.Branches.{branches_of}
+use Rattle.cqf_model.specs.History.{Asked, held_in, seals}
+use Rattle.cqf_program_placing.specs.Placing.{outcome_value}
+use Rattle.cqf_program_placing.specs.Routes.{IsUnrouted}
+use Rattle.cqf_program_placing.specs.Settled.{settled_value, way_value}
+use Rattle.cqf_program_placing.proofs.PlaceLemmas.{routed_so, unrouted_so}
+use Rattle.cqf_program_placing.proofs.placing.place_with.Goals as goal
+
+-- it has no branches
+pub returns-in-Fault-clause-placed : goal.returns-in-Fault-clause-placed
+returns-in-Fault-clause-placed c =
+    let d = c.args.domain.now in
+    let entries = c.args.admission.now.entries in
+    let cost = c.cost-cost.result.0 in
+    let routed = subst (IsUnrouted d (held_in d entries (seals entries)) cost (way_value c.args.stream.now.way)) c.in-Fault.is c.in-Err.ensures.err in
+    unrouted_so d entries (settled_value c.args.stream.now) c.args.octets cost c.in-Fault.found c.cost-cost.ensures routed
+
+-- it is asked for with its branches
+pub returns-clause-placed : goal.returns-clause-placed
+returns-clause-placed c =
+    let asked : Asked = record { name = string_bytes c.in_ok-name.name; octets = c.args.octets; paths = branches_of c.in-Ok.paths.items } in
+    routed_so c.args.domain.now c.args.admission.now.entries (settled_value c.args.stream.now) c.args.octets c.cost-cost.result.0 asked
+    (outcome_value c.in_ok-outcome.outcome) c.ask.new.admission.entries c.cost-cost.ensures c.in-Ok.ensures.ok
+    (c.in_ok-name.ensures.ok ∙ c.as_str.ensures.value) refl c.in_ok-outcome.ensures.answered c.in_ok-outcome.ensures.entered

@@ -1,0 +1,4 @@
+pub mod Faults
+pub mod Settled
+pub mod Placing
+pub mod Routes

@@ -1,0 +1,25 @@
+-- Why a stream has no branches (profile).
+use Rattle.std.specs.Prelude.{ℕ, ◌≡◌, ◌<◌, List, Err, Some, length, slice_get, true}
+use Rattle.cqf_model.specs.declared.topology.Row.{Row}
+use Rattle.cqf_model.specs.declared.topology.Node.TheVariants.{Bridge, Station}
+use Rattle.cqf_model.specs.Domain.{Domain}
+use Rattle.cqf_ways.specs.Ways.{IsWay}
+use Rattle.cqf_program_placing.specs.declared.routes.Unrouted.{Unrouted}
+use Rattle.cqf_program_placing.specs.declared.routes.Unrouted.TheVariants as unrouted
+use Rattle.cqf_program_placing.specs.Placing.{IsRouted}
+use Rattle.cqf_program_placing.specs.Settled.{SettledWay}
+
+-- a stream beside these rows has none for this fault
+abbrev pub IsUnrouted : Domain → List Row → ℕ → SettledWay → Unrouted → Type 0
+IsUnrouted d rows cost way (unrouted.Fault found) = IsRouted d rows cost way (Err found)
+IsUnrouted d rows cost way unrouted.Memory = Unit {0}
+
+-- a station is the domain's, and a way leads to it from a bridge
+pub record IsReached (d : Domain) (bridge station : ℕ) : Type 0 where
+  pub is_there : station < length d.stations
+  pub way : List ℕ
+  pub is_way : IsWay d.links (λ _. true) (Bridge bridge) (Station station) way
+
+-- each of some stations is so
+abbrev pub AreReached : Domain → ℕ → List ℕ → Type 0
+AreReached d bridge stations = (k station : ℕ) → slice_get stations k ≡ Some station → IsReached d bridge station

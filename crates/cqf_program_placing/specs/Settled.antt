@@ -1,0 +1,198 @@
+-- The streams of a sketch, each looked over for what no cycle time changes (profile).
+use Rattle.std.specs.Prelude.{ℕ, ◌+◌, ◌-◌, ◌*◌, ◌<◌, ◌≤◌, ◌==◌, ◌||◌, ◌&&◌, ◌++◌, List, [], ◌∷◌, ⊤, Bool, true, false, if◌then◌else◌, find, length, min}
+use Rattle.std.specs.Prelude.{All, IsTrue, nat_le, nat_lt, not, suc, zero, ok_or, option_and_then, option_map, unwrap_or, Option, Some, None}
+use Rattle.std.specs.Prelude.{Result, Ok, Err}
+use Rattle.std.specs.List.{list_any}
+use Rattle.std.specs.Option.{ForSome, option_map_or}
+use Rattle.cqf_lists.specs.Lists.{each_below}
+use Rattle.cqf_lists.specs.Results.{and_then, refuse}
+use Rattle.cqf_units.specs.Name.{is_name}
+use Rattle.cqf_units.specs.Timing.{nanos_of_octet}
+use Rattle.cqf_model.specs.declared.history.Refused.{Refused}
+use Rattle.cqf_model.specs.declared.history.Refused.TheVariants as refused
+use Rattle.cqf_model.specs.declared.topology.Link.{Link}
+use Rattle.cqf_model.specs.declared.topology.Node.{Node}
+use Rattle.cqf_model.specs.declared.topology.Node.TheVariants.{Bridge, Station}
+use Rattle.cqf_model.specs.Domain.{Domain, node_named, same_node}
+use Rattle.cqf_model.specs.History.{Branch}
+use Rattle.cqf_model.specs.Limits.{least_reserved, most_reserved, most_streams}
+use Rattle.cqf_topology_fields.specs.Fields.{and_first}
+use Rattle.cqf_topology.specs.DomainText.{if_so, is_among}
+use Rattle.cqf_ways.specs.Ways.{led_to, most_links}
+use Rattle.cqf_sketch.specs.declared.domain.TalkerLink.{TalkerLink}
+use Rattle.cqf_sketch.specs.SketchDomain.{SketchDomain, domain_at, open_cycle}
+use Rattle.cqf_traffic.specs.TrafficText.{TrafficText}
+use Rattle.cqf_sketch_streams.specs.StreamsText.{StreamText, WantedText, Along as AlongText, Between as BetweenText}
+use Rattle.cqf_admission_trees.specs.Branches.{branches_of, tree_refusal}
+use Rattle.cqf_program_placing.specs.declared.entrances.Entrance.{Entrance}
+use Rattle.cqf_program_placing.specs.declared.faults.PlanFault.{PlanFault}
+use Rattle.cqf_program_placing.specs.declared.faults.PlanFault.TheVariants as fault
+use Rattle.cqf_program_placing.specs.declared.settled.Settled.{Settled}
+use Rattle.cqf_program_placing.specs.declared.settled.Unsettled.{Unsettled}
+use Rattle.cqf_program_placing.specs.declared.settled.Unsettled.TheVariants as unsettled
+use Rattle.cqf_program_placing.specs.declared.settled.Way.{Way}
+use Rattle.cqf_program_placing.specs.declared.settled.Way.TheVariants as way
+
+-- which way a stream goes: along branches by the names of their nodes, or from a bridge to stations
+pub data SettledWay : Type 0 where
+  Along : List Branch → SettledWay
+  Between : ℕ → List ℕ → SettledWay
+
+-- a stream whose nodes are found: its octets a cycle where the sketch says them, and its deadline from its edge bridge on
+pub record SettledStream : Type 0 where
+  pub name : List ℕ
+  pub octets : Option ℕ
+  pub way : SettledWay
+  pub deadline : Option ℕ
+  pub traffic : Option TrafficText
+
+abbrev pub way_value : Way → SettledWay
+way_value (way.Along paths) = Along (branches_of paths.items)
+way_value (way.Between bridge stations) = Between bridge stations.items
+
+abbrev pub settled_value : Settled → SettledStream
+settled_value stream = record {
+  name = stream.name;
+  octets = stream.octets;
+  way = way_value stream.way;
+  deadline = stream.deadline;
+  traffic = stream.traffic;
+}
+
+-- octets that a stream may reserve, where it says them
+abbrev pub are_reservable : Option ℕ → Bool
+are_reservable None = true
+are_reservable (Some octets) = nat_le least_reserved octets && nat_le octets most_reserved
+
+-- where a stream enters that comes from a node: at that bridge, or behind the talker's link of that station
+abbrev pub entrance_behind : TalkerLink → Entrance
+entrance_behind talker = record { bridge = talker.bridge; talker = Some talker }
+
+abbrev pub entrance_at : SketchDomain → Option Node → Option Entrance
+entrance_at sketch None = None
+entrance_at sketch (Some (Bridge b)) = Some (record { bridge = b; talker = None })
+entrance_at sketch (Some (Station s)) = option_map entrance_behind (find (λ (talker : TalkerLink). talker.station == s) sketch.talkers)
+
+-- a station's number
+abbrev pub station_at : Option Node → Option ℕ
+station_at None = None
+station_at (Some (Bridge b)) = None
+station_at (Some (Station s)) = Some s
+
+-- the station of a name, and of each of some names; or the first name that is no station's
+abbrev pub station_by_name : Domain → List ℕ → Result ℕ PlanFault
+station_by_name d name = ok_or (station_at (node_named d name)) (fault.NoListener name)
+
+abbrev pub stations_by_name : Domain → List (List ℕ) → Result (List ℕ) PlanFault
+stations_by_name d [] = Ok []
+stations_by_name d (name ∷ names) = and_first (station_by_name d name) (stations_by_name d names)
+
+-- whether links lead from a node to a node, at most so many
+unfoldable pub is_led : List Link → ℕ → Node → Node → Bool
+is_led links zero node to = same_node node to
+is_led links (suc most) node to = same_node node to
+    || list_any (λ l. option_map_or (λ next. is_led links most next to) (led_to links node l) false) (each_below (λ l. l ∷ []) (length links))
+
+-- whether a way leads from a bridge to a node
+abbrev pub has_way : Domain → ℕ → Option Node → Bool
+has_way d bridge None = false
+has_way d bridge (Some node) = is_led d.links most_links (Bridge bridge) node
+
+-- the first of some names to whose node none does
+abbrev pub first_apart : Domain → ℕ → List (List ℕ) → Option (List ℕ)
+first_apart d bridge names = find (λ name. not (has_way d bridge (node_named d name))) names
+
+-- the way of a stream: it has a talker, its listeners are stations, and ways lead there; or else given branches make a tree of the plant
+abbrev pub way_from : Domain → Option Entrance → List (List ℕ) → Result SettledWay PlanFault
+way_from d entrance to =
+    and_then (ok_or entrance fault.NoTalker) (λ (from : Entrance).
+    and_then (stations_by_name d to) (λ stations.
+    refuse (first_apart d from.bridge to) fault.NoWay (Ok (Between from.bridge stations))))
+
+abbrev pub way_along : Domain → List Branch → Result SettledWay PlanFault
+way_along d paths = refuse (tree_refusal d paths) fault.Refused (Ok (Along paths))
+
+abbrev pub settled_way : SketchDomain → Domain → WantedText → Result SettledWay PlanFault
+settled_way sketch d (AlongText paths) = way_along d paths
+settled_way sketch d (BetweenText from to) = way_from d (entrance_at sketch (node_named d from)) to
+
+-- the talker's link by which a stream comes to its edge bridge
+abbrev pub talker_of_stream : SketchDomain → Domain → WantedText → Option TalkerLink
+talker_of_stream sketch d (AlongText paths) = None
+talker_of_stream sketch d (BetweenText from to) = option_and_then (λ (entrance : Entrance). entrance.talker) (entrance_at sketch (node_named d from))
+
+-- how many octets a frame of a stream may have, by the octets that it asks for and its traffic
+abbrev pub longest_of : Option ℕ → Option TrafficText → ℕ
+longest_of octets traffic = option_map_or (λ (t : TrafficText). t.size) traffic (min (unwrap_or octets 0) 1522)
+
+-- what is over of a deadline where a frame of so many octets is whole at the edge bridge: what the talker's link takes, from where the
+-- talker begins to send it
+abbrev pub taken_on : Option TalkerLink → ℕ → ℕ
+taken_on None octets = 0
+taken_on (Some link) octets = (octets + 8) * nanos_of_octet link.rate + link.delay
+
+-- the deadline from the edge bridge on, of which something has to be left
+abbrev pub deadline_behind : ℕ → Option ℕ → Result (Option ℕ) PlanFault
+deadline_behind taken None = Ok None
+deadline_behind taken (Some deadline) = if nat_lt taken deadline then Ok (Some (deadline - taken)) else Err fault.TooSoon
+
+abbrev pub deadline_of_stream : SketchDomain → Domain → StreamText → Result (Option ℕ) PlanFault
+deadline_of_stream sketch d stream =
+    deadline_behind (taken_on (talker_of_stream sketch d stream.way) (longest_of stream.octets stream.traffic)) stream.deadline
+
+-- why a stream of a name can't stand behind those of other names
+abbrev pub refusal_behind : List (List ℕ) → List ℕ → Option Refused
+refusal_behind before name =
+    if is_among name before then Some refused.NameHeld
+    else (if nat_le most_streams (length before) then Some refused.TooManyStreams else None)
+
+-- a stream whose way is settled, with its deadline
+abbrev pub with_deadline : List ℕ → Option ℕ → SettledWay → Option TrafficText → Result (Option ℕ) PlanFault → Result SettledStream PlanFault
+with_deadline name octets way traffic deadline =
+    and_then deadline (λ left. Ok (record { name = name; octets = octets; way = way; deadline = left; traffic = traffic }))
+
+-- a stream behind others of these names, or its first fault
+abbrev pub settled_stream : SketchDomain → Domain → List (List ℕ) → StreamText → Result SettledStream PlanFault
+settled_stream sketch d before stream =
+    refuse (if_so (not (are_reservable stream.octets))) (λ _. fault.Refused refused.BadOctets) (
+    and_then (settled_way sketch d stream.way) (λ way.
+    refuse (refusal_behind before stream.name) fault.Refused (
+    with_deadline stream.name stream.octets way stream.traffic (deadline_of_stream sketch d stream))))
+
+-- a stream's fault, with its name
+abbrev pub or_unsettled : {A : Type 0} → List ℕ → Result A PlanFault → Result A Unsettled
+or_unsettled name (Ok x) = Ok x
+or_unsettled name (Err e) = Err (unsettled.Stream name e)
+
+-- a stream behind others of these names, whose name has to have the form of one
+abbrev pub settled_next : SketchDomain → Domain → List (List ℕ) → StreamText → Result SettledStream Unsettled
+settled_next sketch d before stream =
+    refuse (if_so (not (is_name stream.name))) (λ _. unsettled.BadName (length before + 1))
+    (or_unsettled stream.name (settled_stream sketch d before stream))
+
+-- streams behind others of these names, in their order, or the first fault
+abbrev pub settled_behind : SketchDomain → Domain → List (List ℕ) → List StreamText → Result (List SettledStream) Unsettled
+settled_behind sketch d before [] = Ok []
+settled_behind sketch d before (stream ∷ streams) =
+    and_first (settled_next sketch d before stream) (settled_behind sketch d (before ++ stream.name ∷ []) streams)
+
+-- the plant's names and links, whatever the cycle time: those of the domain with the first candidate above the guard time
+abbrev pub open_domain : SketchDomain → Domain
+open_domain sketch = domain_at sketch (open_cycle sketch)
+
+-- the streams of a sketch, settled, or the first fault
+abbrev pub settled_of : SketchDomain → List StreamText → Result (List SettledStream) Unsettled
+settled_of sketch streams = settled_behind sketch (open_domain sketch) [] streams
+
+-- the way of a settled stream is by nodes of the plant, and there are ways between them
+abbrev pub IsOnWay : Domain → SettledWay → Type 0
+IsOnWay d (Along paths) = ⊤
+IsOnWay d (Between bridge stations) = (bridge < length d.bridges)
+    × All (λ station. (station < length d.stations) × IsTrue (is_led d.links most_links (Bridge bridge) (Station station))) stations
+
+-- what a settled stream has: a name, a way, octets that it may reserve where it says them, and a deadline that isn't over
+pub record IsPlaceable (d : Domain) (stream : SettledStream) : Type 0 where
+  pub named : IsTrue (is_name stream.name)
+  pub on_way : IsOnWay d stream.way
+  pub reservable : IsTrue (are_reservable stream.octets)
+  pub some_deadline : ForSome stream.deadline (λ deadline. 1 ≤ deadline)

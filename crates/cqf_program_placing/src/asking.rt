@@ -1,0 +1,56 @@
+//! Streams that are asked for.
+ghost use Rattle.std.specs.Prelude.{ℕ, ◌≡◌, ◌<◌, IfOk, Some, length};
+ghost use Rattle.cqf_admission.specs.Admission.{calls};
+ghost use Rattle.cqf_admission.specs.Asking.{asked_of};
+ghost use Rattle.cqf_model.specs.History.{held_in, refusal_of, seals};
+ghost use Rattle.cqf_model.specs.Limits.{most_calls};
+ghost use Rattle.cqf_program_plans.specs.CompileOutput.{with_asked};
+ghost use Rattle.cqf_program_placing.specs.Placing.{answered, fault_of_refusal, outcome_value};
+
+use crate::branches::{end_of_link, start_of_link};
+use crate::{Outcome, PlanFault};
+use cqf_admission::{Admission, Refused};
+use cqf_topology::{Domain, Request};
+use cqf_units::Memory;
+use std::alloc::AllocError;
+
+/// The administrator that streams are asked for by.
+const SEAT: u16 = 0;
+
+/// A refusal, as the fault of a stream: with the names of the ends of a link that lacks room.
+fn fault_of_refusal(domain: &Domain, refused: Refused) -> PlanFault
+    requires { (link left : ℕ) → refused ≡ Refused.BudgetShort link left → link < length domain.now.links }
+    ensures { result ≡ fault_of_refusal domain.now refused }
+{
+    match refused {
+        Refused::BudgetShort { link, left } => PlanFault::Short {
+            from: start_of_link(domain, link),
+            to: end_of_link(domain, link),
+            left,
+        },
+        _ => PlanFault::Refused(refused),
+    }
+}
+
+/// Asks for a stream: what becomes of it is what admission answers (profile).
+pub(crate) fn ask(
+    domain: &Domain,
+    admission: &mut Admission,
+    request: Request,
+) -> Result<Outcome, Memory>
+    requires domain { admission.old.domain ≡ domain.now }
+    requires free { calls admission.old.entries < most_calls }
+    ensures domain { admission.new.domain ≡ domain.now }
+    ensures answered { let d = domain.now in let entries = admission.old.entries in IfOk result (λ outcome. outcome_value outcome
+        ≡ answered d (asked_of request) (refusal_of d (held_in d entries (seals entries)) (asked_of request))) }
+    ensures entered { IfOk result (λ _. admission.new.entries ≡ with_asked domain.now admission.old.entries (asked_of request)) }
+{
+    match admission.admit(SEAT, &request) {
+        Ok(_) => Ok(Outcome::Placed(request)),
+        Err(refused) => match refused {
+            Refused::Memory => Err(AllocError),
+            Refused::HistoryFull => unreachable!(),
+            _ => Ok(Outcome::Unplaced(fault_of_refusal(domain, refused))),
+        },
+    }
+}

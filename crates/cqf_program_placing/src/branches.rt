@@ -1,0 +1,132 @@
+//! Branches of a stream, by the names of their nodes.
+ghost use Rattle.std.specs.Prelude.{◌≡◌, ◌<◌, IfOk, length, map, string_bytes};
+ghost use Rattle.cqf_admission_trees.specs.Branches.{branch_of, branches_of};
+ghost use Rattle.cqf_model.specs.Domain.{bridge_of};
+ghost use Rattle.cqf_program_placing.specs.Placing.{names_along};
+ghost use Rattle.cqf_program_plans.specs.EndNames.{name_of_end};
+ghost use Rattle.cqf_report.specs.Books.{name_of_bridge, name_of_node};
+
+use arrayvec::ArrayVec;
+use cqf_model::Node;
+use cqf_topology::Domain;
+use cqf_units::{Memory, Name};
+use std::alloc::Global;
+
+/// The name of a bridge. A bridge that the domain lacks has none.
+fn name_of_bridge(domain: &Domain, bridge: u8) -> &str
+    ensures { result.now ≡ name_of_bridge domain.now bridge }
+{
+    if bridge < domain.bridges() {
+        domain.bridge_name(bridge).as_str()
+    } else {
+        ""
+    }
+}
+
+/// The name of a node. A node that the domain lacks has none.
+fn name_of_node(domain: &Domain, node: Node) -> &str
+    ensures { result.now ≡ name_of_node domain.now node }
+{
+    match node {
+        Node::Bridge(bridge) => name_of_bridge(domain, bridge),
+        Node::Station(station) => {
+            if station < domain.stations() {
+                domain.station_name(station).as_str()
+            } else {
+                ""
+            }
+        }
+    }
+}
+
+/// The name of the node that a link ends in. A link that the domain lacks ends in none.
+fn name_of_end(domain: &Domain, link: u8) -> &str
+    ensures { result.now ≡ name_of_end domain.now link }
+{
+    if link < domain.links() {
+        name_of_node(domain, domain.link(link).to)
+    } else {
+        ""
+    }
+}
+
+/// A way from a bridge as a branch.
+fn branch_along(
+    alloc: Global,
+    domain: &Domain,
+    bridge: u8,
+    way: &[u8],
+) -> Result<Vec<String>, Memory>
+    ensures { IfOk result (λ names. branch_of names.items ≡ names_along domain.now bridge way.now) }
+{
+    let mut names = Vec::new(alloc);
+    names.push(String::from_str(alloc, name_of_bridge(domain, bridge))?)?;
+    for link in way {
+        names.push(String::from_str(alloc, name_of_end(domain, *link))?)?;
+    }
+    Ok(names)
+}
+
+/// Ways from a bridge as branches, in their order.
+pub(crate) fn branches_along(
+    alloc: Global,
+    domain: &Domain,
+    bridge: u8,
+    ways: &[ArrayVec<u8, 16>],
+) -> Result<Vec<Vec<String>>, Memory>
+    ensures { IfOk result (λ paths. branches_of paths.items ≡ map (λ way. names_along domain.now bridge way.items) ways.now) }
+{
+    let mut paths = Vec::new(alloc);
+    for way in ways {
+        paths.push(branch_along(alloc, domain, bridge, way.as_slice())?)?;
+    }
+    Ok(paths)
+}
+
+/// A branch again.
+fn copied_branch(alloc: Global, names: &[String]) -> Result<Vec<String>, Memory>
+    ensures { IfOk result (λ copies. branch_of copies.items ≡ branch_of names.now) }
+{
+    let mut copies = Vec::new(alloc);
+    for name in names {
+        copies.push(String::from_str(alloc, name.as_str())?)?;
+    }
+    Ok(copies)
+}
+
+/// Branches again.
+pub(crate) fn copied_branches(
+    alloc: Global,
+    paths: &[Vec<String>],
+) -> Result<Vec<Vec<String>>, Memory>
+    ensures { IfOk result (λ copies. branches_of copies.items ≡ branches_of paths.now) }
+{
+    let mut copies = Vec::new(alloc);
+    for path in paths {
+        copies.push(copied_branch(alloc, path.as_slice())?)?;
+    }
+    Ok(copies)
+}
+
+/// The name of the bridge that a link of the domain leaves.
+pub(crate) fn start_of_link(domain: &Domain, link: u8) -> Name
+    requires { link < length domain.now.links }
+    ensures { result ≡ name_of_bridge domain.now (bridge_of domain.now link) }
+{
+    // the domain is accepted: a fact for the call below
+    let _cycle_time = domain.cycle_time();
+    domain.bridge_name(domain.link(link).from).copied()
+}
+
+/// The name of the node that a link of the domain ends in.
+pub(crate) fn end_of_link(domain: &Domain, link: u8) -> Name
+    requires { link < length domain.now.links }
+    ensures { result ≡ name_of_end domain.now link }
+{
+    // the domain is accepted: a fact for the calls below
+    let _cycle_time = domain.cycle_time();
+    match domain.link(link).to {
+        Node::Bridge(bridge) => domain.bridge_name(bridge).copied(),
+        Node::Station(station) => domain.station_name(station).copied(),
+    }
+}

@@ -1,0 +1,48 @@
+//! Deadlines of streams, from their edge bridges on.
+ghost use Rattle.std.specs.Prelude.{◌≡◌};
+ghost use Rattle.cqf_program_placing.specs.Settled.{deadline_behind, longest_of, taken_on};
+
+use crate::PlanFault;
+use cqf_sketch::TalkerLink;
+use cqf_traffic::Traffic;
+use cqf_units::octet_time;
+
+/// The octets of the longest frame with a tag (IEEE 802.3).
+const LONGEST_FRAME: u32 = 1_522;
+
+/// How many octets a frame of a stream may have, by the octets a cycle that it asks for and its traffic.
+pub(crate) fn longest_of(octets: Option<u32>, traffic: Option<Traffic>) -> u32
+    ensures { result ≡ longest_of octets traffic }
+{
+    match traffic {
+        Some(traffic) => traffic.size().0,
+        None => octets.unwrap_or(0).min(LONGEST_FRAME),
+    }
+}
+
+/// What is over of a deadline where a frame of so many octets is whole at the edge bridge, in nanoseconds.
+pub(crate) fn taken_on(talker: Option<TalkerLink>, octets: u32) -> u64
+    ensures { result ≡ taken_on talker octets }
+{
+    match talker {
+        Some(link) => (u64::from(octets) + 8) * octet_time(link.rate) + u64::from(link.delay),
+        None => 0,
+    }
+}
+
+/// The deadline from the edge bridge on, where so much of it is over there.
+pub(crate) fn deadline_behind(taken: u64, deadline: Option<u32>) -> Result<Option<u32>, PlanFault>
+    ensures { result ≡ deadline_behind taken deadline }
+{
+    match deadline {
+        Some(deadline) => {
+            let whole = u64::from(deadline);
+            if taken < whole {
+                Ok(Some((whole - taken) as u32))
+            } else {
+                Err(PlanFault::TooSoon)
+            }
+        }
+        None => Ok(None),
+    }
+}

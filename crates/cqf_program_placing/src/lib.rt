@@ -1,0 +1,37 @@
+//! The streams of a sketch, settled, and placed on a cycle time one after the other (profile).
+//!
+//! - [`settle`] looks the streams of a sketch over for what no cycle time changes, and gives them as [`Settled`], with each node by
+//!   number and deadlines from the edge bridge; or [`Unsettled`], the first fault.
+//! - [`place`] admits settled streams on a cycle time in their order, each with what its traffic needs of a cycle, and those that have
+//!   no branches by the first ways with room: a [`Placing`], with the [`Outcome`] of each stream.
+//! - A [`PlanFault`] is why a stream isn't settled, or isn't placed.
+//!
+//! `specs/` has both as definitions (`Settled`, `Placing`), and the texts of faults (`Faults`).
+//!
+//! ```text
+//! with bridges a and b, stations s and t, links a>b, b>s at 1,000 Mb/s, and a talker's link t>a at 1,000 Mb/s with a delay of 500 ns
+//! x from t to s, with a frame of 704 octets in each 125,000 ns and a deadline of 500,000 ns
+//!     settles as x from a to s with a deadline of 493,804 ns
+//!     is placed on a cycle time of 125,000 ns with 704 octets by a, b, s
+//! ```
+#![tactic(auto)]
+
+mod asking;
+mod branches;
+mod deadlines;
+mod entrances;
+mod faults;
+mod outcomes;
+mod placing;
+mod reserving;
+mod routes;
+mod settled;
+mod settling;
+mod way_settling;
+mod ways_there;
+
+pub use faults::PlanFault;
+pub use outcomes::Outcome;
+pub use placing::{Placing, place};
+pub use settled::{Settled, Unsettled, Way};
+pub use settling::settle;

@@ -1,0 +1,13 @@
+//! What becomes of a stream on a cycle time.
+
+use crate::PlanFault;
+use cqf_topology::Request;
+
+/// What becomes of a stream on a cycle time.
+#[derive(Debug, Drop)]
+pub enum Outcome {
+    /// It is placed, with this request.
+    Placed(Request),
+    /// It isn't, and holds nothing.
+    Unplaced(PlanFault),
+}

@@ -1,0 +1,291 @@
+//! Settled streams, placed on a cycle time one after the other.
+ghost use Rattle.std.specs.Prelude.{ℕ, ◌≡◌, ◌+◌, ◌∷◌, ◌<◌, ◌≤◌, [], All, Err, IfErr, IfOk, Ok, length, map};
+ghost use Rattle.cqf_admission.specs.Admission.{calls};
+ghost use Rattle.cqf_admission.specs.Tables.{AreAlongLinks};
+ghost use Rattle.cqf_admission_trees.specs.Branches.{branches_of};
+ghost use Rattle.cqf_laws_history.specs.StateLaws.{AreHeld};
+ghost use Rattle.cqf_model.specs.History.{held_in, left_on, seals};
+ghost use Rattle.cqf_model.specs.Limits.{most_calls, most_reserved, most_streams};
+ghost use Rattle.cqf_sketch.specs.SketchDomain.{IsOpenCycle, domain_at};
+ghost use Rattle.cqf_program_placing.specs.Placing.{ArePlaced, IsPlacing, IsRouted, IsRoutedAndAnswered, lefts_on, outcome_value};
+ghost use Rattle.cqf_program_placing.specs.Routes.{IsUnrouted};
+ghost use Rattle.cqf_program_placing.specs.Settled.{IsOnWay, IsPlaceable, open_domain, settled_value, way_value};
+
+use crate::asking::ask;
+use crate::branches::copied_branches;
+use crate::reserving::reservation;
+use crate::routes::{Unrouted, branches_between};
+use crate::{Outcome, Settled, Way};
+use cqf_admission::{Admission, SealFault, Table};
+use cqf_laws_history::state_follows_history;
+use cqf_model::{Link, Row};
+use cqf_sketch::SketchDomain;
+use cqf_topology::{Domain, Request};
+use cqf_units::{Memory, Octets, budget, cost};
+use cqf_ways::Room;
+use std::alloc::{AllocError, Global};
+use std::marker::Model;
+
+/// Streams placed on a cycle time: what becomes of each, and the administration of those that are placed. A stream that isn't placed holds
+/// nothing, though a call that was refused may stand in the history.
+#[derive(Debug, Drop)]
+pub struct Placing {
+    admission: Admission,
+    outcomes: Vec<Outcome>,
+}
+
+impl Model for Placing {
+    ghost use Rattle.std.specs.Prelude.{◌≡◌, map};
+    ghost use Rattle.cqf_model.specs.History.{seals};
+    ghost use Rattle.cqf_program_placing.specs.Placing.{PlacedStreams, outcome_value};
+
+    ghost Value = { PlacedStreams };
+
+    ghost view = { λ p. record { domain = p.admission.domain; outcomes = map outcome_value p.outcomes.items; entries = p.admission.entries } };
+
+    ghost invariant = { λ p. seals p.admission.entries ≡ 0 };
+}
+
+/// What a link has left beside those that are placed, in octets a cycle.
+fn left_on(domain: &Domain, admission: &Admission, link: u8) -> u32
+    requires domain { admission.now.domain ≡ domain.now }
+    requires inside { link < length domain.now.links }
+    ensures { result ≡ left_on domain.now (held_in domain.now admission.now.entries (seals admission.now.entries)) link }
+{
+    let rate = domain.link(link).rate;
+    let most = budget(domain.cycle_time(), domain.guard(), rate);
+    let held = admission.held_on(link);
+    most.0 - held.0
+}
+
+/// What each link has left beside those that are placed, in octets a cycle, by number.
+fn lefts(alloc: Global, domain: &Domain, admission: &Admission) -> Result<Vec<u32>, Memory>
+    requires { admission.now.domain ≡ domain.now }
+    ensures { IfOk result (λ left. left.items ≡ lefts_on domain.now (held_in domain.now admission.now.entries (seals admission.now.entries))) }
+{
+    let mut left = Vec::new(alloc);
+    for link in 0..domain.links() {
+        left.push(left_on(domain, admission, link))?;
+    }
+    Ok(left)
+}
+
+/// The branches of a stream of this cost: those that are given, or those of the first ways with room beside those that are placed.
+///
+/// # Errors
+/// With the fault of the first listener to which no way has room; and with `Memory` where a growth is refused.
+fn branches_by(
+    alloc: Global,
+    domain: &Domain,
+    links: &[Link],
+    admission: &Admission,
+    way: &Way,
+    cost: u32,
+) -> Result<Vec<Vec<String>>, Unrouted>
+    requires domain { admission.now.domain ≡ domain.now }
+    requires links { links.now ≡ domain.now.links }
+    requires on_way { IsOnWay domain.now (way_value way.now) }
+    ensures ok { let entries = admission.now.entries in IfOk result (λ paths.
+        IsRouted domain.now (held_in domain.now entries (seals entries)) cost (way_value way.now) (Ok (branches_of paths.items))) }
+    ensures err { let entries = admission.now.entries in IfErr result
+        (IsUnrouted domain.now (held_in domain.now entries (seals entries)) cost (way_value way.now)) }
+{
+    match way {
+        Way::Along(paths) => {
+            let given = copied_branches(alloc, paths.as_slice())?;
+            Ok(given)
+        }
+        Way::Between(bridge, stations) => {
+            let left = lefts(alloc, domain, admission)?;
+            let room = Room {
+                links,
+                left: left.as_slice(),
+                cost,
+            };
+            branches_between(alloc, domain, room, *bridge, stations.as_slice())
+        }
+    }
+}
+
+/// Places a stream with this reservation behind those that are placed.
+fn place_with(
+    alloc: Global,
+    domain: &Domain,
+    links: &[Link],
+    admission: &mut Admission,
+    stream: &Settled,
+    octets: u32,
+) -> Result<Outcome, Memory>
+    requires domain { admission.old.domain ≡ domain.now }
+    requires links { links.now ≡ domain.now.links }
+    requires free { calls admission.old.entries < most_calls }
+    requires on_way { IsOnWay domain.now (way_value stream.now.way) }
+    requires few { octets ≤ most_reserved }
+    ensures domain { admission.new.domain ≡ domain.now }
+    ensures placed { IfOk result (λ outcome.
+        IsRoutedAndAnswered domain.now admission.old.entries (settled_value stream.now) octets (outcome_value outcome) admission.new.entries) }
+{
+    let cost = cost(Octets(octets)).0;
+    let paths = match branches_by(alloc, domain, links, admission, &stream.way, cost) {
+        Ok(paths) => paths,
+        Err(unrouted) => match unrouted {
+            Unrouted::Fault(found) => return Ok(Outcome::Unplaced(found)),
+            Unrouted::Memory => return Err(AllocError),
+        },
+    };
+    let name = String::from_str(alloc, stream.name.as_str())?;
+    let request = Request {
+        name,
+        octets,
+        paths,
+    };
+    let outcome = ask(domain, admission, request)?;
+    Ok(outcome)
+}
+
+/// Places a stream behind those that are placed.
+fn place_one(
+    alloc: Global,
+    domain: &Domain,
+    links: &[Link],
+    admission: &mut Admission,
+    stream: &Settled,
+) -> Result<Outcome, Memory>
+    requires domain { admission.old.domain ≡ domain.now }
+    requires links { links.now ≡ domain.now.links }
+    requires free { calls admission.old.entries < most_calls }
+    requires placeable { IsPlaceable domain.now (settled_value stream.now) }
+    ensures domain { admission.new.domain ≡ domain.now }
+    ensures placed { IfOk result (λ outcome.
+        IsPlacing domain.now admission.old.entries (settled_value stream.now) (outcome_value outcome) admission.new.entries) }
+{
+    let octets = match reservation(domain, stream) {
+        Ok(octets) => octets,
+        Err(found) => return Ok(Outcome::Unplaced(found)),
+    };
+    place_with(alloc, domain, links, admission, stream, octets)
+}
+
+/// Places streams on a domain, which has these links.
+fn place_all(
+    alloc: Global,
+    domain: &Domain,
+    links: &[Link],
+    streams: &[Settled],
+) -> Result<Placing, Memory>
+    requires links { links.now ≡ domain.now.links }
+    requires few { length streams.now ≤ most_streams }
+    requires placeable { All (IsPlaceable domain.now) (map settled_value streams.now) }
+    ensures domain { IfOk result (λ placing. placing.domain ≡ domain.now) }
+    ensures placed { IfOk result (λ placing. ArePlaced (map settled_value streams.now) placing) }
+{
+    state_follows_history();
+    let mut admission = Admission::new(alloc, domain)?;
+    let mut outcomes = Vec::new(alloc);
+    for stream in streams {
+        let outcome = place_one(alloc, domain, links, &mut admission, stream)?;
+        outcomes.push(outcome)?;
+    }
+    Ok(Placing {
+        admission,
+        outcomes,
+    })
+}
+
+/// Places settled streams of a sketch on a cycle time that is open, in nanoseconds, one after the other (profile).
+///
+/// A stream takes what its traffic needs of a cycle, or the octets that it asks for, where these are enough. One that has no branches
+/// takes the first ways with room to its listeners. It is then asked for as any other. One that isn't placed holds nothing.
+///
+/// # Errors
+/// `Memory` where a growth is refused.
+pub fn place(
+    alloc: Global,
+    sketch: &SketchDomain,
+    cycle_time: u32,
+    streams: &[Settled],
+) -> Result<Placing, Memory>
+    requires open { IsOpenCycle sketch.now cycle_time }
+    requires few { length streams.now ≤ most_streams }
+    requires on_way { All (IsPlaceable (open_domain sketch.now)) (map settled_value streams.now) }
+    ensures domain { IfOk result (λ placing. placing.domain ≡ domain_at sketch.now cycle_time) }
+    ensures placed { IfOk result (λ placing. ArePlaced (map settled_value streams.now) placing) }
+{
+    let domain = sketch.at(alloc, cycle_time)?;
+    place_all(alloc, &domain, sketch.links(), streams)
+}
+
+/// The rows of a table, by number.
+fn rows_of_table(alloc: Global, table: &Table) -> Result<Vec<Row>, Memory>
+    ensures { IfOk result (λ rows. rows.items ≡ table.now.rows) }
+{
+    let mut rows = Vec::new(alloc);
+    for row in table.rows() {
+        rows.push(row.copied())?;
+    }
+    Ok(rows)
+}
+
+/// The domain of an administration in which no cycle is closed, and the rows of the streams that are held, by number.
+fn sealed_rows(alloc: Global, admission: Admission) -> Result<(Domain, Vec<Row>), Memory>
+    requires { seals admission.entries ≡ 0 }
+    ensures domain { IfOk result (λ told. told.0 ≡ admission.domain) }
+    ensures rows { IfOk result (λ told. told.1.items ≡ held_in admission.domain admission.entries (seals admission.entries)) }
+    ensures along { IfOk result (λ told. AreAlongLinks admission.domain told.1.items) }
+    ensures sound { IfOk result (λ told. (next : ℕ) × AreHeld admission.domain told.1.items next 0) }
+{
+    state_follows_history();
+    let mut admission = admission;
+    // the history is legal: a fact for the rows
+    let _legal = admission.history();
+    let domain = admission.domain().try_copy(alloc)?;
+    let table = match admission.seal(0) {
+        Ok(table) => table,
+        Err(SealFault::CyclesSpent) => unreachable!(),
+        Err(SealFault::Memory) => return Err(AllocError),
+    };
+    let rows = rows_of_table(alloc, &table)?;
+    Ok((domain, rows))
+}
+
+impl Placing {
+    /// What becomes of each stream, in their order.
+    pub fn outcomes(&self) -> &[Outcome]
+        ensures { map outcome_value result.now ≡ self.now.outcomes }
+    {
+        self.outcomes.as_slice()
+    }
+
+    /// The domain, the rows of the streams that are placed, by number, and what becomes of each stream. The rows are the table of
+    /// cycle 0, where all that are placed are admitted before it.
+    ///
+    /// # Errors
+    /// `Memory` where a growth is refused.
+    pub fn into_parts(self, alloc: Global) -> Result<(Domain, Vec<Row>, Vec<Outcome>), Memory>
+        ensures domain { IfOk result (λ parts. parts.0 ≡ self.domain) }
+        ensures rows { IfOk result (λ parts. parts.1.items ≡ held_in self.domain self.entries (seals self.entries)) }
+        ensures along { IfOk result (λ parts. AreAlongLinks self.domain parts.1.items) }
+        ensures sound { IfOk result (λ parts. (next : ℕ) × AreHeld self.domain parts.1.items next 0) }
+        ensures outcomes { IfOk result (λ parts. map outcome_value parts.2.items ≡ self.outcomes) }
+    {
+        let Placing {
+            admission,
+            outcomes,
+        } = self;
+        let (domain, rows) = sealed_rows(alloc, admission)?;
+        Ok((domain, rows, outcomes))
+    }
+
+    /// The domain, and the rows of the streams that are placed, by number, as of [`Placing::into_parts`].
+    ///
+    /// # Errors
+    /// `Memory` where a growth is refused.
+    pub fn into_rows(self, alloc: Global) -> Result<(Domain, Vec<Row>), Memory>
+        ensures domain { IfOk result (λ parts. parts.0 ≡ self.domain) }
+        ensures rows { IfOk result (λ parts. parts.1.items ≡ held_in self.domain self.entries (seals self.entries)) }
+        ensures along { IfOk result (λ parts. AreAlongLinks self.domain parts.1.items) }
+        ensures sound { IfOk result (λ parts. (next : ℕ) × AreHeld self.domain parts.1.items next 0) }
+    {
+        sealed_rows(alloc, self.admission)
+    }
+}

@@ -1,0 +1,45 @@
+//! What a stream reserves of a cycle.
+ghost use Rattle.std.specs.Prelude.{◌≡◌, ◌≤◌, ◌<◌, ◌^◌, IfOk, IsTrue, Some};
+ghost use Rattle.cqf_model.specs.Limits.{most_reserved};
+ghost use Rattle.cqf_program_placing.specs.Placing.{reserved_by, reserved_on};
+ghost use Rattle.cqf_program_placing.specs.Settled.{are_reservable, settled_value};
+
+use crate::{PlanFault, Settled};
+use cqf_admission::MOST_OCTETS;
+use cqf_topology::Domain;
+
+/// The reservation of a stream of which a cycle needs so many octets, and that asks for these, where it says them.
+fn reserved_for(octets: Option<u32>, needed: u128) -> Result<u32, PlanFault>
+    requires { needed < 2 ^ 64 }
+    ensures { result ≡ reserved_by octets (Some needed) }
+{
+    if needed > u128::from(MOST_OCTETS) {
+        return Err(PlanFault::TooMuch(needed as u64));
+    }
+    let Some(asked) = octets else {
+        return Ok(needed as u32);
+    };
+    if u128::from(asked) < needed {
+        return Err(PlanFault::TooLittle(needed as u64));
+    }
+    Ok(asked)
+}
+
+/// The reservation of a stream on a domain, in octets a cycle: what its traffic needs of a cycle, or the octets that it asks for, which
+/// have to be enough (profile).
+///
+/// # Errors
+/// `TooMuch` where its traffic needs more than a stream may reserve; else `TooLittle` where it asks for fewer than that.
+pub(crate) fn reservation(domain: &Domain, stream: &Settled) -> Result<u32, PlanFault>
+    requires { IsTrue (are_reservable stream.now.octets) }
+    ensures value { result ≡ reserved_on domain.now.cycle_time (settled_value stream.now) }
+    ensures few { IfOk result (λ octets. octets ≤ most_reserved) }
+{
+    let Some(traffic) = stream.traffic else {
+        return Ok(stream.octets.unwrap_or(0));
+    };
+    // its numbers are in their ranges: a fact for the call behind
+    let _interval = traffic.interval();
+    let needed = traffic.needed(domain.cycle_time());
+    reserved_for(stream.octets, needed)
+}

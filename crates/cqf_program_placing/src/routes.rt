@@ -1,0 +1,131 @@
+//! The first ways with room from a bridge to some stations, as branches.
+ghost use Rattle.std.specs.Prelude.{◌≡◌, ◌<◌, List, IfErr, IfOk, length, slice_index};
+ghost use Rattle.cqf_admission_trees.specs.Branches.{branches_of};
+ghost use Rattle.cqf_model.specs.declared.topology.Row.{Row};
+ghost use Rattle.cqf_model.specs.Domain.{bridge_of};
+ghost use Rattle.cqf_program_placing.specs.Placing.{AreFound, IsFullTo, lefts_on};
+ghost use Rattle.cqf_program_placing.specs.Routes.{AreReached, IsReached, IsUnrouted};
+ghost use Rattle.cqf_program_placing.specs.Settled.{Between};
+ghost use Rattle.cqf_program_plans.specs.EndNames.{name_of_end};
+ghost use Rattle.cqf_report.specs.Books.{name_of_bridge, name_of_node};
+ghost use Rattle.cqf_ways.specs.Ways.{NoWay, has_room};
+
+use crate::PlanFault;
+use crate::branches::{branches_along, end_of_link, start_of_link};
+use cqf_model::Node;
+use cqf_topology::Domain;
+use cqf_ways::{Room, WaysFault, first_short, first_way, first_ways, full_ways_have_a_short_link};
+use std::alloc::{AllocError, AllocFailed, Global};
+
+/// Why a stream has no branches.
+#[derive(Debug, Drop)]
+pub(crate) enum Unrouted {
+    /// There is no room for it on the way to one of its listeners.
+    Fault(PlanFault),
+    /// A growth was refused.
+    Memory,
+}
+
+/// Want of room in memory, as a fault.
+impl<T: Drop> From<AllocFailed<T>> for Unrouted {
+    ghost use Rattle.std.specs.Prelude.{◌≡◌};
+    ghost use Rattle.cqf_program_placing.specs.declared.routes.Unrouted.TheVariants as variant;
+
+    ghost from_gives = { λ _ fault. fault ≡ variant.Memory };
+
+    fn from(_refused: AllocFailed<T>) -> Unrouted {
+        Unrouted::Memory
+    }
+}
+
+/// Want of memory, as a fault.
+impl From<AllocError> for Unrouted {
+    ghost use Rattle.std.specs.Prelude.{◌≡◌};
+    ghost use Rattle.cqf_program_placing.specs.declared.routes.Unrouted.TheVariants as variant;
+
+    ghost from_gives = { λ _ fault. fault ≡ variant.Memory };
+
+    fn from(_refused: AllocError) -> Unrouted {
+        Unrouted::Memory
+    }
+}
+
+/// That a listener is full for a stream, where this link of the domain lacks room.
+fn full_at(domain: &Domain, room: Room, station: u8, link: u8) -> PlanFault
+    requires station { station < length domain.now.stations }
+    requires link { link < length domain.now.links }
+    requires left { length room.left.now ≡ length domain.now.links }
+    ensures { let d = domain.now in result ≡ PlanFault.Full (name_of_node d (Node.Station station)) room.entry.cost
+        (name_of_bridge d (bridge_of d link)) (name_of_end d link) (slice_index room.entry.left.now link) }
+{
+    PlanFault::Full {
+        listener: domain.station_name(station).copied(),
+        cost: room.cost,
+        from: start_of_link(domain, link),
+        to: end_of_link(domain, link),
+        left: room.left[usize::from(link)],
+    }
+}
+
+/// That a listener is full for a stream, where a way leads to it from the stream's bridge, but none with room: the first link that lacks
+/// it on the first way there is.
+fn full_to(domain: &Domain, room: Room, bridge: u8, station: u8) -> PlanFault
+    requires links { room.links.now ≡ domain.now.links }
+    requires left { length room.left.now ≡ length domain.now.links }
+    requires reached { IsReached domain.now bridge station }
+    requires none { NoWay domain.now.links (has_room room.left.now room.cost) (Node.Bridge bridge) (Node.Station station) }
+    ensures { (rows : List Row) → room.entry.left.now ≡ lefts_on domain.now rows → IsFullTo domain.now rows room.entry.cost bridge station result }
+{
+    full_ways_have_a_short_link();
+    // the domain is accepted: a fact for the call below
+    let _cycle_time = domain.cycle_time();
+    let anyhow = Room {
+        links: room.links,
+        left: room.left,
+        cost: 0,
+    };
+    let Some(way) = first_way(anyhow, bridge, Node::Station(station)) else {
+        unreachable!();
+    };
+    let Some(link) = first_short(room, way.as_slice()) else {
+        unreachable!();
+    };
+    full_at(domain, room, station, link)
+}
+
+/// The branches of the first ways with room from a bridge to some stations, in their order.
+///
+/// # Errors
+/// With the fault of the first station to which there is none: of the first way there is, the first link that lacks room; and with
+/// `Memory` where a growth is refused.
+pub(crate) fn branches_between(
+    alloc: Global,
+    domain: &Domain,
+    room: Room,
+    bridge: u8,
+    stations: &[u8],
+) -> Result<Vec<Vec<String>>, Unrouted>
+    requires links { room.links.now ≡ domain.now.links }
+    requires left { length room.left.now ≡ length domain.now.links }
+    requires reached { AreReached domain.now bridge stations.now }
+    ensures ok { IfOk result (λ paths. (rows : List Row) → room.entry.left.now ≡ lefts_on domain.now rows →
+        AreFound domain.now rows room.entry.cost bridge stations.now (branches_of paths.items)) }
+    ensures err { IfErr result (λ fault. (rows : List Row) → room.entry.left.now ≡ lefts_on domain.now rows →
+        IsUnrouted domain.now rows room.entry.cost (Between bridge stations.now) fault) }
+{
+    // the domain is accepted: a fact for the call below
+    let _cycle_time = domain.cycle_time();
+    match first_ways(alloc, room, bridge, stations) {
+        Ok(ways) => {
+            let paths = branches_along(alloc, domain, bridge, ways.as_slice())?;
+            Ok(paths)
+        }
+        Err(fault) => match fault {
+            WaysFault::NoWay(place) => {
+                let full = full_to(domain, room, bridge, stations[place]);
+                Err(Unrouted::Fault(full))
+            }
+            WaysFault::Memory => Err(Unrouted::Memory),
+        },
+    }
+}

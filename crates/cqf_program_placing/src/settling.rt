@@ -1,0 +1,195 @@
+//! The streams of a sketch, looked over for what no cycle time changes.
+ghost use Rattle.std.specs.Prelude.{◌≡◌, ◌<◌, ◌≤◌, ◌++◌, ◌∷◌, [], All, IfOk, OnOk, false, length, map, string_bytes};
+ghost use Rattle.cqf_model.specs.Limits.{most_streams};
+ghost use Rattle.cqf_sketch_streams.specs.StreamsText.{stream_text, wanted_text};
+ghost use Rattle.cqf_topology.specs.DomainText.{is_among};
+ghost use Rattle.cqf_topology_fields.specs.Fields.{Gives};
+ghost use Rattle.cqf_program_placing.specs.Settled.{are_reservable, or_unsettled, refusal_behind, settled_next, settled_stream, settled_value};
+ghost use Rattle.cqf_program_placing.specs.Settled.{IsPlaceable, deadline_behind, open_domain, settled_behind, settled_of, way_value, with_deadline};
+
+use crate::deadlines::{deadline_behind, longest_of, taken_on};
+use crate::entrances::{OpenSketch, find_talker};
+use crate::way_settling::settle_way;
+use crate::{PlanFault, Settled, Unsettled, Way};
+use cqf_model::{LEAST_OCTETS, MOST_OCTETS, MOST_STREAMS, Refused};
+use cqf_sketch::SketchDomain;
+use cqf_sketch_streams::{Stream, Wanted};
+use cqf_traffic::Traffic;
+use cqf_units::{Memory, Name};
+use indexmap::IndexSet;
+use std::alloc::Global;
+
+/// Whether a stream may reserve these octets, where it says any.
+fn are_reservable(octets: Option<u32>) -> bool
+    ensures { result ≡ are_reservable octets }
+{
+    match octets {
+        Some(octets) => LEAST_OCTETS <= octets && octets <= MOST_OCTETS,
+        None => true,
+    }
+}
+
+/// Whether the name is among those of streams.
+fn is_held(held: &IndexSet<Name>, name: &Name) -> bool
+    ensures { result ≡ is_among name.now held.now.keys }
+{
+    held.contains(name)
+}
+
+/// Adds a name that isn't among those of streams.
+fn hold(held: &mut IndexSet<Name>, name: &Name) -> Result<(), Memory>
+    requires { is_among name.now held.old.keys ≡ false }
+    ensures { OnOk result (held.new.keys ≡ held.old.keys ++ name.now ∷ []) }
+{
+    held.insert(name.copied())?;
+    Ok(())
+}
+
+/// Why a stream of a name can't stand behind those of other names.
+fn refusal_behind(held: &IndexSet<Name>, name: &Name) -> Option<Refused>
+    ensures { result ≡ refusal_behind held.now.keys name.now }
+{
+    if is_held(held, name) {
+        return Some(Refused::NameHeld);
+    }
+    if held.len() >= MOST_STREAMS {
+        return Some(Refused::TooManyStreams);
+    }
+    None
+}
+
+/// A stream that is refused as admission refuses it.
+fn unsettled(name: &Name, refused: Refused) -> Unsettled
+    ensures { result ≡ Unsettled.Stream name.now (PlanFault.Refused refused) }
+{
+    Unsettled::Stream(name.copied(), PlanFault::Refused(refused))
+}
+
+/// What a stream asks for: its octets a cycle, its deadline and its traffic, as its text has them.
+#[derive(Clone, Copy)]
+struct Terms {
+    octets: Option<u32>,
+    deadline: Option<u32>,
+    traffic: Option<Traffic>,
+}
+
+/// A stream whose way is settled, with its deadline, of which so much is over at its edge bridge.
+fn settle_deadline(name: &Name, terms: Terms, way: Way, taken: u64) -> Result<Settled, Unsettled>
+    ensures { Gives Unsettled.Memory settled_value result
+        (or_unsettled name.now (with_deadline name.now terms.octets (way_value way) terms.traffic (deadline_behind taken terms.deadline))) }
+{
+    match deadline_behind(taken, terms.deadline) {
+        Ok(deadline) => Ok(Settled {
+            name: name.copied(),
+            octets: terms.octets,
+            way,
+            deadline,
+            traffic: terms.traffic,
+        }),
+        Err(fault) => Err(Unsettled::Stream(name.copied(), fault)),
+    }
+}
+
+/// The stream of a name behind those of other names, or its first fault.
+fn settle_named(
+    alloc: Global,
+    at: OpenSketch,
+    held: &IndexSet<Name>,
+    name: &Name,
+    terms: Terms,
+    way: Wanted,
+) -> Result<Settled, Unsettled>
+    requires { at.sketch.now.links ≡ at.plant.now.links }
+    ensures { Gives Unsettled.Memory settled_value result (or_unsettled name.now (settled_stream at.entry.sketch.now at.entry.plant.now held.now.keys
+        (record { name = name.now; octets = terms.octets; way = wanted_text way; deadline = terms.deadline; traffic = terms.traffic }))) }
+{
+    if !are_reservable(terms.octets) {
+        return Err(unsettled(name, Refused::BadOctets));
+    }
+    let taken = taken_on(
+        find_talker(at, &way),
+        longest_of(terms.octets, terms.traffic),
+    );
+    let settled = settle_way(alloc, at, name, way)?;
+    if let Some(refused) = refusal_behind(held, name) {
+        return Err(unsettled(name, refused));
+    }
+    settle_deadline(name, terms, settled, taken)
+}
+
+/// The stream behind those of other names, or its first fault.
+fn settle_next(
+    alloc: Global,
+    at: OpenSketch,
+    held: &IndexSet<Name>,
+    stream: Stream,
+) -> Result<Settled, Unsettled>
+    requires links { at.sketch.now.links ≡ at.plant.now.links }
+    requires few { length held.now.keys ≤ most_streams }
+    ensures { Gives Unsettled.Memory settled_value result
+        (settled_next at.entry.sketch.now at.entry.plant.now held.now.keys (stream_text stream)) }
+{
+    match Name::new(stream.name.as_bytes()) {
+        Some(name) => {
+            let terms = Terms {
+                octets: stream.octets,
+                deadline: stream.deadline,
+                traffic: stream.traffic,
+            };
+            settle_named(alloc, at, held, &name, terms, stream.way)
+        }
+        None => Err(Unsettled::BadName(held.len() + 1)),
+    }
+}
+
+/// The streams, each behind those before it, or the first fault.
+fn settle_all(
+    alloc: Global,
+    at: OpenSketch,
+    streams: Vec<Stream>,
+) -> Result<Vec<Settled>, Unsettled>
+    requires { at.sketch.now.links ≡ at.plant.now.links }
+    ensures { Gives Unsettled.Memory (λ settled. map settled_value settled.items) result
+        (settled_behind at.entry.sketch.now at.entry.plant.now [] (map stream_text streams.items)) }
+{
+    let mut held = IndexSet::new(alloc);
+    let mut settled = Vec::new(alloc);
+    for stream in streams {
+        let one = settle_next(alloc, at, &held, stream)?;
+        hold(&mut held, &one.name)?;
+        settled.push(one)?;
+    }
+    Ok(settled)
+}
+
+/// The streams of a sketch, in their order, each with its nodes by number, its deadline from its edge bridge on, and nothing wrong with
+/// it that a cycle time could change (profile).
+///
+/// # Errors
+/// The first fault, stream by stream: `BadName`, with the place, from 1, where a name hasn't the form of one; and then `Stream` with the
+/// name and the first of these. `BadOctets`, where it asks for fewer than 64 octets a cycle, or more than 60,000. Of a stream with given
+/// branches, why they are no tree of the plant, as [`find_tree`](cqf_admission_trees::find_tree) has it; of another `NoTalker`, where it
+/// comes from no bridge and from no station with a talker's link, `NoListener` of the first listener that is no station, and `NoWay` of the
+/// first to which no links lead from its edge bridge, at most 16 of them. `NameHeld`, where an earlier one has its name; `TooManyStreams`,
+/// where there are 1,024 before it. `TooSoon`, where nothing is left of its deadline when a frame is whole at its edge bridge: such a
+/// frame, as long as its traffic lets it be, or else as its octets and at most 1,522, and 8 octets of preamble before it, takes their time
+/// on the talker's link and that link's delay. `Memory` where a growth is refused.
+pub fn settle(
+    alloc: Global,
+    sketch: &SketchDomain,
+    streams: Vec<Stream>,
+) -> Result<Vec<Settled>, Unsettled>
+    ensures given { Gives Unsettled.Memory (λ settled. map settled_value settled.items) result
+        (settled_of sketch.now (map stream_text streams.items)) }
+    ensures on_way { IfOk result (λ settled. All (IsPlaceable (open_domain sketch.now)) (map settled_value settled.items)) }
+    ensures few { IfOk result (λ settled. length settled.items ≤ most_streams) }
+{
+    // talkers' links end in bridges of the plant
+    let _talkers = sketch.talkers();
+    let plant = sketch.at(alloc, sketch.open_cycle())?;
+    let at = OpenSketch {
+        sketch,
+        plant: &plant,
+    };
+    settle_all(alloc, at, streams)
+}

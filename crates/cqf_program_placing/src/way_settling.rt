@@ -1,0 +1,99 @@
+//! The ways of streams, settled.
+ghost use Rattle.std.specs.Prelude.{◌≡◌, ok_or};
+ghost use Rattle.cqf_admission_trees.specs.Branches.{branches_of};
+ghost use Rattle.cqf_model.specs.Domain.{node_named};
+ghost use Rattle.cqf_sketch_streams.specs.StreamsText.{wanted_text};
+ghost use Rattle.cqf_topology_fields.specs.Fields.{Gives};
+ghost use Rattle.cqf_program_placing.specs.Settled.{entrance_at, or_unsettled, settled_way, station_by_name, stations_by_name, way_along, way_from, way_value};
+
+use crate::entrances::{OpenSketch, find_entrance};
+use crate::ways_there::first_apart;
+use crate::{PlanFault, Unsettled, Way};
+use cqf_admission_trees::{count_places, find_tree};
+use cqf_model::Node;
+use cqf_sketch_streams::Wanted;
+use cqf_topology::Domain;
+use cqf_units::Name;
+use std::alloc::Global;
+
+/// The station of a name.
+fn station_by_name(plant: &Domain, name: &Name) -> Result<u8, PlanFault>
+    ensures { result ≡ station_by_name plant.now name.now }
+{
+    match plant.find(name.as_str()) {
+        Some(Node::Station(station)) => Ok(station),
+        _ => Err(PlanFault::NoListener(name.copied())),
+    }
+}
+
+/// The stations of a stream's listeners.
+fn stations_by_name(
+    alloc: Global,
+    plant: &Domain,
+    stream: &Name,
+    names: &[Name],
+) -> Result<Vec<u8>, Unsettled>
+    ensures { Gives Unsettled.Memory (λ stations. stations.items) result (or_unsettled stream.now (stations_by_name plant.now names.now)) }
+{
+    let mut stations = Vec::new(alloc);
+    for name in names {
+        match station_by_name(plant, name) {
+            Ok(station) => stations.push(station)?,
+            Err(fault) => return Err(Unsettled::Stream(stream.copied(), fault)),
+        }
+    }
+    Ok(stations)
+}
+
+/// The way of a stream along given branches.
+fn settle_along(plant: &Domain, stream: &Name, paths: Vec<Vec<String>>) -> Result<Way, Unsettled>
+    ensures { Gives Unsettled.Memory way_value result (or_unsettled stream.now (way_along plant.now (branches_of paths.items))) }
+{
+    if count_places(paths.as_slice()).is_none() {
+        return Err(Unsettled::Memory);
+    }
+    match find_tree(plant, paths.as_slice()) {
+        Ok(_) => Ok(Way::Along(paths)),
+        Err(refused) => Err(Unsettled::Stream(stream.copied(), PlanFault::Refused(refused))),
+    }
+}
+
+/// The way of a stream from a node to its listeners.
+fn settle_between(
+    alloc: Global,
+    at: OpenSketch,
+    stream: &Name,
+    from: &Name,
+    to: &[Name],
+) -> Result<Way, Unsettled>
+    requires { at.sketch.now.links ≡ at.plant.now.links }
+    ensures { Gives Unsettled.Memory way_value result (or_unsettled stream.now
+        (way_from at.entry.plant.now (entrance_at at.entry.sketch.now (node_named at.entry.plant.now from.now)) to.now)) }
+{
+    let Some(entrance) = find_entrance(at, from) else {
+        return Err(Unsettled::Stream(stream.copied(), PlanFault::NoTalker));
+    };
+    let stations = stations_by_name(alloc, at.plant, stream, to)?;
+    match first_apart(at, entrance.bridge, to) {
+        Some(name) => Err(Unsettled::Stream(stream.copied(), PlanFault::NoWay(name))),
+        None => Ok(Way::Between(entrance.bridge, stations)),
+    }
+}
+
+/// The way of a stream: along given branches that make a tree of the plant; or else from the edge bridge of its talker to the stations
+/// that are its listeners, to each of which links lead.
+pub(crate) fn settle_way(
+    alloc: Global,
+    at: OpenSketch,
+    stream: &Name,
+    way: Wanted,
+) -> Result<Way, Unsettled>
+    requires { at.sketch.now.links ≡ at.plant.now.links }
+    ensures { Gives Unsettled.Memory way_value result
+        (or_unsettled stream.now (settled_way at.entry.sketch.now at.entry.plant.now (wanted_text way))) }
+{
+    match way {
+        Wanted::Along(paths) => settle_along(at.plant, stream, paths),
+        Wanted::Between(from, to) => settle_between(alloc, at, stream, &from, to.as_slice()),
+    }
+}

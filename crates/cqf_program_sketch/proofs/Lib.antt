@@ -1,0 +1,6 @@
+mod AllPlaced
+mod SoundPlans
+mod PlacedLemmas
+mod TriedLemmas
+mod TextLemmas
+mod ChoiceLemmas

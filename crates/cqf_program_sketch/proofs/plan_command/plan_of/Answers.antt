@@ -1,0 +1,11 @@
+use Rattle.std.proofs.Common.{◌∙◌, map, subst}
+use Rattle.std.proofs.lemmas.List.{length-map}
+use Rattle.cqf_program_placing.specs.Settled.{settled_value}
+use Rattle.cqf_program_sketch.specs.Trying.{ComesOfAll}
+use Rattle.cqf_program_sketch.proofs.plan_command.plan_of.Goals as goal
+
+-- something becomes of each stream
+pub plant_of-requires : goal.plant_of-requires
+plant_of-requires c =
+    let those = map settled_value c.args.streams.now in
+    (subst (ComesOfAll c.args.sketch.now those) c.in-Ok-Planned.field-0-is c.in-Ok-Planned.ensures).1 ∙ length-map c.args.streams.now settled_value

@@ -1,0 +1,126 @@
+-- What is told of a candidate for the cycle time (profile).
+use Rattle.std.specs.Prelude.{ℕ, ◌≡◌, ◌+◌, ◌*◌, ◌/◌, ◌≤◌, ◌<◌, List, [], ◌∷◌, count_by, find, fold, if◌then◌else◌, length, map, max, nat_lt, option_map, suc, zero}
+use Rattle.std.specs.Prelude.{Option, Some, None, unwrap_or}
+use Rattle.std.specs.List.{flat_map}
+use Rattle.cqf_lists.specs.Lists.{each_below, or_else}
+use Rattle.cqf_model.specs.declared.topology.Row.{Row}
+use Rattle.cqf_model.specs.Domain.{Domain, budget}
+use Rattle.cqf_model.specs.History.{Asked, held_in, seals}
+use Rattle.cqf_model.specs.Table.{link_cost}
+use Rattle.cqf_sketch.specs.SketchDomain.{SketchDomain, domain_at}
+use Rattle.cqf_traffic.specs.FlowsText.{FlowText}
+use Rattle.cqf_program_plans.specs.declared.latency_latencies.Latency.{Latency}
+use Rattle.cqf_program_plans.specs.LatencyText.{is_not_sure, latencies_of}
+use Rattle.cqf_program_placing.specs.declared.faults.PlanFault.TheVariants as fault
+use Rattle.cqf_program_placing.specs.Placing.{ArePlaced, PlacedOr, PlacedStreams, Placed, Unplaced}
+use Rattle.cqf_program_placing.specs.Settled.{SettledStream}
+use Rattle.cqf_program_sketch.specs.declared.candidates.Candidate.{Candidate}
+use Rattle.cqf_program_sketch.specs.declared.candidates.CandidateFault.{CandidateFault}
+use Rattle.cqf_program_sketch.specs.declared.candidates.CandidateFault.TheVariants as shut
+use Rattle.cqf_program_sketch.specs.declared.candidates.Slack.{Slack}
+
+-- a stream that is placed, as a plant has it: with its deadline and its traffic
+abbrev pub flow_of : SettledStream → Asked → FlowText
+flow_of stream asked =
+    ((record { name = asked.name; octets = asked.octets; paths = asked.paths }, stream.deadline), stream.traffic)
+
+-- those of some streams that are placed
+abbrev pub flows_placed : List SettledStream → List PlacedOr → List FlowText
+flows_placed [] outcomes = []
+flows_placed (stream ∷ streams) [] = []
+flows_placed (stream ∷ streams) (Placed asked ∷ outcomes) = flow_of stream asked ∷ flows_placed streams outcomes
+flows_placed (stream ∷ streams) (Unplaced found ∷ outcomes) = flows_placed streams outcomes
+
+-- the first that isn't, and why
+abbrev pub first_unplaced : List SettledStream → List PlacedOr → Option CandidateFault
+first_unplaced [] outcomes = None
+first_unplaced (stream ∷ streams) [] = None
+first_unplaced (stream ∷ streams) (Placed asked ∷ outcomes) = first_unplaced streams outcomes
+first_unplaced (stream ∷ streams) (Unplaced found ∷ outcomes) = Some (shut.Stream stream.name found)
+
+-- how long the frames of those that are placed take to their listeners, beside all of them
+abbrev pub rows_placed : PlacedStreams → List Row
+rows_placed placed = held_in placed.domain placed.entries (seals placed.entries)
+
+abbrev pub deadlines_placed : List SettledStream → List PlacedOr → List (Option ℕ)
+deadlines_placed streams outcomes = map (λ (flow : FlowText). flow.0.1) (flows_placed streams outcomes)
+
+abbrev pub latencies_placed : List SettledStream → PlacedStreams → List Latency
+latencies_placed streams placed = latencies_of placed.domain (rows_placed placed) (deadlines_placed streams placed.outcomes)
+
+-- the first that may be late
+abbrev pub late_fault : Latency → CandidateFault
+late_fault latency = shut.Stream latency.stream (fault.Late latency.listener latency.most (unwrap_or latency.deadline 0))
+
+abbrev pub first_late : List Latency → Option CandidateFault
+first_late latencies = option_map late_fault (find is_not_sure latencies)
+
+-- the share of a link's budget that is held, in thousandths, rounded down: of no budget there is none
+abbrev pub share_of : ℕ → ℕ → List ℕ
+share_of zero held = []
+share_of (suc rest) held = 1000 * held / suc rest ∷ []
+
+abbrev pub shares_of : Domain → List Row → List ℕ
+shares_of d rows = each_below (λ l. share_of (budget d l) (link_cost rows l)) (length d.links)
+
+-- the greatest of some numbers
+abbrev pub larger : Option ℕ → ℕ → Option ℕ
+larger None n = Some n
+larger (Some most) n = Some (max most n)
+
+abbrev pub greatest_of : List ℕ → Option ℕ
+greatest_of numbers = fold larger None numbers
+
+-- what is left of each deadline, and the first of those of which the least is
+abbrev pub slack_by : Latency → Option ℕ → List Slack
+slack_by latency None = []
+slack_by latency (Some deadline) = record { stream = latency.stream; deadline = deadline; most = latency.most } ∷ []
+
+abbrev pub slacks_of : List Latency → List Slack
+slacks_of latencies = flat_map (λ (latency : Latency). slack_by latency latency.deadline) latencies
+
+abbrev pub tighter : Option Slack → Slack → Option Slack
+tighter None slack = Some slack
+tighter (Some first) slack = if nat_lt (slack.deadline + first.most) (first.deadline + slack.most) then Some slack else Some first
+
+abbrev pub tightest_of : List Slack → Option Slack
+tightest_of slacks = fold tighter None slacks
+
+-- what is told of a cycle time on which streams are placed: by how many are, what links hold, how long frames take, and the first that isn't
+abbrev pub candidate_by : ℕ → ℕ → List ℕ → List Latency → Option CandidateFault → Candidate
+candidate_by cycle_time placed shares latencies unplaced = record {
+  cycle_time = cycle_time;
+  placed = placed;
+  used = greatest_of shares;
+  late = count_by is_not_sure latencies;
+  tightest = tightest_of (slacks_of latencies);
+  fault = or_else unplaced (first_late latencies);
+}
+
+abbrev pub candidate_of : List SettledStream → PlacedStreams → Candidate
+candidate_of streams placed =
+    candidate_by placed.domain.cycle_time (length (flows_placed streams placed.outcomes)) (shares_of placed.domain (rows_placed placed))
+    (latencies_placed streams placed) (first_unplaced streams placed.outcomes)
+
+-- what is told of one that isn't above the guard time: nothing is placed
+abbrev pub shut_candidate : ℕ → Candidate
+shut_candidate cycle_time =
+    record { cycle_time = cycle_time; placed = 0; used = None; late = 0; tightest = None; fault = Some shut.GuardTooLong }
+
+-- the streams of a sketch are placed on a cycle time
+pub record ArePlacedAt (sketch : SketchDomain) (streams : List SettledStream) (cycle_time : ℕ) (placed : PlacedStreams) : Type 0 where
+  pub domain : placed.domain ≡ domain_at sketch cycle_time
+  pub placed_are : ArePlaced streams placed
+
+-- what is told of a candidate
+pub record IsJudgedBy (sketch : SketchDomain) (streams : List SettledStream) (cycle_time : ℕ) (candidate : Candidate) : Type 0 where
+  pub shut : cycle_time ≤ sketch.guard → candidate ≡ shut_candidate cycle_time
+  pub open_to : sketch.guard < cycle_time → (placed : PlacedStreams) × ArePlacedAt sketch streams cycle_time placed × (candidate ≡ candidate_of streams placed)
+
+-- and of some, in their order
+abbrev pub AreJudgedBy : SketchDomain → List SettledStream → List ℕ → List Candidate → Type 0
+AreJudgedBy sketch streams [] [] = Unit {0}
+AreJudgedBy sketch streams [] (candidate ∷ more) = ⊥
+AreJudgedBy sketch streams (cycle_time ∷ cycles) [] = ⊥
+AreJudgedBy sketch streams (cycle_time ∷ cycles) (candidate ∷ more) =
+    IsJudgedBy sketch streams cycle_time candidate × AreJudgedBy sketch streams cycles more

@@ -1,0 +1,33 @@
+-- What the inner functions say of streams, and of a candidate's line.
+use Rattle.std.specs.Prelude.{ℕ, ◌≤◌, List, [], ◌∷◌, All, decimal, length}
+use Rattle.std.specs.Option.{option_map_or}
+use Rattle.cqf_model.specs.Limits.{most_streams}
+use Rattle.cqf_sketch.specs.SketchDomain.{SketchDomain}
+use Rattle.cqf_traffic.specs.FlowsText.{FlowText}
+use Rattle.cqf_program_placing.specs.Placing.{PlacedOr, Placed, Unplaced}
+use Rattle.cqf_program_placing.specs.Settled.{IsPlaceable, SettledStream, open_domain}
+use Rattle.cqf_program_plans.specs.LoadText.{percentage_text}
+use Rattle.cqf_report.specs.Records.{Fields}
+use Rattle.cqf_program_sketch.specs.declared.candidates.Candidate.{Candidate}
+use Rattle.cqf_program_sketch.specs.Choosing.{candidate_fault_text}
+use Rattle.cqf_program_sketch.specs.Judging.{flow_of}
+use Rattle.cqf_program_sketch.specs.TableText.{slack_text, stream_of_slack}
+
+-- settled streams of a sketch
+pub record AreSettled (sketch : SketchDomain) (streams : List SettledStream) : Type 0 where
+  pub few : length streams ≤ most_streams
+  pub placeable : All (IsPlaceable (open_domain sketch)) streams
+
+-- a stream as a plant has it, where it is placed
+abbrev pub flows_by : SettledStream → PlacedOr → List FlowText
+flows_by stream (Placed asked) = flow_of stream asked ∷ []
+flows_by stream (Unplaced found) = []
+
+-- the two halves of a candidate's fields: what is placed and held, and how tight deadlines are
+abbrev pub held_fields : ℕ → Candidate → Fields
+held_fields streams candidate =
+    decimal candidate.cycle_time ∷ decimal candidate.placed ∷ decimal streams ∷ option_map_or percentage_text candidate.used [] ∷ []
+
+abbrev pub tight_fields : Candidate → Fields
+tight_fields candidate =
+    decimal candidate.late ∷ stream_of_slack candidate.tightest ∷ slack_text candidate.tightest ∷ option_map_or candidate_fault_text candidate.fault [] ∷ []

@@ -1,0 +1,54 @@
+-- What the inner functions say of cycle times that are tried.
+use Rattle.std.specs.Prelude.{ℕ, ◌≡◌, ◌<◌, List, All, IfSome, Option, Some, None, length, map}
+use Rattle.cqf_sketch.specs.SketchDomain.{SketchDomain}
+use Rattle.cqf_program_placing.specs.Placing.{PlacedStreams, outcome_value}
+use Rattle.cqf_program_placing.specs.Settled.{SettledStream}
+use Rattle.cqf_program_sketch.specs.declared.candidates.Candidate.{Candidate}
+use Rattle.cqf_program_sketch.specs.declared.choosing.Choice.{Choice}
+use Rattle.cqf_program_sketch.specs.declared.choosing.Choice.TheVariants as choice
+use Rattle.cqf_program_sketch.specs.declared.trying.Tried.{Tried}
+use Rattle.cqf_program_sketch.specs.Choosing.{IsBad, IsPlanned, IsUnplanned, best_of, line_of_best}
+use Rattle.cqf_program_sketch.specs.Judging.{ArePlacedAt, AreJudgedBy, IsJudgedBy, candidate_of, flows_placed}
+
+-- what is told of streams that are placed, with their domain and what becomes of each
+pub record IsTriedBy (streams : List SettledStream) (placed : PlacedStreams) (tried : Tried) : Type 0 where
+  pub candidate_is : tried.candidate ≡ candidate_of streams placed
+  pub domain_is : tried.domain ≡ placed.domain
+  pub outcomes_are : map outcome_value tried.outcomes.items ≡ placed.outcomes
+
+-- on a cycle time
+pub record IsTried (sketch : SketchDomain) (streams : List SettledStream) (cycle_time : ℕ) (tried : Tried) : Type 0 where
+  pub placed : PlacedStreams
+  pub are_placed : ArePlacedAt sketch streams cycle_time placed
+  pub tried_by : IsTriedBy streams placed tried
+
+-- a cycle time is good, and its plant's streams are these
+pub record IsGoodOn (sketch : SketchDomain) (streams : List SettledStream) (cycle_time : ℕ) (tried : Tried) : Type 0 where
+  pub open_to : sketch.guard < cycle_time
+  pub tried_is : IsTried sketch streams cycle_time tried
+  pub good : tried.candidate.fault ≡ None
+
+-- it isn't, and this is told of it
+pub record IsBadOn (sketch : SketchDomain) (streams : List SettledStream) (cycle_time : ℕ) (candidate : Candidate) : Type 0 where
+  pub judged : IsJudgedBy sketch streams cycle_time candidate
+  pub bad : IsBad candidate
+
+-- what comes of a candidate
+abbrev pub ComesOf : SketchDomain → List SettledStream → ℕ → Choice → Type 0
+ComesOf sketch streams cycle_time (choice.Planned tried) = IsGoodOn sketch streams cycle_time tried
+ComesOf sketch streams cycle_time (choice.Unplanned candidate) = IsBadOn sketch streams cycle_time candidate
+
+-- none of these candidates is good, and this is the one on which most streams are placed
+pub record AreBad (sketch : SketchDomain) (streams : List SettledStream) (cycles : List ℕ) (best : Option Candidate) : Type 0 where
+  pub told : List Candidate
+  pub judged : AreJudgedBy sketch streams cycles told
+  pub bad : All IsBad told
+  pub best_is : best ≡ best_of told
+  pub best_bad : IfSome best IsBad
+
+-- what comes of all
+abbrev pub ComesOfAll : SketchDomain → List SettledStream → Choice → Type 0
+ComesOfAll sketch streams (choice.Planned tried) =
+    IsPlanned sketch streams tried.domain (flows_placed streams (map outcome_value tried.outcomes.items)) × (length tried.outcomes.items ≡ length streams)
+ComesOfAll sketch streams (choice.Unplanned best) =
+    IsUnplanned sketch streams (line_of_best (length sketch.candidates) (Some best)) × IsBad best

@@ -1,0 +1,74 @@
+//! What is told of a candidate for the cycle time.
+ghost use Rattle.std.specs.Prelude.{◌≡◌, Some};
+ghost use Rattle.cqf_program_sketch.specs.Choosing.{candidate_fault_text};
+ghost use Rattle.cqf_program_sketch.specs.Judging.{shut_candidate};
+
+use cqf_program_placing::PlanFault;
+use cqf_units::Name;
+use std::fmt;
+
+/// Why a candidate isn't good (profile).
+#[derive(Debug, Drop)]
+pub enum CandidateFault {
+    /// It isn't above the guard time.
+    GuardTooLong,
+    /// The stream of this name isn't placed, or may be late.
+    Stream(Name, PlanFault),
+}
+
+/// How much of a deadline is left (profile).
+#[derive(Debug, Drop)]
+pub struct Slack {
+    /// The name of its stream.
+    pub stream: Name,
+    /// In nanoseconds.
+    pub deadline: u32,
+    /// The most that a frame takes, in nanoseconds: what is left is the deadline less this.
+    pub most: u64,
+}
+
+/// What is told of a candidate for the cycle time (profile).
+#[derive(Debug, Drop)]
+pub struct Candidate {
+    /// In nanoseconds.
+    pub cycle_time: u32,
+    /// How many streams are placed.
+    pub placed: usize,
+    /// The greatest share of a link's budget that is held, in thousandths, rounded down; none where no link has a budget, or it isn't
+    /// above the guard time.
+    pub used: Option<u64>,
+    /// Of how many streams and listeners a frame may be late.
+    pub late: usize,
+    /// The first of the deadlines of which the least is left.
+    pub tightest: Option<Slack>,
+    /// Why it isn't good.
+    pub fault: Option<CandidateFault>,
+}
+
+/// The fault as it is told: behind the name of its stream, where it is one of a stream.
+impl fmt::Display for CandidateFault {
+    ghost output = { λ fault. Some (candidate_fault_text fault) };
+
+    fn fmt<W: fmt::Write>(&self, f: &mut fmt::Formatter<W>) -> fmt::Result {
+        match self {
+            CandidateFault::GuardTooLong => f.write_str("GuardTooLong"),
+            CandidateFault::Stream(name, fault) => write!(f, "{name}: {fault}"),
+        }
+    }
+}
+
+impl Candidate {
+    /// What is told of a cycle time, in nanoseconds, that isn't above the guard time: nothing is placed.
+    pub(crate) fn shut(cycle_time: u32) -> Candidate
+        ensures { result ≡ shut_candidate cycle_time }
+    {
+        Candidate {
+            cycle_time,
+            placed: 0,
+            used: None,
+            late: 0,
+            tightest: None,
+            fault: Some(CandidateFault::GuardTooLong),
+        }
+    }
+}

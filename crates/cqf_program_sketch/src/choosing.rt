@@ -1,0 +1,83 @@
+//! Which candidate for the cycle time is taken.
+ghost use Rattle.std.specs.Prelude.{◌≡◌, IfOk, Some, map};
+ghost use Rattle.cqf_program_placing.specs.Settled.{settled_value};
+ghost use Rattle.cqf_sketch.specs.SketchDomain.{IsCycleTime};
+ghost use Rattle.cqf_program_sketch.specs.Choosing.{better};
+ghost use Rattle.cqf_program_sketch.specs.Steps.{AreSettled};
+ghost use Rattle.cqf_program_sketch.specs.Trying.{ComesOf, ComesOfAll};
+
+use crate::candidates::Candidate;
+use crate::trying::{Tried, try_cycle};
+use cqf_program_placing::Settled;
+use cqf_sketch::SketchDomain;
+use cqf_units::Memory;
+use std::alloc::Global;
+
+/// What comes of a candidate for the cycle time, or of some.
+#[derive(Drop)]
+pub(crate) enum Choice {
+    /// It is good, and taken.
+    Planned(Tried),
+    /// None is good. This is the one on which most streams are placed, the first of equals.
+    Unplanned(Candidate),
+}
+
+/// Of two candidates the first, unless more streams are placed on the second.
+fn better(best: Option<Candidate>, candidate: Candidate) -> Candidate
+    ensures { Some result ≡ better best candidate }
+{
+    match best {
+        Some(best) => {
+            if best.placed < candidate.placed {
+                candidate
+            } else {
+                best
+            }
+        }
+        None => candidate,
+    }
+}
+
+/// What comes of settled streams of a sketch on a cycle time.
+fn choice_at(
+    alloc: Global,
+    sketch: &SketchDomain,
+    streams: &[Settled],
+    cycle_time: u32,
+) -> Result<Choice, Memory>
+    requires range { IsCycleTime cycle_time }
+    requires settled { AreSettled sketch.now (map settled_value streams.now) }
+    ensures { IfOk result (ComesOf sketch.now (map settled_value streams.now) cycle_time) }
+{
+    if cycle_time <= sketch.guard() {
+        return Ok(Choice::Unplanned(Candidate::shut(cycle_time)));
+    }
+    let tried = try_cycle(alloc, sketch, streams, cycle_time)?;
+    if tried.candidate.fault.is_none() {
+        Ok(Choice::Planned(tried))
+    } else {
+        Ok(Choice::Unplanned(tried.candidate))
+    }
+}
+
+/// The first candidate of a sketch that is good for its settled streams, or the one of the others on which most are placed.
+pub(crate) fn choose(
+    alloc: Global,
+    sketch: &SketchDomain,
+    streams: &[Settled],
+) -> Result<Choice, Memory>
+    requires { AreSettled sketch.now (map settled_value streams.now) }
+    ensures { IfOk result (ComesOfAll sketch.now (map settled_value streams.now)) }
+{
+    let mut best = None;
+    for cycle_time in sketch.candidates() {
+        match choice_at(alloc, sketch, streams, *cycle_time)? {
+            Choice::Planned(tried) => return Ok(Choice::Planned(tried)),
+            Choice::Unplanned(candidate) => best = Some(better(best, candidate)),
+        }
+    }
+    match best {
+        Some(best) => Ok(Choice::Unplanned(best)),
+        None => unreachable!(),
+    }
+}

@@ -1,0 +1,218 @@
+//! The command `plan`.
+ghost use Rattle.std.specs.Prelude.{◌≡◌, ◌≢◌, [], IfErr, IfOk, IfSome, Some, Ok, false, length, map, option_map, string_bytes};
+ghost use Rattle.cqf_program_offers.specs.OffersOutput.{flows_line};
+ghost use Rattle.cqf_program_placing.specs.Settled.{settled_of, settled_value};
+ghost use Rattle.cqf_program_stop.specs.Stops.{EndsWith, IsRefused, or_line};
+ghost use Rattle.cqf_sketch.specs.SketchDomain.{AreCandidates, sketch_domain_of_text};
+ghost use Rattle.cqf_sketch_streams.specs.StreamsText.{sketch_streams_of_text, stream_text};
+ghost use Rattle.cqf_program_placing.specs.Placing.{outcome_value};
+ghost use Rattle.cqf_plants.specs.Plants.{IsToldPlant};
+ghost use Rattle.cqf_program_sketch.specs.Choosing.{IsBad, line_of_best};
+ghost use Rattle.cqf_program_sketch.specs.Judging.{flows_placed};
+ghost use Rattle.cqf_program_sketch.specs.PlanOutput.{IsCandidatesText, IsPlanOf, IsPlanRefusal, IsPlanText, IsToldOf, IsToldRefusal};
+ghost use Rattle.cqf_program_sketch.specs.PlanOutput.{sketch_input, sketch_line, unsettled_line};
+ghost use Rattle.cqf_program_sketch.specs.Steps.{AreSettled};
+
+use crate::candidates::Candidate;
+use crate::choosing::{Choice, choose};
+use crate::plans::{flows_placed, line_of_best};
+use crate::table::text_of_candidates;
+use crate::trying::{Tried, judge_all};
+use cqf_model::Refused;
+use cqf_plants::write_plant;
+use cqf_program_offers::flows_stop;
+use cqf_program_placing::{PlanFault, Settled, Unsettled, settle};
+use cqf_program_plans::stream_stop;
+use cqf_program_scenario::two_parts;
+use cqf_program_stop::{REFUSED, Stop};
+use cqf_sketch::{SketchDomain, SketchFault};
+use cqf_sketch_streams::{Stream, read_sketch_streams};
+use cqf_topology::DomainFault;
+use cqf_units::{Memory, Name};
+use std::alloc::Global;
+
+/// The end where the domain of a sketch is refused.
+fn sketch_stop(alloc: Global, fault: SketchFault) -> Stop
+    ensures refused { fault ≢ SketchFault.Domain DomainFault.Memory → EndsWith 1 (sketch_line fault) result }
+    ensures memory { fault ≡ SketchFault.Domain DomainFault.Memory → EndsWith 3 [] result }
+{
+    match fault {
+        SketchFault::Domain(DomainFault::Memory) => Stop::memory(alloc),
+        _ => Stop::refused(alloc, "domain", &fault),
+    }
+}
+
+/// The domain of a sketch's part. `Err` with status 1 and the line of its first fault, and with status 3 for want of memory.
+fn sketch_part(alloc: Global, text: &[u8], given: Option<Vec<u32>>) -> Result<SketchDomain, Stop>
+    requires { IfSome given (λ cycles. AreCandidates cycles.items) }
+    ensures ok { let said = option_map (λ cycles. cycles.items) given in IfOk result (λ sketch. sketch_domain_of_text said text.now ≡ Ok sketch) }
+    ensures err { let said = option_map (λ cycles. cycles.items) given in IfErr result (IsRefused (or_line sketch_line (sketch_domain_of_text said text.now))) }
+{
+    match SketchDomain::read(alloc, text, given) {
+        Ok(sketch) => Ok(sketch),
+        Err(fault) => Err(sketch_stop(alloc, fault)),
+    }
+}
+
+/// The streams of a sketch's part, likewise.
+fn wanted_part(alloc: Global, text: &[u8]) -> Result<Vec<Stream>, Stop>
+    ensures ok { IfOk result (λ streams. sketch_streams_of_text text.now ≡ Ok (map stream_text streams.items)) }
+    ensures err { IfErr result (IsRefused (or_line flows_line (sketch_streams_of_text text.now))) }
+{
+    match read_sketch_streams(alloc, text) {
+        Ok(streams) => Ok(streams),
+        Err(fault) => Err(flows_stop(alloc, fault)),
+    }
+}
+
+/// The line of a stream that isn't settled.
+fn line_of_unsettled(alloc: Global, name: &Name, fault: &PlanFault) -> Result<String, Memory>
+    ensures { IfOk result (λ line. string_bytes line ≡ unsettled_line (Unsettled.Stream name.now fault.now)) }
+{
+    let line = format!(in alloc; "cqf: plan: {name}: {fault}\n")?;
+    Ok(line)
+}
+
+/// The end where streams of a sketch aren't settled.
+fn unsettled_stop(alloc: Global, fault: Unsettled) -> Stop
+    ensures refused { fault ≢ Unsettled.Memory → EndsWith 1 (unsettled_line fault) result }
+    ensures memory { fault ≡ Unsettled.Memory → EndsWith 3 [] result }
+{
+    match fault {
+        Unsettled::BadName(place) => stream_stop(alloc, place, Refused::BadName),
+        Unsettled::Stream(name, found) => {
+            Stop::with_text(alloc, REFUSED, line_of_unsettled(alloc, &name, &found))
+        }
+        Unsettled::Memory => Stop::memory(alloc),
+    }
+}
+
+/// The streams of a sketch, settled. `Err` with status 1 and the line of the first fault, and with status 3 for want of memory.
+fn settled_part(
+    alloc: Global,
+    sketch: &SketchDomain,
+    streams: Vec<Stream>,
+) -> Result<Vec<Settled>, Stop>
+    ensures ok { IfOk result (λ settled. settled_of sketch.now (map stream_text streams.items) ≡ Ok (map settled_value settled.items)) }
+    ensures settled { IfOk result (λ settled. AreSettled sketch.now (map settled_value settled.items)) }
+    ensures err { IfErr result (IsRefused (or_line unsettled_line (settled_of sketch.now (map stream_text streams.items)))) }
+{
+    match settle(alloc, sketch, streams) {
+        Ok(settled) => Ok(settled),
+        Err(fault) => Err(unsettled_stop(alloc, fault)),
+    }
+}
+
+/// The domain and the settled streams of the input. `Err` with status 1 and the line of the first fault: of its parts, of the domain, of the
+/// streams, or of what no cycle time changes; and with status 3 for want of memory.
+fn read_sketch(
+    alloc: Global,
+    given: Option<Vec<u32>>,
+    input: &[u8],
+) -> Result<(SketchDomain, Vec<Settled>), Stop>
+    requires { IfSome given (λ cycles. AreCandidates cycles.items) }
+    ensures ok { let said = option_map (λ cycles. cycles.items) given in IfOk result (λ found.
+        sketch_input said input.now ≡ Ok (record { domain = found.0; streams = map settled_value found.1.items })) }
+    ensures settled { IfOk result (λ found. AreSettled found.0 (map settled_value found.1.items)) }
+    ensures err { let said = option_map (λ cycles. cycles.items) given in IfErr result (IsRefused (sketch_input said input.now)) }
+{
+    let (domain_text, streams_text) = two_parts(alloc, input)?;
+    let domain = sketch_part(alloc, domain_text, given)?;
+    let wanted = wanted_part(alloc, streams_text)?;
+    let streams = settled_part(alloc, &domain, wanted)?;
+    Ok((domain, streams))
+}
+
+/// The table of a sketch's candidates.
+fn table_of(alloc: Global, sketch: &SketchDomain, streams: &[Settled]) -> Result<Vec<u8>, Memory>
+    requires { AreSettled sketch.now (map settled_value streams.now) }
+    ensures { IfOk result (λ text. IsCandidatesText (record { domain = sketch.now; streams = map settled_value streams.now }) text.items) }
+{
+    let told = judge_all(alloc, sketch, streams)?;
+    let text = text_of_candidates(alloc, streams.len(), told.as_slice())?;
+    Ok(text)
+}
+
+/// The plant's text of a cycle time on which streams are placed.
+fn plant_of(alloc: Global, streams: &[Settled], tried: &Tried) -> Result<Vec<u8>, Memory>
+    requires { length tried.now.outcomes.items ≡ length streams.now }
+    ensures { let become = map outcome_value tried.now.outcomes.items in IfOk result (λ text.
+        IsToldPlant tried.now.domain (flows_placed (map settled_value streams.now) become) text.items) }
+{
+    let flows = flows_placed(alloc, streams, tried.outcomes.as_slice())?;
+    let text = write_plant(alloc, &tried.domain, flows.as_slice())?;
+    Ok(text.into_bytes())
+}
+
+/// The end where none of so many candidates is good.
+fn unplanned_stop(alloc: Global, count: usize, best: &Candidate) -> Stop
+    requires { IsBad best.now }
+    ensures { EndsWith 1 (line_of_best count (Some best.now)) result }
+{
+    Stop::with_text(alloc, REFUSED, line_of_best(alloc, count, best))
+}
+
+/// The plant that is planned of a sketch.
+///
+/// # Errors
+/// With status 1 and the line that tells why none of its candidates is good; and with status 3 for want of memory.
+fn plan_of(alloc: Global, sketch: &SketchDomain, streams: &[Settled]) -> Result<Vec<u8>, Stop>
+    requires { AreSettled sketch.now (map settled_value streams.now) }
+    ensures ok { IfOk result (λ text. IsPlanText (record { domain = sketch.now; streams = map settled_value streams.now }) text.items) }
+    ensures err { IfErr result (IsToldRefusal false (record { domain = sketch.now; streams = map settled_value streams.now })) }
+{
+    match choose(alloc, sketch, streams) {
+        Ok(Choice::Planned(tried)) => match plant_of(alloc, streams, &tried) {
+            Ok(text) => Ok(text),
+            Err(_) => Err(Stop::memory(alloc)),
+        },
+        Ok(Choice::Unplanned(best)) => {
+            Err(unplanned_stop(alloc, sketch.candidates().len(), &best))
+        }
+        Err(_) => Err(Stop::memory(alloc)),
+    }
+}
+
+/// What is told of a sketch: its plant, or a table of its candidates.
+///
+/// # Errors
+/// As of [`plan_of`], and of the table only with status 3 for want of memory.
+fn told_of(
+    alloc: Global,
+    table: bool,
+    sketch: &SketchDomain,
+    streams: &[Settled],
+) -> Result<Vec<u8>, Stop>
+    requires { AreSettled sketch.now (map settled_value streams.now) }
+    ensures ok { IfOk result (λ text. IsToldOf table (record { domain = sketch.now; streams = map settled_value streams.now }) (Ok text.items)) }
+    ensures err { IfErr result (IsToldRefusal table (record { domain = sketch.now; streams = map settled_value streams.now })) }
+{
+    if !table {
+        return plan_of(alloc, sketch, streams);
+    }
+    match table_of(alloc, sketch, streams) {
+        Ok(text) => Ok(text),
+        Err(_) => Err(Stop::memory(alloc)),
+    }
+}
+
+/// The output of `plan` for an input, where candidates for the cycle time may be given, each in nanoseconds: the text of a plant, or of a
+/// table of the candidates (profile).
+///
+/// # Errors
+/// With status 1 and the line of the first fault: of the input's parts, of the domain, of the streams, or of what no cycle time changes; or
+/// else, where no table is asked for and none of the candidates is good, of the one on which most streams are placed; and with status 3 for
+/// want of memory.
+pub fn plan_output(
+    alloc: Global,
+    table: bool,
+    given: Option<Vec<u32>>,
+    input: &[u8],
+) -> Result<Vec<u8>, Stop>
+    requires { IfSome given (λ cycles. AreCandidates cycles.items) }
+    ensures ok { IfOk result (λ text. IsPlanOf table (option_map (λ cycles. cycles.items) given) input.now (Ok text.items)) }
+    ensures err { IfErr result (IsPlanRefusal table (option_map (λ cycles. cycles.items) given) input.now) }
+{
+    let (sketch, streams) = read_sketch(alloc, given, input)?;
+    told_of(alloc, table, &sketch, streams.as_slice())
+}

@@ -1,0 +1,100 @@
+//! Cycle times that are tried: the streams are placed on them, and what comes of it is judged.
+ghost use Rattle.std.specs.Prelude.{IfOk, map};
+ghost use Rattle.cqf_program_placing.specs.Placing.{ArePlaced};
+ghost use Rattle.cqf_program_placing.specs.Settled.{settled_value};
+ghost use Rattle.cqf_program_sketch.specs.Judging.{AreJudgedBy, IsJudgedBy};
+ghost use Rattle.cqf_program_sketch.specs.Steps.{AreSettled};
+ghost use Rattle.cqf_program_sketch.specs.Trying.{IsTried, IsTriedBy};
+ghost use Rattle.cqf_sketch.specs.SketchDomain.{IsCycleTime, IsOpenCycle};
+
+use crate::candidates::Candidate;
+use crate::judging::candidate_of;
+use cqf_program_placing::{Outcome, Placing, Settled, place};
+use cqf_sketch::SketchDomain;
+use cqf_topology::Domain;
+use cqf_units::Memory;
+use std::alloc::Global;
+
+/// A cycle time on which streams were placed: what is told of it, the plant's domain, and what becomes of each stream.
+#[derive(Drop)]
+pub(crate) struct Tried {
+    pub(crate) candidate: Candidate,
+    pub(crate) domain: Domain,
+    pub(crate) outcomes: Vec<Outcome>,
+}
+
+/// What is told of streams that are placed.
+fn tried_of(alloc: Global, streams: &[Settled], placing: Placing) -> Result<Tried, Memory>
+    requires { ArePlaced (map settled_value streams.now) placing }
+    ensures { IfOk result (IsTriedBy (map settled_value streams.now) placing) }
+{
+    let (domain, rows, outcomes) = placing.into_parts(alloc)?;
+    let candidate = candidate_of(
+        alloc,
+        streams,
+        &domain,
+        rows.as_slice(),
+        outcomes.as_slice(),
+    )?;
+    Ok(Tried {
+        candidate,
+        domain,
+        outcomes,
+    })
+}
+
+/// Places settled streams of a sketch on a cycle time that is open.
+pub(crate) fn try_cycle(
+    alloc: Global,
+    sketch: &SketchDomain,
+    streams: &[Settled],
+    cycle_time: u32,
+) -> Result<Tried, Memory>
+    requires open { IsOpenCycle sketch.now cycle_time }
+    requires settled { AreSettled sketch.now (map settled_value streams.now) }
+    ensures { IfOk result (IsTried sketch.now (map settled_value streams.now) cycle_time) }
+{
+    let placing = place(alloc, sketch, cycle_time, streams)?;
+    let tried = tried_of(alloc, streams, placing)?;
+    Ok(tried)
+}
+
+/// What is told of a cycle time, in nanoseconds, for settled streams of a sketch: of one that isn't above the guard time, that nothing is
+/// placed; else how many streams are placed, how much of the links' budgets is held, how tight deadlines are, and why it isn't good
+/// (profile).
+///
+/// # Errors
+/// `Memory` where a growth is refused.
+pub fn judge(
+    alloc: Global,
+    sketch: &SketchDomain,
+    streams: &[Settled],
+    cycle_time: u32,
+) -> Result<Candidate, Memory>
+    requires range { IsCycleTime cycle_time }
+    requires settled { AreSettled sketch.now (map settled_value streams.now) }
+    ensures { IfOk result (IsJudgedBy sketch.now (map settled_value streams.now) cycle_time) }
+{
+    if cycle_time <= sketch.guard() {
+        return Ok(Candidate::shut(cycle_time));
+    }
+    let tried = try_cycle(alloc, sketch, streams, cycle_time)?;
+    Ok(tried.candidate)
+}
+
+/// What is told of each candidate of a sketch, in the order of wish.
+pub(crate) fn judge_all(
+    alloc: Global,
+    sketch: &SketchDomain,
+    streams: &[Settled],
+) -> Result<Vec<Candidate>, Memory>
+    requires { AreSettled sketch.now (map settled_value streams.now) }
+    ensures { IfOk result (λ told. AreJudgedBy sketch.now (map settled_value streams.now) sketch.now.candidates told.items) }
+{
+    let mut told = Vec::new(alloc);
+    for cycle_time in sketch.candidates() {
+        let candidate = judge(alloc, sketch, streams, *cycle_time)?;
+        told.push(candidate)?;
+    }
+    Ok(told)
+}

@@ -1,0 +1,149 @@
+-- What is read of a sketch's text is in its ranges and forms.
+use Rattle.std.proofs.Common.{◌≡◌, ◌≤◌, ℕ, All, IsTrue, Bool, true, false, ◌&&◌, List, [], ◌∷◌}
+use Rattle.std.proofs.Common.{Option, Some, None, Result, Ok, Err, cond, length, nat_le, ok_or, option_map}
+use Rattle.std.proofs.Common.{refl, subst, arith}
+use Rattle.std.specs.Prelude.{IfSome}
+use Rattle.std.proofs.lemmas.Bool.{and_parts}
+use Rattle.std.proofs.lemmas.Bool.Decides.{nat_tests}
+use Rattle.std.proofs.lemmas.List.Elements.{All-cons, All-nil}
+use Rattle.toml.specs.Data.{Data, Items, Members, as_array, as_integer, as_table}
+use Rattle.cqf_lists.specs.Results.{and_then}
+use Rattle.cqf_units.specs.Name.{is_name}
+use Rattle.cqf_model.specs.Limits.{longest_cycle}
+use Rattle.cqf_topology_fields.specs.declared.keys.Key.TheVariants.{Cycle, Guard, Bridges, Stations, Links, From, To, Rate, Delay}
+use Rattle.cqf_topology_fields.specs.declared.faults.TomlFault.{TomlFault}
+use Rattle.cqf_topology_fields.specs.declared.faults.TomlFault.TheVariants.{BadValue}
+use Rattle.cqf_topology_fields.specs.Fields.{are_tables, name_from, names_at, number_from, read_at, value_at, whole_document, within_range}
+use Rattle.cqf_topology.specs.DomainText.{if_some, link_keys, rate_from}
+use Rattle.cqf_topology.proofs.Refusals.{and_then-Ok, and_then-Some, each_from-All, if_some-Ok, names-named, number-range, ok_or-Ok, within_range-Some}
+use Rattle.cqf_sketch.specs.declared.draft.DraftLink.{DraftLink}
+use Rattle.cqf_sketch.specs.declared.draft.OneWay.{OneWay}
+use Rattle.cqf_sketch.specs.Faults.{or_sketch, sketch_fault}
+use Rattle.cqf_sketch.specs.SketchDomain.{AreCandidates, IsCycleTime, IsReadableSketch}
+use Rattle.cqf_sketch.specs.SketchText.{SketchText, candidates_by, candidates_of, candidates_read, cycle_from, cycles_from, duplex_at, link_read, links_from}
+use Rattle.cqf_sketch.specs.SketchText.{links_of_array, links_read, one_way_read, sketch_from, sketch_keys, sketch_of_text, some_few}
+
+-- what a sketch has of reading was read
+or_sketch_read : {A : Type 0} (r : Result A TomlFault) (x : A) → or_sketch r ≡ Ok x → r ≡ Ok x
+or_sketch_read (Ok y) x h = cc
+or_sketch_read (Err e) x h = absurd cc
+
+-- a cycle time that is read is one
+cycle_range : (d : Data) (cycle : ℕ) → cycle_from d ≡ Some cycle → IsCycleTime cycle
+cycle_range d cycle h =
+    let (z, integer, within) = and_then-Some (within_range 10000 10000000) (as_integer d) cycle h in
+    let range = within_range-Some 10000 10000000 z cycle within in
+    record { least = range.0; most = range.1 }
+
+-- cycle times that aren't too few or too many are candidates
+few_range : (cycles found : List ℕ) → All IsCycleTime cycles → some_few cycles ≡ Ok found → AreCandidates found
+few_range cycles found all h = by (nat_le 1 (length cycles) && nat_le (length cycles) 1000) refl h
+  where
+    by : (b : Bool) → (nat_le 1 (length cycles) && nat_le (length cycles) 1000) ≡ b → cond b (Ok cycles) (Err (BadValue Cycle)) ≡ Ok found → AreCandidates found
+    by true e h =
+        let same : cycles ≡ found = cc in
+        let parts = and_parts (nat_le 1 (length cycles)) (nat_le (length cycles) 1000) e in
+        let low : nat_le 1 (length cycles) ≡ true = parts.0 in
+        let high : nat_le (length cycles) 1000 ≡ true = parts.1 in
+        subst AreCandidates same (record { some_cycle = grind (arith, nat_tests); few_cycles = grind (arith, nat_tests); cycle_times = all })
+    by false e h = absurd cc
+
+-- the candidates that a value means
+value_range : (o : Option Items) (d : Data) (found : List ℕ) → candidates_by o d ≡ Ok found → AreCandidates found
+value_range None d found h =
+    let (cycle, is, one) = and_then-Ok (ok_or (cycle_from d) (BadValue Cycle)) _ found h in
+    let same : (cycle ∷ []) ≡ found = cc in
+    subst AreCandidates same (record {
+      some_cycle = omega arith;
+      few_cycles = omega arith;
+      cycle_times = All-cons IsCycleTime cycle [] (cycle_range d cycle (ok_or-Ok _ (BadValue Cycle) cycle is)) (All-nil IsCycleTime);
+    })
+value_range (Some items) d found h =
+    let (cycles, are, few) = and_then-Ok (cycles_from items) some_few found h in
+    few_range cycles found
+    (each_from-All IsCycleTime (λ e. ok_or (cycle_from e) (BadValue Cycle))
+    (λ e cycle is. cycle_range e cycle (ok_or-Ok _ (BadValue Cycle) cycle is)) items cycles are)
+    few
+
+-- those of a domain's table, and those that are given
+table_range : (o : Option Data) (found : List ℕ) → candidates_of o ≡ Ok found → AreCandidates found
+table_range None found h = absurd cc
+table_range (Some d) found h = value_range (as_array d) d found h
+
+candidates_range : (given : Option (List ℕ)) (table : Members) (found : List ℕ) → IfSome given AreCandidates → candidates_read given table ≡ Ok found →
+    AreCandidates found
+candidates_range None table found are h = table_range (value_at Cycle table) found h
+candidates_range (Some cycles) table found are h = let same : cycles ≡ found = cc in subst AreCandidates same are
+
+-- the delay of a link
+way_range : (table : Members) (way : OneWay) → one_way_read table ≡ Ok way → way.delay ≤ longest_cycle
+way_range table way h =
+    let (from, from_is, h1) = and_then-Ok (read_at From name_from table) _ way h in
+    let (to, to_is, h2) = and_then-Ok (read_at To name_from table) _ way h1 in
+    let (rate, rate_is, h3) = and_then-Ok (read_at Rate rate_from table) _ way h2 in
+    let (delay, delay_is, h4) = and_then-Ok (read_at Delay (number_from 0 10000000) table) _ way h3 in
+    let made : OneWay = record { from = from; to = to; rate = rate; delay = delay } in
+    let same : made ≡ way = cc in
+    subst (λ (w : OneWay). w.delay ≤ longest_cycle) same (number-range Delay 0 10000000 table delay delay_is).1
+
+link_range : (table : Members) (link : DraftLink) → link_read table ≡ Ok link → link.there.delay ≤ longest_cycle
+link_range table link h =
+    let (there, there_is, h1) = and_then-Ok (or_sketch (one_way_read table)) _ link h in
+    let (duplex, duplex_is, h2) = and_then-Ok (duplex_at table) _ link h1 in
+    let made : DraftLink = record { there = there; duplex = duplex } in
+    let same : made ≡ link = cc in
+    subst (λ (l : DraftLink). l.there.delay ≤ longest_cycle) same (way_range table there (or_sketch_read (one_way_read table) there there_is))
+
+element_range : (d : Data) (link : DraftLink) → and_then (ok_or (as_table d) (sketch_fault (BadValue Links))) link_read ≡ Ok link →
+    link.there.delay ≤ longest_cycle
+element_range d link h =
+    let (table, is, read) = and_then-Ok (ok_or (as_table d) (sketch_fault (BadValue Links))) link_read link h in link_range table link read
+
+-- the delays of all
+array_range : (items : Items) (links : List DraftLink) → links_of_array items ≡ Ok links → All (λ (l : DraftLink). l.there.delay ≤ longest_cycle) links
+array_range items links h = by (are_tables items) h
+  where
+    by : (b : Bool) → cond b (links_from items) (Err (sketch_fault (BadValue Links))) ≡ Ok links → All (λ (l : DraftLink). l.there.delay ≤ longest_cycle) links
+    by true read =
+        each_from-All (λ (l : DraftLink). l.there.delay ≤ longest_cycle)
+        (λ d. and_then (ok_or (as_table d) (sketch_fault (BadValue Links))) link_read) element_range items links read
+    by false read = absurd cc
+
+links_range : (table : Members) (links : List DraftLink) → links_read table ≡ Ok links → All (λ (l : DraftLink). l.there.delay ≤ longest_cycle) links
+links_range table links h =
+    let (items, is, array) = and_then-Ok (or_sketch (read_at Links as_array table)) links_of_array links h in array_range items links array
+
+-- what a domain's table says
+table_readable : (given : Option (List ℕ)) (table : Members) (text : SketchText) → IfSome given AreCandidates → sketch_from given table ≡ Ok text →
+    IsReadableSketch text
+table_readable given table text are h =
+    let (candidates, candidates_are, h1) = and_then-Ok (or_sketch (candidates_read given table)) _ text h in
+    let (guard, guard_is, h2) = and_then-Ok (or_sketch (read_at Guard (number_from 1 10000000) table)) _ text h1 in
+    let (bridges, bridges_are, h3) = and_then-Ok (or_sketch (and_then (names_at Bridges table) (if_some Bridges))) _ text h2 in
+    let (stations, stations_are, h4) = and_then-Ok (or_sketch (names_at Stations table)) _ text h3 in
+    let (links, links_are, h5) = and_then-Ok (links_read table) _ text h4 in
+    let (names, named, some) = and_then-Ok (names_at Bridges table) (if_some Bridges) bridges (or_sketch_read _ bridges bridges_are) in
+    let some_is = if_some-Ok Bridges names bridges some in
+    let made : SketchText = record { candidates = candidates; guard = guard; bridges = bridges; stations = stations; links = links } in
+    let same : made ≡ text = cc in
+    subst IsReadableSketch same (record {
+      are_candidates = candidates_range given table candidates are (or_sketch_read _ candidates candidates_are);
+      guard_some = (number-range Guard 1 10000000 table guard (or_sketch_read _ guard guard_is)).0;
+      some_bridge = some_is.1;
+      bridges_named = subst (All (λ name. IsTrue (is_name name))) some_is.0 (names-named Bridges table names named);
+      stations_named = names-named Stations table stations (or_sketch_read _ stations stations_are);
+      delays_most = links_range table links links_are;
+    })
+
+-- what a sketch's text says
+pub sketch_readable : (given : Option (List ℕ)) (text : List ℕ) (draft : SketchText) → IfSome given AreCandidates → sketch_of_text given text ≡ Ok draft →
+    IsReadableSketch draft
+sketch_readable given text draft are h =
+    let (table, whole, from) = and_then-Ok (or_sketch (whole_document (sketch_keys given) Links link_keys text)) (sketch_from given) draft h in
+    table_readable given table draft are from
+
+-- candidates that are given, as the list of them
+pub given_candidates : {A : Type 0} (items : A → List ℕ) (given : Option A) → IfSome given (λ cycles. AreCandidates (items cycles)) →
+    IfSome (option_map items given) AreCandidates
+given_candidates items None are = tt
+given_candidates items (Some cycles) are = are

@@ -1,0 +1,131 @@
+//! Plants told.
+use cqf_plants::write_plant;
+use cqf_topology::Domain;
+use cqf_traffic::read_flows;
+use std::alloc::Global;
+
+/// A plan, by a planner outside this repository: streams with one branch and with several, with a deadline and without.
+const PLAN: &str = "bridges = [\"stage\", \"floor\"]
+cycle = 125000
+guard = 4000
+stations = [\"mic-l\", \"mic-r\", \"cam\", \"desk\", \"recorder\", \"speaker\"]
+
+[[links]]
+delay = 2500
+from = \"stage\"
+rate = 1000
+to = \"floor\"
+
+[[links]]
+delay = 2500
+from = \"floor\"
+rate = 1000
+to = \"stage\"
+
+[[links]]
+delay = 900
+from = \"stage\"
+rate = 1000
+to = \"cam\"
+
+[[links]]
+delay = 900
+from = \"floor\"
+rate = 1000
+to = \"desk\"
+
+[[links]]
+delay = 900
+from = \"floor\"
+rate = 1000
+to = \"recorder\"
+
+[[links]]
+delay = 900
+from = \"stage\"
+rate = 100
+to = \"speaker\"
+
+[[streams]]
+deadline = 477980
+frames = 1
+interval = 125000
+jitter = 1500
+name = \"mic-l\"
+octets = 512
+offset = 0
+paths = [[\"stage\", \"floor\", \"desk\"], [\"stage\", \"floor\", \"recorder\"]]
+size = 256
+
+[[streams]]
+deadline = 477980
+frames = 1
+interval = 125000
+jitter = 1500
+name = \"mic-r\"
+octets = 512
+offset = 0
+paths = [[\"stage\", \"floor\", \"desk\"], [\"stage\", \"floor\", \"recorder\"]]
+size = 256
+
+[[streams]]
+frames = 1
+interval = 75200
+jitter = 0
+name = \"video\"
+octets = 2820
+offset = 0
+path = [\"stage\", \"floor\", \"recorder\"]
+size = 1410
+
+[[streams]]
+deadline = 496988
+frames = 1
+interval = 125000
+jitter = 0
+name = \"mix\"
+octets = 256
+offset = 0
+path = [\"floor\", \"stage\", \"speaker\"]
+size = 256
+
+[[streams]]
+frames = 1
+interval = 1000000
+jitter = 100000
+name = \"pan\"
+octets = 128
+offset = 0
+path = [\"floor\", \"stage\", \"cam\"]
+size = 128
+";
+
+/// A plant of one bridge alone.
+const ALONE: &str = "bridges = [\"a\"]
+cycle = 10000
+guard = 1
+links = []
+stations = []
+streams = []
+";
+
+/// Whether a plant that is read and told again is this text.
+fn is_told_again(alloc: Global, text: &str) -> bool {
+    let Ok(domain) = Domain::read(alloc, text.as_bytes()) else {
+        return false;
+    };
+    let Ok(flows) = read_flows(alloc, text.as_bytes()) else {
+        return false;
+    };
+    match write_plant(alloc, &domain, flows.as_slice()) {
+        Ok(told) => told.as_str() == text,
+        Err(_) => false,
+    }
+}
+
+#[test]
+fn told_plants_are_told_again(rt: HostRuntime) {
+    for text in [PLAN, ALONE] {
+        assert!(rt; is_told_again(rt.alloc(), text), "{text}");
+    }
+}
