@@ -30,8 +30,8 @@ use Rattle.cqf_program_sketch.specs.PlanOutput.{IsPlanOf, IsPlanRefusal}
 use Rattle.cqf_program_plans.specs.TcOutput.{tc_of_input}
 use Rattle.cqf_program_threads.specs.ThreadsOutput.{IsThreadsOutput, TellsFault}
 use Rattle.cqf_program_words.specs.Candidates.{times_of}
-use Rattle.cqf_program_words.specs.Shown.{ShowsBehind, ShowsLine, ShowsWords, no_command}
-use Rattle.cqf_program_words.specs.Words.{AreMistaken, AskForHelp, Mean}
+use Rattle.cqf_program_words.specs.Shown.{ShowsBehind, ShowsLine, ShowsWords, are_printable, is_shown_whole, no_command}
+use Rattle.cqf_program_words.specs.Words.{AreMistaken, AskForHelp, Mean, TellsNoCandidates}
 use Rattle.cqf_program_stop.specs.declared.stops.Stop.{Stop}
 use Rattle.cqf_program_engine.specs.declared.runs.TheConstants.{VERSION}
 use Rattle.cqf_program_words.specs.declared.words.Format.TheVariants as form
@@ -160,11 +160,15 @@ pub record IsRefusedRun (words : List (List ℕ)) (bytes : List ℕ) (stop : Sto
 abbrev pub AskForVersion : List (List ℕ) → Type 0
 AskForVersion words = (words ≡ codes "--version" ∷ []) ⊎ (words ≡ codes "-V" ∷ [])
 
--- how a mistake is told: by a line of the program's own where words that are given aren't all printable, and where a first line that has
--- the words isn't shown as it is. Of other words the text is clap's
+-- where a mistake in words that are all printable is that a word for candidates names none, it is told by a line of the program's own
+abbrev pub TellsCandidates : List (List ℕ) → Stop → Type 0
+TellsCandidates words stop = are_printable words ≡ true → TellsNoCandidates words stop
+
+-- how a mistake is told: by a line of the program's own where words that are given aren't all printable, where a first line that has the
+-- words isn't shown as it is, and where candidates are named by a word that names none. Of other words the text is clap's
 abbrev pub ShowsMistake : List (List ℕ) → List ℕ → Stop → Type 0
-ShowsMistake [] bytes stop = ShowsLine (first_line bytes) stop
-ShowsMistake (word ∷ words) bytes stop = ShowsWords (word ∷ words) stop
+ShowsMistake [] bytes stop = ShowsLine (first_line bytes) stop × (is_shown_whole (first_line bytes) ≡ true → TellsCandidates (words_of [] bytes) stop)
+ShowsMistake (word ∷ words) bytes stop = ShowsWords (word ∷ words) stop × TellsCandidates (word ∷ words) stop
 
 -- the words mean no job: those of the first line aren't text; it is too long to have words; or they are a mistake, and don't ask for the
 -- version. The stop has status 2

@@ -5,7 +5,7 @@ ghost use Rattle.cqf_program_engine.specs.Edge.{IsHeard, IsUnheard, reading};
 ghost use Rattle.cqf_program_engine.specs.Prepared.{HasText, IsTextOf};
 ghost use Rattle.cqf_program_press.specs.Edge.{writing};
 ghost use Rattle.cqf_program_threads.specs.ThreadsOutput.{EndsThreads, IsThreadsOutput};
-ghost use Rattle.cqf_program_words.specs.Shown.{ShowsLine};
+ghost use Rattle.cqf_program_words.specs.Shown.{ShowsLine, is_shown_whole};
 ghost use Rattle.cqf_program_words.specs.Words.{EndsWords, Mean};
 ghost use Rattle.cqf_program_hops.specs.HopsOutput.{IsHopsOutput};
 ghost use Rattle.cqf_program_sketch.specs.PlanOutput.{IsPlanOf, IsPlanRefusal};
@@ -15,7 +15,7 @@ ghost use Rattle.cqf_program_scenario.specs.Scenario.{scenario_input};
 ghost use Rattle.cqf_program_stop.specs.Stops.{EndsWith, IsRefused};
 ghost use Rattle.cqf_program_engine.specs.Run.{version_line, IsAsking, IsVersionWord, IsWithin, IsOutput, IsEnd};
 ghost use Rattle.cqf_program_engine.specs.Run.{IsRefusal, IsBehindWords, Ends, EndsTold, HandsOver, HasCause, HasRun};
-ghost use Rattle.cqf_program_engine.specs.Run.{IsDone, IsStopped, TellsStop, is_space, is_threaded, first_line, wanted_of};
+ghost use Rattle.cqf_program_engine.specs.Run.{IsDone, IsStopped, TellsCandidates, TellsStop, is_space, is_threaded, first_line, wanted_of};
 ghost use Rattle.cqf_program_engine.specs.Run.{behind_first_line};
 ghost use Rattle.cqf_model.specs.Limits.{most_cycles};
 
@@ -327,6 +327,7 @@ fn read_line(alloc: Global, line: &str, words: &[&str]) -> Result<Job, Stop>
     ensures ok { IfOk result (Mean (map (λ word. word.now) words.now)) }
     ensures err { IfErr result (EndsWords (map (λ word. word.now) words.now)) }
     ensures shows { IfErr result (ShowsLine line.now) }
+    ensures tells { IfErr result (λ stop. is_shown_whole line.now ≡ true → TellsCandidates (map (λ word. word.now) words.now) stop) }
 {
     match read_words(alloc, words) {
         Ok(job) => Ok(job),
