@@ -25,10 +25,10 @@ use cqf_units::cycle_of;
 /// What the deliveries of a run that is over are told from ([`Noted::over`](crate::Noted::over)).
 #[derive(Clone, Copy)]
 pub struct Ended<'r> {
-    pub(crate) domain: &'r Domain,
+    pub domain: &'r Domain,
     /// How many cycles were run.
-    pub(crate) cycles: u32,
-    pub(crate) offers: &'r [Offer],
+    pub cycles: u32,
+    pub offers: &'r [Offer],
     /// The streams that were ever granted, by number.
     pub(crate) rows: &'r [Row],
     /// What becomes of each offer, by its place.
