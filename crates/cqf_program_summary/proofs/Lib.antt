@@ -1,0 +1,9 @@
+mod Changed
+mod Tallied
+mod Apart
+mod Placed
+mod Listed
+mod OneMore
+mod Told
+mod Within
+mod Found
