@@ -3,7 +3,7 @@ mod Tallied
 mod Apart
 mod Placed
 mod Listed
-mod OneMore
+pub mod OneMore
 mod Told
 mod Within
 mod Found

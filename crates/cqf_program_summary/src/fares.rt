@@ -87,6 +87,8 @@ fn listener_to(domain: &Domain, costs: &[u64; 64], hop: &Hop) -> Option<Listener
     requires { AreBounded costs.now }
     ensures { result ≡ (if is_station (end_of domain.now hop.now.link) then Some (listener_to domain.now (cost_in costs.now) hop.now) else None) }
 {
+    // the domain is accepted: it has at most 64 links
+    let _cycle_time = domain.cycle_time();
     if hop.link >= domain.links() {
         return None;
     }

@@ -208,8 +208,8 @@ The output has a line for each stream and each of its listeners: how many frames
 are offered that claim the stream's name, how many of them are delivered, late,
 dropped at their edge or still under way, as the command deliveries has it; the
 least, the mean, rounded down, and the most that those took that came, late ones
-too; the bound, which is the most that one can take where all streams of the file
-are admitted; and the stream's deadline; all in ns. A stream whose octets or path
+too; the bound, the most that one can take where all streams of the file are
+admitted; and the deadline of the stream; all in ns. A stream whose octets or path
 are refused has one line and no listener. Offers that claim other names have one
 line, of ?, behind the others. Offers of cycles that aren't run don't count, nor
 do background frames.";
