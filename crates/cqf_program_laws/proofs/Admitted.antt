@@ -1,5 +1,5 @@
 -- What a script admits is told of, so each row that covers an offer is that of a stream of which is told.
-use Rattle.std.proofs.Common.{◌≡◌, ◌∙◌, ◌∷◌, [], ℕ, Bool, true, false, Contains, List, Some, None, Option, Result, Ok, Err, absurd, ap, filter, refl, subst, sym, take}
+use Rattle.std.proofs.Common.{◌≡◌, ◌∙◌, ◌∷◌, [], ℕ, Bool, true, false, Contains, List, Some, None, Option, Result, Ok, Err, ap, filter, refl, subst, sym, take}
 use Rattle.std.specs.Prelude.{◌&&◌, is_none, nat_le, not, slice_get}
 use Rattle.std.proofs.lemmas.Bool.{le-leb}
 use Rattle.cqf_lists.specs.Lists.{or_else}

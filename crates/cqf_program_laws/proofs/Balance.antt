@@ -1,5 +1,5 @@
 -- Each offer that a row counts ends in just one of four ways.
-use Rattle.std.proofs.Common.{◌≡◌, ◌∙◌, ◌+◌, ◌∷◌, ◌<◌, [], ℕ, Bool, true, false, Contains, List, Some, None, Option, absurd, ap, arith, count_by, filter, if◌then◌else◌, length, map, nat_lt, refl, subst, sum_by, sym}
+use Rattle.std.proofs.Common.{◌≡◌, ◌∙◌, ◌+◌, ◌∷◌, ◌<◌, [], ℕ, Bool, true, false, Contains, List, Some, None, Option, ap, arith, count_by, filter, if◌then◌else◌, length, map, nat_lt, refl, subst, sum_by, sym}
 use Rattle.std.specs.Prelude.{◌&&◌, cond}
 use Rattle.std.specs.List.{flat_map}
 use Rattle.std.proofs.lemmas.Bool.Decides.{nat_tests}

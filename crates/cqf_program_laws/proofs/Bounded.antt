@@ -1,5 +1,5 @@
 -- What frames took that came is within the bounds of their row.
-use Rattle.std.proofs.Common.{◌≡◌, ◌≢◌, ◌∙◌, ◌+◌, ◌-◌, ◌∷◌, ◌≤◌, [], ℕ, Bool, true, false, Contains, List, Some, None, Option, absurd, ap, arith, filter, if◌then◌else◌, inl, inr, length, map, refl, subst, subst₂, sym}
+use Rattle.std.proofs.Common.{◌≡◌, ◌≢◌, ◌∙◌, ◌+◌, ◌-◌, ◌∷◌, ◌≤◌, [], ℕ, Bool, true, false, Contains, List, Some, None, Option, ap, arith, filter, if◌then◌else◌, inl, inr, length, map, refl, subst, subst₂, sym}
 use Rattle.std.specs.Prelude.{fold, max, min}
 use Rattle.std.proofs.Math.Nat.{le-min, max-le}
 use Rattle.std.proofs.lemmas.Bool.{cases_Bool}

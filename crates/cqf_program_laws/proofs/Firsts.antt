@@ -1,5 +1,5 @@
 -- The streams of which is told are all that a script can have admitted.
-use Rattle.std.proofs.Common.{◌≡◌, ◌∙◌, ◌+◌, ◌++◌, ◌∷◌, [], ℕ, Bool, true, false, Contains, List, Some, None, Option, Result, Ok, Err, absurd, ap, ap₂, filter, find, if◌then◌else◌, inl, inr, map, refl, subst, sym}
+use Rattle.std.proofs.Common.{◌≡◌, ◌∙◌, ◌+◌, ◌++◌, ◌∷◌, [], ℕ, Bool, true, false, Contains, List, Some, None, Option, Result, Ok, Err, ap, ap₂, filter, find, if◌then◌else◌, inl, inr, map, refl, subst, sym}
 use Rattle.std.specs.Prelude.{cond, fold, nat_le, ok_or, option_map}
 use Rattle.std.specs.List.{list_any}
 use Rattle.std.specs.Option.{option_or}

@@ -1,5 +1,5 @@
 -- Rows of a summary add up.
-use Rattle.std.proofs.Common.{◌≡◌, ◌∙◌, ◌+◌, ◌∷◌, [], ℕ, Bool, true, false, Contains, List, Some, None, Option, Ok, absurd, ap, arith, count_by, filter, is_none, length, map, refl, subst, sum_by, sym}
+use Rattle.std.proofs.Common.{◌≡◌, ◌∙◌, ◌+◌, ◌∷◌, [], ℕ, Bool, true, false, Contains, List, Some, None, Option, Ok, ap, arith, count_by, filter, is_none, length, map, refl, subst, sum_by, sym}
 use Rattle.std.specs.Prelude.{is_none, option_map}
 use Rattle.cqf_lists.proofs.EachBelow.{length-singles}
 use Rattle.cqf_lists.proofs.Members.{contains_from_filter, contains_from_map, contains_filter, contains_one, find_member}

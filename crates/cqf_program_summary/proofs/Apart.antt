@@ -1,5 +1,5 @@
 -- No two ways of a stream lead to one listener.
-use Rattle.std.proofs.Common.{◌≡◌, ◌≢◌, ◌∙◌, ◌∷◌, ◌<◌, [], ℕ, AllPairs, Bool, true, false, Contains, List, Some, None, Option, absurd, ap, arith, filter, get_or, if◌then◌else◌, inl, inr, length, map, not, refl, subst, sym}
+use Rattle.std.proofs.Common.{◌≡◌, ◌≢◌, ◌∙◌, ◌∷◌, ◌<◌, [], ℕ, AllPairs, Bool, true, false, Contains, List, Some, None, Option, ap, arith, filter, get_or, if◌then◌else◌, inl, inr, length, map, not, refl, subst, sym}
 use Rattle.std.specs.Prelude.{◌&&◌, is_none, is_some, nat_le, option_map, position, slice_get}
 use Rattle.std.specs.List.{flat_map, list_any}
 use Rattle.std.proofs.lemmas.Bool.{cases_lt, not-false}

@@ -7,3 +7,4 @@ pub mod OneMore
 mod Told
 mod Within
 mod Found
+mod Named

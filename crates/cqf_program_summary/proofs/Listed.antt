@@ -1,5 +1,5 @@
 -- One stream more is listed.
-use Rattle.std.proofs.Common.{◌≡◌, ◌∙◌, ◌+◌, ◌*◌, ◌++◌, ◌∷◌, ◌≤◌, ◌<◌, [], ℕ, All, Bool, true, false, Contains, List, Some, None, Option, absurd, ap, append-nil, arith, filter, get_or, if◌then◌else◌, inl, inr, length, map, refl, subst, sym}
+use Rattle.std.proofs.Common.{◌≡◌, ◌∙◌, ◌+◌, ◌*◌, ◌++◌, ◌∷◌, ◌≤◌, ◌<◌, ◌^◌, [], ℕ, All, Bool, true, false, Contains, List, Some, None, Option, ap, append-nil, arith, filter, get_or, if◌then◌else◌, inl, inr, length, map, refl, subst, sym}
 use Rattle.std.specs.Prelude.{fold, is_none, nat_eq, option_map, replicate, slice_get}
 use Rattle.std.specs.List.{list_any}
 use Rattle.std.specs.Cmp.Lexicographic.{pointwise}
@@ -141,12 +141,17 @@ module _ (d : Domain) (told : List Asked) (asked : Asked) (l : ℕ) where
           let stays = ap (λ (cs : List ℕ). cost_in cs l) same in
           (omega (arith, stays, whole, are), omega (arith, stays))
 
+-- one for each link
+costs_all : (before after : List ℕ) (row : Option Row) → length before ≡ 64 → CostsWith before row after → length after ≡ 64
+costs_all before after None all same = ap length same ∙ all
+costs_all before after (Some row) all adds = adds.all
+
 -- with a stream more
 pub listing_more : (d : Domain) (before : List Asked) (asked : Asked) (listing after : Listing) → IsListing d before listing → is_name asked.name ≡ true →
     list_any (λ (a : Asked). is_text a.name asked.name) (told_streams before) ≡ false → length listing.names.keys < 2 ^ 32 →
-    HasOctets (row_of_stream d asked) → ListsOne listing asked.name (row_of_stream d asked) after → length after.costs ≡ 64 →
+    HasOctets (row_of_stream d asked) → ListsOne listing asked.name (row_of_stream d asked) after →
     IsListing d (before ++ asked ∷ []) after
-listing_more d before asked listing after is named new few octets adds all =
+listing_more d before asked listing after is named new few octets adds =
     let told = told_streams before in
     let grown = told_new before asked named new in
     let longer : length (told_streams (before ++ asked ∷ [])) ≡ length told + 1 = ap length grown ∙ length_push told asked in
@@ -161,7 +166,7 @@ listing_more d before asked listing after is named new few octets adds all =
           ∙ ap (λ (ls : List Listed). ls ++ listed_of d asked ∷ []) is.are
           ∙ sym (ap (map (listed_of d)) grown ∙ map-append (listed_of d) told (asked ∷ []));
       few = omega (arith, few, longer, as_many);
-      all = all;
+      all = costs_all listing.costs after.costs (row_of_stream d asked) is.all adds.costs;
       costs = λ l low. (cost l low).0 ∙ ap (λ (them : List Asked). told_cost d them l) (sym grown);
       bounded = λ l low. omega (arith, (cost l low).1, is.bounded l low, longer);
     }

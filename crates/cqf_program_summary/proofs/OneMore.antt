@@ -1,5 +1,5 @@
 -- One offer more, with its deliveries.
-use Rattle.std.proofs.Common.{◌≡◌, ◌≢◌, ◌∙◌, ◌+◌, ◌++◌, ◌∷◌, ◌<◌, [], ℕ, AllPairs, Bool, true, false, Contains, List, Some, None, Option, absurd, ap, ap₂, append-nil, arith, count_by, filter, get_or, if◌then◌else◌, inl, inr, length, map, nat_lt, not, position, refl, subst, sym, take}
+use Rattle.std.proofs.Common.{◌≡◌, ◌≢◌, ◌∙◌, ◌+◌, ◌++◌, ◌∷◌, ◌<◌, [], ℕ, AllPairs, Bool, true, false, Contains, List, Some, None, Option, ap, ap₂, append-nil, arith, count_by, filter, get_or, if◌then◌else◌, inl, inr, length, map, nat_lt, not, position, refl, subst, sym, take}
 use Rattle.std.specs.Prelude.{◌&&◌, cond, fold, is_some, slice_get, suc}
 use Rattle.std.specs.List.{list_any}
 use Rattle.std.proofs.lemmas.Bool.{cases_Bool, cases_lt}

@@ -1,5 +1,5 @@
 -- The way on which a frame goes is found.
-use Rattle.std.proofs.Common.{◌≡◌, ◌≢◌, ◌∙◌, ◌+◌, ◌≤◌, ◌<◌, ℕ, All, Bool, true, false, List, Some, None, Option, absurd, ap, arith, get_or, if◌then◌else◌, inl, inr, length, map, position, set, sym, refl}
+use Rattle.std.proofs.Common.{◌≡◌, ◌≢◌, ◌∙◌, ◌+◌, ◌≤◌, ◌<◌, ℕ, All, Bool, true, false, List, Some, None, Option, ap, arith, get_or, if◌then◌else◌, inl, inr, length, map, position, set, sym, refl}
 use Rattle.std.specs.Prelude.{slice_get}
 use Rattle.std.proofs.lemmas.Bool.{cases_Bool, cases_lt}
 use Rattle.std.proofs.lemmas.List.Quantifiers.{position-Some}

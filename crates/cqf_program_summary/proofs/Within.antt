@@ -1,15 +1,17 @@
 -- No more is counted than there is room for.
-use Rattle.std.proofs.Common.{◌≡◌, ◌+◌, ◌*◌, ◌≤◌, ◌<◌, ◌^◌, ◌∷◌, [], ℕ, All, Contains, List, Some, None, Option, arith, get_or, length, map, set, subst}
+use Rattle.std.proofs.Common.{◌≡◌, ◌+◌, ◌*◌, ◌≤◌, ◌<◌, ◌^◌, ◌∷◌, [], ℕ, All, Contains, List, Some, None, Option, arith, get_or, length, map, set, subst, sym}
 use Rattle.std.proofs.lemmas.List.Elements.{All-contains, All-get_or, All-set}
 use Rattle.cqf_lists.proofs.Members.{all_from_members, contains_from_map}
 use Rattle.cqf_model.specs.Domain.{Domain}
 use Rattle.cqf_model.specs.History.{Asked}
+use Rattle.cqf_program_runs.specs.declared.delivery.Fate.{Fate}
+use Rattle.cqf_program_runs.specs.declared.delivery.Fate.TheVariants as fate
 use Rattle.cqf_program_summary.specs.declared.fares.Listener.{Listener}
 use Rattle.cqf_program_summary.specs.declared.fares.Others.{Others}
 use Rattle.cqf_program_summary.specs.declared.fares.Way.{Way}
 use Rattle.cqf_program_summary.specs.declared.tallies.Taken.{Taken}
 use Rattle.cqf_program_summary.specs.declared.tallies.Tally.{Tally}
-use Rattle.cqf_program_summary.specs.Counting.{FareWithin, OthersWithin, SummaryWithin, TakenWithin, TallyWithin, WaysWithin}
+use Rattle.cqf_program_summary.specs.Counting.{counted, FareWithin, OthersWithin, SummaryWithin, TakenWithin, TallyWithin, WaysWithin}
 use Rattle.cqf_program_summary.specs.Summary.{Fare, Summary, fare_of, listeners_by, summary_by, way_to, ways_of}
 use Rattle.cqf_program_summary.specs.Told.{row_of_stream, told_cost}
 
@@ -48,6 +50,46 @@ others_later many more others is = record { offered = omega (arith, is.offered);
 pub summary_later : (many more : ℕ) (summary : Summary) → SummaryWithin many summary → SummaryWithin (many + more) summary
 summary_later many more summary is =
     record { fares = fares_later many more summary.fares is.fares; others = others_later many more summary.others is.others }
+
+-- with an end more
+counted_within : (many : ℕ) (ending : Fate) (t : Tally) → TallyWithin many t → TallyWithin (many + 1) (counted ending t)
+counted_within many fate.Delivered t is = record {
+  delivered = omega (arith, is.delivered);
+  late = omega (arith, is.late);
+  under_way = omega (arith, is.under_way);
+  taken = taken_later many 1 t.taken is.taken;
+}
+counted_within many fate.Late t is = record {
+  delivered = omega (arith, is.delivered);
+  late = omega (arith, is.late);
+  under_way = omega (arith, is.under_way);
+  taken = taken_later many 1 t.taken is.taken;
+}
+counted_within many fate.UnderWay t is = record {
+  delivered = omega (arith, is.delivered);
+  late = omega (arith, is.late);
+  under_way = omega (arith, is.under_way);
+  taken = taken_later many 1 t.taken is.taken;
+}
+counted_within many (fate.Dropped reason) t is = tally_later many 1 t is
+
+counted_taken : (many : ℕ) (ending : Fate) (t : Tally) → TakenWithin many t.taken → TakenWithin many (counted ending t).taken
+counted_taken many fate.Delivered t is = is
+counted_taken many fate.Late t is = is
+counted_taken many fate.UnderWay t is = is
+counted_taken many (fate.Dropped reason) t is = is
+
+-- and what it took
+pub with_within : (many : ℕ) (ending : Fate) (before mid : Tally) (k : Option Taken) → mid ≡ counted ending before → TallyWithin many before →
+    ((m : ℕ) → TakenWithin m mid.taken → TakenWithin (m + 1) k) → TallyWithin (many + 1) (record mid { taken = k })
+with_within many ending before mid k same is more =
+    let counts : TallyWithin (many + 1) mid = subst (TallyWithin (many + 1)) (sym same) (counted_within many ending before is) in
+    record {
+      delivered = counts.delivered;
+      late = counts.late;
+      under_way = counts.under_way;
+      taken = more many (subst (λ (t : Tally). TakenWithin many t.taken) (sym same) (counted_taken many ending before is.taken));
+    }
 
 -- with one way counted once more
 pub way_within : (many : ℕ) (ways : List Way) (place : ℕ) (after : Way) → TallyWithin (many + 1) after.tally → WaysWithin many ways →
