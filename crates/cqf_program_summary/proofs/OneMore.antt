@@ -40,8 +40,8 @@ use Rattle.cqf_program_summary.proofs.Tallied.{count_push, fare_more_offer}
 
 -- what isn't true is false
 pub not_true : (b : Bool) → (b ≡ true → ⊥) → b ≡ false
-not_true true no = absurd (no refl)
-not_true false no = refl
+not_true true never = absurd (never refl)
+not_true false never = refl
 
 -- two texts are compared alike in either order
 flip_true : (a b : List ℕ) → is_text a b ≡ true → is_text b a ≡ true

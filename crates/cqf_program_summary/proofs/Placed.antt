@@ -73,8 +73,8 @@ module _ (ways : List Way) (apart : AreApart ways) (name : List ℕ) (place : �
       (λ also. none_else other k there differ (ap (λ (n : List ℕ). leads_to n other.to) (sym to) ∙ also)))
     where
       not_true : (b : Bool) → (b ≡ true → ⊥) → b ≡ false
-      not_true true no = absurd (no refl)
-      not_true false no = refl
+      not_true true never = absurd (never refl)
+      not_true false never = refl
 
 -- so to count the frame at the place that is found is to count it on each way that leads there
 pub way_counted : (ways : List Way) (expected : ℕ) (ending : Fate) (instant : ℕ) (journey : Journey) (place : ℕ) (before after : Way) → AreApart ways →
