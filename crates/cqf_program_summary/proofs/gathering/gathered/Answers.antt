@@ -1,4 +1,4 @@
-use Rattle.std.proofs.Common.{◌≡◌, ◌∙◌, ◌+◌, ◌*◌, ◌<◌, ℕ, List, nat_lt, Option, Some, ap, arith, length, refl, subst, sym, take}
+use Rattle.std.proofs.Common.{◌≡◌, ◌∙◌, ◌+◌, ◌*◌, ◌<◌, ℕ, List, nat_lt, Option, Some, ap, arith, get_or, length, refl, subst, sym, take}
 use Rattle.std.specs.Prelude.{slice_get}
 use Rattle.std.proofs.lemmas.List.{take_all}
 use Rattle.std.proofs.lemmas.Option.{slice_get_read}
@@ -37,7 +37,8 @@ loop-place-preserved c =
           is = λ streams due first.
               w.sums-is
               ∙ w.add.ensures.sums
-              ∙ ap (λ (ds : List Delivery). summary_with offer.stream ds c.loop-place.sums) w.as_slice.ensures.value
+              ∙ ap (λ (ds : List Delivery). summary_with (get_or offers place offer).stream ds c.loop-place.sums) w.as_slice.ensures.value
+              ∙ ap (λ (o : Offer). summary_with o.stream here c.loop-place.sums) (sym c.index-ended-place.is)
               ∙ is_run_more over streams due place x at here is_here inside c.put_those_of.ensures c.loop-place.sums (ap (λ (o : Offer). nat_lt (cycle_at over.domain.cycle_time o.at.0) over.cycles) c.index-ended-place.is ∙ sym c.is_run.ensures ∙ w.if-is_run.true) (c.loop-place.invariant.is streams due first);
           within = subst (SummaryWithin (65 * (place + 1))) (sym w.sums-is)
               (subst (λ (k : ℕ). SummaryWithin k w.add.new.self) next (w.add.ensures.more (65 * place) c.loop-place.invariant.within));
