@@ -157,7 +157,7 @@ listing_more d before asked listing after is named new few octets adds =
     let longer : length (told_streams (before ++ asked ∷ [])) ≡ length told + 1 = ap length grown ∙ length_push told asked in
     let as_many : length listing.names.keys ≡ length told = ap length is.names ∙ length-map told (λ (a : Asked). a.name) in
     let cost : (l : ℕ) → l < 64 → (cost_in after.costs l ≡ told_cost d (told ++ asked ∷ []) l) × (cost_in after.costs l ≤ cost_in listing.costs l + 100000)
-        = λ l low. costs_more d told asked l listing.costs after.costs low (is.costs l low) adds.costs octets in
+    = λ l low. costs_more d told asked l listing.costs after.costs low (is.costs l low) adds.costs octets in
     record {
       names = adds.names
           ∙ ap (λ (b : Bool). if b then listing.names.keys else listing.names.keys ++ asked.name ∷ []) (known_by_name d before listing is asked.name ∙ new)

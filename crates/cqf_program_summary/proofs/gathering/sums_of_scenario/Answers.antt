@@ -26,10 +26,10 @@ returns c =
     let requests = planned.given.requests.items in
     let due : Due = record { requests = requests; deadlines = planned.deadlines.items } in
     let first : c.in_ok-sums.sums ≡ summary_by d (told_streams (map asked_of requests)) (deadline_in due) [] [] =
-        c.in_ok-sums.ensures
-        ∙ (λ i. summary_by d (told_streams (map asked_of (c.as_slice-requests.ensures.value i)))
-            (deadline_in (record { requests = c.as_slice-requests.ensures.value i; deadlines = c.as_slice.ensures.value i })) [] []) in
+    c.in_ok-sums.ensures
+    ∙ (λ i. summary_by d (told_streams (map asked_of (c.as_slice-requests.ensures.value i)))
+    (deadline_in (record { requests = c.as_slice-requests.ensures.value i; deadlines = c.as_slice.ensures.value i })) [] []) in
     let over : IsSummaryOver (over_by planned c.args.cycles c.in_ok-noted.noted) c.in_ok-sums.sums c.gathered.result =
-        subst (λ (o : Over). IsSummaryOver o c.in_ok-sums.sums c.gathered.result) c.over.ensures c.gathered.ensures in
+    subst (λ (o : Over). IsSummaryOver o c.in_ok-sums.sums c.gathered.result) c.over.ensures c.gathered.ensures in
     IsSummaryOf-noted c.args.cycles planned c.in_ok-noted.noted c.gathered.result c.in_ok-noted.ensures
     (over (map asked_of requests) (deadline_in due) first)

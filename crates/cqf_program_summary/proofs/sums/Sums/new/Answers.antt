@@ -28,9 +28,9 @@ invariant_of-result c =
     let streams = map asked_of c.args.requests.now in
     let due = deadline_in c.in_ok-due.due in
     let first : c.in_ok-fares.fares.items ≡ (summary_by d (told_streams streams) due [] []).fares =
-        c.in_ok-fares.ensures
-        ∙ ap (map (fare_named d (cost_in c.in_ok-listing.listing.costs) due)) c.as_slice.ensures.value
-        ∙ first_fares d streams due c.in_ok-listing.listing c.cycle_time-cycle_time.ensures.accepted c.in_ok-listing.ensures in
+    c.in_ok-fares.ensures
+    ∙ ap (map (fare_named d (cost_in c.in_ok-listing.listing.costs) due)) c.as_slice.ensures.value
+    ∙ first_fares d streams due c.in_ok-listing.listing c.cycle_time-cycle_time.ensures.accepted c.in_ok-listing.ensures in
     c.in_ok-listing.ensures.names
     ∙ names_of d (told_cost d (told_streams streams)) due (told_streams streams)
     ∙ ap (map (λ (f : Fare). f.name)) (sym first)
@@ -41,8 +41,8 @@ returns c =
     let streams = map asked_of c.args.requests.now in
     let due = deadline_in c.in_ok-due.due in
     let first : c.in_ok-fares.fares.items ≡ (summary_by d (told_streams streams) due [] []).fares =
-        c.in_ok-fares.ensures
-        ∙ ap (map (fare_named d (cost_in c.in_ok-listing.listing.costs) due)) c.as_slice.ensures.value
-        ∙ first_fares d streams due c.in_ok-listing.listing c.cycle_time-cycle_time.ensures.accepted c.in_ok-listing.ensures in
+    c.in_ok-fares.ensures
+    ∙ ap (map (fare_named d (cost_in c.in_ok-listing.listing.costs) due)) c.as_slice.ensures.value
+    ∙ first_fares d streams due c.in_ok-listing.listing c.cycle_time-cycle_time.ensures.accepted c.in_ok-listing.ensures in
     ap {B = Summary} (λ (fs : List Fare). record { fares = fs; others = record { offered = 0; dropped = 0 } }) first
     ∙ ap (λ (k : Due). summary_by d (told_streams streams) (deadline_in k) [] []) c.in_ok-due.ensures
