@@ -24,7 +24,7 @@ use Rattle.cqf_program_stop.specs.declared.stops.Stop.{Stop}
 use Rattle.cqf_program_engine.specs.declared.heard.Broken.{Broken}
 use Rattle.cqf_program_engine.specs.declared.heard.Broken.TheVariants.{Memory, Fault}
 use Rattle.cqf_program_words.specs.declared.words.Job.{Job}
-use Rattle.cqf_program_words.specs.declared.words.Job.TheVariants.{Check, Compile, Deliveries, Hops, Latency, Line, Load, Offers, Plan, Port, Report, Run}
+use Rattle.cqf_program_words.specs.declared.words.Job.TheVariants.{Check, Compile, Deliveries, Hops, Latency, Line, Load, Offers, Plan, Port, Report, Run, Summary}
 
 -- words that are given and mean no job stop the run before anything is read
 pub IsStopped-by_words : (words : List (List ℕ)) (input : Reading) (stop : Stop) → words ≢ [] → input.failed ≡ false → EndsWords words stop
@@ -142,6 +142,7 @@ refusal_statuses (Run cycles threads) input stop h = h.statuses
 refusal_statuses (Report cycles) input stop h = h.statuses
 refusal_statuses (Deliveries cycles) input stop h = h.statuses
 refusal_statuses (Check cycles) input stop h = h.statuses
+refusal_statuses (Summary cycles) input stop h = h.statuses
 refusal_statuses (Offers cycles seed) input stop h = h.statuses
 refusal_statuses (Hops cycles stream frame) input stop h = h.statuses
 refusal_statuses (Plan table given) input stop h = h.statuses
@@ -157,6 +158,7 @@ refusal_memory (Run cycles threads) input stop h = h.memory
 refusal_memory (Report cycles) input stop h = h.memory
 refusal_memory (Deliveries cycles) input stop h = h.memory
 refusal_memory (Check cycles) input stop h = h.memory
+refusal_memory (Summary cycles) input stop h = h.memory
 refusal_memory (Offers cycles seed) input stop h = h.memory
 refusal_memory (Hops cycles stream frame) input stop h = h.memory
 refusal_memory (Plan table given) input stop h = h.memory
@@ -173,6 +175,7 @@ failure_status (Run cycles false) input stop h = absurd h
 failure_status (Report cycles) input stop h = absurd h
 failure_status (Deliveries cycles) input stop h = absurd h
 failure_status (Check cycles) input stop h = absurd h
+failure_status (Summary cycles) input stop h = absurd h
 failure_status (Offers cycles seed) input stop h = absurd h
 failure_status (Hops cycles stream frame) input stop h = absurd h
 failure_status (Plan table given) input stop h = absurd h
@@ -385,6 +388,7 @@ job_within (Run cycles threads) name rows is = number_within 1 100000 cycles (fi
 job_within (Report cycles) name rows is = number_within 1 100000 cycles (first_of (codes "cycles") rows) is.1
 job_within (Deliveries cycles) name rows is = number_within 1 100000 cycles (first_of (codes "cycles") rows) is.1
 job_within (Check cycles) name rows is = number_within 1 100000 cycles (first_of (codes "cycles") rows) is.1
+job_within (Summary cycles) name rows is = number_within 1 100000 cycles (first_of (codes "cycles") rows) is.1
 job_within (Offers cycles seed) name rows is = number_within 1 100000 cycles (first_of (codes "cycles") rows) is.1
 job_within (Hops cycles stream frame) name rows is = number_within 1 100000 cycles (first_of (codes "cycles") rows) is.1
 job_within (Plan table given) name rows is = tt

@@ -30,6 +30,7 @@ use cqf_program_press::{Sink, Told, write_out};
 use cqf_program_runs::{check_output, deliveries_output, line_output, report_output, run_output};
 use cqf_program_sketch::plan_output;
 use cqf_program_stop::{DONE, FAULT, NO_MEMORY, Stop, USAGE};
+use cqf_program_summary::summary_output;
 use cqf_program_threads::threads_output;
 use cqf_program_words::{Candidates, Format, Job, read_words, stop_of_line, stop_of_long_line};
 use cqf_text::split_line;
@@ -138,6 +139,7 @@ fn prepare(
             Ok(Prepared::Deliveries(deliveries_output(alloc, cycles, input)?))
         }
         Job::Check { cycles } => Ok(Prepared::Text(check_output(alloc, cycles, input)?)),
+        Job::Summary { cycles } => Ok(Prepared::Summary(summary_output(alloc, cycles, input)?)),
         Job::Offers { cycles, seed } => {
             Ok(Prepared::Text(offers_output(alloc, cycles, seed, input)?))
         }

@@ -10,7 +10,7 @@ ghost use Rattle.cqf_program_words.specs.Words.{app_without_deliveries, app_with
 ghost use Rattle.cqf_program_words.specs.Words.{compile_app, deliveries_app, first_app, latency_app, line_app, load_app};
 ghost use Rattle.cqf_program_words.specs.Words.{named_app, port_app, report_app, run_app, default_rule, flag_rule};
 ghost use Rattle.cqf_program_words.specs.Words.{format_rule, format_text, number_rule, rate_rule, rate_text};
-ghost use Rattle.cqf_program_words.specs.Words.{app_of_runs, app_of_scenarios, free_number_rule, free_rule, frame_rule, hops_app, offers_app, plan_app};
+ghost use Rattle.cqf_program_words.specs.Words.{app_of_runs, app_of_scenarios, free_number_rule, free_rule, frame_rule, hops_app, offers_app, plan_app, summary_app};
 ghost use Rattle.cqf_program_words.specs.Words.{seed_rule, wanted_rule, AreGiven, IsFlagGiven, IsFreeIn, IsJob, IsJobOf, IsNumberIn, Mean, EndsBy};
 ghost use Rattle.cqf_program_words.specs.declared.candidates.Candidates.{Candidates};
 ghost use Rattle.cqf_program_stop.specs.Stops.{EndsWith, line_of};
@@ -199,6 +199,21 @@ is within N cycles; by instant, then by the stream's place, then in order. With
 a seed each block is late by chance, up to its stream's jitter, but comes no
 earlier than the one before it; the same seed gives the same offers."#;
 
+/// What the help of `summary` says of standard input and of its output.
+const SUMMARY_INPUT: &str =
+    r"Standard input has the four or five parts of the command run, or they are files:
+  cqf summary --cycles 5 plant.toml calls.txt offers.csv
+
+The output has a line for each stream and each of its listeners: how many frames
+are offered that claim the stream's name, how many of them are delivered, late,
+dropped at their edge or still under way, as the command deliveries has it; the
+least, the mean, rounded down, and the most that those took that came, late ones
+too; the bound, which is the most that one can take where all streams of the file
+are admitted; and the stream's deadline; all in ns. A stream whose octets or path
+are refused has one line and no listener. Offers that claim other names have one
+line, of ?, behind the others. Offers of cycles that aren't run don't count, nor
+do background frames.";
+
 /// What the help of `hops` says of standard input and of its output.
 const HOPS_INPUT: &str =
     r"Standard input has the four or five parts of the command run, or they are files:
@@ -291,6 +306,10 @@ pub enum Job {
     Check {
         cycles: u32,
     },
+    /// How the frames of each stream of a scenario fare to each of its listeners, counted.
+    Summary {
+        cycles: u32,
+    },
     /// What the streams of a plant offer, each block late by chance where there is a seed.
     Offers {
         cycles: u32,
@@ -323,6 +342,7 @@ impl Job {
             | Job::Report { .. }
             | Job::Deliveries { .. }
             | Job::Check { .. }
+            | Job::Summary { .. }
             | Job::Offers { .. }
             | Job::Hops { .. }
             | Job::Plan { .. } => true,
@@ -582,6 +602,17 @@ fn check_command<'a>(alloc: Global) -> Result<Command<'a>, AllocError>
         .arg(cycles_option(alloc))
 }
 
+/// `summary --cycles N`.
+fn summary_command<'a>(alloc: Global) -> Result<Command<'a>, AllocError>
+    ensures app { IfOk result (λ command. app_of command ≡ summary_app) }
+    ensures local { IfOk result (λ command. (out-Command command).has_globals ≡ false) }
+{
+    Command::new(alloc, "summary")
+        .about("how the frames of each stream of a run fare to each of its listeners")
+        .after_help(SUMMARY_INPUT)
+        .arg(cycles_option(alloc))
+}
+
 /// `offers --cycles N [--seed S]`.
 fn offers_command<'a>(alloc: Global) -> Result<Command<'a>, AllocError>
     ensures app { IfOk result (λ command. app_of command ≡ offers_app) }
@@ -684,8 +715,11 @@ fn commands_of_scenarios<'a>(alloc: Global) -> Result<Command<'a>, AllocError>
     ensures app { IfOk result (λ command. app_of command ≡ app_of_scenarios) }
     ensures local { IfOk result (λ command. (out-Command command).has_globals ≡ false) }
 {
+    let summary = summary_command(alloc)?;
     let hops = hops_command(alloc)?;
-    commands_of_runs(alloc)?.subcommand(hops)
+    commands_of_runs(alloc)?
+        .subcommand(summary)?
+        .subcommand(hops)
 }
 
 /// The program's commands.
@@ -936,6 +970,7 @@ fn cycles_job(name: &str, values: &ArgMatches<'_>) -> Option<Job>
         "report" => Some(Job::Report { cycles }),
         "deliveries" => Some(Job::Deliveries { cycles }),
         "check" => Some(Job::Check { cycles }),
+        "summary" => Some(Job::Summary { cycles }),
         _ => None,
     }
 }
