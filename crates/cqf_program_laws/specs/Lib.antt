@@ -1,4 +1,3 @@
 pub mod ScriptLaws
 pub mod VerdictLaws
 pub mod PlanLaws
-pub mod SummaryLaws
