@@ -14,13 +14,13 @@ pub struct Group {
 }
 
 /// Lays for each hop of a tree those that follow it, and gives by link where they stand.
-fn lay_groups(tree: &[Hop], branches: &mut Vec<Branch>) -> Result<[Group; 64], Memory>
-    requires few { length tree.now ≤ 64 }
-    requires links { All (λ hop. hop.link < 64) tree.now }
-    requires room { length branches.old.items + 4160 < 2 ^ 32 }
+fn lay_groups(tree: &[Hop], branches: &mut Vec<Branch>) -> Result<[Group; 4096], Memory>
+    requires few { length tree.now ≤ 200 }
+    requires links { All (λ hop. hop.link < 4096) tree.now }
+    requires room { length branches.old.items + 40200 < 2 ^ 32 }
     ensures { IfOk result (λ groups. AreBehind tree.now branches.old.items branches.new.items (length tree.now) groups) }
 {
-    let mut groups = [Group { first: 0, many: 0 }; 64];
+    let mut groups = [Group { first: 0, many: 0 }; 4096];
     for hop in tree {
         let first = branches.len() as u32;
         let many = lay_group(tree, Some(hop.link), branches)?;
@@ -30,10 +30,10 @@ fn lay_groups(tree: &[Hop], branches: &mut Vec<Branch>) -> Result<[Group; 64], M
 }
 
 /// Ties each branch from a place on to those that follow its link.
-fn tie(branches: &mut Vec<Branch>, from: usize, groups: &[Group; 64])
+fn tie(branches: &mut Vec<Branch>, from: usize, groups: &[Group; 4096])
     requires within { from ≤ length branches.old.items }
     requires links { HaveLinks branches.old.items from }
-    requires few { length groups.now ≡ 64 }
+    requires few { length groups.now ≡ 4096 }
     ensures { AreTied branches.old.items branches.new.items from (length branches.old.items) groups.now }
 {
     for place in from..branches.len() {
@@ -48,14 +48,14 @@ fn tie(branches: &mut Vec<Branch>, from: usize, groups: &[Group; 64])
 }
 
 /// Lays a tree behind the branches: first the hops from the edge, which are where the group says, and then for each hop those
-/// that follow it, to which it leads. Links have numbers below 64, and a tree has at most 64 hops.
+/// that follow it, to which it leads. Links have numbers below 4096, and a tree has at most 200 hops.
 ///
 /// # Errors
 /// Where a growth is refused.
 pub fn lay_tree(tree: &[Hop], branches: &mut Vec<Branch>) -> Result<Group, Memory>
-    requires few { length tree.now ≤ 64 }
-    requires links { All (λ hop. hop.link < 64) tree.now }
-    requires room { length branches.old.items + 4224 < 2 ^ 32 }
+    requires few { length tree.now ≤ 200 }
+    requires links { All (λ hop. hop.link < 4096) tree.now }
+    requires room { length branches.old.items + 40400 < 2 ^ 32 }
     ensures { IfOk result (λ group. IsLaidBranch tree.now branches.old.items branches.new.items group) }
 {
     let from = branches.len();
