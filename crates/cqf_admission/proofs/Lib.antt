@@ -1,4 +1,5 @@
 pub mod HeldLemmas
+pub mod EachRow
 mod EndingLemmas
 mod SharedRows
 mod NumberedRows

@@ -55,7 +55,7 @@ fn pass_gate(
 }
 
 /// Why an offer that names a row's stream is dropped, whatever its gate has left.
-fn refused(domain: &Domain, number: u8, cycle: Cycle, row: &Row) -> Option<Reason>
+fn refused(domain: &Domain, number: u16, cycle: Cycle, row: &Row) -> Option<Reason>
     ensures { (passes : ARow → Bool) → edge_verdict domain.now number cycle.0 passes (Some row.now) ≡ verdict_unless result (passes row.now) row.now }
 {
     if !row.live(cycle) {
@@ -99,7 +99,7 @@ fn police_offer<'a>(
 fn police_inside<'a>(
     phase: ReceivePhase<'_, 'a>,
     frame: &Incoming,
-    link: u8,
+    link: u16,
     stream: u32,
     gates: &mut StreamGates,
 ) -> Result<Outcome<'a>, Memory>
@@ -129,7 +129,7 @@ fn police_inside<'a>(
 /// cycle, and no sooner than the frames before it. `Memory` where a growth is refused; then the gates have counted nothing.
 pub fn police<'a>(
     domain: &Domain,
-    number: u8,
+    number: u16,
     cycle: Cycle,
     table: &'a Table,
     frame: &Incoming,

@@ -36,14 +36,14 @@ pub(crate) struct Used {
 }
 
 /// Whether a link leaves a bridge. A link that the domain lacks doesn't.
-fn leaves(domain: &Domain, link: u8, bridge: u8) -> bool
+fn leaves(domain: &Domain, link: u16, bridge: u16) -> bool
     ensures { result ≡ leaves domain.now link bridge }
 {
     link < domain.links() && domain.link(link).from == bridge
 }
 
 /// Whether a hop is the first of its tree at a bridge.
-fn begins(domain: &Domain, hop: &Hop, bridge: u8) -> bool
+fn begins(domain: &Domain, hop: &Hop, bridge: u16) -> bool
     ensures { result ≡ (same_way hop.now.from None && leaves domain.now hop.now.link bridge) }
 {
     match hop.from {
@@ -53,14 +53,14 @@ fn begins(domain: &Domain, hop: &Hop, bridge: u8) -> bool
 }
 
 /// Whether one of some hops is.
-fn one_begins(domain: &Domain, hops: &[Hop], bridge: u8) -> bool
+fn one_begins(domain: &Domain, hops: &[Hop], bridge: u16) -> bool
     ensures { result ≡ list_any (λ hop. same_way hop.from None && leaves domain.now hop.link bridge) hops.now }
 {
     hops.iter().any(|hop| begins(domain, hop, bridge))
 }
 
 /// Whether a stream begins at a bridge.
-fn begins_at(domain: &Domain, row: &Row, bridge: u8) -> bool
+fn begins_at(domain: &Domain, row: &Row, bridge: u16) -> bool
     ensures { result ≡ begins_at domain.now row.now bridge }
 {
     one_begins(domain, row.tree.as_slice(), bridge)

@@ -28,4 +28,4 @@ pub use limits::{
     MOST_STREAMS, PROFILE,
 };
 pub use ports::{Arrival, Start};
-pub use topology::{Hop, Link, Node, Pace, Row};
+pub use topology::{EACH_CYCLE, Hop, Link, Node, Pace, Row};

@@ -42,6 +42,9 @@ pub struct Pace {
     pub phase: u8,
 }
 
+/// The pace of a stream that is offered in each cycle.
+pub const EACH_CYCLE: Pace = Pace { pause: 0, phase: 0 };
+
 /// A stream that is held in a cycle (profile).
 #[derive(Debug, Drop)]
 pub struct Row {

@@ -47,7 +47,7 @@ impl Model for Placing {
 }
 
 /// What a link has left beside those that are placed, in octets a cycle.
-fn left_on(domain: &Domain, admission: &Admission, link: u8) -> u32
+fn left_on(domain: &Domain, admission: &Admission, link: u16) -> u32
     requires domain { admission.now.domain ≡ domain.now }
     requires inside { link < length domain.now.links }
     ensures { result ≡ left_on domain.now (held_in domain.now admission.now.entries (seals admission.now.entries)) link }

@@ -19,7 +19,7 @@ use cqf_admission_trees::count_places;
 use cqf_compile::compile;
 use cqf_gates::{compiled_list, write_tx};
 use cqf_laws_history::state_follows_history;
-use cqf_model::Row;
+use cqf_model::{EACH_CYCLE, Row};
 use cqf_program_press::Sheet;
 use cqf_program_scenario::{domain_part, streams_part, two_parts};
 use cqf_program_stop::{REFUSED, Stop};
@@ -80,6 +80,7 @@ fn row_at(alloc: Global, domain: &Domain, request: &Request, place: usize) -> Re
             no: 0,
             name,
             octets: request.octets,
+            pace: EACH_CYCLE,
             tree,
             admitted: Cycle(0),
             withdrawn: None,

@@ -33,7 +33,7 @@ impl<'r> Model for Costs<'r> {
 }
 
 /// What a row's stream costs of a link.
-fn cost_on(row: &Row, link: u8) -> u32
+fn cost_on(row: &Row, link: u16) -> u32
     requires { row.now.octets ≤ most_reserved }
     ensures { result ≡ cost_on row.now link }
 {
@@ -45,7 +45,7 @@ fn cost_on(row: &Row, link: u8) -> u32
 }
 
 /// What the rows' streams cost of a link.
-fn link_cost(rows: &[Row], link: u8) -> u32
+fn link_cost(rows: &[Row], link: u16) -> u32
     requires octets { All (λ (row : ARow). row.octets ≤ most_reserved) rows.now }
     requires fits { link_cost rows.now link < 2 ^ 32 }
     ensures { result ≡ link_cost rows.now link }
@@ -109,7 +109,7 @@ impl<'r> Costs<'r> {
     }
 
     /// What the streams cost of a link, in octets a cycle.
-    pub(crate) fn of_link(&self, link: u8) -> u32
+    pub(crate) fn of_link(&self, link: u16) -> u32
         requires { link < length self.now.domain.links }
         ensures { result ≡ link_cost self.now.rows link }
     {

@@ -16,7 +16,7 @@ use cqf_units::{Memory, Name, octet_time};
 use std::alloc::Global;
 
 /// The least that a frame takes to the end of a link of this depth.
-fn least_to(domain: &Domain, link: u8, depth: u8) -> u64
+fn least_to(domain: &Domain, link: u16, depth: u8) -> u64
     requires { link < length domain.now.links }
     ensures { result ≡ least_of domain.now link depth }
 {
@@ -26,7 +26,7 @@ fn least_to(domain: &Domain, link: u8, depth: u8) -> u64
 }
 
 /// The most that a frame takes to the end of a link of this depth, of which the streams cost so much.
-fn most_to(domain: &Domain, link: u8, depth: u8, cost: u32) -> u64
+fn most_to(domain: &Domain, link: u16, depth: u8, cost: u32) -> u64
     requires { link < length domain.now.links }
     ensures { result ≡ most_of domain.now link depth cost }
 {
@@ -37,7 +37,7 @@ fn most_to(domain: &Domain, link: u8, depth: u8, cost: u32) -> u64
 }
 
 /// How far apart the frames of one cycle can be whole at the end of a link of which the streams cost so much.
-fn window_at(domain: &Domain, link: u8, cost: u32) -> u64
+fn window_at(domain: &Domain, link: u16, cost: u32) -> u64
     requires { link < length domain.now.links }
     ensures { result ≡ window_of domain.now link cost }
 {
@@ -46,7 +46,7 @@ fn window_at(domain: &Domain, link: u8, cost: u32) -> u64
 }
 
 /// The name of the station that a link of the domain ends in, where a listener is; none where it ends in a bridge.
-pub fn listener_at(domain: &Domain, link: u8) -> Option<Name>
+pub fn listener_at(domain: &Domain, link: u16) -> Option<Name>
     requires { link < length domain.now.links }
     ensures { result ≡ (if is_station (end_of domain.now link) then Some (name_of_end domain.now link) else None) }
 {

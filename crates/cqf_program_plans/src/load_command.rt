@@ -42,7 +42,9 @@ fn list_all(alloc: Global, domain: &Domain, requests: &[Request]) -> Result<List
     ensures ok { IfOk result (λ listing. listed_from domain.now [] (map asked_of requests.now) ≡ Ok listing) }
     ensures err { IfErr result (IsRefused (listed_from domain.now [] (map asked_of requests.now))) }
 {
-    let mut listing = Listing::new(alloc);
+    let Ok(mut listing) = Listing::new(alloc) else {
+        return Err(Stop::memory(alloc));
+    };
     for request in requests {
         listing = list_one(alloc, domain, listing, request)?;
     }

@@ -18,7 +18,7 @@ use std::marker::Model;
 /// When a frame is whole at the end of a link.
 #[derive(Clone, Copy, Debug)]
 pub(crate) struct Arrival {
-    pub(crate) link: u8,
+    pub(crate) link: u16,
     pub(crate) whole: Nanos,
 }
 
@@ -39,7 +39,7 @@ impl Model for Arrivals {
 }
 
 /// Whether a link ends in a station. A link that the domain lacks doesn't.
-fn ends_in_station(domain: &Domain, link: u8) -> bool
+fn ends_in_station(domain: &Domain, link: u16) -> bool
     ensures { result ≡ is_station (end_of domain.now link) }
 {
     if link >= domain.links() {
@@ -116,7 +116,7 @@ fn note_each(
 }
 
 /// The first arrival at the end of a link.
-fn arrival_on(arrivals: &[Arrival], link: u8) -> Option<Arrival>
+fn arrival_on(arrivals: &[Arrival], link: u16) -> Option<Arrival>
     ensures { result ≡ find (λ arrival. arrival.link == link) arrivals.now }
 {
     arrivals
@@ -126,7 +126,7 @@ fn arrival_on(arrivals: &[Arrival], link: u8) -> Option<Arrival>
 }
 
 /// When a frame is whole at the end of a link, by its arrivals.
-fn whole_among(arrivals: &[Arrival], link: u8) -> Option<Nanos>
+fn whole_among(arrivals: &[Arrival], link: u16) -> Option<Nanos>
     ensures { result ≡ option_map (λ arrival. arrival.whole) (find (λ arrival. arrival.link == link) arrivals.now) }
 {
     match arrival_on(arrivals, link) {
@@ -157,7 +157,7 @@ impl Arrivals {
     }
 
     /// When a frame is whole at the end of a link to a station; none where it isn't.
-    pub(crate) fn whole_at(&self, frame: u32, link: u8) -> Option<Nanos>
+    pub(crate) fn whole_at(&self, frame: u32, link: u16) -> Option<Nanos>
         ensures { result ≡ whole_in self.now frame link }
     {
         match self.lists.get(frame as usize) {

@@ -12,7 +12,7 @@ use cqf_units::{Memory, budget};
 use std::alloc::Global;
 
 /// The budget of a link, in octets a cycle.
-fn budget_on(domain: &Domain, link: u8) -> u32
+fn budget_on(domain: &Domain, link: u16) -> u32
     requires { link < length domain.now.links }
     ensures { result ≡ budget domain.now link }
 {

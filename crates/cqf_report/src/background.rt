@@ -28,7 +28,7 @@ fn read_node(domain: &Domain, field: &[u8]) -> Option<Node>
 }
 
 /// The link from one node to another that two fields name.
-fn read_link(domain: &Domain, from: &[u8], to: &[u8]) -> Option<u8>
+fn read_link(domain: &Domain, from: &[u8], to: &[u8]) -> Option<u16>
     ensures { result ≡ link_named domain.now from.now to.now }
 {
     let Some(from) = read_node(domain, from) else {

@@ -18,7 +18,7 @@ use csv::ByteRecord;
 use std::alloc::Global;
 
 /// The bridge that a field names.
-fn read_bridge(domain: &Domain, field: &[u8]) -> Option<u8>
+fn read_bridge(domain: &Domain, field: &[u8]) -> Option<u16>
     ensures { result ≡ bridge_named domain.now field.now }
 {
     let name = Name::new(field)?;

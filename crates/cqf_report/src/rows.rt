@@ -10,7 +10,7 @@ ghost use Rattle.cqf_model.specs.Limits.{most_rows};
 
 use crate::records::{Taken, take_record};
 use crate::tables::{TableFault, open_table};
-use cqf_model::MOST_ROWS;
+use cqf_model::PROFILE;
 use cqf_units::Nanos;
 use csv::{ByteRecord, Reader};
 use std::alloc::Global;
@@ -111,7 +111,7 @@ fn read_rows<F: RowFormat, R: Read>(
 {
     let mut rows = Vec::new(alloc);
     let mut before = Nanos(0);
-    for number in 1..=MOST_ROWS {
+    for number in 1..=PROFILE.rows {
         let Some(row) = next_row(format, reader, fields, number, before)? else {
             return Ok(rows);
         };

@@ -5,7 +5,7 @@ use cqf_ways::{Room, WaysFault, first_short, first_way, first_ways};
 use std::alloc::Global;
 
 /// A link of a network.
-const fn link(from: u8, to: Node) -> Link {
+const fn link(from: u16, to: Node) -> Link {
     Link {
         from,
         to,
