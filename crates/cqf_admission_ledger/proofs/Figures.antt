@@ -58,10 +58,10 @@ module _ (rows : List Standing) (number : ℕ) (s : Standing) (inside : number <
 -- a member of a list of which one is another is the other, or a member of the list
 contains_from_set : {X : Type 0} (xs : List X) (k : ℕ) (y x : X) → Contains (set xs k y) x → (y ≡ x) ⊎ Contains xs x
 contains_from_set [] k y x among = inr among
-contains_from_set (z ∷ xs) zero y x among = elim (contains_cases y xs x among) [ | inl here ↦ inl here | inr later ↦ inr (contains_later z xs x later) ]
+contains_from_set (z ∷ xs) zero y x among = elim (contains_cases y xs x among) [ inl here ↦ inl here | inr later ↦ inr (contains_later z xs x later) ]
 contains_from_set (z ∷ xs) (suc k) y x among = elim (contains_cases z (set xs k y) x among) [
   | inl here ↦ inr (subst (Contains (z ∷ xs)) here (contains_here z xs))
-  | inr later ↦ elim (contains_from_set xs k y x later) [ | inl same ↦ inl same | inr earlier ↦ inr (contains_later z xs x earlier) ]
+  | inr later ↦ elim (contains_from_set xs k y x later) [ inl same ↦ inl same | inr earlier ↦ inr (contains_later z xs x earlier) ]
 ]
 
 -- the figures of none

@@ -1,4 +1,5 @@
 -- What becomes of a frame by the gates is what becomes of it behind the frames that they have counted.
+use Rattle.cqf_model.specs.Paces.{each_cycle}
 use Rattle.std.proofs.Common.{◌≡◌, ◌+◌, ◌<◌, ℕ, Bool, true, false, not, List, [], ◌∷◌, ◌++◌, ◌∙◌, sym, ap, refl, arith}
 use Rattle.std.proofs.Common.{map, filter, Contains, Option, Some, None}
 use Rattle.std.specs.Prelude.{◌==◌, if◌then◌else◌, slice_get, sum_by}
@@ -49,20 +50,20 @@ module _ (d : Domain) (rows : List Row) (bridge cycle : ℕ) (p q : Row → Bool
   verdict_agrees (Relayed m number) = inside m (row_of rows number) (λ row e. (find_member (λ (r : Row). r.no == number) rows row e).0)
 
 -- the calls of a stream, behind one more frame
-calls_more : (time reserved number t : ℕ) (policed : List Policed) (p : Policed) → same_interval (stream_list time reserved) p.received.at t ≡ true →
-    octets_in (stream_list time reserved) (calls_of number (policed ++ p ∷ [])) t
-    ≡ octets_in (stream_list time reserved) (calls_of number policed) t + (if is_queued_of number p.verdict then p.received.octets else 0)
+calls_more : (time reserved number t : ℕ) (policed : List Policed) (p : Policed) → same_interval (stream_list time reserved each_cycle 0) p.received.at t ≡ true →
+    octets_in (stream_list time reserved each_cycle 0) (calls_of number (policed ++ p ∷ [])) t
+    ≡ octets_in (stream_list time reserved each_cycle 0) (calls_of number policed) t + (if is_queued_of number p.verdict then p.received.octets else 0)
 calls_more time reserved number t policed p same =
     let call_of : Policed → Call = λ q. (q.received.at, q.received.octets) in
     let test : Policed → Bool = λ q. is_queued_of number q.verdict in
-    let counted : Call → ℕ = λ call. if same_interval (stream_list time reserved) call.0 t then call.1 else 0 in
+    let counted : Call → ℕ = λ call. if same_interval (stream_list time reserved each_cycle 0) call.0 t then call.1 else 0 in
     ap (λ (ps : List Policed). sum_by counted (map call_of ps)) (filter-append test policed (p ∷ []))
     ∙ ap (sum_by counted) (map-append call_of (filter test policed) (filter test (p ∷ [])))
     ∙ sum_by-append counted (map call_of (filter test policed)) (map call_of (filter test (p ∷ [])))
     ∙ ap (λ (n : ℕ). sum_by counted (map call_of (filter test policed)) + n) (one (is_queued_of number p.verdict))
   where
     one : (b : Bool) →
-        sum_by (λ (call : Call). if same_interval (stream_list time reserved) call.0 t then call.1 else 0)
+        sum_by (λ (call : Call). if same_interval (stream_list time reserved each_cycle 0) call.0 t then call.1 else 0)
         (map (λ (q : Policed). (q.received.at, q.received.octets)) (if b then p ∷ [] else []))
         ≡ (if b then p.received.octets else 0)
     one true = ap (λ (b : Bool). 0 + (if b then p.received.octets else 0)) same ∙ zero_plus p.received.octets

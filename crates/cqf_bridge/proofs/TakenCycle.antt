@@ -1,4 +1,5 @@
 -- Frames of a cycle that are taken one after the other.
+use Rattle.cqf_model.specs.Paces.{each_cycle}
 use Rattle.std.proofs.Common.{◌≡◌, ◌+◌, ◌*◌, ◌≤◌, ◌<◌, ℕ, Bool, true, false, List, [], ◌∷◌, ◌++◌, ◌∙◌, inl, inr, sym}
 use Rattle.std.proofs.Common.{ap, refl, arith, length, map, find, take, drop, get_or, Contains, Option, Some, None}
 use Rattle.std.proofs.Common.{subst, append-nil, append_assoc, ◌-◌, ◌/◌}
@@ -51,7 +52,7 @@ fresh_takes_none false taken none = refl
 -- a gate that was called before the cycle has taken nothing of it
 none_of : (d : Domain) (cycle : ℕ) → GateCountsCycles → 0 < d.cycle_time → (reserved t : ℕ) → cycle_of d t ≡ cycle → (o : Option KeptGate) →
     ((k : KeptGate) → o ≡ Some k → IsKeptGate d.cycle_time (cycle * d.cycle_time) k) → taken_at (gate_or d.cycle_time reserved o) t ≡ 0
-none_of d cycle counts some reserved t in_cycle None each = fresh_takes_none (same_interval (stream_list d.cycle_time reserved) 0 t) 0 refl
+none_of d cycle counts some reserved t in_cycle None each = fresh_takes_none (same_interval (stream_list d.cycle_time reserved each_cycle 0) 0 t) 0 refl
 none_of d cycle counts some reserved t in_cycle (Some k) each =
     let is = each k refl in
     let before : k.gate.last / d.cycle_time < cycle = cycle_below d.cycle_time k.gate.last cycle is.sooner in
@@ -60,9 +61,9 @@ none_of d cycle counts some reserved t in_cycle (Some k) each =
     ∙ ne_eqb (cycle_of d k.gate.last) (cycle_of d t) (λ e. omega (arith, before, e, in_cycle)) in
     either (k.reserved == reserved) (ap (λ (b : Bool). if b then k.gate.taken else 0) apart)
   where
-    either : (b : Bool) → taken_at k.gate t ≡ 0 → taken_at (if b then k.gate else fresh (stream_list d.cycle_time reserved)) t ≡ 0
+    either : (b : Bool) → taken_at k.gate t ≡ 0 → taken_at (if b then k.gate else fresh (stream_list d.cycle_time reserved each_cycle 0)) t ≡ 0
     either true e = e
-    either false e = fresh_takes_none (same_interval (stream_list d.cycle_time reserved) 0 t) 0 refl
+    either false e = fresh_takes_none (same_interval (stream_list d.cycle_time reserved each_cycle 0) 0 t) 0 refl
 
 -- nor has the gate that a stream goes by
 none_taken_yet : (d : Domain) (cycle : ℕ) → GateCountsCycles → 0 < d.cycle_time → (gs : List KeptGate) → AreKept d.cycle_time (cycle * d.cycle_time) gs →

@@ -1,4 +1,5 @@
 -- What becomes of a frame at a bridge, and what its stream's gate counts.
+use Rattle.cqf_model.specs.Paces.{each_cycle}
 use Rattle.std.proofs.Common.{◌≡◌, ◌≢◌, ◌+◌, ◌*◌, ◌≤◌, ◌<◌, ◌%◌, ◌⊎◌, ℕ, Bool, true, false, not, List, [], ◌∷◌, ◌++◌}
 use Rattle.std.proofs.Common.{◌∙◌, inl, inr, sym, ap, refl, arith, map, find, Contains, Option, Some, None}
 use Rattle.std.proofs.Common.{subst, append-nil}
@@ -52,12 +53,12 @@ word_over false m said = refl
 
 -- a gate of kept ones goes by its reservation's list
 kept_entries : (time until reserved : ℕ) (o : Option KeptGate) → ((k : KeptGate) → o ≡ Some k → IsKeptGate time until k) →
-    (gate_or time reserved o).entries ≡ stream_list time reserved
+    (gate_or time reserved o).entries ≡ stream_list time reserved each_cycle 0
 kept_entries time until reserved None each = refl
 kept_entries time until reserved (Some k) each = elim (cases_eq k.reserved reserved) [
   | inl same ↦
       ap (λ (b : Bool). (if b then k.gate else (gate_or time reserved None)).entries) (eq-eqb k.reserved reserved same)
-      ∙ (each k refl).entries ∙ ap (stream_list time) same
+      ∙ (each k refl).entries ∙ ap (λ (n : ℕ). stream_list time n each_cycle 0) same
   | inr other ↦ ap (λ (b : Bool). (if b then k.gate else (gate_or time reserved None)).entries) (ne_eqb k.reserved reserved other)
 ]
 
@@ -74,7 +75,7 @@ kept_last time until reserved (Some k) some each = elim (cases_eq k.reserved res
 
 -- the gate that a stream goes by has the list of its reservation
 pub gate_entries : (time until : ℕ) (gates : List KeptGate) (number reserved : ℕ) → AreKept time until gates →
-    (gate_in time gates number reserved).entries ≡ stream_list time reserved
+    (gate_in time gates number reserved).entries ≡ stream_list time reserved each_cycle 0
 gate_entries time until gates number reserved kept =
     kept_entries time until reserved (find (λ (k : KeptGate). k.number == number) gates)
     (λ k e. kept k (find_member (λ (g : KeptGate). g.number == number) gates k e).0)
@@ -92,7 +93,7 @@ added_if true taken octets = refl
 added_if false taken octets = omega arith
 
 -- a gate counts a frame that it lets pass
-gate_counts : GateCountsCycles → (n reserved s octets t : ℕ) (gate : Gate) → 0 < n → gate.entries ≡ stream_list n reserved → cycle_at n s ≡ cycle_at n t →
+gate_counts : GateCountsCycles → (n reserved s octets t : ℕ) (gate : Gate) → 0 < n → gate.entries ≡ stream_list n reserved each_cycle 0 → cycle_at n s ≡ cycle_at n t →
     taken_at (gate_after gate s octets) t ≡ taken_at gate t + (if lets_pass gate s octets then octets else 0)
 gate_counts counts n reserved s octets t gate some entries same =
     let here : same_interval gate.entries s t ≡ true =
@@ -195,11 +196,11 @@ module _ (d : Domain) (cycle : ℕ) (x : Received) (row : Row) (gates gates_afte
 
 -- the class that a stream's frame gets is 6 or 7
 pub class_of_stream : GateGivesClass → (time reserved t : ℕ) → 0 < time →
-    (gate_class (stream_list time reserved) t ≡ 6) ⊎ (gate_class (stream_list time reserved) t ≡ 7)
+    (gate_class (stream_list time reserved each_cycle 0) t ≡ 6) ⊎ (gate_class (stream_list time reserved each_cycle 0) t ≡ 7)
 class_of_stream gives time reserved t some = either (cycle_at time t % 2 == 0) (gives time reserved t some)
   where
-    either : (b : Bool) → gate_class (stream_list time reserved) t ≡ (if b then 6 else 7) →
-        (gate_class (stream_list time reserved) t ≡ 6) ⊎ (gate_class (stream_list time reserved) t ≡ 7)
+    either : (b : Bool) → gate_class (stream_list time reserved each_cycle 0) t ≡ (if b then 6 else 7) →
+        (gate_class (stream_list time reserved each_cycle 0) t ≡ 6) ⊎ (gate_class (stream_list time reserved each_cycle 0) t ≡ 7)
     either true e = inl e
     either false e = inr e
 

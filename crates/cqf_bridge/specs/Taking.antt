@@ -1,4 +1,5 @@
 -- The receive phase of a cycle, step by step.
+use Rattle.cqf_model.specs.Paces.{each_cycle}
 use Rattle.std.specs.Prelude.{ℕ, ◌≡◌, ◌+◌, ◌*◌, ◌≤◌, ◌<◌, ◌++◌, ◌==◌, Bool, false, true, not, List, [], ◌∷◌, Contains}
 use Rattle.std.specs.Prelude.{Option, Some, None, if◌then◌else◌, length, map, replicate}
 use Rattle.std.specs.List.{flat_map, list_any}
@@ -100,7 +101,7 @@ verdict_if went row = if went then Queued row else ExceedsGate
 
 -- the class in which a frame of a row's stream waits, where its gate lets it pass
 abbrev pub class_in : Domain → Received → Row → ℕ
-class_in d x row = gate_class (stream_list d.cycle_time row.octets) x.at
+class_in d x row = gate_class (stream_list d.cycle_time row.octets each_cycle 0) x.at
 
 -- a frame goes by the gate of a row's stream, which gives it a class, or none where it doesn't pass
 pub record PassesGate (d : Domain) (cycle : ℕ) (x : Received) (row : Row) (gates gates_after : List KeptGate) (class : Option ℕ) : Type 0 where

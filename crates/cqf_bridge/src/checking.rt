@@ -67,7 +67,14 @@ fn is_whole_within(domain: &Domain, cycle: Cycle, link: u16, sent: Sent) -> bool
 }
 
 /// Whether a frame may come to a bridge by a link in a cycle.
-fn may_come(domain: &Domain, number: u16, cycle: Cycle, table: &Table, link: u16, sent: Sent) -> bool
+fn may_come(
+    domain: &Domain,
+    number: u16,
+    cycle: Cycle,
+    table: &Table,
+    link: u16,
+    sent: Sent,
+) -> bool
     requires inside { link < length domain.now.links }
     requires early { cycle.0 < most_cycles }
     ensures yes { result ≡ true → MayCome domain.now number cycle.0 table.now.rows link sent }

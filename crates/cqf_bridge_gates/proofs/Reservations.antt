@@ -1,4 +1,5 @@
 -- What the gate of a reservation says of a frame, and what it counts, by the cycle.
+use Rattle.cqf_model.specs.Paces.{each_cycle}
 use Rattle.std.proofs.Common.{◌≡◌, ◌+◌, ◌≤◌, ◌<◌, ◌-◌, ℕ, Bool, sym, ap, ap₂, ◌∙◌, Option}
 use Rattle.std.specs.Prelude.{◌==◌, if◌then◌else◌, nat_le}
 use Rattle.std.proofs.lemmas.Bool.{cond-false, cond-true, le-leb, lt-leb}
@@ -11,7 +12,7 @@ use Rattle.cqf_laws_cycle.specs.Compiled.{GateCountsCycles, GateGivesClass, give
 
 -- the gate of a reservation that has been called last at an instant
 abbrev pub reserved_gate : (n reserved last taken : ℕ) → Gate
-reserved_gate n reserved last taken = record { entries = stream_list n reserved; last = last; taken = taken }
+reserved_gate n reserved last taken = record { entries = stream_list n reserved each_cycle 0; last = last; taken = taken }
 
 -- the gate of a reservation, called last in a cycle in which so much passed, and a frame as which comes so much counts
 module _ (counts : GateCountsCycles) (n reserved last cycle before t octets taken : ℕ) (some : 0 < n) (at_last : cycle ≡ cycle_at n last)
@@ -38,7 +39,7 @@ module _ (counts : GateCountsCycles) (n reserved last cycle before t octets take
       × (reserved_gate n reserved t taken ≡ gate_after (reserved_gate n reserved last before) t octets)
   over more =
       let test = lt-leb (taken + octets) reserved more in (
-        sym (cond-false (lets_pass (reserved_gate n reserved last before) t octets) (Class (gate_class (stream_list n reserved) t)) OverOctets (passes ∙ test)),
+        sym (cond-false (lets_pass (reserved_gate n reserved last before) t octets) (Class (gate_class (stream_list n reserved each_cycle 0) t)) OverOctets (passes ∙ test)),
         behind taken (cond-false (nat_le (taken + octets) reserved) (taken + octets) taken test),
       )
 
@@ -49,7 +50,7 @@ module _ (counts : GateCountsCycles) (n reserved last cycle before t octets take
   within_it gives class given less =
       let test = le-leb (taken + octets) reserved less in (
         ap Class (given ∙ sym (gives n reserved t some))
-            ∙ sym (cond-true (lets_pass (reserved_gate n reserved last before) t octets) (Class (gate_class (stream_list n reserved) t))
+            ∙ sym (cond-true (lets_pass (reserved_gate n reserved last before) t octets) (Class (gate_class (stream_list n reserved each_cycle 0) t))
             OverOctets (passes ∙ test)),
         behind (taken + octets) (cond-true (nat_le (taken + octets) reserved) (taken + octets) taken test),
       )

@@ -119,7 +119,7 @@ module _ (d : Domain) (cycles : ℕ) (verdict : Offered → Verdict) (offers : L
       ∙ ap (λ (c : ℕ). sum_by (λ (h : Hop). counts_in l k h.link (c + h.depth) offer.octets) (hops_of (verdict x))) is_cycle
 
   -- there is room for it
-  pub room_for_offer : (width : ℕ) → AreEmptyColumns before (length d.links) width → place < 1000000 → HaveColumnsRoom d cycles verdict (numbered offers) →
+  pub room_for_offer : (width : ℕ) → AreEmptyColumns before (length d.links) width → place < 16777215 → HaveColumnsRoom d cycles verdict (numbered offers) →
       HaveRoomFor cycles now (λ l. sum_by (λ (h : Hop). counts_frames l cycles h.link (cycle + h.depth) offer.octets) hops)
       (λ l c. sum_by (λ (h : Hop). counts_in l c h.link (cycle + h.depth) offer.octets) hops)
   room_for_offer width empty early room = record {

@@ -85,7 +85,7 @@ few_placed d entries stream become after counted none placed = by_reserved (rese
   where
     by_routed : (octets : ℕ) (routed : Result (List Branch) PlanFault) → IsAnswered d entries stream.name octets routed become after → AreFew entries after
     by_routed octets (Err found) is = few_same entries after none is.1
-    by_routed octets (Ok paths) is = few_asked d entries after (record { name = stream.name; octets = octets; paths = paths }) counted none is.1
+    by_routed octets (Ok paths) is = few_asked d entries after (record { name = stream.name; octets = octets; every = 1; phase = 0; paths = paths }) counted none is.1
 
     by_reserved : (reserved : Result ℕ PlanFault) → IsPlacedBy d entries stream reserved become after → AreFew entries after
     by_reserved (Err found) is = few_same entries after none is.1
@@ -148,8 +148,8 @@ pub routed_so : (d : Domain) (entries : List Recorded) (stream : SettledStream) 
     asked.octets ≡ octets → become ≡ answered d asked (refusal_of d (held_in d entries (seals entries)) asked) → after ≡ with_asked d entries asked →
     IsRoutedAndAnswered d entries stream octets become after
 routed_so d entries stream octets cost asked become after is routed named reserves answer entered =
-    let one : Asked = record { name = stream.name; octets = octets; paths = asked.paths } in
-    let same : asked ≡ one = λ i. record { name = named i; octets = reserves i; paths = asked.paths } in
+    let one : Asked = record { name = stream.name; octets = octets; every = 1; phase = 0; paths = asked.paths } in
+    let same : asked ≡ one = λ i. record { name = named i; octets = reserves i; every = 1; phase = 0; paths = asked.paths } in
     record {
       routed = Ok asked.paths;
       is_routed = subst (λ (c : ℕ). IsRouted d (held_in d entries (seals entries)) c stream.way (Ok asked.paths)) is routed;

@@ -13,7 +13,8 @@ use Rattle.cqf_model.specs.declared.history.Refused.TheVariants as refused
 use Rattle.cqf_model.specs.declared.topology.Node.{Node}
 use Rattle.cqf_model.specs.declared.topology.Node.TheVariants.{Bridge, Station}
 use Rattle.cqf_model.specs.Domain.{Domain, node_named, node_or}
-use Rattle.cqf_model.specs.Limits.{most_streams}
+use Rattle.cqf_model.specs.Limits.{most_streams, streams_within}
+use Rattle.std.proofs.Math.Nat.{min-le_right}
 use Rattle.cqf_ways.specs.Ways.{most_links}
 use Rattle.cqf_topology_fields.specs.Fields.{Gives, and_first}
 use Rattle.cqf_topology.specs.DomainText.{if_so, is_among, place_of, with_front}
@@ -164,7 +165,7 @@ record IsSettledBy (sketch : SketchDomain) (d : Domain) (before : List (List ℕ
   named : is_name stream.name ≡ true
   reservable : are_reservable one.octets ≡ true
   way_is : settled_way sketch d stream.way ≡ Ok one.way
-  stands : refusal_behind before stream.name ≡ None
+  stands : refusal_behind d before stream.name ≡ None
   deadline_is : deadline_of_stream sketch d stream ≡ Ok one.deadline
   name_is : stream.name ≡ one.name
 
@@ -176,7 +177,7 @@ settled_by sketch d before stream one e =
     let e2 = or_unsettled-Ok stream.name (settled_stream sketch d before stream) one e1 in
     let (reservable, e3) = refuse-Ok (if_so (not (are_reservable stream.octets))) (λ _. fault.Refused refused.BadOctets) _ one e2 in
     let (way, way_is, e4) = and_then-Ok (settled_way sketch d stream.way) _ one e3 in
-    let (stands, e5) = refuse-Ok (refusal_behind before stream.name) fault.Refused _ one e4 in
+    let (stands, e5) = refuse-Ok (refusal_behind d before stream.name) fault.Refused _ one e4 in
     let (deadline, deadline_is, e6) = and_then-Ok (deadline_of_stream sketch d stream) _ one e5 in
     let made : SettledStream = record { name = stream.name; octets = stream.octets; way = way; deadline = deadline; traffic = stream.traffic } in
     let same : made ≡ one = cc in
@@ -201,12 +202,12 @@ pub next_stands : (sketch : SketchDomain) (d : Domain) (before : List (List ℕ)
     settled_next sketch d before stream ≡ Ok one → StandsNext before stream.name one.name
 next_stands sketch d before stream one e =
     let by_name = settled_by sketch d before stream one e in
-    let tests = by (is_among stream.name before) (nat_le most_streams (length before)) refl refl by_name.stands in
-    record { own_name = sym by_name.name_is; not_held = tests.0; few = leb-false most_streams (length before) tests.1 }
+    let tests = by (is_among stream.name before) (nat_le (streams_within d.limits) (length before)) refl refl by_name.stands in
+    record { own_name = sym by_name.name_is; not_held = tests.0; few = omega (arith, leb-false (streams_within d.limits) (length before) tests.1, min-le_right d.limits.streams most_streams) }
   where
-    by : (held full : Bool) → is_among stream.name before ≡ held → nat_le most_streams (length before) ≡ full →
+    by : (held full : Bool) → is_among stream.name before ≡ held → nat_le (streams_within d.limits) (length before) ≡ full →
         (if held then Some refused.NameHeld else (if full then Some refused.TooManyStreams else None)) ≡ None →
-        (is_among stream.name before ≡ false) × (nat_le most_streams (length before) ≡ false)
+        (is_among stream.name before ≡ false) × (nat_le (streams_within d.limits) (length before) ≡ false)
     by true full is more h = absurd cc
     by false true is more h = absurd cc
     by false false is more h = (is, more)

@@ -93,7 +93,7 @@ answered d asked (Some refusal) = Unplaced (fault_of_refusal d refusal)
 abbrev pub IsAnswered : Domain → List Recorded → List ℕ → ℕ → Result (List Branch) PlanFault → PlacedOr → List Recorded → Type 0
 IsAnswered d entries name octets (Err found) become after = (become ≡ Unplaced found) × (after ≡ entries)
 IsAnswered d entries name octets (Ok paths) become after =
-    let asked : Asked = record { name = name; octets = octets; paths = paths } in
+    let asked : Asked = record { name = name; octets = octets; every = 1; phase = 0; paths = paths } in
     (become ≡ answered d asked (refusal_of d (held_in d entries (seals entries)) asked)) × (after ≡ with_asked d entries asked)
 
 -- of one with this reservation

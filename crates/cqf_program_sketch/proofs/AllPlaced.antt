@@ -42,11 +42,11 @@ record IsGranted (d : Domain) (entries : List Recorded) (stream : SettledStream)
 -- where its branches are found
 granted_routed : (d : Domain) (entries : List Recorded) (stream : SettledStream) (octets : ℕ) (paths : List Branch) (asked : Asked) (after : List Recorded) →
     reserved_on d.cycle_time stream ≡ Ok octets →
-    Placed asked ≡ answered d (record { name = stream.name; octets = octets; paths = paths })
-    (refusal_of d (held_in d entries (seals entries)) (record { name = stream.name; octets = octets; paths = paths })) →
-    after ≡ with_asked d entries (record { name = stream.name; octets = octets; paths = paths }) → IsGranted d entries stream asked after
+    Placed asked ≡ answered d (record { name = stream.name; octets = octets; every = 1; phase = 0; paths = paths })
+    (refusal_of d (held_in d entries (seals entries)) (record { name = stream.name; octets = octets; every = 1; phase = 0; paths = paths })) →
+    after ≡ with_asked d entries (record { name = stream.name; octets = octets; every = 1; phase = 0; paths = paths }) → IsGranted d entries stream asked after
 granted_routed d entries stream octets paths asked after reserves is after_is =
-    let there : Asked = record { name = stream.name; octets = octets; paths = paths } in
+    let there : Asked = record { name = stream.name; octets = octets; every = 1; phase = 0; paths = paths } in
     let found = answered_placed d there asked (refusal_of d (held_in d entries (seals entries)) there) is in
     record {
       named = ap (λ (a : Asked). a.name) found.1;

@@ -1,6 +1,7 @@
 -- What the arrivals that are read are like.
 use Rattle.std.proofs.Common.{◌≡◌, ◌≤◌, ℕ, List, [], ◌∷◌, Option, Some, None, Ok, length, refl, subst}
 use Rattle.cqf_model.specs.declared.ports.Arrival.{Arrival}
+use Rattle.cqf_model.specs.Limits.{profile, rows_within}
 use Rattle.cqf_report.specs.Arrivals.{arrival_header, arrival_instant, arrival_of, arrival_with, arrivals_of_table, AreArrivals, IsArrival}
 use Rattle.cqf_report.specs.Records.{Fields, records_of}
 use Rattle.cqf_report.specs.Table.{in_four}
@@ -9,7 +10,7 @@ use Rattle.cqf_text.specs.Decimal.{decimal_in}
 
 -- an arrival that four fields write
 arrival-with : (at class octets frame : Option ℕ) (arrival : Arrival)
-    → ((n : ℕ) → at ≡ Some n → n ≤ 100000000) → ((n : ℕ) → class ≡ Some n → n ≤ 7) → ((n : ℕ) → octets ≡ Some n → (64 ≤ n) × (n ≤ 1522))
+    → ((n : ℕ) → at ≡ Some n → n ≤ rows_within profile00) → ((n : ℕ) → class ≡ Some n → n ≤ 7) → ((n : ℕ) → octets ≡ Some n → (64 ≤ n) × (n ≤ 1522))
     → arrival_with at class octets frame ≡ Some arrival → IsArrival arrival
 arrival-with None class octets frame arrival early classed sized e = cc
 arrival-with (Some at) None octets frame arrival early classed sized e = cc
@@ -34,10 +35,10 @@ arrival-row (a ∷ b ∷ c ∷ x ∷ y ∷ fields) arrival e = cc
 -- the arrivals of a text are in their ranges and in order
 pub arrivals-good : (text : List ℕ) (arrivals : List Arrival) → arrivals_of_table text ≡ Ok arrivals → AreArrivals arrivals
 arrivals-good text arrivals e = record {
-  each = table-each IsArrival (in_four arrival_of) arrival_instant arrival-row arrival_header (records_of text) arrivals e;
-  in_order = rows_under-in_order arrival_header (in_four arrival_of) arrival_instant (records_of text) arrivals e;
+  each = table-each IsArrival (rows_within profile) (in_four arrival_of) arrival_instant arrival-row arrival_header (records_of text) arrivals e;
+  in_order = rows_under-in_order (rows_within profile) arrival_header (in_four arrival_of) arrival_instant (records_of text) arrivals e;
 }
 
 -- and there are at most 1,000,000
-pub arrivals-few : (text : List ℕ) (arrivals : List Arrival) → arrivals_of_table text ≡ Ok arrivals → length arrivals ≤ 1000000
-arrivals-few text arrivals e = rows_under-few arrival_header (in_four arrival_of) arrival_instant (records_of text) arrivals e
+pub arrivals-few : (text : List ℕ) (arrivals : List Arrival) → arrivals_of_table text ≡ Ok arrivals → length arrivals ≤ rows_within profile
+arrivals-few text arrivals e = rows_under-few (rows_within profile) arrival_header (in_four arrival_of) arrival_instant (records_of text) arrivals e

@@ -16,7 +16,7 @@ returns-then-count-ge-streams_within c =
     let stands = c.args.holdings.now.rows in
     let j = c.args.judgement.now in
     let free = taken_by stands j.name c.holder.result c.holder.ensures ∙ sym c.is_some.ensures ∙ c.if-is_some.false in
-    refused_many c.args.domain.now stands j.name j.cost j.links.items free 
+    refused_many c.args.domain.now stands j.name j.cost j.links.items free
     (omega (arith, c.count.ensures, c.if-count-ge-streams_within.true, c.streams_within.ensures, ap streams_within c.limits.ensures))
 
 pub returns : goal.returns
@@ -25,5 +25,5 @@ returns c =
     let j = c.args.judgement.now in
     let free = taken_by stands j.name c.holder.result c.holder.ensures ∙ sym c.is_some.ensures ∙ c.if-is_some.false in
     c.short_of.ensures ∙ ap (λ xs. stand_short c.args.domain.now stands j.cost xs) c.as_slice.ensures.value
-    ∙ refused_short c.args.domain.now stands j.name j.cost j.links.items free 
+    ∙ refused_short c.args.domain.now stands j.name j.cost j.links.items free
     (omega (arith, c.count.ensures, c.if-count-ge-streams_within.false, c.streams_within.ensures, ap streams_within c.limits.ensures))

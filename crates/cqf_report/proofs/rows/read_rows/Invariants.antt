@@ -7,6 +7,6 @@ use Rattle.cqf_report.proofs.rows.read_rows.Given as goal
 abbrev pub invariant-loop-number : goal.invariant-loop-number
 invariant-loop-number g l = record {
   ready : Ready l.reader;
-  taken : Taken (length g.F.RowFormat.header)
+  taken : Taken l.most (length g.F.RowFormat.header)
       (g.F.RowFormat.row_of l.format) g.F.RowFormat.instant_of g.R.Read.remaining l.fn.reader l.number l.before.0 l.rows.items l.reader;
 }

@@ -3,7 +3,7 @@ use Rattle.cqf_model.specs.declared.topology.Row.{Row}
 use Rattle.cqf_model.specs.Table.{is_held}
 use Rattle.cqf_admission.specs.Admission.{recorded_of}
 use Rattle.cqf_admission.specs.Rows.{HeldRows}
-use Rattle.cqf_admission.specs.Tables.{AreInOrder}
+use Rattle.cqf_admission.specs.Tables.{AreInOrder, AreOfEachCycle}
 use Rattle.cqf_admission.proofs.CallLemmas.{sealed_leaves}
 use Rattle.cqf_admission.proofs.admission.Admission.seal.Goals as goal
 
@@ -25,11 +25,14 @@ let_go-requires c =
     subst (λ (h : HeldRows). (row : Row) → Contains h.rows row → row.admitted.0 ≤ c.self.inside.sealed + 1) (sym c.share.ensures.same)
     (λ row among. omega (arith, held.begun row among, c.self.invariant.0.counted))
 
-pub new-requires : goal.new-requires
-new-requires c =
+pub new-requires-clause-order : goal.new-requires-clause-order
+new-requires-clause-order c =
     let held = c.state_follows_history.ensures.held c.self.inside.domain
     (map recorded_of c.self.inside.history.items) c.self.inside.held.rows c.self.inside.next c.self.invariant.0.legal c.self.invariant.0.state in
     subst AreInOrder (sym c.in_ok-listed.ensures.rows) (record { numbers = held.numbers; names = held.names })
+
+pub new-requires-clause-paced : goal.new-requires-clause-paced
+new-requires-clause-paced c = subst AreOfEachCycle (sym c.in_ok-listed.ensures.rows) c.self.invariant.0.paced
 
 pub returns-clause-closes : goal.returns-clause-closes
 returns-clause-closes c =
