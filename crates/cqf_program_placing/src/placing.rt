@@ -4,7 +4,8 @@ ghost use Rattle.cqf_admission.specs.Admission.{calls};
 ghost use Rattle.cqf_admission.specs.Tables.{AreAlongLinks};
 ghost use Rattle.cqf_admission_trees.specs.Branches.{branches_of};
 ghost use Rattle.cqf_laws_history.specs.StateLaws.{AreHeld};
-ghost use Rattle.cqf_model.specs.History.{held_in, left_on, seals};
+ghost use Rattle.cqf_admission.specs.Costs.{left_beside};
+ghost use Rattle.cqf_model.specs.History.{held_in, seals};
 ghost use Rattle.cqf_model.specs.Limits.{most_calls, most_reserved, most_streams};
 ghost use Rattle.cqf_sketch.specs.SketchDomain.{IsOpenCycle, domain_at};
 ghost use Rattle.cqf_program_placing.specs.Placing.{ArePlaced, IsPlacing, IsRouted, IsRoutedAndAnswered, lefts_on, outcome_value};
@@ -50,7 +51,7 @@ impl Model for Placing {
 fn left_on(domain: &Domain, admission: &Admission, link: u16) -> u32
     requires domain { admission.now.domain ≡ domain.now }
     requires inside { link < length domain.now.links }
-    ensures { result ≡ left_on domain.now (held_in domain.now admission.now.entries (seals admission.now.entries)) link }
+    ensures { result ≡ left_beside domain.now (held_in domain.now admission.now.entries (seals admission.now.entries)) link }
 {
     let rate = domain.link(link).rate;
     let most = budget(domain.cycle_time(), domain.guard(), rate);

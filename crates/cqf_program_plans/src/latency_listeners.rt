@@ -1,12 +1,14 @@
 //! The latencies of the streams of a table to their listeners.
 ghost use Rattle.std.specs.Prelude.{ℕ, ◌≡◌, ◌<◌, ◌++◌, All, IfOk, OnOk, Some, None, if◌then◌else◌, length};
-ghost use Rattle.cqf_admission.specs.Tables.{AreAlongLinks};
+ghost use Rattle.cqf_admission.specs.Tables.{AreAlongLinks, AreOfEachCycle};
 ghost use Rattle.cqf_laws_history.specs.StateLaws.{AreHeld};
 ghost use Rattle.cqf_laws_latency.specs.Latency.{least_of, most_of, window_of};
 ghost use Rattle.cqf_program_plans.specs.EndNames.{name_of_end};
 ghost use Rattle.cqf_program_plans.specs.LatencyText.{deadline_of, is_station, latencies_of, latencies_of_row, latency_to};
 ghost use Rattle.cqf_model.specs.Domain.{end_of};
-ghost use Rattle.cqf_model.specs.Table.{link_cost, links_of};
+ghost use Rattle.cqf_model.specs.Paces.{each_cycle};
+ghost use Rattle.cqf_admission.specs.Rows.{costs_on};
+ghost use Rattle.cqf_model.specs.Table.{links_of};
 
 use crate::latency_costs::Costs;
 use crate::latency_latencies::Latency;
@@ -61,7 +63,7 @@ pub fn listener_at(domain: &Domain, link: u16) -> Option<Name>
 /// The latency to the end of a hop of a row's tree, where a listener is there.
 fn latency_at(costs: &Costs<'_>, row: &Row, deadline: Option<u32>, hop: &Hop) -> Option<Latency>
     requires { hop.now.link < length costs.now.domain.links }
-    ensures { let cost = link_cost costs.now.rows hop.now.link in result
+    ensures { let cost = costs_on costs.now.rows hop.now.link in result
         ≡ (if is_station (end_of costs.now.domain hop.now.link) then Some (latency_to costs.now.domain cost row.now deadline hop.now) else None) }
 {
     let (domain, link, depth) = (costs.domain(), hop.link, hop.depth);
@@ -85,7 +87,8 @@ fn push_listeners(
     row: &Row,
     deadline: Option<u32>,
 ) -> Result<(), Memory>
-    requires { All (λ l. l < length costs.now.domain.links) (links_of row.now) }
+    requires along { All (λ l. l < length costs.now.domain.links) (links_of row.now) }
+    requires paced { row.now.pace ≡ each_cycle }
     ensures { OnOk result (latencies.new.items ≡ latencies.old.items ++ latencies_of_row costs.now.domain costs.now.rows row.now deadline) }
 {
     for hop in row.tree.as_slice() {
@@ -134,6 +137,7 @@ pub fn latencies_of_rows(
 ) -> Result<Vec<Latency>, Memory>
     requires along { AreAlongLinks domain.now rows.now }
     requires held { (next : ℕ) × AreHeld domain.now rows.now next 0 }
+    requires paced { AreOfEachCycle rows.now }
     ensures { IfOk result (λ latencies. latencies.items ≡ latencies_of domain.now rows.now deadlines.now) }
 {
     let costs = Costs::new(alloc, domain, rows)?;

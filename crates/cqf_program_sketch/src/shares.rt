@@ -1,5 +1,6 @@
 //! How much of the links' budgets is held.
 ghost use Rattle.std.specs.Prelude.{ℕ, ◌≡◌, ◌<◌, IfOk, fold, length, slice_index};
+ghost use Rattle.cqf_admission.specs.Tables.{AreOfEachCycle};
 ghost use Rattle.cqf_lists.specs.Lists.{each_below};
 ghost use Rattle.cqf_laws_history.specs.StateLaws.{AreHeld};
 ghost use Rattle.cqf_model.specs.Domain.{budget};
@@ -52,7 +53,8 @@ pub(crate) fn greatest_share(
     domain: &Domain,
     rows: &[Row],
 ) -> Result<Option<u64>, Memory>
-    requires { (next : ℕ) × AreHeld domain.now rows.now next 0 }
+    requires held { (next : ℕ) × AreHeld domain.now rows.now next 0 }
+    requires paced { AreOfEachCycle rows.now }
     ensures { IfOk result (λ used. used ≡ greatest_of (shares_of domain.now rows.now)) }
 {
     let held = link_costs(alloc, domain, rows)?;
