@@ -6,6 +6,7 @@ mod NumberedRows
 mod MappedRows
 pub mod ColumnLemmas
 pub mod SumLemmas
+pub mod CostLemmas
 pub mod TableLemmas
 pub mod GrantLemmas
 pub mod RunLemmas
