@@ -1,5 +1,5 @@
 -- The most that streams cost of a link, while each of them is offered in each cycle.
-use Rattle.std.proofs.Common.{◌≡◌, ℕ, List, [], ◌∷◌, ◌==◌, ◌<◌, Bool, true, max, fold, ◌∙◌, ap, sym}
+use Rattle.std.proofs.Common.{◌≡◌, ℕ, List, [], ◌∷◌, ◌==◌, Bool, true, max, fold, ◌∙◌, ap, sym}
 use Rattle.std.specs.Prelude.{if◌then◌else◌}
 use Rattle.std.specs.List.{list_any}
 use Rattle.cqf_lists.proofs.EachBelow.{same_below}
@@ -23,12 +23,15 @@ most_from_each rows l costs each =
 pub most_of_each : (rows : List Row) (l : ℕ) → AreOfEachCycle rows → most_cost rows l ≡ costs_on rows l
 most_of_each rows l paced = most_from_each rows l (costs_on rows l) (λ cycle. costs_by_link rows l cycle paced)
 
--- also beside another such stream, that goes by the link
+-- beside another such stream, that goes by the link, it is the most too
+pub beside_is_most : (rows : List Row) (tree : List Hop) (l : ℕ) → list_any (λ k. k == l) (links_in tree) ≡ true →
+    most_beside rows tree each_cycle l ≡ most_cost rows l
+beside_is_most rows tree l crossed =
+    let taken : Bool → ℕ → List ℕ = λ b k. if b then link_cost rows l k ∷ [] else [] in
+    ap (fold max 0) (same_below (λ k. taken (uses tree each_cycle l k) k) (λ k. link_cost rows l k ∷ []) 80
+    (λ k below. ap (λ (b : Bool). taken b k) (uses_same tree l k ∙ crossed)))
+
+-- so it is what they cost of the links of their trees
 pub beside_of_each : (rows : List Row) (tree : List Hop) (l : ℕ) → AreOfEachCycle rows → list_any (λ k. k == l) (links_in tree) ≡ true →
     most_beside rows tree each_cycle l ≡ costs_on rows l
-beside_of_each rows tree l paced crossed =
-    let one : (k : ℕ) → k < 80 → (if uses tree each_cycle l k then link_cost rows l k ∷ [] else []) ≡ costs_on rows l ∷ [] =
-    λ k below.
-    ap (λ (b : Bool). if b then link_cost rows l k ∷ [] else []) (uses_same tree l k ∙ crossed) ∙ ap (λ z. z ∷ []) (sym (costs_by_link rows l k paced)) in
-    ap (fold max 0) (same_below (λ k. if uses tree each_cycle l k then link_cost rows l k ∷ [] else []) (λ k. costs_on rows l ∷ []) 80 one)
-    ∙ most_same (costs_on rows l) 79
+beside_of_each rows tree l paced crossed = beside_is_most rows tree l crossed ∙ most_of_each rows l paced

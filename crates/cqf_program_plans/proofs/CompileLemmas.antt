@@ -3,7 +3,7 @@ use Rattle.std.proofs.Common.{◌≡◌, ◌≢◌, ◌⊎◌, ◌∙◌, ◌<�
 use Rattle.std.proofs.Common.{refl, sym, length-append, inl, inr}
 use Rattle.cqf_model.specs.declared.history.Receipt.{Receipt}
 use Rattle.cqf_model.specs.declared.history.Refused.{Refused}
-use Rattle.cqf_model.specs.declared.history.Refused.TheVariants.{BadName, BadOctets, UnknownNode, BrokenPath, LoopingPath, NotATree, NameHeld, TooManyStreams}
+use Rattle.cqf_model.specs.declared.history.Refused.TheVariants.{BadName, BadOctets, BadPace, UnknownNode, BrokenPath, LoopingPath, NotATree, TooManyHops, NameHeld, TooManyStreams}
 use Rattle.cqf_model.specs.declared.history.Refused.TheVariants.{BudgetShort, NotHeld, AlreadyWithdrawn, HistoryFull, Memory}
 use Rattle.cqf_model.specs.declared.history.Reply.TheVariants.{Accepted, Refused as RefusedFor}
 use Rattle.cqf_model.specs.declared.topology.Row.{Row}
@@ -100,10 +100,12 @@ module _ (old new : Administration) (asked : Asked) (receipt : Receipt) (answers
 entered_unless : (refused : Refused) → refused ≢ HistoryFull → refused ≢ Memory → is_entered (Err refused) ≡ true
 entered_unless BadName full memory = refl
 entered_unless BadOctets full memory = refl
+entered_unless BadPace full memory = refl
 entered_unless (UnknownNode place) full memory = refl
 entered_unless (BrokenPath place) full memory = refl
 entered_unless (LoopingPath place) full memory = refl
 entered_unless (NotATree branch) full memory = refl
+entered_unless TooManyHops full memory = refl
 entered_unless NameHeld full memory = refl
 entered_unless TooManyStreams full memory = refl
 entered_unless (BudgetShort link left) full memory = refl
@@ -117,10 +119,12 @@ pub is_memory : (refused : Refused) → (refused ≡ Memory) ⊎ (refused ≢ Me
 is_memory Memory = inl refl
 is_memory BadName = inr (λ h. cc)
 is_memory BadOctets = inr (λ h. cc)
+is_memory BadPace = inr (λ h. cc)
 is_memory (UnknownNode place) = inr (λ h. cc)
 is_memory (BrokenPath place) = inr (λ h. cc)
 is_memory (LoopingPath place) = inr (λ h. cc)
 is_memory (NotATree branch) = inr (λ h. cc)
+is_memory TooManyHops = inr (λ h. cc)
 is_memory NameHeld = inr (λ h. cc)
 is_memory TooManyStreams = inr (λ h. cc)
 is_memory (BudgetShort link left) = inr (λ h. cc)

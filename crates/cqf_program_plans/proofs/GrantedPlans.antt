@@ -18,8 +18,8 @@ all_granted d entries all place (asked ∷ more) h =
     ((parts.0, rest.0), rest.1)
 
 -- so the table of cycle 0 costs what the list does
-pub table_costs_list : (d : Domain) (streams : List Asked) (plan : List Recorded) (link : ℕ) → ListCostsItsTable → admitted_from d [] 1 streams ≡ Ok plan →
-    cost_of_all d streams link ≡ link_cost (held_in d plan 0) link
-table_costs_list d streams plan link costs h =
+pub table_costs_list : (d : Domain) (streams : List Asked) (plan : List Recorded) (link turn : ℕ) → ListCostsItsTable → admitted_from d [] 1 streams ≡ Ok plan →
+    cost_of_all d streams link turn ≡ link_cost (held_in d plan 0) link turn
+table_costs_list d streams plan link turn costs h =
     let granted = all_granted d [] plan 1 streams h in
-    sym (costs d streams link granted.0) ∙ sym (ap (λ entries. link_cost (held_in d entries 0) link) granted.1)
+    sym (costs d streams link turn granted.0) ∙ sym (ap (λ entries. link_cost (held_in d entries 0) link turn) granted.1)

@@ -14,4 +14,5 @@ mod HeldMost
 mod Loading
 mod GrantedPlans
 pub mod Found
+mod LatencyRows
 mod LatencyLines

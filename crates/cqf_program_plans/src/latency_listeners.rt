@@ -89,6 +89,7 @@ fn push_listeners(
 ) -> Result<(), Memory>
     requires along { All (λ l. l < length costs.now.domain.links) (links_of row.now) }
     requires paced { row.now.pace ≡ each_cycle }
+    requires all { AreOfEachCycle costs.now.rows }
     ensures { OnOk result (latencies.new.items ≡ latencies.old.items ++ latencies_of_row costs.now.domain costs.now.rows row.now deadline) }
 {
     for hop in row.tree.as_slice() {

@@ -7,8 +7,10 @@ ghost use Rattle.cqf_admission.specs.Asking.{asked_of};
 ghost use Rattle.cqf_program_plans.specs.Listing.{Lists};
 ghost use Rattle.cqf_program_plans.specs.Fitting.{streams_on};
 ghost use Rattle.cqf_program_plans.specs.Adding.{AddsWhere};
-ghost use Rattle.cqf_admission.specs.Rows.{IsCountable, costs_on};
+ghost use Rattle.cqf_admission.specs.Costs.{most_cost};
+ghost use Rattle.cqf_admission.specs.Rows.{IsCountable};
 ghost use Rattle.cqf_model.specs.Limits.{most_links, most_streams};
+ghost use Rattle.cqf_model.specs.Paces.{each_cycle};
 
 use cqf_admission::{Judged, judge};
 use cqf_admission_trees::add_on;
@@ -78,10 +80,10 @@ impl Listing {
         self.names.contains(name)
     }
 
-    /// What the streams cost of a link, in octets a cycle: at most 1,638,400,000.
+    /// What the streams cost of a link at most in a cycle, in octets: at most 1,638,400,000.
     pub(crate) fn cost_on(&self, link: u16) -> u64
         requires { link < most_links }
-        ensures cost { result ≡ costs_on self.now link }
+        ensures cost { result ≡ most_cost self.now link }
         ensures bounded { result ≤ 1638400000 }
     {
         let rows = &self.rows;
@@ -126,6 +128,7 @@ impl Listing {
     pub(crate) fn with(self, row: Row) -> Result<Listing, Memory>
         requires few { length self < most_streams }
         requires countable { IsCountable most_links row }
+        requires paced { row.pace ≡ each_cycle }
         requires free { list_any (λ other. is_text other.name row.name) self ≡ false }
         ensures { IfOk result (λ listing. listing ≡ self ++ row ∷ []) }
     {
