@@ -37,6 +37,7 @@ use Rattle.cqf_bridge_gates.specs.Gates.{AreKept, IsKeptGate, gate_or}
 use Rattle.cqf_bridge.specs.PortRecord.{PortRecord, with_frames}
 use Rattle.cqf_bridge.specs.Taking.{AreReady, HasPoliced, IsFaultByVerdict, IsFaultByPoliced, IsWaiting, MayBeTaken}
 use Rattle.cqf_bridge.specs.Taking.{TakesFrame, policed_by, taken_in_cycle, verdict_taken, with_verdict}
+use Rattle.cqf_admission.specs.Tables.{AreOfEachCycle}
 use Rattle.cqf_bridge.proofs.Behind.{counted_behind, verdict_behind}
 use Rattle.cqf_bridge.proofs.Taking.{frames_more, frames_none}
 
@@ -77,14 +78,14 @@ module _ (d : Domain) (rows : List Row) (bridge cycle : ℕ) (ports_before : Lis
   abbrev policed_next : List Policed → Received → Policed
   policed_next policed x = police d (replicate (cycle + 1) rows) bridge policed x
 
-  module _ (counts : GateCountsCycles) (some : 0 < d.cycle_time) (policed : List Policed) (x : Received) (gates : List KeptGate)
-      (ports : List PortRecord) (drops : List Dropped)
+  module _ (counts : GateCountsCycles) (some : 0 < d.cycle_time) (paced : AreOfEachCycle rows) (policed : List Policed) (x : Received)
+      (gates : List KeptGate) (ports : List PortRecord) (drops : List Dropped)
       (may : MayBeTaken d bridge cycle rows x) (kept : AreKept d.cycle_time (x.at + 1) gates)
       (h : HasPoliced d rows bridge cycle ports_before drops_before policed gates ports drops) where
     -- so the verdict is the one of the definitions
     pub same_verdict : verdict_taken d rows bridge cycle gates x ≡ (policed_next policed x).verdict
     same_verdict =
-        verdict_behind d (replicate (cycle + 1) rows) rows bridge cycle counts some (table_held cycle rows) policed x gates may.in_cycle kept h.counted
+        verdict_behind d (replicate (cycle + 1) rows) rows bridge cycle counts some paced (table_held cycle rows) policed x gates may.in_cycle kept h.counted
 
     module _ (gates_after : List KeptGate) (ports_after : List PortRecord) (drops_after : List Dropped)
         (takes : TakesFrame d rows bridge cycle x gates gates_after ports ports_after drops drops_after) where
@@ -94,7 +95,7 @@ module _ (d : Domain) (rows : List Row) (bridge cycle : ℕ) (ports_before : Lis
           let v = verdict_taken d rows bridge cycle gates x in
           let p = policed_next policed x in
           record {
-            counted = counted_behind d (replicate (cycle + 1) rows) rows bridge cycle counts some (table_held cycle rows) policed x gates
+            counted = counted_behind d (replicate (cycle + 1) rows) rows bridge cycle counts some paced (table_held cycle rows) policed x gates
                 may.in_cycle kept h.counted
                 gates_after takes.counted;
             queued =
@@ -176,7 +177,7 @@ pub record IsTaking (d : Domain) (rows : List Row) (bridge cycle : ℕ) (ports_b
   pub policed : HasPoliced d rows bridge cycle ports_before drops_before (policed_by d rows bridge cycle (take count frames)) gates ports drops
 
 module _ (d : Domain) (rows : List Row) (bridge cycle : ℕ) (ports_before : List PortRecord) (drops_before : List Dropped) (frames : List Received)
-    (counts : GateCountsCycles) (some : 0 < d.cycle_time) where
+    (counts : GateCountsCycles) (some : 0 < d.cycle_time) (paced : AreOfEachCycle rows) where
   -- at first none is
   pub taking_none : (gates : List KeptGate) → AreReady d cycle (cycle * d.cycle_time) gates ports_before →
       IsTaking d rows bridge cycle ports_before drops_before frames 0 gates ports_before drops_before
@@ -221,7 +222,7 @@ module _ (d : Domain) (rows : List Row) (bridge cycle : ℕ) (ports_before : Lis
         policed =
             subst (λ (ps : List Policed). HasPoliced d rows bridge cycle ports_before drops_before ps gates_after ports_after drops_after)
             (sym (ap (policed_by d rows bridge cycle) front_more ∙ police_more d (replicate (cycle + 1) rows) bridge [] (take count frames) (x ∷ [])))
-            (policed_more d rows bridge cycle ports_before drops_before counts some done x gates ports drops (may x among) next_ready.gates_before h.policed
+            (policed_more d rows bridge cycle ports_before drops_before counts some paced done x gates ports drops (may x among) next_ready.gates_before h.policed
             gates_after ports_after drops_after takes);
       }
 
@@ -243,7 +244,7 @@ module _ (d : Domain) (rows : List Row) (bridge cycle : ℕ) (ports_before : Lis
             over = p;
             there = ap (λ (ps : List Policed). slice_get ps (length done)) parts ∙ slice_get_behind done p rest (length done) refl;
             exceeds =
-                sym (same_verdict d rows bridge cycle ports_before drops_before counts some done x gates ports drops (may x among)
+                sym (same_verdict d rows bridge cycle ports_before drops_before counts some paced done x gates ports drops (may x among)
                 next_ready.gates_before h.policed)
                 ∙ stops.0;
             is_frame = stops.1;

@@ -144,8 +144,9 @@ pub fn police<'a>(
     ensures err { OnErr result (gates.new ≡ gates.old) }
 {
     gate_counts_cycles();
-    // the domain is accepted: a fact
+    // the domain is accepted, and the table's streams are offered in each cycle: facts
     let _time = domain.cycle_time();
+    let _paced = table.rows();
     let phase = ReceivePhase {
         domain,
         number,
