@@ -11,14 +11,12 @@ use Rattle.std.proofs.lemmas.List.Sums.{sum_by-append}
 use Rattle.cqf_lists.proofs.Members.{find_member}
 use Rattle.cqf_model.specs.declared.frames.Reason.TheVariants.{Octets, OtherBridge, Withdrawn}
 use Rattle.cqf_model.specs.declared.gates.StreamEntry.{StreamEntry}
-use Rattle.cqf_model.specs.declared.topology.Pace.{Pace}
 use Rattle.cqf_model.specs.declared.topology.Row.{Row}
 use Rattle.cqf_model.specs.Domain.{Domain, cycle_of, is_text}
 use Rattle.cqf_model.specs.StreamGate.{Call, gate_passes, octets_in, place_at, same_interval, stream_list, within}
-use Rattle.cqf_model.proofs.EachCycle.{gate_same}
-use Rattle.cqf_model.specs.Table.{begins_at, depth_behind, goes_on, is_live, row_named, row_of, table_of}
+use Rattle.cqf_model.specs.Table.{begins_at, goes_on, is_live, row_named, row_of, table_of}
 use Rattle.cqf_model.specs.Traffic.{AtEdge, DroppedFor, ExceedsGate, LacksRow, Policed, Queued, Received, Relayed}
-use Rattle.cqf_model.specs.Traffic.{Verdict, Way, calls_of, came_by, edge_verdict, gate_behind, inside_verdict, is_queued_of, police}
+use Rattle.cqf_model.specs.Traffic.{Verdict, Way, calls_of, came_by, edge_verdict, inside_verdict, is_queued_of, police}
 use Rattle.cqf_model.specs.Traffic.{verdict_by, within_gate}
 use Rattle.cqf_admission.specs.Tables.{AreOfEachCycle}
 use Rattle.cqf_laws_cycle.specs.Compiled.{GateCountsCycles}
@@ -26,7 +24,7 @@ use Rattle.cqf_bridge_gates.specs.declared.gates.KeptGate.{KeptGate}
 use Rattle.cqf_bridge.specs.declared.policing.Outcome.{Outcome}
 use Rattle.cqf_bridge_gates.specs.Gates.{AreKept, HaveCounted}
 use Rattle.cqf_bridge.specs.Taking.{IsPolicedBehind, Polices, passes_by, taken_in_cycle, verdict_taken}
-use Rattle.cqf_bridge.proofs.Verdicts.{gate_entries}
+use Rattle.cqf_bridge.proofs.Verdicts.{gate_entries, gate_there}
 
 -- tests that agree on the table's rows give one verdict
 module _ (d : Domain) (rows : List Row) (bridge cycle : ℕ) (p q : Row → Bool) (agree : (row : Row) → Contains rows row → p row ≡ q row) where
@@ -78,20 +76,13 @@ calls_more time reserved number t policed p same =
 module _ (d : Domain) (tables : List (List Row)) (rows : List Row) (bridge cycle : ℕ) (counts : GateCountsCycles) (some : 0 < d.cycle_time)
     (paced : AreOfEachCycle rows) (table : table_of tables cycle ≡ rows) (policed : List Policed) (x : Received) (gates : List KeptGate) (here : cycle_of d x.at ≡ cycle)
     (kept : AreKept d.cycle_time (x.at + 1) gates) (counted : HaveCounted d.cycle_time cycle rows policed gates) where
-  -- the gate of a stream that is offered in each cycle is one wherever the frame comes from
-  gate_there : (row : Row) → Contains rows row → stream_list d.cycle_time row.octets each_cycle 0 ≡ gate_behind d row (came_by x.way)
-  gate_there row held =
-      let depth = depth_behind row (came_by x.way) in
-      gate_same d.cycle_time row.octets 0 ∙ sym (gate_same d.cycle_time row.octets depth)
-      ∙ ap (λ (pace : Pace). stream_list d.cycle_time row.octets pace depth) (sym (paced row held))
-
   -- the gates let pass what the frames before leave room for
   gates_agree : (row : Row) → Contains rows row → passes_by d.cycle_time gates x row ≡ within_gate d policed row x
   gates_agree row held = (λ i.
       option_map_or (λ (entry : StreamEntry). within entry.octet_max (counted row held x.at here i + x.octets))
       (slice_get (gate_entries d.cycle_time (x.at + 1) gates row.no row.octets kept i)
       (place_at (gate_entries d.cycle_time (x.at + 1) gates row.no row.octets kept i) x.at)) false)
-      ∙ ap (λ (entries : List StreamEntry). gate_passes entries (calls_of row.no policed) x.at x.octets) (gate_there row held)
+      ∙ ap (λ (entries : List StreamEntry). gate_passes entries (calls_of row.no policed) x.at x.octets) (gate_there d row (came_by x.way) (paced row held))
 
   -- so the verdict is the one of the definitions
   pub verdict_behind : verdict_taken d rows bridge cycle gates x ≡ (police d tables bridge policed x).verdict
@@ -109,7 +100,7 @@ module _ (d : Domain) (tables : List (List Row)) (rows : List Row) (bridge cycle
       more row t held in_cycle
       ∙ (λ i. counted row held t in_cycle i + (if is_queued_of row.no (verdict_behind i) then x.octets else 0))
       ∙ sym (calls_more d.cycle_time row.octets row.no t policed (police d tables bridge policed x)
-      (counts d.cycle_time row.octets x.at t some ∙ eq-eqb (cycle_of d x.at) (cycle_of d t) (here ∙ sym in_cycle)))
+      (counts d.cycle_time row.octets each_cycle 0 x.at t some ∙ eq-eqb (cycle_of d x.at) (cycle_of d t) (here ∙ sym in_cycle)))
 
   -- so what becomes of it is what becomes of it behind them
   pub policed_behind : (gates_after : List KeptGate) (made : Outcome) → Polices d rows bridge cycle x gates gates_after made →

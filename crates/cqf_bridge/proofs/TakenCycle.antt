@@ -58,7 +58,7 @@ none_of d cycle counts some reserved t in_cycle (Some k) each =
     let is = each k refl in
     let before : k.gate.last / d.cycle_time < cycle = cycle_below d.cycle_time k.gate.last cycle is.sooner in
     let apart : same_interval k.gate.entries k.gate.last t ≡ false =
-    ap (λ es. same_interval es k.gate.last t) is.entries ∙ counts d.cycle_time k.reserved k.gate.last t some
+    ap (λ es. same_interval es k.gate.last t) is.entries ∙ counts d.cycle_time k.reserved each_cycle 0 k.gate.last t some
     ∙ ne_eqb (cycle_of d k.gate.last) (cycle_of d t) (λ e. omega (arith, before, e, in_cycle)) in
     either (k.reserved == reserved) (ap (λ (b : Bool). if b then k.gate.taken else 0) apart)
   where

@@ -2,6 +2,7 @@
 ghost use Rattle.std.specs.Prelude.{◌≡◌, ◌+◌, Bool, IfOk, List, OnErr, Some};
 ghost use Rattle.cqf_model.specs.declared.topology.Row.{Row as ARow};
 ghost use Rattle.cqf_model.specs.Domain.{cycle_of};
+ghost use Rattle.cqf_model.specs.Paces.{each_cycle};
 ghost use Rattle.cqf_model.specs.Table.{table_of};
 ghost use Rattle.cqf_model.specs.Traffic.{AtEdge as Offering, Policed, Relayed, edge_verdict};
 ghost use Rattle.cqf_bridge_gates.specs.Gates.{AreKept, HaveCounted};
@@ -42,6 +43,7 @@ fn pass_gate(
 ) -> Result<Option<u8>, Memory>
     requires in_cycle { cycle_of domain.now frame.now.at.0 ≡ cycle.0 }
     requires kept { AreKept domain.now.cycle_time (frame.now.at.0 + 1) gates.old }
+    requires paced { row.now.pace ≡ each_cycle }
     ensures passes { IfOk result (λ class. PassesGate domain.now cycle.0 (received_as frame.now) row.now gates.old gates.new class) }
     ensures err { OnErr result (gates.new ≡ gates.old) }
 {
@@ -81,7 +83,7 @@ fn police_offer<'a>(
         (received_as frame.now) gates.old gates.new outcome) }
     ensures err { OnErr result (gates.new ≡ gates.old) }
 {
-    // the table's rows stand in order of number: a fact
+    // the table's rows stand in order of number, and their streams are offered in each cycle: facts
     let _order = phase.table.rows();
     let Some(row) = phase.table.row_named(name) else {
         return Ok(Outcome::Dropped(Reason::Unknown));
@@ -110,7 +112,7 @@ fn police_inside<'a>(
         (received_as frame.now) gates.old gates.new outcome) }
     ensures err { OnErr result (gates.new ≡ gates.old) }
 {
-    // the table's rows stand in order of number: a fact
+    // the table's rows stand in order of number, and their streams are offered in each cycle: facts
     let _order = phase.table.rows();
     let Some(row) = phase.table.row_of(stream) else {
         return Ok(Outcome::LacksRow);

@@ -20,7 +20,7 @@ module _ (counts : GateCountsCycles) (n reserved last cycle before t octets take
   -- what the gate has counted as the frame comes
   counted : taken_at (reserved_gate n reserved last before) t ≡ taken
   counted =
-      ap (λ (b : Bool). if b then before else 0) (counts n reserved last t some ∙ ap (λ (c : ℕ). c == cycle_at n t) (sym at_last)) ∙ sym is
+      ap (λ (b : Bool). if b then before else 0) (counts n reserved each_cycle 0 last t some ∙ ap (λ (c : ℕ). c == cycle_at n t) (sym at_last)) ∙ sym is
 
   -- the frame passes where it is within the reservation
   passes : lets_pass (reserved_gate n reserved last before) t octets ≡ nat_le (taken + octets) reserved
@@ -49,7 +49,7 @@ module _ (counts : GateCountsCycles) (n reserved last cycle before t octets take
       × (reserved_gate n reserved t (taken + octets) ≡ gate_after (reserved_gate n reserved last before) t octets)
   within_it gives class given less =
       let test = le-leb (taken + octets) reserved less in (
-        ap Class (given ∙ sym (gives n reserved t some))
+        ap Class (given ∙ sym (gives n reserved each_cycle 0 t some))
             ∙ sym (cond-true (lets_pass (reserved_gate n reserved last before) t octets) (Class (gate_class (stream_list n reserved each_cycle 0) t))
             OverOctets (passes ∙ test)),
         behind (taken + octets) (cond-true (nat_le (taken + octets) reserved) (taken + octets) taken test),
