@@ -11,6 +11,7 @@ use Rattle.std.proofs.lemmas.List.FromFn.{length-enumerate_from}
 use Rattle.std.proofs.lemmas.Option.{get_or_from_slice_get, same_Some, slice_get-get_or, slice_get_within}
 use Rattle.cqf_lists.proofs.Members.{any_member, contains_at}
 use Rattle.cqf_units.proofs.Cycles.{cycle_below, before_cycle}
+use Rattle.cqf_model.proofs.Represented.{few_links}
 use Rattle.cqf_model.specs.declared.frames.Background.{Background}
 use Rattle.cqf_model.specs.declared.frames.Offer.{Offer}
 use Rattle.cqf_model.specs.declared.frames.Offered.{Offered}
@@ -332,7 +333,7 @@ module _ (d : Domain) (cycles : ℕ) (rows : List Row) (offers : List Offer) (ju
 pub low_links : (d : Domain) (entries : List Recorded) (rows : List Row) → IsAccepted d → IsLegalHistory d entries → streams_of d entries
     ≡ rows → HaveLowLinks rows
 low_links d entries rows accepted legal streams row inside k none below =
-    omega (arith, (tree_now d entries row legal (subst (λ (xs : List Row). Contains xs row) (sym streams) inside)).inside k none below, accepted.few_links)
+    omega (arith, (tree_now d entries row legal (subst (λ (xs : List Row). Contains xs row) (sym streams) inside)).inside k none below, few_links d accepted)
 
 -- so a layout is one of the history's run
 pub lays : (orderly : TablesAreOrderly) (counted : ThereAreSoManyTables) (say : RowsSayTheTables) (as_live : AsLive) (decide : OffersAreJudged)
