@@ -18,8 +18,8 @@ fn is_live_below(row: &Row, cycles: u32) -> bool
 
 /// Lays a stream's tree behind the branches, where the stream is live in one of the first cycles.
 fn lay_stream(row: &Row, cycles: u32, branches: &mut Vec<Branch>) -> Result<Group, Memory>
-    requires links { All (λ hop. hop.link < 64) row.now.tree.items }
-    requires room { length branches.old.items + 4224 < 2 ^ 32 }
+    requires links { All (λ hop. hop.link < 4096) row.now.tree.items }
+    requires room { length branches.old.items + 40400 < 2 ^ 32 }
     ensures { IfOk result (λ group. LaysStream cycles row.now branches.old.items branches.new.items group) }
 {
     if is_live_below(row, cycles) {
@@ -31,7 +31,7 @@ fn lay_stream(row: &Row, cycles: u32, branches: &mut Vec<Branch>) -> Result<Grou
 
 /// Lays the trees of some streams one behind the other, of those that are live in one of the first cycles, of so many; no frame
 /// goes by another's. Gives the hops, and for each stream, by place, where those from the edge stand. There are at most 100,000
-/// streams, whose links have numbers below 64. The time grows with the hops.
+/// streams, whose links have numbers below 4,096. The time grows with the hops.
 ///
 /// # Errors
 /// Where a growth is refused.

@@ -118,7 +118,7 @@ pub(crate) fn no_counts(frames: usize, later: usize) -> Counts
 impl Counts {
     /// The same with some deliveries more: those of one offer, of at most 1,000,000.
     pub(crate) fn with(self, here: &[Delivery]) -> Counts
-        requires few { length here.now ≤ 64 }
+        requires few { length here.now ≤ 200 }
         requires early { AreCountsBefore 1000000 self }
         ensures counts { (frames later : ℕ) (done : List ADelivery) → self ≡ counts_of frames later done →
             result ≡ counts_of frames later (done ++ here.now) }
