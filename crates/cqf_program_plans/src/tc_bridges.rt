@@ -304,7 +304,7 @@ fn put_needs_of<W: Sink>(
 fn put_needs<W: Sink>(press: &mut Press<'_, W>, domain: &Domain, bridge: u16, rows: &[Row])
     ensures { Puts W.contents press.old press.new (each_stream (stream_needs domain.now bridge) rows.now) }
 {
-    let mut seen = [false; 4096];
+    let mut seen = [false; 65536];
     for row in rows {
         let way = way_of(domain, bridge, &mut seen, row);
         put_needs_of(press, domain, bridge, row, way);
@@ -333,7 +333,7 @@ fn put_clearing_of<W: Sink>(press: &mut Press<'_, W>, row: &Row, way: Option<(Op
 fn put_clearings<W: Sink>(press: &mut Press<'_, W>, domain: &Domain, bridge: u16, rows: &[Row])
     ensures { Puts W.contents press.old press.new (each_stream (stream_clearing domain.now bridge) rows.now) }
 {
-    let mut seen = [false; 4096];
+    let mut seen = [false; 65536];
     for row in rows {
         let way = way_of(domain, bridge, &mut seen, row);
         put_clearing_of(press, row, way);

@@ -36,9 +36,9 @@ pub(crate) fn first_hop(domain: &Domain, row: &Row, bridge: u16) -> Option<Hop>
 }
 
 /// Whether no stream was seen to come that way.
-fn is_unseen(seen: &[bool; 4096], way: Option<u16>) -> bool
+fn is_unseen(seen: &[bool; 65536], way: Option<u16>) -> bool
     ensures value { result ≡ is_unseen seen.now way }
-    ensures range { (link : ℕ) → way ≡ Some link → link < 4096 }
+    ensures range { (link : ℕ) → way ≡ Some link → link < 65536 }
 {
     match way {
         Some(link) => !seen[usize::from(link)],
@@ -47,14 +47,14 @@ fn is_unseen(seen: &[bool; 4096], way: Option<u16>) -> bool
 }
 
 /// Notes that a stream comes by a link.
-fn mark(seen: &mut [bool; 4096], link: u16)
+fn mark(seen: &mut [bool; 65536], link: u16)
     ensures { NotesWay seen.old (Some link) seen.new }
 {
     seen[usize::from(link)] = true;
 }
 
 /// Notes that a stream comes that way.
-fn note(seen: &mut [bool; 4096], way: Option<u16>)
+fn note(seen: &mut [bool; 65536], way: Option<u16>)
     ensures { NotesWay seen.old way seen.new }
 {
     match way {
@@ -67,7 +67,7 @@ fn note(seen: &mut [bool; 4096], way: Option<u16>)
 pub(crate) fn way_of(
     domain: &Domain,
     bridge: u16,
-    seen: &mut [bool; 4096],
+    seen: &mut [bool; 65536],
     row: &Row,
 ) -> Option<(Option<u16>, bool)>
     ensures way { (before : List ARow) → IsSeenWay domain.now bridge before seen.old → result ≡ way_at domain.now bridge before row.now }
