@@ -1,12 +1,20 @@
-use Rattle.std.proofs.Common.{◌≡◌, ◌<◌, length, arith, ap, map, get_or, subst, sym, List}
+use Rattle.std.proofs.Common.{◌≡◌, ◌<◌, List, Some, arith, ap, get_or, length, map, subst, sym}
 use Rattle.std.proofs.lemmas.List.{length-map}
-use Rattle.cqf_admission_ledger.specs.Holdings.{HaveFigures, Standing, Stands, holding_ended, standing_of}
+use Rattle.cqf_admission_ledger.specs.Holdings.{HaveFigures, Standing, Stands, standing_of}
 use Rattle.cqf_admission_ledger.proofs.Figures.{figures_ended}
 use Rattle.cqf_admission_ledger.proofs.Lists.{map_set, mapped_there}
 use Rattle.cqf_admission_ledger.proofs.holdings.Holdings.end.Goals as goal
 
 pub invariant_of-self : goal.invariant_of-self
 invariant_of-self c =
-    let rows : List Standing = map standing_of c.self.inside.rows.items in
-    let inside : c.args.number < length rows = omega (arith, c.requires, ap (λ (h : Stands). length h.rows) c.self.view_is) in
-    ?
+    let stands = c.self.inside.rows.items in
+    let rows : List Standing = map standing_of stands in
+    let number = c.args.number in
+    let old = c.index_mut.result.now in
+    let stand : Standing = standing_of old in
+    let inside : number < length rows = omega (arith, c.requires, ap (λ (h : Stands). length h.rows) c.self.view_is) in
+    let low : number < length stands = omega (arith, inside, length-map stands standing_of) in
+    let is : stand ≡ get_or rows number stand = sym (mapped_there standing_of stands number old stand low c.index_mut.ensures.value) in
+    subst (λ (rs : List Standing). HaveFigures rs c.self.inside.by_name.items c.self.inside.sums.items c.self.inside.count)
+    (sym (map_set standing_of stands number (record old { withdrawn = Some c.args.cycle })))
+    (figures_ended rows c.self.inside.by_name.items c.self.inside.sums.items c.self.inside.count c.self.invariant number c.args.cycle stand inside is)
