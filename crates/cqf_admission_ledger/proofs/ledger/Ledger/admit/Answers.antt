@@ -3,7 +3,7 @@ use Rattle.std.proofs.lemmas.List.{get_or_default, length-map}
 use Rattle.cqf_topology.specs.declared.streams.Request.{Request}
 use Rattle.cqf_admission.specs.Asking.{asked_of}
 use Rattle.cqf_admission_ledger.specs.declared.forms.Form.{Form}
-use Rattle.cqf_admission_ledger.specs.Holdings.{Standing}
+use Rattle.cqf_admission_ledger.specs.Holdings.{Standing, standing_of}
 use Rattle.cqf_admission_ledger.specs.declared.logs.Logged.{Logged}
 use Rattle.cqf_admission_ledger.specs.Forms.{IsFormOf, IsSeen}
 use Rattle.cqf_admission_ledger.specs.Ledger.{Kept}
@@ -94,6 +94,48 @@ weigh-requires-clause-within c =
 pub weigh-requires-clause-columns : goal.weigh-requires-clause-columns
 weigh-requires-clause-columns c = c.reserve-2.ensures.links ∙ c.self.invariant.5
 
+pub invariant_of-self-in_err-stand_by-in-None : goal.invariant_of-self-in_err-stand_by-in-None
+invariant_of-self-in_err-stand_by-in-None c =
+    let i = c.self.inside in
+    let d = i.domain.now in
+    let rs = i.requests.now in
+    let script = i.script.now in
+    let low : c.args.place < length rs =
+    omega (arith, subst (λ (k : Kept). c.args.place < length k.requests) (sym c.self.view_is) c.requires, length-map rs asked_of) in
+    let request = get_or rs c.args.place c.index-self-place.result in
+    let is : request ≡ get_or rs c.args.place request = get_or_default rs c.args.place c.index-self-place.result request low in
+    let r : AreOf d rs (entries_of rs script i.log.items) c.reserve-2.new.self.rows i.slots i.sealed =
+    subst (λ (ss : List Standing). AreOf d rs (entries_of rs script i.log.items) ss i.slots i.sealed) (sym c.reserve-2.ensures.rows) c.self.invariant.0 in (
+      subst (λ (log : List Logged). AreOf d rs (entries_of rs script log) c.reserve-2.new.self.rows i.slots i.sealed) (sym c.reserve.ensures.items) r,
+      forms_set d rs i.names i.forms.items c.args.place request c.see.new.form c.self.invariant.1 c.self.invariant.2 low is c.see.ensures.form,
+      c.self.invariant.2,
+      c.reserve-2.ensures.names ∙ c.self.invariant.3,
+      subst (AreThere _ script) (sym c.reserve.ensures.items) c.self.invariant.4,
+      c.reserve-2.ensures.links ∙ c.self.invariant.5,
+    )
+
+pub push-requires-clause-along : goal.push-requires-clause-along
+push-requires-clause-along c =
+    let i = c.self.inside in
+    let d = i.domain.now in
+    let rs = i.requests.now in
+    let script = i.script.now in
+    let low : c.args.place < length rs =
+    omega (arith, subst (λ (k : Kept). c.args.place < length k.requests) (sym c.self.view_is) c.requires, length-map rs asked_of) in
+    let request = get_or rs c.args.place c.index-self-place.result in
+    let is : request ≡ get_or rs c.args.place request = get_or_default rs c.args.place c.index-self-place.result request low in
+    let r : AreOf d rs (entries_of rs script i.log.items) c.reserve-2.new.self.rows i.slots i.sealed =
+    subst (λ (ss : List Standing). AreOf d rs (entries_of rs script i.log.items) ss i.slots i.sealed) (sym c.reserve-2.ensures.rows) c.self.invariant.0 in
+    let laws = c.state_follows_history.ensures in
+    let form = c.see.new.form in
+    let read = c.index.result.now in
+    let at : read ≡ form = put_there i.forms.items c.args.place form read (omega (arith, low, c.self.invariant.1.as_many)) c.index.ensures in
+    let of : IsFormOf d rs (asked_of request) read =
+    subst (λ (f : Form). IsFormOf d rs (asked_of request) f) (sym at)
+    (subst (λ (names : List Request). IsFormOf d names (asked_of request) form) c.self.invariant.2 c.in_ok-see.ensures.form) in
+    (weighs_one d rs (entries_of rs script i.log.items) c.reserve-2.new.self.rows i.slots i.sealed r laws.held c.know_domain.ensures (asked_of request) read
+    (standing_of c.in_ok-stand-in-None.stand) of c.in-None.ensures c.in_ok-stand-in-None.ensures).along
+
 pub push-requires-clause-fits : goal.push-requires-clause-fits
 push-requires-clause-fits c =
     let i = c.self.inside in
@@ -114,10 +156,10 @@ push-requires-clause-fits c =
     subst (λ (f : Form). IsFormOf d rs (asked_of request) f) (sym at)
     (subst (λ (names : List Request). IsFormOf d names (asked_of request) form) c.self.invariant.2 c.in_ok-see.ensures.form) in
     (weighs_one d rs (entries_of rs script i.log.items) c.reserve-2.new.self.rows i.slots i.sealed r laws.held c.know_domain.ensures (asked_of request) read
-    c.in-None.stand of c.in-None.ensures).fits
+    (standing_of c.in_ok-stand-in-None.stand) of c.in-None.ensures c.in_ok-stand-in-None.ensures).fits
 
-pub invariant_of-self-in-None : goal.invariant_of-self-in-None
-invariant_of-self-in-None c =
+pub invariant_of-self-in_ok-stand-in-None : goal.invariant_of-self-in_ok-stand-in-None
+invariant_of-self-in_ok-stand-in-None c =
     let i = c.self.inside in
     let d = i.domain.now in
     let rs = i.requests.now in
@@ -139,13 +181,16 @@ invariant_of-self-in-None c =
     let known = forms_set d rs i.names i.forms.items c.args.place request form c.self.invariant.1 c.self.invariant.2 low is c.in_ok-see.ensures.form in
     let done = admit_granted d rs script i.log.items c.reserve.new.self.items c.enter.new.log.items c.reserve-2.new.self.rows i.slots i.sealed r
     c.self.invariant.4 c.args.self.now c.self.view_is c.reserve.ensures.items few laws.goes_on laws.counted laws.held laws.granted
-    c.streams_follow_history.ensures.granted c.know_domain.ensures c.args.seat c.args.place request read c.in-None.stand c.push.new.self.rows
+    c.streams_follow_history.ensures.granted c.know_domain.ensures c.args.seat c.args.place request read (standing_of c.in_ok-stand-in-None.stand)
+    c.push.new.self.rows
     (record { no = c.len-no.result; effect = record { 0 = i.sealed } }) low is of c.in-None.ensures
+    c.in_ok-stand-in-None.ensures
     (λ k. record { no = c.len-no.ensures k; effect = record { 0 = i.sealed } }) c.push.ensures.rows c.enter.ensures in
-    (done.of, known, c.self.invariant.2, c.push.ensures.names ∙ c.reserve-2.ensures.names ∙ c.self.invariant.3, done.there)
+    (done.of, known, c.self.invariant.2, c.push.ensures.names ∙ c.reserve-2.ensures.names ∙ c.self.invariant.3, done.there,
+    c.push.ensures.links ∙ c.reserve-2.ensures.links ∙ c.self.invariant.5)
 
-pub returns-in-None-clause-answers : goal.returns-in-None-clause-answers
-returns-in-None-clause-answers c =
+pub returns-in_ok-stand-in-None-clause-answers : goal.returns-in_ok-stand-in-None-clause-answers
+returns-in_ok-stand-in-None-clause-answers c =
     let i = c.self.inside in
     let d = i.domain.now in
     let rs = i.requests.now in
@@ -166,12 +211,14 @@ returns-in-None-clause-answers c =
     let few : length i.log.items - i.sealed < 100000 = omega (arith, c.if-len-self-ge-MOST_CALLS.false, c.len.ensures) in
     (admit_granted d rs script i.log.items c.reserve.new.self.items c.enter.new.log.items c.reserve-2.new.self.rows i.slots i.sealed r
     c.self.invariant.4 c.args.self.now c.self.view_is c.reserve.ensures.items few laws.goes_on laws.counted laws.held laws.granted
-    c.streams_follow_history.ensures.granted c.know_domain.ensures c.args.seat c.args.place request read c.in-None.stand c.push.new.self.rows
+    c.streams_follow_history.ensures.granted c.know_domain.ensures c.args.seat c.args.place request read (standing_of c.in_ok-stand-in-None.stand)
+    c.push.new.self.rows
     (record { no = c.len-no.result; effect = record { 0 = i.sealed } }) low is of c.in-None.ensures
+    c.in_ok-stand-in-None.ensures
     (λ k. record { no = c.len-no.ensures k; effect = record { 0 = i.sealed } }) c.push.ensures.rows c.enter.ensures).answers
 
-pub returns-in-None-clause-held : goal.returns-in-None-clause-held
-returns-in-None-clause-held c =
+pub returns-in_ok-stand-in-None-clause-held : goal.returns-in_ok-stand-in-None-clause-held
+returns-in_ok-stand-in-None-clause-held c =
     let i = c.self.inside in
     let d = i.domain.now in
     let rs = i.requests.now in
@@ -192,8 +239,10 @@ returns-in-None-clause-held c =
     let few : length i.log.items - i.sealed < 100000 = omega (arith, c.if-len-self-ge-MOST_CALLS.false, c.len.ensures) in
     (admit_granted d rs script i.log.items c.reserve.new.self.items c.enter.new.log.items c.reserve-2.new.self.rows i.slots i.sealed r
     c.self.invariant.4 c.args.self.now c.self.view_is c.reserve.ensures.items few laws.goes_on laws.counted laws.held laws.granted
-    c.streams_follow_history.ensures.granted c.know_domain.ensures c.args.seat c.args.place request read c.in-None.stand c.push.new.self.rows
+    c.streams_follow_history.ensures.granted c.know_domain.ensures c.args.seat c.args.place request read (standing_of c.in_ok-stand-in-None.stand)
+    c.push.new.self.rows
     (record { no = c.len-no.result; effect = record { 0 = i.sealed } }) low is of c.in-None.ensures
+    c.in_ok-stand-in-None.ensures
     (λ k. record { no = c.len-no.ensures k; effect = record { 0 = i.sealed } }) c.push.ensures.rows c.enter.ensures).holds
 
 pub invariant_of-self-in-Some : goal.invariant_of-self-in-Some
@@ -221,7 +270,7 @@ invariant_of-self-in-Some c =
     c.self.invariant.4 c.args.self.now c.self.view_is c.reserve.ensures.items few laws.goes_on laws.counted laws.held c.know_domain.ensures
     c.args.seat c.args.place
     request read c.in-Some.refused low is of c.in-Some.ensures c.enter-in-Some.ensures in
-    (done.of, known, c.self.invariant.2, c.reserve-2.ensures.names ∙ c.self.invariant.3, done.there)
+    (done.of, known, c.self.invariant.2, c.reserve-2.ensures.names ∙ c.self.invariant.3, done.there, c.reserve-2.ensures.links ∙ c.self.invariant.5)
 
 pub returns-in-Some-clause-answers : goal.returns-in-Some-clause-answers
 returns-in-Some-clause-answers c =
