@@ -70,7 +70,7 @@ costs_same (row ∷ rows) l cycle paced =
     omega (arith, a, b, first, rest)
 
 -- the greatest of numbers that are all the same
-most_same : (x n : ℕ) → fold max 0 (each_below (λ k. x ∷ []) (suc n)) ≡ x
+pub most_same : (x n : ℕ) → fold max 0 (each_below (λ k. x ∷ []) (suc n)) ≡ x
 most_same x zero = omega arith
 most_same x (suc n) = fold_push max 0 (each_below (λ k. x ∷ []) (suc n)) x ∙ ap (λ z. max z x) (most_same x n) ∙ itself
   where

@@ -1,5 +1,5 @@
 -- Streams that are admitted in turn cost of each link what the whole list does.
-use Rattle.std.proofs.Common.{ℕ, ◌≡◌, ◌+◌, ◌∙◌, List, [], ◌∷◌, Ok, ap, absurd, fold, inl, inr, if◌then◌else◌, max, subst, sym, true}
+use Rattle.std.proofs.Common.{ℕ, ◌≡◌, ◌+◌, ◌∙◌, List, [], ◌∷◌, Ok, ap, fold, inl, inr, if◌then◌else◌, max, subst, sym, true}
 use Rattle.cqf_model.specs.Domain.{Domain}
 use Rattle.cqf_lists.specs.Lists.{each_below}
 use Rattle.cqf_lists.proofs.Members.{contains_cases, contains_none}

@@ -1,5 +1,5 @@
 -- Streams that are listed, and what is kept of them.
-use Rattle.std.proofs.Common.{ℕ, ◌≡◌, ◌≤◌, ◌<◌, ◌+◌, ◌++◌, ◌∙◌, Bool, Contains, cond, List, [], ◌∷◌, length, map, ap, absurd, arith, subst, sym, refl, inl, inr}
+use Rattle.std.proofs.Common.{ℕ, ◌≡◌, ◌≤◌, ◌<◌, ◌+◌, ◌++◌, ◌∙◌, Bool, Contains, cond, List, [], ◌∷◌, length, map, ap, arith, subst, sym, refl, inl, inr}
 use Rattle.std.specs.Prelude.{count_by, if◌then◌else◌, replicate, slice_index_or, ◌==◌, ◌^◌}
 use Rattle.std.specs.List.{list_any}
 use Rattle.cqf_admission_trees.specs.Sums.{part_on}
