@@ -78,3 +78,25 @@ module _ (links : List ℕ) (i : ℕ) (apart : AllPairs (λ (a b : ℕ). a ≢ b
       number ≤ get_or now (get_or links i 0) 0
   held_next sums now number low held so_far =
       omega (arith, so_far.each (get_or links i 0) low, here number, in_all number, held (get_or links i 0) low)
+
+  -- so of the next link as a loop has it
+  pub more_step : (sums now : List ℕ) (number place : ℕ) → place ≡ get_or links i place → place < length sums → AreMoreOn sums (take i links) number now →
+      AreMoreOn sums (take (i + 1) links) number (set now place (get_or now place 0 + number))
+  more_step sums now number place same low so_far =
+      let is : place ≡ get_or links i 0 = same ∙ get_or_default links i place 0 inside in
+      subst (λ (p : ℕ). AreMoreOn sums (take (i + 1) links) number (set now p (get_or now p 0 + number))) (sym is)
+      (more_next sums now number (subst (λ (p : ℕ). p < length sums) is low) so_far)
+
+  pub less_step : (sums now : List ℕ) (number place : ℕ) → place ≡ get_or links i place → place < length sums → AreLessOn sums (take i links) number now →
+      AreLessOn sums (take (i + 1) links) number (set now place (get_or now place 0 - number))
+  less_step sums now number place same low so_far =
+      let is : place ≡ get_or links i 0 = same ∙ get_or_default links i place 0 inside in
+      subst (λ (p : ℕ). AreLessOn sums (take (i + 1) links) number (set now p (get_or now p 0 - number))) (sym is)
+      (less_next sums now number (subst (λ (p : ℕ). p < length sums) is low) so_far)
+
+-- before the first link they are as they were
+pub more_none : (sums links : List ℕ) (number : ℕ) → AreMoreOn sums (take 0 links) number sums
+more_none sums links number = record { as_many = refl; each = λ l within. omega arith }
+
+pub less_none : (sums links : List ℕ) (number : ℕ) → AreLessOn sums (take 0 links) number sums
+less_none sums links number = record { as_many = refl; each = λ l within. omega arith }
