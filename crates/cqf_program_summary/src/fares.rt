@@ -1,6 +1,5 @@
 //! How the frames of a stream fare to its listeners.
 ghost use Rattle.std.specs.Prelude.{ℕ, ◌≡◌, ◌+◌, ◌*◌, ◌≤◌, ◌<◌, ◌^◌, ◌++◌, ◌∷◌, [], Some, None, IfOk, OnOk, if◌then◌else◌, length, map, position, slice_get};
-ghost use Rattle.cqf_laws_latency.specs.Latency.{most_of};
 ghost use Rattle.cqf_model.specs.Domain.{end_of};
 ghost use Rattle.cqf_program_plans.specs.LatencyText.{is_station};
 ghost use Rattle.cqf_program_runs.specs.Deliveries.{fate_of};
@@ -12,10 +11,10 @@ ghost use Rattle.cqf_program_summary.specs.Summary.{listener_to, way_to, ways_of
 use crate::listing::Listed;
 use crate::tallies::{Tally, count_dropped, drops_of};
 use cqf_model::{Hop, Row};
-use cqf_program_plans::listener_at;
+use cqf_program_plans::{listener_at, most_to};
 use cqf_program_runs::{Delivery, Fate, Journey, Passage};
 use cqf_topology::Domain;
-use cqf_units::{Memory, Name, Nanos, octet_time};
+use cqf_units::{Memory, Name, Nanos};
 use std::alloc::Global;
 use std::marker::Model;
 
@@ -69,17 +68,6 @@ pub(crate) struct Others {
     pub(crate) offered: u32,
     /// How many of them are dropped.
     pub(crate) dropped: u32,
-}
-
-/// The most that a frame takes to the end of a link of this depth, of which streams cost so much.
-fn most_to(domain: &Domain, link: u8, depth: u8, cost: u64) -> u64
-    requires link { link < length domain.now.links }
-    requires cost { cost ≤ 2 ^ 32 * 100000 }
-    ensures { result ≡ most_of domain.now link depth cost }
-{
-    let (cycle_time, ends) = (domain.cycle_time().0, domain.link(link));
-    let waits = u64::from(depth) * cycle_time;
-    waits + octet_time(ends.rate) * cost.saturating_sub(12) + u64::from(ends.delay)
 }
 
 /// The listener at the end of a hop, where one is there. Hops by links that the domain lacks have none.

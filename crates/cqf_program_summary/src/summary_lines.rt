@@ -9,6 +9,7 @@ ghost use Rattle.cqf_program_summary.specs.SummaryText.{count_fields, last_field
 use crate::fares::{Fares, Listener, Others, Way};
 use crate::sums::Sums;
 use crate::tallies::{Taken, Tally};
+use cqf_program_plans::put_deadline;
 use cqf_program_press::{Press, Sink};
 
 /// Puts the header.
@@ -62,15 +63,6 @@ fn put_most<W: Sink>(press: &mut Press<'_, W>, taken: Option<Taken>)
 {
     if let Some(taken) = taken {
         press.put_number(taken.most);
-    }
-}
-
-/// Puts a deadline, where there is one.
-fn put_deadline<W: Sink>(press: &mut Press<'_, W>, deadline: Option<u32>)
-    ensures { Puts W.contents press.old press.new (text_of_deadline deadline) }
-{
-    if let Some(deadline) = deadline {
-        press.put_number(deadline);
     }
 }
 

@@ -2,7 +2,7 @@ use Rattle.std.proofs.Common.{◌≡◌, ◌∙◌, ap, ap₂}
 use Rattle.std.proofs.lemmas.Result.{IfOk-weaker}
 use Rattle.clap.specs.Words.{App, app_of, with_subcommand}
 use Rattle.cqf_program_words.specs.Words.{named_app, port_app}
-use Rattle.cqf_program_words.proofs.words.commands_without_domain.Goals as goal
+use Rattle.cqf_program_words.proofs.commands.commands_without_domain.Goals as goal
 
 -- the two commands, one after the other
 pub returns-clause-app : goal.returns-clause-app

@@ -2,7 +2,7 @@ use Rattle.std.proofs.Common.{◌≡◌, ◌∙◌, ap, ap₂}
 use Rattle.std.proofs.lemmas.Result.{IfOk-weaker}
 use Rattle.clap.specs.Words.{App, app_of, with_subcommand}
 use Rattle.cqf_program_words.specs.Words.{app_of_runs, summary_app}
-use Rattle.cqf_program_words.proofs.words.commands_of_scenarios.Goals as goal
+use Rattle.cqf_program_words.proofs.commands.commands_of_scenarios.Goals as goal
 
 -- and those that tell a run counted, and frame by frame
 pub returns-clause-app : goal.returns-clause-app

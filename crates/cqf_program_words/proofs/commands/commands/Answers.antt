@@ -2,7 +2,7 @@ use Rattle.std.proofs.Common.{◌≡◌, ◌∙◌, ap, ap₂}
 use Rattle.std.proofs.lemmas.Result.{IfOk-weaker}
 use Rattle.clap.specs.Words.{App, app_of, with_subcommand}
 use Rattle.cqf_program_words.specs.Words.{app_of_scenarios, offers_app}
-use Rattle.cqf_program_words.proofs.words.commands.Goals as goal
+use Rattle.cqf_program_words.proofs.commands.commands.Goals as goal
 
 -- and the two that make input of other commands: what is offered, and a plant
 pub returns-clause-app : goal.returns-clause-app

@@ -2,7 +2,7 @@ use Rattle.std.proofs.Common.{◌≡◌, ◌∙◌, ap, ap₂}
 use Rattle.std.proofs.lemmas.Result.{IfOk-weaker}
 use Rattle.clap.specs.Words.{App, app_of, with_subcommand}
 use Rattle.cqf_program_words.specs.Words.{app_without_domain, compile_app, load_app}
-use Rattle.cqf_program_words.proofs.words.first_commands.Goals as goal
+use Rattle.cqf_program_words.proofs.commands.first_commands.Goals as goal
 
 -- and the three that take a domain, one after the other
 pub returns-clause-app : goal.returns-clause-app
