@@ -1,51 +1,38 @@
 -- What a script admits is told of, so each row that covers an offer is that of a stream of which is told.
-use Rattle.std.proofs.Common.{◌≡◌, ◌∙◌, ◌∷◌, [], ℕ, Bool, true, false, Contains, List, Some, None, Option, Result, Ok, Err, ap, filter, refl, subst, sym, take}
-use Rattle.std.specs.Prelude.{◌&&◌, is_none, nat_le, not, slice_get}
+use Rattle.std.proofs.Common.{◌≡◌, ◌∙◌, ℕ, Bool, true, List, Some, None, Option, Result, Ok, ap, filter, refl, subst, sym, take}
+use Rattle.std.specs.Prelude.{◌&&◌, is_none, nat_le, not}
 use Rattle.std.proofs.lemmas.Bool.{le-leb}
 use Rattle.cqf_lists.specs.Lists.{or_else}
 use Rattle.cqf_lists.specs.Results.{and_then}
-use Rattle.cqf_lists.proofs.Members.{contains_filter, contains_from_filter, find_member, place_of_member}
+use Rattle.cqf_lists.proofs.Members.{contains_filter, place_of_member}
 use Rattle.cqf_units.specs.Name.{is_name}
 use Rattle.cqf_model.specs.declared.frames.Background.{Background}
 use Rattle.cqf_model.specs.declared.frames.Offer.{Offer}
-use Rattle.cqf_model.specs.declared.frames.Offered.{Offered}
 use Rattle.cqf_model.specs.declared.history.Receipt.{Receipt}
 use Rattle.cqf_model.specs.declared.history.Refused.{Refused}
 use Rattle.cqf_model.specs.declared.history.Refused.TheVariants.{BadName, BadOctets, UnknownNode, BrokenPath, LoopingPath, NotATree}
-use Rattle.cqf_model.specs.declared.history.Reply.{Reply}
 use Rattle.cqf_model.specs.declared.history.Reply.TheVariants.{Accepted}
 use Rattle.cqf_model.specs.declared.topology.Row.{Row}
-use Rattle.cqf_model.specs.Domain.{Domain, is_text}
-use Rattle.cqf_model.specs.History.{Admits, Asked, IsLegalHistory, Recorded, admit_reply, held_in, next_number, refusal_of, refused_at, refused_if, reply_to, seals}
-use Rattle.cqf_model.specs.Shift.{IsCovered, offer_cycle}
-use Rattle.cqf_model.specs.Table.{table_of}
-use Rattle.cqf_model.proofs.Texts.{is_text_same}
+use Rattle.cqf_model.specs.Domain.{Domain}
+use Rattle.cqf_model.specs.History.{Asked, IsLegalHistory, Recorded, admit_reply, held_in, next_number, refusal_of, refused_at, refused_if, reply_to, seals}
 use Rattle.cqf_laws_history.proofs.Granted.{granted}
-use Rattle.cqf_laws_latency.specs.Streams.{AdmitsOnly, IsOfList, RowsAreOfList}
+use Rattle.cqf_laws_latency.specs.Streams.{AdmitsOnly}
 use Rattle.cqf_text.specs.Lines.{lines_of}
 use Rattle.cqf_text.specs.Parts.{parts_of}
 use Rattle.cqf_topology.specs.DomainText.{domain_of_text}
 use Rattle.cqf_topology.specs.PlannedText.{PlannedText, planned_of_text}
-use Rattle.cqf_admission_trees.specs.Branches.{tree_refusal}
-use Rattle.cqf_admission.specs.Judging.{form_refusal}
 use Rattle.cqf_admission_script.specs.Script.{Called, administrators, script_of}
 use Rattle.cqf_program_stop.specs.Stops.{or_line}
-use Rattle.cqf_program_scenario.specs.Calls.{history_of}
 use Rattle.cqf_program_scenario.specs.Lines.{domain_line, script_line, streams_line}
 use Rattle.cqf_program_scenario.specs.Parts.{RunTexts, run_parts}
 use Rattle.cqf_program_scenario.specs.Scenario.{Scenario, frames_of_part, scenario_behind}
 use Rattle.cqf_program_plans.specs.LatencyInput.{asked_in}
 use Rattle.cqf_program_plans.proofs.CompileLemmas.{same_ok}
-use Rattle.cqf_program_runs.specs.PlannedScenario.{planned_scenario, planned_scenario_of, run_of_scenario}
-use Rattle.cqf_program_laws.specs.ScriptLaws.{AskOnly, HistoriesAdmitOnly, ScriptsAskOnly}
-use Rattle.cqf_program_laws.proofs.Scripts.{stepped}
+use Rattle.cqf_program_runs.specs.PlannedScenario.{planned_scenario, planned_scenario_of}
+use Rattle.cqf_program_laws.specs.ScriptLaws.{AskOnly, ScriptsAskOnly}
+use Rattle.cqf_program_laws.proofs.Scripts.{lined, stepped}
 use Rattle.cqf_program_summary.specs.Told.{is_good, told_streams}
 use Rattle.cqf_program_laws.proofs.Firsts.{firsts, script_first, told_has}
-
--- a value with a line for its fault is the value
-lined : {A E : Type 0} (line : E → List ℕ) (found : Result A E) (x : A) → or_line line found ≡ Ok x → found ≡ Ok x
-lined line (Err e) x h = absurd cc
-lined line (Ok y) x h = cc
 
 -- the calls of a scenario that was read are those of its script
 abbrev Read : Type 0

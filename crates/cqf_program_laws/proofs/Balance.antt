@@ -1,7 +1,6 @@
 -- Each offer that a row counts ends in just one of four ways.
-use Rattle.std.proofs.Common.{◌≡◌, ◌∙◌, ◌+◌, ◌∷◌, ◌<◌, [], ℕ, Bool, true, false, Contains, List, Some, None, Option, ap, arith, count_by, filter, if◌then◌else◌, length, map, nat_lt, refl, subst, sum_by, sym}
-use Rattle.std.specs.Prelude.{◌&&◌, cond}
-use Rattle.std.specs.List.{flat_map}
+use Rattle.std.proofs.Common.{◌≡◌, ◌∙◌, ◌+◌, ◌∷◌, ◌<◌, [], ℕ, Bool, true, false, Contains, List, Some, None, Option, ap, arith, count_by, if◌then◌else◌, length, nat_lt, refl, sum_by, sym}
+use Rattle.std.specs.Prelude.{◌&&◌}
 use Rattle.std.proofs.lemmas.Bool.Decides.{nat_tests}
 use Rattle.cqf_lists.proofs.EachBelow.{fold_same}
 use Rattle.cqf_lists.proofs.Members.{contains_from_map, contains_none, contains_one}
@@ -18,7 +17,7 @@ use Rattle.cqf_program_runs.specs.declared.delivery.Journey.{Journey}
 use Rattle.cqf_program_runs.specs.declared.delivery.Passage.{Passage}
 use Rattle.cqf_program_runs.specs.declared.delivery.Passage.TheVariants as passage
 use Rattle.cqf_program_runs.specs.Checked.{is_delivered, is_under_way}
-use Rattle.cqf_program_runs.specs.Deliveries.{arrival_at_listener, end_of_journey, end_of_passage, fate_of, latency_of}
+use Rattle.cqf_program_runs.specs.Deliveries.{end_of_journey, end_of_passage, fate_of, latency_of}
 use Rattle.cqf_model.specs.declared.frames.Dropped.{Dropped}
 use Rattle.cqf_model.specs.Book.{Contents}
 use Rattle.cqf_model.specs.Domain.{is_text}

@@ -1,10 +1,9 @@
 -- What frames took that came is within the bounds of their row.
-use Rattle.std.proofs.Common.{◌≡◌, ◌≢◌, ◌∙◌, ◌+◌, ◌-◌, ◌∷◌, ◌≤◌, [], ℕ, Bool, true, false, Contains, List, Some, None, Option, ap, arith, filter, if◌then◌else◌, inl, inr, length, map, refl, subst, subst₂, sym}
+use Rattle.std.proofs.Common.{◌≡◌, ◌≢◌, ◌∙◌, ◌∷◌, ◌≤◌, [], ℕ, Bool, true, false, Contains, List, Some, None, Option, ap, arith, filter, if◌then◌else◌, length, refl, subst, subst₂, sym}
 use Rattle.std.specs.Prelude.{fold, max, min}
 use Rattle.std.proofs.Math.Nat.{le-min, max-le}
-use Rattle.std.proofs.lemmas.Bool.{cases_Bool}
 use Rattle.std.proofs.lemmas.Option.{same_Some}
-use Rattle.cqf_lists.proofs.Members.{contains_cases, contains_from_filter, contains_from_flat, contains_from_map, contains_here, contains_later, contains_none, contains_one, find_member}
+use Rattle.cqf_lists.proofs.Members.{contains_from_filter, contains_from_flat, contains_from_map, contains_here, contains_later, contains_none, contains_one, find_member}
 use Rattle.cqf_lists.proofs.Pairs.{one_of_pairs}
 use Rattle.cqf_units.specs.declared.timing.Nanos.{Nanos}
 use Rattle.cqf_model.specs.declared.frames.Offered.{Offered}
@@ -18,7 +17,7 @@ use Rattle.cqf_model.specs.declared.history.Refused.{Refused}
 use Rattle.cqf_model.specs.Shift.{InShift, offer_cycle, row_for}
 use Rattle.cqf_model.specs.Table.{IsTree, table_of}
 use Rattle.cqf_model.specs.Traffic.{numbered}
-use Rattle.cqf_model.proofs.Texts.{is_text_itself, is_text_same}
+use Rattle.cqf_model.proofs.Texts.{is_text_same}
 use Rattle.cqf_laws_history.specs.HistoryLaws.{TablesAreOrderly}
 use Rattle.cqf_laws_history.specs.StateLaws.{granted_row}
 use Rattle.cqf_laws_latency.specs.Latency.{IsTimely, least_of, most_of, whole_of}
@@ -35,7 +34,7 @@ use Rattle.cqf_program_runs.specs.declared.delivery.Delivery.{Delivery}
 use Rattle.cqf_program_runs.specs.declared.delivery.Journey.{Journey}
 use Rattle.cqf_program_runs.specs.declared.delivery.Passage.{Passage}
 use Rattle.cqf_program_runs.specs.declared.delivery.Passage.TheVariants as passage
-use Rattle.cqf_program_runs.specs.ArrivalLaws.{ArrivalsAreTheShift, IsArrivalOfOffer, goes_to, has_come}
+use Rattle.cqf_program_runs.specs.ArrivalLaws.{ArrivalsAreTheShift, IsArrivalOfOffer, has_come}
 use Rattle.cqf_program_runs.specs.Deliveries.{deadline_named, deliveries_of, end_of_journey, end_of_passage, fate_of, latency_of, whole_instant}
 use Rattle.cqf_program_runs.specs.PlannedScenario.{run_of_scenario}
 use Rattle.cqf_program_runs.proofs.Arrived.{at_start, come_by}
@@ -45,7 +44,7 @@ use Rattle.cqf_program_summary.specs.declared.fares.Listener.{Listener}
 use Rattle.cqf_program_summary.specs.declared.fares.Way.{Way}
 use Rattle.cqf_program_summary.specs.declared.tallies.Taken.{Taken}
 use Rattle.cqf_program_summary.specs.Summary.{Fare, deliveries_named, fare_of, listener_to, listeners_by, name_of_listener, offers_within, way_to, ways_of}
-use Rattle.cqf_program_laws.specs.SummaryLaws.{AreWithinBounds, IsReadRun, LatenciesAreBounded}
+use Rattle.cqf_program_laws.specs.SummaryLaws.{IsReadRun, LatenciesAreBounded}
 use Rattle.cqf_program_summary.specs.Tallies.{latencies_to, latency_by, latency_on, reaches, taken_of}
 use Rattle.cqf_program_summary.specs.Told.{is_good, row_of_stream, row_unless, told_cost, told_streams}
 use Rattle.cqf_program_laws.proofs.RowLaws.{IsOwnRow, admits_told, own_row}

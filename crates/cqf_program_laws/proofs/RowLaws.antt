@@ -1,8 +1,7 @@
 -- Rows of a summary add up.
-use Rattle.std.proofs.Common.{◌≡◌, ◌∙◌, ◌+◌, ◌∷◌, [], ℕ, Bool, true, false, Contains, List, Some, None, Option, Ok, ap, arith, count_by, filter, is_none, length, map, refl, subst, sum_by, sym}
-use Rattle.std.specs.Prelude.{is_none, option_map}
-use Rattle.cqf_lists.proofs.EachBelow.{length-singles}
-use Rattle.cqf_lists.proofs.Members.{contains_from_filter, contains_from_map, contains_filter, contains_one, find_member}
+use Rattle.std.proofs.Common.{◌≡◌, ◌∙◌, ◌+◌, ℕ, true, false, Contains, List, Some, None, Option, ap, filter, is_none, length, refl, subst, sym}
+use Rattle.std.specs.Prelude.{is_none}
+use Rattle.cqf_lists.proofs.Members.{contains_from_filter, contains_from_map, find_member}
 use Rattle.cqf_lists.proofs.Pairs.{one_of_pairs}
 use Rattle.cqf_model.specs.declared.frames.Offered.{Offered}
 use Rattle.cqf_model.specs.declared.history.Refused.{Refused}
@@ -10,15 +9,15 @@ use Rattle.cqf_model.specs.declared.topology.Hop.{Hop}
 use Rattle.cqf_model.specs.declared.topology.Row.{Row}
 use Rattle.cqf_model.specs.Book.{Contents}
 use Rattle.cqf_model.specs.Domain.{Domain, end_of, is_text}
-use Rattle.cqf_model.specs.History.{Asked, IsLegalHistory, Recorded, tables_of, tree_of}
+use Rattle.cqf_model.specs.History.{Asked, tree_of}
 use Rattle.cqf_model.specs.Run.{Run}
 use Rattle.cqf_model.specs.Shift.{IsCovered, offer_cycle}
-use Rattle.cqf_model.specs.Table.{AreOrderly, table_of}
+use Rattle.cqf_model.specs.Table.{table_of}
 use Rattle.cqf_model.specs.Traffic.{numbered}
 use Rattle.cqf_model.proofs.Texts.{is_text_itself, is_text_same}
 use Rattle.cqf_laws_history.specs.HistoryLaws.{TablesAreOrderly}
 use Rattle.cqf_laws_history.specs.StateLaws.{granted_row}
-use Rattle.cqf_laws_latency.specs.Streams.{AdmitsOnly, IsOfList, RowsAreOfList}
+use Rattle.cqf_laws_latency.specs.Streams.{AdmitsOnly, RowsAreOfList}
 use Rattle.cqf_topology.specs.PlannedText.{PlannedText}
 use Rattle.cqf_admission.specs.Judging.{form_refusal}
 use Rattle.cqf_program_scenario.specs.Calls.{history_of}
@@ -26,7 +25,6 @@ use Rattle.cqf_program_scenario.specs.Scenario.{Scenario}
 use Rattle.cqf_program_plans.specs.EndNames.{name_of_end}
 use Rattle.cqf_program_plans.specs.LatencyInput.{asked_in}
 use Rattle.cqf_program_plans.specs.LatencyText.{is_station, listeners_of}
-use Rattle.cqf_program_runs.specs.declared.delivery.Delivery.{Delivery}
 use Rattle.cqf_program_runs.specs.ArrivalLaws.{EachIsToldOnce, EachListenerIsToldOnce}
 use Rattle.cqf_program_runs.specs.Deliveries.{deadline_named, deliveries_of}
 use Rattle.cqf_program_runs.specs.PlannedScenario.{run_of_scenario}
@@ -34,7 +32,7 @@ use Rattle.cqf_program_laws.specs.ScriptLaws.{HistoriesAdmitOnly, HistoriesAreLe
 use Rattle.cqf_program_summary.specs.declared.fares.Listener.{Listener}
 use Rattle.cqf_program_summary.specs.declared.fares.Way.{Way}
 use Rattle.cqf_program_summary.specs.Summary.{Fare, deliveries_named, fare_of, listener_to, listeners_by, name_of_listener, offers_named, offers_within, way_to, ways_of}
-use Rattle.cqf_program_laws.specs.SummaryLaws.{IsReadRun, IsRowOf, RowsAddUp}
+use Rattle.cqf_program_laws.specs.SummaryLaws.{IsReadRun, RowsAddUp}
 use Rattle.cqf_program_summary.specs.Told.{is_good, row_of_stream, row_unless, told_cost, told_streams}
 use Rattle.cqf_program_laws.proofs.Admitted.{admits_good, asks_firsts}
 use Rattle.cqf_program_laws.proofs.Balance.{four_counts, row_adds_up}
