@@ -14,12 +14,13 @@ pub cycles_rise : (n s t : ℕ) → s ≤ t → s / n ≤ t / n
 cycles_rise zero s t order = omega (arith, div-zero s, div-zero t)
 cycles_rise (suc n) s t order = cycles_ordered (suc n) s t (omega arith) order
 
-module _ (n : ℕ) (offers : List Offer) (ordered : StandInOrder offers) where
-  -- the cycle of an offer
-  abbrev pub cycle : Offer → ℕ
-  cycle offer = cycle_at n offer.at.0
+-- below a place, whatever stands so many places behind another is of a cycle so deep behind the other's
+abbrev pub EnoughBelow : ℕ → List Offer → ℕ → ℕ → ℕ → Type 0
+EnoughBelow n offers depth place frames = (p : ℕ) (early late : Offer) → p + frames < place → slice_get offers p ≡ Some early →
+    slice_get offers (p + frames) ≡ Some late → cycle_at n early.at.0 + depth ≤ cycle_at n late.at.0
 
-  pub in_order : (p q : ℕ) (a b : Offer) → p ≤ q → slice_get offers p ≡ Some a → slice_get offers q ≡ Some b → cycle a ≤ cycle b
+module _ (n : ℕ) (offers : List Offer) (ordered : StandInOrder offers) where
+  pub in_order : (p q : ℕ) (a b : Offer) → p ≤ q → slice_get offers p ≡ Some a → slice_get offers q ≡ Some b → cycle_at n a.at.0 ≤ cycle_at n b.at.0
   in_order p q a b before at_p at_q = elim (cases_lt p q) [
     | inl less ↦
         let one : get_or offers p a ≡ a = get_or_from_slice_get offers p a a at_p in
@@ -30,18 +31,13 @@ module _ (n : ℕ) (offers : List Offer) (ordered : StandInOrder offers) where
         let same : p ≡ q = omega (arith, before, past) in
         let both : Some a ≡ Some b = sym at_p ∙ ap (slice_get offers) same ∙ at_q in
         let is : a ≡ b = cc in
-        omega (arith, ap cycle is)
+        omega (arith, ap (λ (o : Offer). cycle_at n o.at.0) is)
   ]
 
-  -- below a place
-  abbrev pub EnoughBelow : ℕ → ℕ → ℕ → Type 0
-  EnoughBelow depth place frames = (p : ℕ) (early late : Offer) → p + frames < place → slice_get offers p ≡ Some early →
-      slice_get offers (p + frames) ≡ Some late → cycle early + depth ≤ cycle late
-
-  module _ (depth place frames : ℕ) (below : EnoughBelow depth place frames) where
+  module _ (depth place frames : ℕ) (below : EnoughBelow n offers depth place frames) where
     -- where that holds of the last one too
     pub enough_same : ((p : ℕ) (early late : Offer) → p + frames ≡ place → slice_get offers p ≡ Some early → slice_get offers place ≡ Some late →
-        cycle early + depth ≤ cycle late) → EnoughBelow depth (place + 1) frames
+        cycle_at n early.at.0 + depth ≤ cycle_at n late.at.0) → EnoughBelow n offers depth (place + 1) frames
     enough_same last p early late inside at_early at_late = elim (cases_lt (p + frames) place) [
       | inl less ↦ below p early late less at_early at_late
       | inr past ↦
@@ -50,7 +46,7 @@ module _ (n : ℕ) (offers : List Offer) (ordered : StandInOrder offers) where
     ]
 
     -- and else of one place more
-    pub enough_more : 0 < frames → EnoughBelow depth (place + 1) (frames + 1)
+    pub enough_more : 0 < frames → EnoughBelow n offers depth (place + 1) (frames + 1)
     enough_more some p early late inside at_early at_late =
         let before : p + frames < length offers = omega (arith, slice_get_within offers (p + (frames + 1)) late at_late) in
         let middle = get_or offers (p + frames) early in

@@ -1,38 +1,42 @@
 -- What is kept of the frames under way, start by start.
 use Rattle.std.proofs.Common.{◌≡◌, ◌≢◌, ◌∙◌, ◌++◌, ◌∷◌, [], ◌<◌, ◌+◌, ◌≤◌, ◌⊎◌, ◌==◌, ◌&&◌, ℕ, Bool, true, false, List, Option, Some, None, Contains}
-use Rattle.std.proofs.Common.{ap, append-nil, append_assoc, arith, cond, drop, find, get_or, inl, inr, length, map, option_map, position, refl, subst, sym}
+use Rattle.std.proofs.Common.{ap, append-nil, append_assoc, arith, cond, drop, find, get_or, inl, inr, length, map, option_map, position, refl, replicate, set, subst, sym, take}
+use Rattle.std.specs.Global.{Global}
 use Rattle.std.specs.Option.{option_and_then, option_or}
+use Rattle.std.specs.declared.vec.Vec.{Vec}
 use Rattle.std.specs.Prelude.{slice_get, suc, zero}
 use Rattle.std.proofs.lemmas.Bool.{cases_Bool, cases_lt}
 use Rattle.std.proofs.lemmas.Bool.Decides.{nat_tests}
-use Rattle.std.proofs.lemmas.List.{get_or_append_left, length-append}
+use Rattle.std.proofs.lemmas.List.{get_or-map, get_or-replicate, get_or-set_other, get_or-set_same, get_or_append_left, get_or_past, length-append}
+use Rattle.std.proofs.lemmas.List.{length-map, length-replicate, length-set, map-append, map-set}
 use Rattle.std.proofs.lemmas.List.Folds.{find-append}
 use Rattle.std.proofs.lemmas.List.Quantifiers.{position-Some}
-use Rattle.std.proofs.lemmas.Option.{slice_get_within}
+use Rattle.std.proofs.lemmas.Option.{slice_get-get_or, slice_get_within}
 use Rattle.cqf_compile.proofs.Bridges.{no_hop}
-use Rattle.cqf_lists.proofs.Members.{contains_at}
+use Rattle.cqf_lists.proofs.Members.{contains_at, contains_from_filter}
 use Rattle.cqf_units.specs.declared.timing.Nanos.{Nanos}
 use Rattle.cqf_model.specs.declared.frames.Started.{Started}
 use Rattle.cqf_model.specs.declared.topology.Hop.{Hop}
 use Rattle.cqf_model.specs.declared.topology.Row.{Row}
-use Rattle.cqf_model.specs.Domain.{Domain}
+use Rattle.cqf_model.specs.declared.topology.Link.{Link}
+use Rattle.cqf_model.specs.Domain.{Domain, end_of}
 use Rattle.cqf_instants_coverage.specs.declared.judged.Judgement.{Judgement}
 use Rattle.cqf_instants_coverage.specs.declared.judged.Judgement.TheVariants.{Covered, Dropped}
-use Rattle.cqf_program_plans.specs.LatencyText.{listeners_of}
+use Rattle.cqf_program_plans.specs.LatencyText.{is_station, listeners_of}
 use Rattle.cqf_program_runs.specs.Deliveries.{whole_instant, whole_on}
-use Rattle.cqf_program_runs.specs.UnderWay.{AreSlots, KeepsInSlot, NotesAll, column_of, row_at, row_judged}
+use Rattle.cqf_program_runs.specs.UnderWay.{AreEmptySlots, AreSlots, KeepsFirst, KeepsInSlot, NotesAll, column_of, row_at, row_judged, slots_of}
 
 -- what is made of the first of two
 map_or : {X Y : Type 0} (f : X → Y) (a b : Option X) → option_map f (option_or a b) ≡ option_or (option_map f a) (option_map f b)
 map_or f None b = refl
 map_or f (Some x) b = refl
 
-or_none : {X : Type 0} (a : Option X) → option_or a None ≡ a
+pub or_none : {X : Type 0} (a : Option X) → option_or a None ≡ a
 or_none None = refl
 or_none (Some x) = refl
 
 -- two numbers that aren't both these
-not_these : (a b m n : ℕ) → (a ≡ m → b ≡ n → ⊥) → ((a == m) && (b == n)) ≡ false
+pub not_these : (a b m n : ℕ) → (a ≡ m → b ≡ n → ⊥) → ((a == m) && (b == n)) ≡ false
 not_these a b m n never = by (a == m) (b == n) refl refl
   where
     by : (p q : Bool) → (a == m) ≡ p → (b == n) ≡ q → ((a == m) && (b == n)) ≡ false
@@ -89,11 +93,151 @@ column_within d row link column at = (position-Some (λ (hop : Hop). hop.link ==
 pub one_link : (d : Domain) (row : Row) (a b column : ℕ) → column_of d row a ≡ Some column → column_of d row b ≡ Some column → a ≡ b
 one_link d row a b column one two =
     let hop = get_or (listeners_of d row) column no_hop in
-    let first : (hop.link == a) ≡ true = (position-Some (λ (h : Hop). h.link == a) (listeners_of d row) column no_hop one).1.0 in
-    let second : (hop.link == b) ≡ true = (position-Some (λ (h : Hop). h.link == b) (listeners_of d row) column no_hop two).1.0 in
+    let first : (hop.link == a) ≡ true = (position-Some (λ (h : Hop). h.link == a) (listeners_of d row) column no_hop one).1 in
+    let second : (hop.link == b) ≡ true = (position-Some (λ (h : Hop). h.link == b) (listeners_of d row) column no_hop two).1 in
     let is_a : hop.link ≡ a = grind (arith, nat_tests) in
     let is_b : hop.link ≡ b = grind (arith, nat_tests) in
     sym is_a ∙ is_b
+
+-- the row of which a column is found
+pub column_found : (d : Domain) (found : Option Row) (link column : ℕ) → option_and_then (λ (row : Row). column_of d row link) found ≡ Some column →
+    (row : Row) × (found ≡ Some row) × (column_of d row link ≡ Some column)
+column_found d None link column is = absurd (cc)
+column_found d (Some row) link column is = (row, refl, is)
+
+-- a link that ends in a station is one of the domain's, and one with a column ends in a station
+pub station_there : (d : Domain) (link : ℕ) → is_station (end_of d link) ≡ true → link < length d.links
+station_there d link is = by (slice_get d.links link) refl is
+  where
+    by : (o : Option Link) → slice_get d.links link ≡ o → is_station (option_map (λ (l : Link). l.to) o) ≡ true → link < length d.links
+    by None e h = absurd (cc)
+    by (Some l) e h = slice_get_within d.links link l e
+
+pub column_of_station : (d : Domain) (row : Row) (link column : ℕ) → column_of d row link ≡ Some column → is_station (end_of d link) ≡ true
+column_of_station d row link column at =
+    let found = position-Some (λ (hop : Hop). hop.link == link) (listeners_of d row) column no_hop at in
+    let hop = get_or (listeners_of d row) column no_hop in
+    let among : Contains (listeners_of d row) hop =
+    contains_at (listeners_of d row) column hop (slice_get-get_or (listeners_of d row) column no_hop found.0) in
+    let passes : (hop.link == link) ≡ true = found.1 in
+    let same : hop.link ≡ link = grind (arith, nat_tests) in
+    sym (ap (λ (l : ℕ). is_station (end_of d l)) same)
+    ∙ (contains_from_filter (λ (h : Hop). is_station (end_of d h.link)) row.tree.items hop among).1
+
+-- the slot at a place is set
+pub keeps_set : (slots : List (Vec (Option Nanos) Global)) (behind column : ℕ) (own old default : Vec (Option Nanos) Global) (whole : Nanos) →
+    behind < length slots → old ≡ get_or slots behind default → KeepsFirst old.items own.items column whole →
+    KeepsInSlot (slots_of slots) (slots_of (set slots behind own)) behind column whole
+keeps_set slots behind column own old default whole below at keeps = record {
+  as_many = ap length same ∙ length-set (slots_of slots) behind own.items;
+  own = subst (λ (before : List (Option Nanos)). KeepsFirst before (get_or (slots_of (set slots behind own)) behind []) column whole)
+      (ap items at ∙ sym (get_or-map items slots behind default [] below))
+      (subst (λ (after : List (Option Nanos)). KeepsFirst old.items after column whole) (sym set_there) keeps);
+  others = λ other apart.
+      ap (λ (zs : List (List (Option Nanos))). get_or zs other []) same ∙ get_or-set_other (slots_of slots) behind other own.items [] apart;
+}
+  where
+    -- the columns of a slot
+    items : Vec (Option Nanos) Global → List (Option Nanos)
+    items v = v.items
+
+    -- the slot set is seen in its place
+    same : slots_of (set slots behind own) ≡ set (slots_of slots) behind own.items
+    same = map-set (λ (v : Vec (Option Nanos) Global). v.items) slots behind own
+
+    set_there : get_or (slots_of (set slots behind own)) behind [] ≡ own.items
+    set_there =
+        ap (λ (zs : List (List (Option Nanos))). get_or zs behind []) same
+        ∙ get_or-set_same (slots_of slots) behind own.items [] (omega (arith, below, length-map slots items))
+
+-- the first slot is set, and is the last one then
+pub turned : (slots : List (Vec (Option Nanos) Global)) (own : Vec (Option Nanos) Global) → 0 < length slots →
+    slots_of (drop 1 (set slots 0 own) ++ take 1 (set slots 0 own)) ≡ drop 1 (slots_of slots) ++ own.items ∷ []
+turned [] own some = absurd (omega (arith, some))
+turned (x ∷ slots) own some = map-append (λ (v : Vec (Option Nanos) Global). v.items) slots (own ∷ [])
+
+pub turned_many : (slots : List (Vec (Option Nanos) Global)) (own : Vec (Option Nanos) Global) → 0 < length slots →
+    length (drop 1 (set slots 0 own) ++ take 1 (set slots 0 own)) ≡ length slots
+turned_many [] own some = absurd (omega (arith, some))
+turned_many (x ∷ slots) own some = (let joined = length-append slots (own ∷ []) in omega (arith, joined))
+
+abbrev no_slots : List (List (Option Nanos))
+no_slots = []
+
+abbrev no_columns : List (Option Nanos)
+no_columns = []
+
+-- past the end there is nothing
+past_none : (behind : ℕ) → get_or no_slots behind [] ≡ []
+past_none behind = get_or_past no_slots behind [] (omega arith)
+
+none_past : (column : ℕ) → get_or no_columns column None ≡ None
+none_past column = get_or_past no_columns column None (omega arith)
+
+-- no slots, and an empty one more
+pub empty_none : (width : ℕ) (slots : List (Vec (Option Nanos) Global)) → slots ≡ [] → AreEmptySlots width 0 (slots_of slots)
+empty_none width slots none = record {
+  count = ap (λ (xs : List (Vec (Option Nanos) Global)). length (slots_of xs)) none;
+  wide = λ behind below. absurd (omega (arith, below));
+  none = λ behind column.
+      ap (λ (xs : List (Vec (Option Nanos) Global)). get_or (get_or (slots_of xs) behind []) column None) none
+      ∙ ap (λ (xs : List (Option Nanos)). get_or xs column None) (past_none behind)
+      ∙ none_past column;
+}
+
+pub empty_more : (width n : ℕ) (slots after : List (Vec (Option Nanos) Global)) (last : Vec (Option Nanos) Global) →
+    AreEmptySlots width n (slots_of slots) → last.items ≡ replicate width None → after ≡ slots ++ last ∷ [] →
+    AreEmptySlots width (n + 1) (slots_of after)
+empty_more width n slots after last empty is joined = record {
+  count = ap length same ∙ length-append (slots_of slots) (last.items ∷ []) ∙ ap (λ (k : ℕ). k + 1) empty.count;
+  wide = λ behind below. ap (λ (xs : List (List (Option Nanos))). length (get_or xs behind [])) same ∙ wide_at behind below (cases_lt behind n);
+  none = λ behind column. ap (λ (xs : List (List (Option Nanos))). get_or (get_or xs behind []) column None) same ∙ none_at behind column (cases_lt behind n);
+}
+  where
+    same : slots_of after ≡ slots_of slots ++ last.items ∷ []
+    same = ap slots_of joined ∙ map-append (λ (v : Vec (Option Nanos) Global). v.items) slots (last ∷ [])
+
+    nothing : (column : ℕ) → get_or last.items column None ≡ None
+    nothing column = ap (λ (xs : List (Option Nanos)). get_or xs column None) is ∙ by (cases_lt column width)
+      where
+        columns : List (Option Nanos)
+        columns = replicate width None
+
+        by : (column < width) ⊎ (width ≤ column) → get_or columns column None ≡ None
+        by (inl inside) = get_or-replicate width column None None inside
+        by (inr past) = get_or_past columns column None (omega (arith, past, length-replicate {A = Option Nanos} width None))
+
+    at_last : get_or (slots_of slots ++ last.items ∷ []) n [] ≡ last.items
+    at_last = ap (λ (k : ℕ). get_or (slots_of slots ++ last.items ∷ []) k []) (sym empty.count) ∙ at_end (slots_of slots)
+      where
+        at_end : (xs : List (List (Option Nanos))) → get_or (xs ++ last.items ∷ []) (length xs) [] ≡ last.items
+        at_end [] = refl
+        at_end (x ∷ xs) = at_end xs
+
+    wide_at : (behind : ℕ) → behind < n + 1 → (behind < n) ⊎ (n ≤ behind) → length (get_or (slots_of slots ++ last.items ∷ []) behind []) ≡ width
+    wide_at behind below (inl l) =
+        ap (λ (slot : List (Option Nanos)). length slot) (get_or_append_left (slots_of slots) (last.items ∷ []) [] behind (omega (arith, l, empty.count)))
+        ∙ empty.wide behind l
+    wide_at behind below (inr g) =
+        let here : behind ≡ n = omega (arith, below, g) in
+        ap (λ (k : ℕ). length (get_or (slots_of slots ++ last.items ∷ []) k [])) here
+        ∙ ap (λ (slot : List (Option Nanos)). length slot) (at_last ∙ is) ∙ length-replicate {A = Option Nanos} width None
+
+    none_at : (behind column : ℕ) → (behind < n) ⊎ (n ≤ behind) → get_or (get_or (slots_of slots ++ last.items ∷ []) behind []) column None ≡ None
+    none_at behind column (inl l) =
+        ap (λ (slot : List (Option Nanos)). get_or slot column None)
+        (get_or_append_left (slots_of slots) (last.items ∷ []) [] behind (omega (arith, l, empty.count)))
+        ∙ empty.none behind column
+    none_at behind column (inr g) = elim (cases_lt n behind) [
+      | inl past ↦
+          ap (λ (slot : List (Option Nanos)). get_or slot column None)
+          (get_or_past (slots_of slots ++ last.items ∷ []) behind [] (omega (arith, past, empty.count, length-append (slots_of slots) (last.items ∷ []))))
+          ∙ none_past column
+      | inr least ↦
+          let here : behind ≡ n = omega (arith, g, least) in
+          ap (λ (k : ℕ). get_or (get_or (slots_of slots ++ last.items ∷ []) k []) column None) here
+          ∙ ap (λ (slot : List (Option Nanos)). get_or slot column None) at_last ∙ nothing column
+    ]
 
 -- the same or another
 same_or_other : (a b : ℕ) → (a ≡ b) ⊎ (a ≢ b)
@@ -102,7 +246,7 @@ same_or_other a b = elim (cases_Bool (a == b)) [
   | inr e ↦ inr (λ (same : a ≡ b). grind (arith, nat_tests))
 ]
 
-some_same : {X : Type 0} (x y : X) → Some x ≡ Some y → x ≡ y
+pub some_same : {X : Type 0} (x y : X) → Some x ≡ Some y → x ≡ y
 some_same x y e = cc
 
 module _ (d : Domain) (rows : List Row) (judgements : List Judgement) (place : ℕ) where

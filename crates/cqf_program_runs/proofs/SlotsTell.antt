@@ -1,7 +1,8 @@
 -- The deliveries of an offer by what is kept of its frame.
-use Rattle.std.proofs.Common.{◌≡◌, ◌∙◌, ◌+◌, ◌==◌, ℕ, Bool, true, false, List, Option, Some, None, Contains, ap, position, refl, sym}
+use Rattle.std.proofs.Common.{◌≡◌, ◌∙◌, ◌+◌, ◌==◌, ℕ, Bool, true, false, List, Option, Some, None, Contains, ap, arith, position, refl, sym}
 use Rattle.std.specs.Option.{option_and_then}
 use Rattle.std.specs.Prelude.{slice_get}
+use Rattle.std.proofs.lemmas.Bool.{false≢true}
 use Rattle.std.proofs.lemmas.Bool.Decides.{nat_tests}
 use Rattle.cqf_lists.proofs.Made.{map_same}
 use Rattle.cqf_lists.proofs.Members.{member_any}
@@ -29,7 +30,7 @@ has_column d row hop among = by (column_of d row hop.link) refl
         ∙ member_any (λ (h : Hop). h.link == hop.link) (listeners_of d row) hop among itself
 
     by : (o : Option ℕ) → column_of d row hop.link ≡ o → (column : ℕ) × (column_of d row hop.link ≡ Some column)
-    by None is = absurd (let both : is_some None ≡ true = sym (ap is_some is) ∙ known in cc)
+    by None is = absurd (false≢true (sym (ap is_some is) ∙ known))
     by (Some column) is = (column, is)
 
 -- so the deliveries to them are those by when it is whole

@@ -1,5 +1,5 @@
 //! The deliveries of a run that is over, offer by offer.
-ghost use Rattle.std.specs.Prelude.{ℕ, ◌≡◌, ◌+◌, ◌-◌, ◌≤◌, ◌<◌, [], Option, Some, None, if◌then◌else◌, length, slice_get};
+ghost use Rattle.std.specs.Prelude.{ℕ, ◌≡◌, ◌+◌, ◌-◌, ◌≤◌, ◌<◌, [], Option, Some, None, if◌then◌else◌, length, option_copied, slice_get};
 ghost use Rattle.cqf_instants_coverage.specs.Coverage.{verdict_of};
 ghost use Rattle.cqf_program_plans.specs.LatencyText.{is_station};
 ghost use Rattle.cqf_model.specs.declared.frames.Offered.{Offered as AnOffered};
@@ -118,6 +118,21 @@ fn put_to_listeners(
     }
 }
 
+/// The row at a place, where there is one.
+fn row_there(rows: &[Row], place: usize) -> Option<&Row>
+    ensures { option_copied result ≡ slice_get rows.now place }
+{
+    rows.get(place)
+}
+
+/// The judgement at a place.
+fn judgement_there(judgements: &[Judgement], place: usize) -> Judgement
+    requires { place < length judgements.now }
+    ensures { slice_get judgements.now place ≡ Some result }
+{
+    judgements[place]
+}
+
 /// Puts the deliveries of an offer that is judged so, whose frame has this deadline, by what is kept of it.
 fn put_judged(
     here: &mut Few,
@@ -140,7 +155,7 @@ fn put_judged(
             here.push(delivery_of(ended.domain, x, Passage::Dropped(reason)));
         }
         Judgement::Covered(place) => {
-            if let Some(row) = ended.rows.get(place) {
+            if let Some(row) = row_there(ended.rows, place) {
                 put_to_listeners(here, ended.domain, slot, deadline, x, row);
             }
         }
@@ -169,7 +184,7 @@ fn put_offer(
     if cycle >= ended.cycles {
         return;
     }
-    let judgement = ended.judgements[x.frame as usize - 1];
+    let judgement = judgement_there(ended.judgements, x.frame as usize - 1);
     put_judged(here, ended, slot, deadline, x, judgement);
 }
 

@@ -1,5 +1,5 @@
 //! Room for the frames under way.
-ghost use Rattle.std.specs.Prelude.{◌≡◌, ◌<◌, IfOk, Some, fold, length, max, slice_get};
+ghost use Rattle.std.specs.Prelude.{◌≡◌, ◌<◌, ◌^◌, IfOk, None, Some, fold, length, max, replicate, slice_get};
 ghost use Rattle.cqf_units.specs.Timing.{cycle_at};
 ghost use Rattle.cqf_laws_report.specs.Judged.{StandInOrder};
 ghost use Rattle.cqf_model.specs.declared.frames.Offer.{Offer as AnOffer};
@@ -53,7 +53,8 @@ fn most_listeners(domain: &Domain, rows: &[Row]) -> usize
 fn cycle_there(domain: &Domain, offers: &[Offer], place: usize) -> u64
     requires offers { AreOffers domain.now offers.now }
     requires there { place < length offers.now }
-    ensures { (offer : AnOffer) → slice_get offers.now place ≡ Some offer → result ≡ cycle_at domain.now.cycle_time offer.at.0 }
+    ensures is { (offer : AnOffer) → slice_get offers.now place ≡ Some offer → result ≡ cycle_at domain.now.cycle_time offer.at.0 }
+    ensures small { result < 2 ^ 32 }
 {
     u64::from(cycle_of(offers[place].at, domain.cycle_time()).0)
 }
@@ -79,6 +80,13 @@ fn most_at_once(domain: &Domain, depth: u8, offers: &[Offer]) -> usize
     most
 }
 
+/// A slot of a width, in which nothing is kept.
+fn empty_slot(alloc: Global, width: usize) -> Result<Vec<Option<Nanos>>, Memory>
+    ensures { IfOk result (λ slot. slot.items ≡ replicate width None) }
+{
+    Ok(vec![in alloc; None; width]?)
+}
+
 /// So many slots of one width, in which nothing is kept.
 fn empty_slots(
     alloc: Global,
@@ -89,7 +97,7 @@ fn empty_slots(
 {
     let mut slots = VecDeque::with_capacity(alloc, many)?;
     for _slot in 0..many {
-        slots.push_back(vec![in alloc; None; width]?)?;
+        slots.push_back(empty_slot(alloc, width)?)?;
     }
     Ok(slots)
 }

@@ -1,5 +1,5 @@
 //! The frames under way: when they are whole at their listeners, while the starts of the run are told.
-ghost use Rattle.std.specs.Prelude.{ℕ, ◌≡◌, ◌<◌, ◌∷◌, [], All, None, length, slice_index_or};
+ghost use Rattle.std.specs.Prelude.{ℕ, ◌≡◌, ◌<◌, ◌^◌, ◌∷◌, [], All, None, length, slice_index_or};
 ghost use Rattle.std.specs.Option.{option_and_then};
 ghost use Rattle.cqf_model.specs.Domain.{end_of};
 ghost use Rattle.cqf_program_plans.specs.LatencyText.{is_station};
@@ -102,7 +102,10 @@ fn note(
     ensures { NotesAll ended.now.domain.now ended.now.rows.now ended.now.judgements.now place (start.now ∷ []) (slots_of slots.old.items) (slots_of slots.new.items) }
 {
     let frame = start.frame as usize;
-    if frame <= place || !ends_in_station(ended.domain, start.link) {
+    if frame <= place {
+        return;
+    }
+    if !ends_in_station(ended.domain, start.link) {
         return;
     }
     let behind = frame - 1 - place;
@@ -160,6 +163,7 @@ impl UnderWay {
     pub(crate) fn tell_up_to(&mut self, ended: &Ended<'_>, place: usize, last: u64)
         requires in_time { TellsInTime ended.now.domain.now self.old.pass.basis }
         requires counted { self.old.told ≡ self.old.pass.told }
+        requires small { last < 2 ^ 63 }
         ensures { TellsUpTo ended.now.domain.now ended.now.rows.now ended.now.judgements.now place last self.old self.new }
     {
         while self.told <= last {

@@ -19,7 +19,14 @@ put_those_of-requires-clause-followed c =
     record { whole = c.requires.whole; is = (c.loop-place.invariant c.requires.whole c.requires.is).0 }
 
 pub with-counts-requires-clause-early : goal.with-counts-requires-clause-early
-with-counts-requires-clause-early c = ?
+with-counts-requires-clause-early c =
+    let before = (c.loop-place.invariant c.requires.whole c.requires.is).1.before in
+    let few = c.requires.is.is_over.few in
+    record {
+      under_way = omega (arith, before.under_way, c.loop-place-test.true, few);
+      delivered = omega (arith, before.delivered, c.loop-place-test.true, few);
+      timed = omega (arith, before.timed, c.loop-place-test.true, few);
+    }
 
 pub complaint_stop-requires : goal.complaint_stop-requires
 complaint_stop-requires c =

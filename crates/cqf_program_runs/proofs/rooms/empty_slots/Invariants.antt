@@ -2,5 +2,5 @@
 use Rattle.cqf_program_runs.specs.UnderWay.{AreEmptySlots, slots_of}
 use Rattle.cqf_program_runs.proofs.rooms.empty_slots.Given as goal
 
-abbrev pub invariant-loop-slots : goal.invariant-loop-slots
-invariant-loop-slots l = AreEmptySlots l.width l._slot (slots_of l.slots.items)
+abbrev pub invariant-loop-slot : goal.invariant-loop-slot
+invariant-loop-slot l = AreEmptySlots l.width l._slot (slots_of l.slots.items)

@@ -7,5 +7,5 @@ abbrev pub invariant-loop-place : goal.invariant-loop-place
 invariant-loop-place l = record {
   some : 0 < l.most;
   few : l.most ≤ l.place + 1;
-  enough : EnoughBelow l.domain.cycle_time l.offers l.initial.depth l.place l.most;
+  enough : EnoughBelow l.domain.cycle_time l.offers l.depth l.place l.most;
 }
