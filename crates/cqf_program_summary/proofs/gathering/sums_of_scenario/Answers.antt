@@ -13,10 +13,10 @@ use Rattle.cqf_program_summary.proofs.gathering.sums_of_scenario.Goals as goal
 
 pub gathered-requires-clause-followed : goal.gathered-requires-clause-followed
 gathered-requires-clause-followed c =
-    let noted = c.NOTED.ensures in
+    let noted = c.in_ok-noted.ensures in
     record {
       whole = noted.whole;
-      is = subst (λ (over : Over). IsFollowed over 0 c.NOTED.under_way) (sym (c.over.ensures noted.whole)) noted.followed;
+      is = subst (λ (over : Over). IsFollowed over 0 c.in_ok-noted.under_way) (sym (c.over.ensures noted.whole)) noted.followed;
     }
 
 pub gathered-requires-clause-fresh : goal.gathered-requires-clause-fresh
@@ -35,10 +35,10 @@ returns c =
     c.in_ok-sums.ensures
     ∙ (λ i. summary_by d (told_streams (map asked_of (c.as_slice-requests.ensures.value i)))
     (deadline_in (record { requests = c.as_slice-requests.ensures.value i; deadlines = c.as_slice.ensures.value i })) [] []) in
-    let noted = c.NOTED.ensures in
+    let noted = c.in_ok-noted.ensures in
     let same = c.over.ensures noted.whole in
-    let followed = subst (λ (o : Over). IsFollowed o 0 c.NOTED.under_way) (sym same) noted.followed in
-    let over : IsSummaryOver (over_by planned c.args.cycles c.NOTED.noted noted.whole) c.in_ok-sums.sums c.gathered.result =
+    let followed = subst (λ (o : Over). IsFollowed o 0 c.in_ok-noted.under_way) (sym same) noted.followed in
+    let over : IsSummaryOver (over_by planned c.args.cycles c.in_ok-noted.noted noted.whole) c.in_ok-sums.sums c.gathered.result =
     subst (λ (o : Over). IsSummaryOver o c.in_ok-sums.sums c.gathered.result) same (c.gathered.ensures noted.whole followed) in
-    IsSummaryOf-noted c.args.cycles planned c.NOTED.noted c.NOTED.under_way c.gathered.result noted
+    IsSummaryOf-noted c.args.cycles planned c.in_ok-noted.noted c.in_ok-noted.under_way c.gathered.result noted
     (over (map asked_of requests) (deadline_in due) first)
