@@ -61,15 +61,24 @@ module _ (run : Run) (book : Contents) (says : SaysTheShift run book) (orderly :
     later = λ place offer at frame.
         let shift = says.only s among in
         let same = its_offer s among place offer at frame in
-        omega (arith, shift.is_cycle, ap (λ (z : Offered). cycle_at run.domain.cycle_time z.offer.at.0) same,
-        shift_deep run s.frame s.link s.cycle.0 orderly shift);
+        omega (
+          arith,
+          shift.is_cycle,
+          ap (λ (z : Offered). cycle_at run.domain.cycle_time z.offer.at.0) same,
+          shift_deep run s.frame s.link s.cycle.0 orderly shift,
+        );
     soon = λ place offer at frame.
         let shift = says.only s among in
         let same = its_offer s among place offer at frame in
         let inside : offer_cycle run.domain shift.x < length run.tables = omega (arith, shift.is_cycle, shift.within_run) in
-        omega (arith, shift.is_cycle, ap (λ (z : Offered). cycle_at run.domain.cycle_time z.offer.at.0) same,
-        covers_within shift.x shift.row shift.covered inside, depth_within_residence shift.row shift.is_hop.hop shift.is_hop.of_tree,
-        shift.is_hop.is_depth);
+        omega (
+          arith,
+          shift.is_cycle,
+          ap (λ (z : Offered). cycle_at run.domain.cycle_time z.offer.at.0) same,
+          covers_within shift.x shift.row shift.covered inside,
+          depth_within_residence shift.row shift.is_hop.hop shift.is_hop.of_tree,
+          shift.is_hop.is_depth,
+        );
   })
     where
       -- the offer of a start's frame

@@ -25,8 +25,10 @@ use Rattle.cqf_program_runs.specs.UnderWay.{AreSlots, IsInTime, IsWideFor, slots
 
 -- a start of an offer's frame is of a cycle behind the offer's, and at most so many behind it
 pub record IsBehind (cycle_time depth : ℕ) (offers : List Offer) (s : Started) : Type 0 where
-  pub later : (place : ℕ) (offer : Offer) → slice_get offers place ≡ Some offer → s.frame ≡ place + 1 → cycle_at cycle_time offer.at.0 < s.cycle.0
-  pub soon : (place : ℕ) (offer : Offer) → slice_get offers place ≡ Some offer → s.frame ≡ place + 1 → s.cycle.0 ≤ cycle_at cycle_time offer.at.0 + depth
+  pub later : (place : ℕ) (offer : Offer) → slice_get offers place ≡ Some offer → s.frame ≡ place + 1 →
+      cycle_at cycle_time offer.at.0 < s.cycle.0
+  pub soon : (place : ℕ) (offer : Offer) → slice_get offers place ≡ Some offer → s.frame ≡ place + 1 →
+      s.cycle.0 ≤ cycle_at cycle_time offer.at.0 + depth
 
 -- frames are whole by the starts of a run that the pass is of, each of which is in time, and behind its offer
 pub record IsBookBehind (over : Over) (depth : ℕ) (basis : Basis) (given : GivenRun) : Type 0 where

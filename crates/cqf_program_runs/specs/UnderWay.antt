@@ -1,6 +1,6 @@
 -- The frames under way: what is kept of them while the starts of a run are told.
-use Rattle.std.specs.Prelude.{ℕ, ◌≡◌, ◌≢◌, ◌+◌, ◌^◌, ◌≤◌, ◌<◌, ◌++◌, ◌==◌, All, Contains, List, [], ◌∷◌, Option, Some, None, drop, length, map, position}
-use Rattle.std.specs.Prelude.{slice_get, slice_index_or}
+use Rattle.std.specs.Prelude.{ℕ, ◌≡◌, ◌≢◌, ◌+◌, ◌^◌, ◌≤◌, ◌<◌, ◌++◌, ◌==◌, All, Contains, List, [], ◌∷◌, Option, Some, None}
+use Rattle.std.specs.Prelude.{drop, length, map, position, slice_get, slice_index_or}
 use Rattle.std.specs.Global.{Global}
 use Rattle.std.specs.Option.{option_and_then, option_or}
 use Rattle.std.specs.declared.vec.Vec.{Vec}

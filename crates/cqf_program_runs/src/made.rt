@@ -1,5 +1,6 @@
 //! The deliveries of a run that is over, offer by offer.
-ghost use Rattle.std.specs.Prelude.{ℕ, ◌≡◌, ◌+◌, ◌-◌, ◌≤◌, ◌<◌, [], Option, Some, None, if◌then◌else◌, length, option_copied, slice_get};
+ghost use Rattle.std.specs.Prelude.{ℕ, ◌≡◌, ◌+◌, ◌-◌, ◌≤◌, ◌<◌, [], Option, Some, None, if◌then◌else◌, length, option_copied};
+ghost use Rattle.std.specs.Prelude.{slice_get};
 ghost use Rattle.cqf_instants_coverage.specs.Coverage.{verdict_of};
 ghost use Rattle.cqf_program_plans.specs.LatencyText.{is_station};
 ghost use Rattle.cqf_model.specs.declared.frames.Offered.{Offered as AnOffered};

@@ -4,7 +4,8 @@ ghost use Rattle.std.specs.Option.{option_and_then};
 ghost use Rattle.cqf_model.specs.Domain.{end_of};
 ghost use Rattle.cqf_program_plans.specs.LatencyText.{is_station};
 ghost use Rattle.cqf_program_runs.specs.Deliveries.{whole_instant};
-ghost use Rattle.cqf_program_runs.specs.UnderWay.{GoesOn, IsInTime, KeepsFirst, KeepsInSlot, NotesAll, TellsInTime, TellsUpTo, column_of, row_at, slots_of, whole_in};
+ghost use Rattle.cqf_program_runs.specs.UnderWay.{GoesOn, IsInTime, KeepsFirst, KeepsInSlot, NotesAll, TellsInTime, TellsUpTo};
+ghost use Rattle.cqf_program_runs.specs.UnderWay.{column_of, row_at, slots_of, whole_in};
 
 use crate::made::Ended;
 use cqf_instants::Pass;
@@ -14,8 +15,8 @@ use cqf_topology::Domain;
 use cqf_units::{Nanos, Octets, end_of};
 use std::collections::VecDeque;
 
-/// The frames under way, from one offer on, with the pass that tells their starts. Behind that offer there are never more of which a start is
-/// told, so that no more is kept than for these.
+/// The frames under way, from one offer on, with the pass that tells their starts: as many as are under way at once at most. Of no frame
+/// behind these is a start told.
 #[derive(Drop)]
 pub struct UnderWay {
     /// It tells the starts of the run, cycle by cycle.
@@ -92,14 +93,10 @@ fn keep_in(slots: &mut VecDeque<Vec<Option<Nanos>>>, behind: usize, column: usiz
 }
 
 /// Notes a start of a frame under way, from the offer at a place on, where it comes to a listener.
-fn note(
-    slots: &mut VecDeque<Vec<Option<Nanos>>>,
-    ended: &Ended<'_>,
-    place: usize,
-    start: &Started,
-)
+fn note(slots: &mut VecDeque<Vec<Option<Nanos>>>, ended: &Ended<'_>, place: usize, start: &Started)
     requires { IsInTime ended.now.domain.now start.now }
-    ensures { NotesAll ended.now.domain.now ended.now.rows.now ended.now.judgements.now place (start.now ∷ []) (slots_of slots.old.items) (slots_of slots.new.items) }
+    ensures { NotesAll ended.now.domain.now ended.now.rows.now ended.now.judgements.now place (start.now ∷ [])
+        (slots_of slots.old.items) (slots_of slots.new.items) }
 {
     let frame = start.frame as usize;
     if frame <= place {
@@ -125,7 +122,8 @@ fn note_each(
     starts: &[Started],
 )
     requires { All (IsInTime ended.now.domain.now) starts.now }
-    ensures { NotesAll ended.now.domain.now ended.now.rows.now ended.now.judgements.now place starts.now (slots_of slots.old.items) (slots_of slots.new.items) }
+    ensures { NotesAll ended.now.domain.now ended.now.rows.now ended.now.judgements.now place starts.now
+        (slots_of slots.old.items) (slots_of slots.new.items) }
 {
     for start in starts {
         note(slots, ended, place, start);

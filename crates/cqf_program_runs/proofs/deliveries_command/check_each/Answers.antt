@@ -57,14 +57,16 @@ loop-place-preserved c = λ whole followed.
     let done = deliveries_among over (take place (numbered over.offers)) in
     let within : place < length over.offers = omega (arith, c.loop-place-test.true) in
     let found : find ends_it here ≡ None =
-    ap (find ends_it) (sym c.as_slice.ensures.value) ∙ sym c.first_bad.ensures ∙ ap option_copied c.in_default.is in
-    (c.put_those_of.ensures.next whole is_followed, record {
-      well = none_bad_more over place here within are so_far.well found;
-      counted = c.with-counts.ensures.counts (length over.offers) c.args.later done so_far.counted
-          ∙ ap (λ (more : List Delivery). counts_of (length over.offers) c.args.later (done ++ more)) c.as_slice-in-loop-place.ensures.value
-          ∙ ap (counts_of (length over.offers) c.args.later) (among_more over place here within are);
-      before = c.with-counts.ensures.more place so_far.before;
-    })
+    ap (find ends_it) (sym c.as_slice.ensures.value) ∙ sym c.first_bad.ensures ∙ ap option_copied c.in_default.is in (
+      c.put_those_of.ensures.next whole is_followed,
+      record {
+        well = none_bad_more over place here within are so_far.well found;
+        counted = c.with-counts.ensures.counts (length over.offers) c.args.later done so_far.counted
+            ∙ ap (λ (more : List Delivery). counts_of (length over.offers) c.args.later (done ++ more)) c.as_slice-in-loop-place.ensures.value
+            ∙ ap (counts_of (length over.offers) c.args.later) (among_more over place here within are);
+        before = c.with-counts.ensures.more place so_far.before;
+      },
+    )
 
 pub returns-clause-ok : goal.returns-clause-ok
 returns-clause-ok c =

@@ -8,8 +8,7 @@ output_of-requires-clause-may c = c.in_ok-planned.ensures.ok.may
 
 pub returns-in-Ok-clause-ok : goal.returns-in-Ok-clause-ok
 returns-in-Ok-clause-ok c =
-    let made = c.in-Ok.ensures in
-    (
+    let made = c.in-Ok.ensures in (
       made.0,
       made.1,
       subst (IsDeliveriesOutput c.args.cycles c.args.input.now) (sym made.4)

@@ -22,8 +22,7 @@ loop-place-preserved g c = λ whole followed.
     let place = c.loop-place.place in
     let so_far = c.loop-place.invariant whole followed in
     let done = deliveries_among over (take place (numbered over.offers)) in
-    let here = c.as_slice.result.now in
-    (
+    let here = c.as_slice.result.now in (
       c.put_those_of.ensures.next whole so_far.0,
       Puts-as (lines_of_deliveries done ++ lines_of_deliveries here) (lines_of_deliveries (deliveries_among over (take (place + 1) (numbered over.offers))))
           (sym (flat_map-append (λ (delivery : Delivery). line_of_fields (delivery_fields delivery)) done here)

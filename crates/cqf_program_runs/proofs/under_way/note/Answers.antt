@@ -29,8 +29,15 @@ returns-then-behind-len c =
     let slots : List (Vec (Option Nanos) Global) = c.args.slots.now.items in
     passed_over ended.domain.now ended.rows.now ended.judgements.now c.args.place c.args.start.now (slots_of slots)
     (λ behind row column below found at own.
-    absurd (omega (arith, own, below, c.if-behind-len.true, c.len.ensures, c.args.slots.now.ok.0,
-    length-map slots (λ (slot : Vec (Option Nanos) Global). slot.items))))
+    absurd (omega (
+      arith,
+      own,
+      below,
+      c.if-behind-len.true,
+      c.len.ensures,
+      c.args.slots.now.ok.0,
+      length-map slots (λ (slot : Vec (Option Nanos) Global). slot.items),
+    )))
 
 pub whole_of-requires-clause-link : goal.whole_of-requires-clause-link
 whole_of-requires-clause-link c =

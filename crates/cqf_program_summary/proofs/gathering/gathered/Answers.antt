@@ -42,15 +42,17 @@ loop-place-preserved c =
             let over = over_of c.args.ended.now whole in
             let before = c.loop-place.invariant.so_far whole followed in
             let are = c.put_those_of.ensures.here whole before.0 in
-            let is_here : here ≡ deliveries_at over x = are x at in
-            (c.put_those_of.ensures.next whole before.0, λ streams due first.
-            w.sums-is
-            ∙ w.add.ensures.sums
-            ∙ ap (λ (ds : List Delivery). summary_with (get_or offers place offer).stream ds c.loop-place.sums) w.as_slice.ensures.value
-            ∙ ap (λ (o : Offer). summary_with o.stream here c.loop-place.sums) (sym c.index-ended-place.is)
-            ∙ is_run_more over streams due place x at here is_here inside are c.loop-place.sums
-            (ap (λ (o : Offer). nat_lt (cycle_at over.domain.cycle_time o.at.0) over.cycles) c.index-ended-place.is ∙ sym c.is_run.ensures ∙ w.if-is_run.true)
-            (before.1 streams due first));
+            let is_here : here ≡ deliveries_at over x = are x at in (
+              c.put_those_of.ensures.next whole before.0,
+              λ streams due first.
+                  w.sums-is
+                  ∙ w.add.ensures.sums
+                  ∙ ap (λ (ds : List Delivery). summary_with (get_or offers place offer).stream ds c.loop-place.sums) w.as_slice.ensures.value
+                  ∙ ap (λ (o : Offer). summary_with o.stream here c.loop-place.sums) (sym c.index-ended-place.is)
+                  ∙ is_run_more over streams due place x at here is_here inside are c.loop-place.sums
+                  (ap (λ (o : Offer). nat_lt (cycle_at over.domain.cycle_time o.at.0) over.cycles) c.index-ended-place.is ∙ sym c.is_run.ensures ∙ w.if-is_run.true)
+                  (before.1 streams due first),
+            );
       }
       | else-is_run w ↦ record {
         within = subst (SummaryWithin (65 * (place + 1))) (sym w.sums-is)
@@ -59,12 +61,14 @@ loop-place-preserved c =
             let over = over_of c.args.ended.now whole in
             let before = c.loop-place.invariant.so_far whole followed in
             let are = c.put_those_of.ensures.here whole before.0 in
-            let is_here : here ≡ deliveries_at over x = are x at in
-            (c.put_those_of.ensures.next whole before.0, λ streams due first.
-            w.sums-is
-            ∙ not_run_more over streams due place x at here is_here inside are c.loop-place.sums
-            (ap (λ (o : Offer). nat_lt (cycle_at over.domain.cycle_time o.at.0) over.cycles) c.index-ended-place.is ∙ sym c.is_run.ensures ∙ w.if-is_run.false)
-            (before.1 streams due first));
+            let is_here : here ≡ deliveries_at over x = are x at in (
+              c.put_those_of.ensures.next whole before.0,
+              λ streams due first.
+                  w.sums-is
+                  ∙ not_run_more over streams due place x at here is_here inside are c.loop-place.sums
+                  (ap (λ (o : Offer). nat_lt (cycle_at over.domain.cycle_time o.at.0) over.cycles) c.index-ended-place.is ∙ sym c.is_run.ensures ∙ w.if-is_run.false)
+                  (before.1 streams due first),
+            );
       }
     ]
 

@@ -16,13 +16,15 @@ returns c =
     let rows = c.args.rows.now in
     let width = c.most_listeners-width.result in
     let slots : List (Vec (Option Nanos) Global) = c.in_ok-slots.slots.items in
-    let many = sym (length-map slots (λ (slot : Vec (Option Nanos) Global). slot.items)) ∙ c.in_ok-slots.ensures.count in
-    (refl, record {
-      width = width;
-      fresh = refl;
-      deep = λ row among. omega (arith, none_greater residence rows 0 row among, c.deepest-depth.ensures);
-      room = λ row among. omega (arith, none_greater (λ (r : Row). length (listeners_of d r)) rows 0 row among, c.most_listeners-width.ensures);
-      some = omega (arith, many, c.most_at_once-many.ensures.some);
-      enough = subst (λ (n : ℕ). IsWideFor d.cycle_time c.deepest-depth.result c.args.offers.now n) (sym many) c.most_at_once-many.ensures.enough;
-      empty = subst (λ (n : ℕ). AreEmptySlots width n (slots_of slots)) (sym many) c.in_ok-slots.ensures;
-    })
+    let many = sym (length-map slots (λ (slot : Vec (Option Nanos) Global). slot.items)) ∙ c.in_ok-slots.ensures.count in (
+      refl,
+      record {
+        width = width;
+        fresh = refl;
+        deep = λ row among. omega (arith, none_greater residence rows 0 row among, c.deepest-depth.ensures);
+        room = λ row among. omega (arith, none_greater (λ (r : Row). length (listeners_of d r)) rows 0 row among, c.most_listeners-width.ensures);
+        some = omega (arith, many, c.most_at_once-many.ensures.some);
+        enough = subst (λ (n : ℕ). IsWideFor d.cycle_time c.deepest-depth.result c.args.offers.now n) (sym many) c.most_at_once-many.ensures.enough;
+        empty = subst (λ (n : ℕ). AreEmptySlots width n (slots_of slots)) (sym many) c.in_ok-slots.ensures;
+      },
+    )
