@@ -1,5 +1,5 @@
 -- Each start of a book is of a cycle behind its offer's, and no deeper behind it than its row's tree.
-use Rattle.std.proofs.Common.{◌≡◌, ◌∙◌, ◌+◌, ◌<◌, ◌≤◌, ℕ, List, Option, Some, None, Contains, All, ap, arith, length, refl, subst, sym}
+use Rattle.std.proofs.Common.{◌≡◌, ◌∙◌, ◌+◌, ◌<◌, ◌≤◌, ℕ, List, Option, Some, None, Contains, All, ap, arith, length, refl, sym}
 use Rattle.std.specs.Prelude.{slice_get}
 use Rattle.cqf_lists.proofs.Members.{all_from_members, contains_at}
 use Rattle.cqf_units.specs.Timing.{cycle_at}

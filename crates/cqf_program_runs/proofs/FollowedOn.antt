@@ -1,5 +1,5 @@
 -- A run that is followed goes on by an offer.
-use Rattle.std.proofs.Common.{[], ◌≡◌, ◌∙◌, ◌+◌, ◌<◌, ◌≤◌, ℕ, All, List, Option, Some, None, Contains, ap, arith, drop, get_or, inl, inr, length, refl, subst, sym}
+use Rattle.std.proofs.Common.{[], ◌≡◌, ◌∙◌, ◌+◌, ◌<◌, ◌≤◌, ℕ, Option, Some, None, Contains, ap, arith, get_or, length, subst, sym}
 use Rattle.std.specs.Prelude.{slice_get}
 use Rattle.std.proofs.lemmas.List.{length-map}
 use Rattle.std.proofs.lemmas.List.Elements.{All-contains}
@@ -14,7 +14,6 @@ use Rattle.cqf_instants.specs.declared.basis.Basis.{Basis}
 use Rattle.cqf_model.specs.declared.frames.Offer.{Offer}
 use Rattle.cqf_model.specs.declared.frames.Started.{Started}
 use Rattle.cqf_model.specs.declared.topology.Row.{Row}
-use Rattle.cqf_model.specs.Domain.{Domain}
 use Rattle.cqf_laws_report.specs.Judged.{StandInOrder}
 use Rattle.cqf_program_runs.specs.declared.under_way.UnderWay.{UnderWay}
 use Rattle.cqf_program_runs.specs.Deliveries.{whole_on}

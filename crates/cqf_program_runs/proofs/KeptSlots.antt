@@ -1,10 +1,10 @@
 -- What is kept of the frames under way, start by start.
 use Rattle.std.proofs.Common.{◌≡◌, ◌≢◌, ◌∙◌, ◌++◌, ◌∷◌, [], ◌<◌, ◌+◌, ◌≤◌, ◌⊎◌, ◌==◌, ◌&&◌, ℕ, Bool, true, false, List, Option, Some, None, Contains}
-use Rattle.std.proofs.Common.{ap, append-nil, append_assoc, arith, cond, drop, find, get_or, inl, inr, length, map, option_map, position, refl, replicate, set, subst, sym, take}
+use Rattle.std.proofs.Common.{ap, append-nil, append_assoc, arith, cond, drop, find, get_or, inl, inr, length, option_map, refl, replicate, set, subst, sym, take}
 use Rattle.std.specs.Global.{Global}
 use Rattle.std.specs.Option.{option_and_then, option_or}
 use Rattle.std.specs.declared.vec.Vec.{Vec}
-use Rattle.std.specs.Prelude.{slice_get, suc, zero}
+use Rattle.std.specs.Prelude.{slice_get, suc}
 use Rattle.std.proofs.lemmas.Bool.{cases_Bool, cases_lt}
 use Rattle.std.proofs.lemmas.Bool.Decides.{nat_tests}
 use Rattle.std.proofs.lemmas.List.{get_or-map, get_or-replicate, get_or-set_other, get_or-set_same, get_or_append_left, get_or_past, length-append}

@@ -1,7 +1,6 @@
 -- The deliveries of an offer by what is kept of its frame.
-use Rattle.std.proofs.Common.{◌≡◌, ◌∙◌, ◌+◌, ◌==◌, ℕ, Bool, true, false, List, Option, Some, None, Contains, ap, arith, position, refl, sym}
+use Rattle.std.proofs.Common.{◌≡◌, ◌∙◌, ◌+◌, ◌==◌, ℕ, true, List, Option, Some, None, Contains, ap, arith, refl, sym}
 use Rattle.std.specs.Option.{option_and_then}
-use Rattle.std.specs.Prelude.{slice_get}
 use Rattle.std.proofs.lemmas.Bool.{false≢true}
 use Rattle.std.proofs.lemmas.Bool.Decides.{nat_tests}
 use Rattle.cqf_lists.proofs.Made.{map_same}
@@ -12,7 +11,6 @@ use Rattle.cqf_model.specs.declared.frames.Offered.{Offered}
 use Rattle.cqf_model.specs.declared.topology.Hop.{Hop}
 use Rattle.cqf_model.specs.declared.topology.Row.{Row}
 use Rattle.cqf_model.specs.Domain.{Domain}
-use Rattle.std.specs.List.{list_any}
 use Rattle.std.specs.Prelude.{is_some, slice_index_or}
 use Rattle.cqf_program_plans.specs.LatencyText.{listeners_of}
 use Rattle.cqf_program_runs.specs.Deliveries.{deliveries_to, delivery_to}

@@ -1,5 +1,5 @@
 -- The starts of a run's first cycles, and when frames are whole by them.
-use Rattle.std.proofs.Common.{◌≡◌, ◌∙◌, ◌+◌, ◌-◌, ◌<◌, ◌≤◌, ◌++◌, ◌==◌, ◌&&◌, ℕ, Bool, true, false, List, Option, Some, None, Contains, ap, arith, find, length, option_map, refl, subst, sym}
+use Rattle.std.proofs.Common.{◌≡◌, ◌∙◌, ◌+◌, ◌-◌, ◌<◌, ◌≤◌, ◌++◌, ◌==◌, ◌&&◌, ℕ, List, None, Contains, ap, arith, length, option_map, subst, sym}
 use Rattle.std.specs.Option.{option_or}
 use Rattle.std.specs.Prelude.{suc, zero}
 use Rattle.std.proofs.lemmas.List.Folds.{find-append}

@@ -1,10 +1,8 @@
 -- The summary that is made is that of the input's scenario.
-use Rattle.std.proofs.Common.{◌≡◌, ◌∙◌, ℕ, List, Option, ap, length, map, refl, sym}
+use Rattle.std.proofs.Common.{◌≡◌, ◌∙◌, ℕ, List, ap, length, map, sym}
 use Rattle.cqf_lists.proofs.EachBelow.{length-singles}
-use Rattle.cqf_model.specs.declared.frames.Offered.{Offered}
-use Rattle.cqf_model.specs.History.{Asked, table_at}
+use Rattle.cqf_model.specs.History.{table_at}
 use Rattle.cqf_model.specs.Traffic.{numbered}
-use Rattle.cqf_topology.specs.PlannedText.{PlannedText}
 use Rattle.cqf_admission.specs.Asking.{asked_of}
 use Rattle.cqf_program_scenario.specs.Calls.{history_of}
 use Rattle.cqf_program_scenario.specs.Closing.{scenario_given}
@@ -13,13 +11,12 @@ use Rattle.cqf_program_runs.specs.declared.deliveries_reading.PlannedGiven.{Plan
 use Rattle.cqf_program_runs.specs.declared.under_way.UnderWay.{UnderWay}
 use Rattle.cqf_program_runs.specs.Deadlines.{deadline_in}
 use Rattle.cqf_program_runs.specs.DeliveriesReading.{IsPlannedGiven}
-use Rattle.cqf_program_runs.specs.Deliveries.{deadline_named}
 use Rattle.cqf_program_runs.specs.Ending.{deliveries_over, over_by}
 use Rattle.cqf_program_runs.specs.Following.{IsNotedOf}
 use Rattle.cqf_program_runs.specs.PlannedScenario.{run_of_scenario}
 use Rattle.cqf_program_runs.proofs.Judged.{due_is}
 use Rattle.cqf_program_summary.specs.Gathering.{IsSummaryOf}
-use Rattle.cqf_program_summary.specs.Summary.{Summary, offers_within, summary_by, summary_of}
+use Rattle.cqf_program_summary.specs.Summary.{Summary, offers_within, summary_by}
 use Rattle.cqf_program_summary.specs.SummaryOutput.{IsSummaryOutput}
 use Rattle.cqf_program_summary.specs.SummaryText.{text_of_summary}
 use Rattle.cqf_program_summary.specs.Told.{told_streams}

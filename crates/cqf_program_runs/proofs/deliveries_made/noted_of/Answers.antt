@@ -4,14 +4,12 @@ use Rattle.cqf_units.specs.declared.timing.Nanos.{Nanos}
 use Rattle.cqf_model.specs.declared.frames.Offer.{Offer}
 use Rattle.cqf_model.specs.declared.frames.Started.{Started}
 use Rattle.cqf_model.specs.declared.topology.Row.{Row}
-use Rattle.cqf_model.specs.Domain.{Domain}
-use Rattle.cqf_model.specs.History.{IsLegalHistory, Recorded, seals, streams_of, table_at}
+use Rattle.cqf_model.specs.History.{IsLegalHistory, Recorded, streams_of, table_at}
 use Rattle.cqf_model.specs.Run.{AreOffers}
 use Rattle.cqf_model.specs.Table.{AreOrderly}
 use Rattle.cqf_laws_report.specs.Judged.{StandInOrder}
 use Rattle.cqf_instants.specs.Progress.{Progress}
 use Rattle.cqf_instants.specs.declared.basis.Basis.{Basis}
-use Rattle.cqf_instants_columns.specs.Columns.{verdict_at}
 use Rattle.cqf_instants_coverage.specs.Coverage.{AreJudged}
 use Rattle.cqf_admission.specs.Asking.{asked_of}
 use Rattle.cqf_admission_ledger.specs.Ledger.{recorded_in}

@@ -8,7 +8,6 @@ use Rattle.cqf_instants_coverage.specs.declared.judged.Judgement.{Judgement}
 use Rattle.cqf_instants_coverage.specs.declared.judged.Judgement.TheVariants.{Dropped}
 use Rattle.cqf_instants_columns.specs.Columns.{verdict_at}
 use Rattle.cqf_model.specs.declared.frames.Reason.TheVariants.{Unknown}
-use Rattle.cqf_model.specs.declared.topology.Row.{Row}
 use Rattle.cqf_model.specs.Shift.{offer_cycle}
 use Rattle.cqf_program_runs.specs.ByVerdict.{deliveries_for}
 use Rattle.cqf_program_runs.specs.Ending.{known_over, over_of}

@@ -1,8 +1,6 @@
-use Rattle.std.proofs.Common.{◌≡◌, ◌∙◌, ◌+◌, ◌-◌, ◌<◌, ◌≤◌, ℕ, Some, ap, arith, length, subst, sym}
+use Rattle.std.proofs.Common.{◌≡◌, ◌∙◌, ◌+◌, ◌-◌, ◌<◌, ◌≤◌, ℕ, ap, arith, subst, sym}
 use Rattle.std.specs.Prelude.{slice_get}
 use Rattle.std.proofs.lemmas.Option.{slice_get_within}
-use Rattle.cqf_units.specs.Timing.{cycle_at}
-use Rattle.cqf_model.specs.declared.frames.Offer.{Offer}
 use Rattle.cqf_program_runs.proofs.InOrder.{EnoughBelow, enough_more, enough_same}
 use Rattle.cqf_program_runs.proofs.rooms.most_at_once.Goals as goal
 use Rattle.cqf_program_runs.proofs.rooms.most_at_once.Goals.{else-place-most, then-place-most+else-early-depth, then-place-most+then-early-depth}

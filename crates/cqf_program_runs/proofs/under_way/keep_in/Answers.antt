@@ -1,4 +1,3 @@
-use Rattle.std.proofs.Common.{refl, arith}
 use Rattle.cqf_program_runs.proofs.KeptSlots.{keeps_set}
 use Rattle.cqf_program_runs.proofs.under_way.keep_in.Goals as goal
 

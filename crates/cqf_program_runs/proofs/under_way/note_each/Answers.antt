@@ -1,8 +1,8 @@
-use Rattle.std.proofs.Common.{◌++◌, ◌∷◌, [], List, arith, subst, sym, take}
-use Rattle.std.proofs.lemmas.List.{take_all, take_more}
+use Rattle.std.proofs.Common.{◌++◌, ◌∷◌, [], List, subst, sym, take}
+use Rattle.std.proofs.lemmas.List.{take_more}
 use Rattle.cqf_model.specs.declared.frames.Started.{Started}
 use Rattle.cqf_program_runs.specs.UnderWay.{NotesAll, slots_of}
-use Rattle.cqf_program_runs.proofs.KeptSlots.{notes_none, notes_then}
+use Rattle.cqf_program_runs.proofs.KeptSlots.{notes_then}
 use Rattle.cqf_program_runs.proofs.under_way.note_each.Goals as goal
 
 pub loop-start-preserved : goal.loop-start-preserved

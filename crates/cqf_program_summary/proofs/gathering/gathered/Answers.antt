@@ -1,4 +1,4 @@
-use Rattle.std.proofs.Common.{◌≡◌, ◌∙◌, ◌+◌, ◌*◌, ◌<◌, ℕ, List, nat_lt, Option, Some, ap, arith, get_or, length, refl, subst, sym, take}
+use Rattle.std.proofs.Common.{◌≡◌, ◌∙◌, ◌+◌, ◌*◌, ◌<◌, ℕ, List, nat_lt, Some, ap, arith, get_or, length, refl, subst, sym}
 use Rattle.std.specs.Prelude.{slice_get}
 use Rattle.std.proofs.lemmas.List.{take_all}
 use Rattle.std.proofs.lemmas.Option.{slice_get_read}
@@ -7,12 +7,11 @@ use Rattle.cqf_instants_coverage.proofs.Covers.{numbered_at}
 use Rattle.cqf_units.specs.Timing.{cycle_at}
 use Rattle.cqf_model.specs.declared.frames.Offer.{Offer}
 use Rattle.cqf_model.specs.declared.frames.Offered.{Offered}
-use Rattle.cqf_model.specs.History.{Asked}
 use Rattle.cqf_model.specs.Traffic.{numbered}
 use Rattle.cqf_program_runs.specs.declared.delivery.Delivery.{Delivery}
-use Rattle.cqf_program_runs.specs.Ending.{Over, deliveries_among, deliveries_at, over_of}
+use Rattle.cqf_program_runs.specs.Ending.{deliveries_among, deliveries_at, over_of}
 use Rattle.cqf_program_summary.specs.Counting.{SummaryWithin, summary_with}
-use Rattle.cqf_program_summary.specs.Summary.{Summary, offers_within, summary_by}
+use Rattle.cqf_program_summary.specs.Summary.{offers_within, summary_by}
 use Rattle.cqf_program_summary.specs.Told.{told_streams}
 use Rattle.cqf_program_summary.proofs.OneMore.{is_run_more, not_run_more}
 use Rattle.cqf_program_summary.proofs.Within.{summary_later}

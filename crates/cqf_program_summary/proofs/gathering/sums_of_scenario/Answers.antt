@@ -1,4 +1,4 @@
-use Rattle.std.proofs.Common.{◌≡◌, ◌∙◌, [], ap, map, subst, sym}
+use Rattle.std.proofs.Common.{◌≡◌, ◌∙◌, [], map, subst, sym}
 use Rattle.cqf_admission.specs.Asking.{asked_of}
 use Rattle.cqf_program_runs.specs.Deadlines.{Due, deadline_in}
 use Rattle.cqf_program_runs.specs.Ending.{Over, over_by}

@@ -2,8 +2,8 @@ use Rattle.std.proofs.Common.{◌≡◌, ◌∙◌, ap, arith, subst, sym}
 use Rattle.cqf_program_press.specs.Edge.{HasTold, writing}
 use Rattle.cqf_program_press.proofs.PressLemmas.{HasTold-pressed, Puts-as}
 use Rattle.cqf_program_runs.specs.DeliveriesText.{text_of_deliveries}
-use Rattle.cqf_program_runs.specs.Ending.{Over, deliveries_over, over_by, over_of}
-use Rattle.cqf_program_runs.specs.Following.{AreDeliveriesTold, CanBeTold, CanFollow, Ending, IsFollowed}
+use Rattle.cqf_program_runs.specs.Ending.{Over, deliveries_over, over_of}
+use Rattle.cqf_program_runs.specs.Following.{AreDeliveriesTold, Ending, IsFollowed}
 use Rattle.cqf_program_runs.proofs.deliveries_outputs.DeliveriesOutput.tell.Goals as goal
 
 pub put_deliveries-requires : goal.put_deliveries-requires

@@ -1,4 +1,4 @@
-use Rattle.std.proofs.Common.{◌∙◌, [], List, Option, ap, get_or, length, refl, sym}
+use Rattle.std.proofs.Common.{◌∙◌, [], List, Option, ap, length, refl, sym}
 use Rattle.std.proofs.lemmas.List.{get_or-map}
 use Rattle.std.specs.Global.{Global}
 use Rattle.std.specs.declared.vec.Vec.{Vec}
