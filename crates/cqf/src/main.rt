@@ -14,6 +14,7 @@
 //! - `cqf report --cycles N` reads the same, and writes what each link carries.
 //! - `cqf deliveries --cycles N` reads the same, and writes what becomes of each offered frame at each listener of its stream.
 //! - `cqf check --cycles N` reads the same, and ends with status 1 where one of them is dropped, late or not yet there.
+//! - `cqf summary --cycles N` reads the same, and writes how the frames of each stream fare to each listener, counted.
 //! - `cqf hops --cycles N [--stream NAME] [--frame F]` reads the same, and writes the book by frame.
 //! - `cqf offers --cycles N [--seed S]` reads a domain and its streams, and writes what those with traffic offer.
 //! - `cqf plan [--table] [--cycle WORD]` reads a sketch of a domain and its streams, and writes a plant, or a table of the candidates for

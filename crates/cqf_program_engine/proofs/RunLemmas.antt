@@ -7,7 +7,7 @@ use Rattle.std.specs.Io.KnownBytes.{IsAtEnd}
 use Rattle.std.proofs.Math.Logic.{∥∥₁_elim}
 use Rattle.cqf_program_stop.specs.Stops.{EndsWith, line_of}
 use Rattle.clap.specs.Words.{Row, Text, first_of, subcommand_of}
-use Rattle.cqf_program_words.specs.Shown.{EndsShown, ShowsLine, ShowsWords, no_command}
+use Rattle.cqf_program_words.specs.Shown.{EndsShown, ShowsLine, ShowsWords, is_shown_whole, no_command}
 use Rattle.cqf_program_words.specs.Words.{EndsWords, IsJob, IsJobOf, IsNumberIn, Mean, cqf_app}
 use Rattle.cqf_program_engine.specs.Edge.{IsHeard, Marks, Reading}
 use Rattle.cqf_program_press.specs.Edge.{Writing}
@@ -15,7 +15,7 @@ use Rattle.cqf_program_press.specs.Kinds.{NoKind, SomeKind}
 use Rattle.cqf_program_engine.specs.Run.{first_line, input_of, version_line, words_of, AskForVersion, Ends}
 use Rattle.cqf_program_engine.specs.Run.{EndsByStatus, EndsFaulty, EndsInput, EndsRead, HandsOver, HasCause, HasFault}
 use Rattle.cqf_program_engine.specs.Run.{HasRun, HasWords, most_line, IsBehindWords, IsEnd, IsFailure, IsOutput}
-use Rattle.cqf_program_engine.specs.Run.{IsFailedRun, IsMisuse, IsRefusedRun}
+use Rattle.cqf_program_engine.specs.Run.{IsFailedRun, IsMisuse, IsRefusedRun, TellsCandidates}
 use Rattle.cqf_program_engine.specs.Run.{IsRefusal, IsStopped, StopsWithAnswer, IsToldOutput, IsTooLongInput, IsWithin}
 use Rattle.cqf_program_engine.specs.Run.{FaultIsOfThreads, FaultIsOfThreadsOrOutput, TellsStop, TellsFaultAlone}
 use Rattle.cqf_program_threads.specs.ThreadsOutput.{EndsThreads, IsThreadsOutput}
@@ -24,19 +24,19 @@ use Rattle.cqf_program_stop.specs.declared.stops.Stop.{Stop}
 use Rattle.cqf_program_engine.specs.declared.heard.Broken.{Broken}
 use Rattle.cqf_program_engine.specs.declared.heard.Broken.TheVariants.{Memory, Fault}
 use Rattle.cqf_program_words.specs.declared.words.Job.{Job}
-use Rattle.cqf_program_words.specs.declared.words.Job.TheVariants.{Check, Compile, Deliveries, Hops, Latency, Line, Load, Offers, Plan, Port, Report, Run}
+use Rattle.cqf_program_words.specs.declared.words.Job.TheVariants.{Check, Compile, Deliveries, Hops, Latency, Line, Load, Offers, Plan, Port, Report, Run, Summary}
 
 -- words that are given and mean no job stop the run before anything is read
 pub IsStopped-by_words : (words : List (List ℕ)) (input : Reading) (stop : Stop) → words ≢ [] → input.failed ≡ false → EndsWords words stop
-    → ¬ AskForVersion words → ShowsWords words stop → IsStopped words input stop
-IsStopped-by_words [] input stop some sound e no_version shows = absurd (some refl)
-IsStopped-by_words (word ∷ words) input stop some sound e no_version shows = elim e.statuses [
+    → ¬ AskForVersion words → ShowsWords words stop → TellsCandidates words stop → IsStopped words input stop
+IsStopped-by_words [] input stop some sound e no_version shows tells = absurd (some refl)
+IsStopped-by_words (word ∷ words) input stop some sound e no_version shows tells = elim e.statuses [
   | inl zero_is ↦ inl (zero_is, record { answered = inl (e.help zero_is); at_end = λ none. absurd (some none); sound = sound })
   | inr (inl two) ↦
       let misused : IsMisuse (word ∷ words) input.bytes stop = record {
         status = two;
         short = λ none. absurd (some none);
-        cause = inr (inr ((λ none. absurd (some none)), e.mistake two, e.no_job (λ three. omega arith), no_version, shows));
+        cause = inr (inr ((λ none. absurd (some none)), e.mistake two, e.no_job (λ three. omega arith), no_version, (shows, tells)));
       } in
       inr (inr (inl (two, record { misused = misused; at_end = λ none. absurd (some none); sound = sound })))
   | inr (inr three) ↦ inr (inr (inr (inl (three, e.memory three))))
@@ -58,13 +58,20 @@ no_words_ask (inr same) = (cc)
 
 -- words of the first line that mean no job stop it too
 pub HasCause-by_line : (bytes : List ℕ) (stop : Stop) → length bytes ≤ 67108864 → HasWords bytes → EndsWords (words_of [] bytes) stop
-    → ShowsLine (first_line bytes) stop → HasCause [] bytes stop
-HasCause-by_line bytes stop short text e shows = elim e.statuses [
+    → ShowsLine (first_line bytes) stop → (is_shown_whole (first_line bytes) ≡ true → TellsCandidates (words_of [] bytes) stop) → HasCause [] bytes stop
+HasCause-by_line bytes stop short text e shows tells = elim e.statuses [
   | inl zero_is ↦ inl (zero_is, inl (e.help zero_is))
   | inr (inl two) ↦
-      inr (inr (inl (record { status = two; short = λ none. short; cause = inr (inr ((λ none. text), e.mistake two, e.no_job (λ three. omega arith), no_words_ask, shows)) })))
+      inr (inr (inl (record { status = two; short = λ none. short; cause = inr (inr ((λ none. text), e.mistake two, e.no_job (λ three. omega arith), no_words_ask, (shows, tells))) })))
   | inr (inr three) ↦ inr (inr (inr (inl (three, e.memory three))))
 ]
+
+-- what is told of words that a line has, of the line and the words by their other names
+pub TellsCandidates-of : {line first : List ℕ} {words taken : List (List ℕ)} (stop : Stop) → line ≡ first → words ≡ taken →
+    (is_shown_whole line ≡ true → TellsCandidates words stop) → is_shown_whole first ≡ true → TellsCandidates taken stop
+TellsCandidates-of {line} {first} {words} {taken} stop same_line same_words tells =
+    subst (λ (text : List ℕ). is_shown_whole text ≡ true → TellsCandidates taken stop) same_line
+    (subst (λ (those : List (List ℕ)). is_shown_whole line ≡ true → TellsCandidates those stop) same_words tells)
 
 -- a first line that isn't text stops it
 pub HasCause-by_bytes : (bytes : List ℕ) (stop : Stop) → length bytes ≤ 67108864 → ¬ IsUtf8 (first_line bytes)
@@ -135,6 +142,7 @@ refusal_statuses (Run cycles threads) input stop h = h.statuses
 refusal_statuses (Report cycles) input stop h = h.statuses
 refusal_statuses (Deliveries cycles) input stop h = h.statuses
 refusal_statuses (Check cycles) input stop h = h.statuses
+refusal_statuses (Summary cycles) input stop h = h.statuses
 refusal_statuses (Offers cycles seed) input stop h = h.statuses
 refusal_statuses (Hops cycles stream frame) input stop h = h.statuses
 refusal_statuses (Plan table given) input stop h = h.statuses
@@ -150,6 +158,7 @@ refusal_memory (Run cycles threads) input stop h = h.memory
 refusal_memory (Report cycles) input stop h = h.memory
 refusal_memory (Deliveries cycles) input stop h = h.memory
 refusal_memory (Check cycles) input stop h = h.memory
+refusal_memory (Summary cycles) input stop h = h.memory
 refusal_memory (Offers cycles seed) input stop h = h.memory
 refusal_memory (Hops cycles stream frame) input stop h = h.memory
 refusal_memory (Plan table given) input stop h = h.memory
@@ -166,6 +175,7 @@ failure_status (Run cycles false) input stop h = absurd h
 failure_status (Report cycles) input stop h = absurd h
 failure_status (Deliveries cycles) input stop h = absurd h
 failure_status (Check cycles) input stop h = absurd h
+failure_status (Summary cycles) input stop h = absurd h
 failure_status (Offers cycles seed) input stop h = absurd h
 failure_status (Hops cycles stream frame) input stop h = absurd h
 failure_status (Plan table given) input stop h = absurd h
@@ -378,6 +388,7 @@ job_within (Run cycles threads) name rows is = number_within 1 100000 cycles (fi
 job_within (Report cycles) name rows is = number_within 1 100000 cycles (first_of (codes "cycles") rows) is.1
 job_within (Deliveries cycles) name rows is = number_within 1 100000 cycles (first_of (codes "cycles") rows) is.1
 job_within (Check cycles) name rows is = number_within 1 100000 cycles (first_of (codes "cycles") rows) is.1
+job_within (Summary cycles) name rows is = number_within 1 100000 cycles (first_of (codes "cycles") rows) is.1
 job_within (Offers cycles seed) name rows is = number_within 1 100000 cycles (first_of (codes "cycles") rows) is.1
 job_within (Hops cycles stream frame) name rows is = number_within 1 100000 cycles (first_of (codes "cycles") rows) is.1
 job_within (Plan table given) name rows is = tt

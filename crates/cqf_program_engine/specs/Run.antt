@@ -20,6 +20,7 @@ use Rattle.cqf_program_runs.specs.DeliveriesOutput.{IsDeliveriesOutput}
 use Rattle.cqf_program_runs.specs.PlannedScenario.{planned_scenario}
 use Rattle.cqf_program_plans.specs.LatencyInput.{latency_of_input}
 use Rattle.cqf_program_plans.specs.LoadOutput.{loaded_input}
+use Rattle.cqf_program_summary.specs.SummaryOutput.{IsSummaryOutput}
 use Rattle.cqf_program_stop.specs.Stops.{EndsWith, IsRefused, line_of}
 use Rattle.cqf_program_runs.specs.LineOutput.{IsLineOutput, line_input}
 use Rattle.cqf_program_plans.specs.PortOutput.{IsPortOutput, port_input}
@@ -30,13 +31,13 @@ use Rattle.cqf_program_sketch.specs.PlanOutput.{IsPlanOf, IsPlanRefusal}
 use Rattle.cqf_program_plans.specs.TcOutput.{tc_of_input}
 use Rattle.cqf_program_threads.specs.ThreadsOutput.{IsThreadsOutput, TellsFault}
 use Rattle.cqf_program_words.specs.Candidates.{times_of}
-use Rattle.cqf_program_words.specs.Shown.{ShowsBehind, ShowsLine, ShowsWords, no_command}
-use Rattle.cqf_program_words.specs.Words.{AreMistaken, AskForHelp, Mean}
+use Rattle.cqf_program_words.specs.Shown.{ShowsBehind, ShowsLine, ShowsWords, are_printable, is_shown_whole, no_command}
+use Rattle.cqf_program_words.specs.Words.{AreMistaken, AskForHelp, Mean, TellsNoCandidates}
 use Rattle.cqf_program_stop.specs.declared.stops.Stop.{Stop}
 use Rattle.cqf_program_engine.specs.declared.runs.TheConstants.{VERSION}
 use Rattle.cqf_program_words.specs.declared.words.Format.TheVariants as form
 use Rattle.cqf_program_words.specs.declared.words.Job.{Job}
-use Rattle.cqf_program_words.specs.declared.words.Job.TheVariants.{Check, Compile, Deliveries, Hops, Latency, Line, Load, Offers, Plan, Port, Report, Run}
+use Rattle.cqf_program_words.specs.declared.words.Job.TheVariants.{Check, Compile, Deliveries, Hops, Latency, Line, Load, Offers, Plan, Port, Report, Run, Summary}
 use Rattle.cqf_model.specs.Limits.{last_until, most_cycles}
 
 -- the job's numbers aren't above their limits
@@ -51,6 +52,7 @@ IsWithin (Report cycles) = cycles ≤ most_cycles
 IsWithin (Deliveries cycles) = cycles ≤ most_cycles
 IsWithin (Check cycles) = cycles ≤ most_cycles
 IsWithin (Offers cycles seed) = cycles ≤ most_cycles
+IsWithin (Summary cycles) = cycles ≤ most_cycles
 IsWithin (Hops cycles stream frame) = cycles ≤ most_cycles
 IsWithin (Plan table given) = ⊤
 
@@ -77,6 +79,7 @@ IsOutput (Report cycles) input output = IsReportOutput cycles input output
 IsOutput (Deliveries cycles) input output = IsDeliveriesOutput cycles input output
 IsOutput (Check cycles) input output = IsChecked cycles input (Ok output)
 IsOutput (Offers cycles seed) input output = offered_input cycles seed input ≡ Ok output
+IsOutput (Summary cycles) input output = IsSummaryOutput cycles input output
 IsOutput (Hops cycles stream frame) input output = IsHopsOutput cycles (wanted_of stream frame) input output
 IsOutput (Plan table given) input output = IsPlanOf table (option_map times_of given) input (Ok output)
 
@@ -93,6 +96,7 @@ IsRefusal (Report cycles) input stop = IsRefused (scenario_input cycles input) s
 IsRefusal (Deliveries cycles) input stop = IsRefused (planned_scenario cycles input) stop
 IsRefusal (Check cycles) input stop = IsCheckRefusal cycles input stop
 IsRefusal (Offers cycles seed) input stop = IsRefused (offered_input cycles seed input) stop
+IsRefusal (Summary cycles) input stop = IsRefused (planned_scenario cycles input) stop
 IsRefusal (Hops cycles stream frame) input stop = IsRefused (scenario_input cycles input) stop
 IsRefusal (Plan table given) input stop = IsPlanRefusal table (option_map times_of given) input stop
 
@@ -160,11 +164,15 @@ pub record IsRefusedRun (words : List (List ℕ)) (bytes : List ℕ) (stop : Sto
 abbrev pub AskForVersion : List (List ℕ) → Type 0
 AskForVersion words = (words ≡ codes "--version" ∷ []) ⊎ (words ≡ codes "-V" ∷ [])
 
--- how a mistake is told: by a line of the program's own where words that are given aren't all printable, and where a first line that has
--- the words isn't shown as it is. Of other words the text is clap's
+-- where a mistake in words that are all printable is that a word for candidates names none, it is told by a line of the program's own
+abbrev pub TellsCandidates : List (List ℕ) → Stop → Type 0
+TellsCandidates words stop = are_printable words ≡ true → TellsNoCandidates words stop
+
+-- how a mistake is told: by a line of the program's own where words that are given aren't all printable, where a first line that has the
+-- words isn't shown as it is, and where candidates are named by a word that names none. Of other words the text is clap's
 abbrev pub ShowsMistake : List (List ℕ) → List ℕ → Stop → Type 0
-ShowsMistake [] bytes stop = ShowsLine (first_line bytes) stop
-ShowsMistake (word ∷ words) bytes stop = ShowsWords (word ∷ words) stop
+ShowsMistake [] bytes stop = ShowsLine (first_line bytes) stop × (is_shown_whole (first_line bytes) ≡ true → TellsCandidates (words_of [] bytes) stop)
+ShowsMistake (word ∷ words) bytes stop = ShowsWords (word ∷ words) stop × TellsCandidates (word ∷ words) stop
 
 -- the words mean no job: those of the first line aren't text; it is too long to have words; or they are a mistake, and don't ask for the
 -- version. The stop has status 2

@@ -7,6 +7,7 @@ use cqf_program_hops::HopsOutput;
 use cqf_program_plans::{ConfigOutput, LatencyOutput, LoadOutput, PortOutput, TcOutput};
 use cqf_program_press::{Sink, Told, write_out};
 use cqf_program_runs::{DeliveriesOutput, LineOutput, RunOutput};
+use cqf_program_summary::SummaryOutput;
 use cqf_program_threads::ThreadsOutput;
 
 /// What an output is told from, with all the memory that its telling needs.
@@ -32,6 +33,8 @@ pub enum Prepared {
     Account(ThreadsOutput),
     /// That of `deliveries`: what becomes of each offer at each listener.
     Deliveries(DeliveriesOutput),
+    /// That of `summary`: how frames fare, counted.
+    Summary(SummaryOutput),
     /// That of `hops`: what a book tells of frames.
     Hops(HopsOutput),
 }
@@ -52,6 +55,7 @@ impl Prepared {
             Prepared::Run(output) => output.tell(told),
             Prepared::Account(output) => output.tell(told),
             Prepared::Deliveries(output) => output.tell(told),
+            Prepared::Summary(output) => output.tell(told),
             Prepared::Hops(output) => output.tell(told),
         }
     }

@@ -5,7 +5,7 @@ ghost use Rattle.cqf_program_engine.specs.Edge.{IsHeard, IsUnheard, reading};
 ghost use Rattle.cqf_program_engine.specs.Prepared.{HasText, IsTextOf};
 ghost use Rattle.cqf_program_press.specs.Edge.{writing};
 ghost use Rattle.cqf_program_threads.specs.ThreadsOutput.{EndsThreads, IsThreadsOutput};
-ghost use Rattle.cqf_program_words.specs.Shown.{ShowsLine};
+ghost use Rattle.cqf_program_words.specs.Shown.{ShowsLine, is_shown_whole};
 ghost use Rattle.cqf_program_words.specs.Words.{EndsWords, Mean};
 ghost use Rattle.cqf_program_hops.specs.HopsOutput.{IsHopsOutput};
 ghost use Rattle.cqf_program_sketch.specs.PlanOutput.{IsPlanOf, IsPlanRefusal};
@@ -15,7 +15,7 @@ ghost use Rattle.cqf_program_scenario.specs.Scenario.{scenario_input};
 ghost use Rattle.cqf_program_stop.specs.Stops.{EndsWith, IsRefused};
 ghost use Rattle.cqf_program_engine.specs.Run.{version_line, IsAsking, IsVersionWord, IsWithin, IsOutput, IsEnd};
 ghost use Rattle.cqf_program_engine.specs.Run.{IsRefusal, IsBehindWords, Ends, EndsTold, HandsOver, HasCause, HasRun};
-ghost use Rattle.cqf_program_engine.specs.Run.{IsDone, IsStopped, TellsStop, is_space, is_threaded, first_line, wanted_of};
+ghost use Rattle.cqf_program_engine.specs.Run.{IsDone, IsStopped, TellsCandidates, TellsStop, is_space, is_threaded, first_line, wanted_of};
 ghost use Rattle.cqf_program_engine.specs.Run.{behind_first_line};
 ghost use Rattle.cqf_model.specs.Limits.{most_cycles};
 
@@ -30,6 +30,7 @@ use cqf_program_press::{Sink, Told, write_out};
 use cqf_program_runs::{check_output, deliveries_output, line_output, report_output, run_output};
 use cqf_program_sketch::plan_output;
 use cqf_program_stop::{DONE, FAULT, NO_MEMORY, Stop, USAGE};
+use cqf_program_summary::summary_output;
 use cqf_program_threads::threads_output;
 use cqf_program_words::{Candidates, Format, Job, read_words, stop_of_line, stop_of_long_line};
 use cqf_text::split_line;
@@ -138,6 +139,7 @@ fn prepare(
             Ok(Prepared::Deliveries(deliveries_output(alloc, cycles, input)?))
         }
         Job::Check { cycles } => Ok(Prepared::Text(check_output(alloc, cycles, input)?)),
+        Job::Summary { cycles } => Ok(Prepared::Summary(summary_output(alloc, cycles, input)?)),
         Job::Offers { cycles, seed } => {
             Ok(Prepared::Text(offers_output(alloc, cycles, seed, input)?))
         }
@@ -327,6 +329,7 @@ fn read_line(alloc: Global, line: &str, words: &[&str]) -> Result<Job, Stop>
     ensures ok { IfOk result (Mean (map (λ word. word.now) words.now)) }
     ensures err { IfErr result (EndsWords (map (λ word. word.now) words.now)) }
     ensures shows { IfErr result (ShowsLine line.now) }
+    ensures tells { IfErr result (λ stop. is_shown_whole line.now ≡ true → TellsCandidates (map (λ word. word.now) words.now) stop) }
 {
     match read_words(alloc, words) {
         Ok(job) => Ok(job),

@@ -14,7 +14,7 @@ fn taken_by(command: &str) -> &'static str {
     match command {
         "port" => "a gate list and arrivals",
         "line" => "offers",
-        "run" | "report" | "deliveries" | "check" | "hops" => {
+        "run" | "report" | "deliveries" | "check" | "summary" | "hops" => {
             "a plant, calls, offers and background frames, if any"
         }
         "plan" => "a sketch, which is a domain and its streams",

@@ -16,6 +16,7 @@ cycles_of (job.Run cycles threads) = Some cycles
 cycles_of (job.Report cycles) = Some cycles
 cycles_of (job.Deliveries cycles) = Some cycles
 cycles_of (job.Check cycles) = Some cycles
+cycles_of (job.Summary cycles) = Some cycles
 cycles_of (job.Hops cycles stream frame) = Some cycles
 cycles_of other = None
 

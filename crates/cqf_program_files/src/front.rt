@@ -21,7 +21,7 @@ pub struct Front {
     pub numbers: Option<Vec<u64>>,
 }
 
-/// The cycles of a job that reads a script: of `run`, `report`, `deliveries`, `check` and `hops`.
+/// The cycles of a job that reads a script: of `run`, `report`, `deliveries`, `check`, `summary` and `hops`.
 pub fn cycles_of(job: &Job) -> Option<u32>
     ensures { result ≡ cycles_of job.now }
 {
@@ -30,6 +30,7 @@ pub fn cycles_of(job: &Job) -> Option<u32>
         | Job::Report { cycles }
         | Job::Deliveries { cycles }
         | Job::Check { cycles }
+        | Job::Summary { cycles }
         | Job::Hops { cycles, .. } => Some(cycles),
         _ => None,
     }

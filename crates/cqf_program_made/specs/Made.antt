@@ -92,6 +92,7 @@ made_of_parts planned cycles input parts = Ok input
 abbrev pub is_planned : Job → Bool
 is_planned (job.Deliveries cycles) = true
 is_planned (job.Check cycles) = true
+is_planned (job.Summary cycles) = true
 is_planned it = false
 
 -- the input of a job: one that reads a script gets what isn't given

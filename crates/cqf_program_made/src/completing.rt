@@ -25,7 +25,10 @@ use std::alloc::Global;
 fn is_planned(job: &Job) -> bool
     ensures { result ≡ is_planned job.now }
 {
-    matches!(*job, Job::Deliveries { .. } | Job::Check { .. })
+    matches!(
+        *job,
+        Job::Deliveries { .. } | Job::Check { .. } | Job::Summary { .. }
+    )
 }
 
 /// Parts as an input. `Err` with status 3 for want of memory.

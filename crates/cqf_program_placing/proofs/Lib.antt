@@ -3,3 +3,9 @@ pub mod SettledLemmas
 pub mod RouteLemmas
 pub mod AskLemmas
 pub mod PlaceLemmas
+pub mod WayNames
+pub mod FirstBranches
+pub mod ReadyStreams
+pub mod StreamsRead
+pub mod Behind
+pub mod RoomLemmas

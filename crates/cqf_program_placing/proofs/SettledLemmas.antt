@@ -42,14 +42,14 @@ or_unsettled-Ok name (Ok y) x e = cc
 or_unsettled-Ok name (Err fault) x e = absurd cc
 
 -- the first was right, and so were the others
-record AreBoth {A E : Type 0} (first : Result A E) (others : Result (List A) E) (xs : List A) : Type 0 where
-  one : A
-  more : List A
-  first_is : first ≡ Ok one
-  others_are : others ≡ Ok more
-  all : xs ≡ one ∷ more
+pub record AreBoth {A E : Type 0} (first : Result A E) (others : Result (List A) E) (xs : List A) : Type 0 where
+  pub one : A
+  pub more : List A
+  pub first_is : first ≡ Ok one
+  pub others_are : others ≡ Ok more
+  pub all : xs ≡ one ∷ more
 
-and_first-Ok : {A E : Type 0} (first : Result A E) (others : Result (List A) E) (xs : List A) → and_first first others ≡ Ok xs → AreBoth first others xs
+pub and_first-Ok : {A E : Type 0} (first : Result A E) (others : Result (List A) E) (xs : List A) → and_first first others ≡ Ok xs → AreBoth first others xs
 and_first-Ok (Err e) others xs h = absurd cc
 and_first-Ok (Ok x) (Err e) xs h = absurd cc
 and_first-Ok {A} {E} (Ok x) (Ok ys) xs h = let e : xs ≡ x ∷ ys = cc in record { one = x; more = ys; first_is = refl; others_are = refl; all = e }
@@ -60,7 +60,7 @@ not_not true e = refl
 not_not false e = absurd cc
 
 -- none is found behind one that fails, and it fails
-found_none : {X : Type 0} (test : X → Bool) (x : X) (xs : List X) → find test (x ∷ xs) ≡ None → (test x ≡ false) × (find test xs ≡ None)
+pub found_none : {X : Type 0} (test : X → Bool) (x : X) (xs : List X) → find test (x ∷ xs) ≡ None → (test x ≡ false) × (find test xs ≡ None)
 found_none {X} test x xs e = by (test x) refl e
   where
     by : (b : Bool) → test x ≡ b → cond b (Some x) (find test xs) ≡ None → (test x ≡ false) × (find test xs ≡ None)
@@ -85,7 +85,7 @@ station_there d name s e = by (place_of name d.bridges) (place_of name d.station
     by None None at h = absurd cc
 
 -- so is an edge bridge
-entrance_there : (sketch : SketchDomain) (d : Domain) (from : List ℕ) (entrance : Entrance) → HasTalkerLinks sketch → d.bridges ≡ sketch.bridges →
+pub entrance_there : (sketch : SketchDomain) (d : Domain) (from : List ℕ) (entrance : Entrance) → HasTalkerLinks sketch → d.bridges ≡ sketch.bridges →
     entrance_at sketch (node_named d from) ≡ Some entrance → entrance.bridge < length d.bridges
 entrance_there sketch d from entrance talkers same e = by_node (node_named d from) refl e
   where
@@ -104,7 +104,7 @@ entrance_there sketch d from entrance talkers same e = by_node (node_named d fro
     by_node (Some (Station s)) is h = by_talker (find (λ (talker : TalkerLink). talker.station == s) sketch.talkers) s refl h
 
 -- a listener that is taken is a station
-station_named_by : (d : Domain) (name : List ℕ) (s : ℕ) → station_by_name d name ≡ Ok s → node_named d name ≡ Some (Station s)
+pub station_named_by : (d : Domain) (name : List ℕ) (s : ℕ) → station_by_name d name ≡ Ok s → node_named d name ≡ Some (Station s)
 station_named_by d name s e = by (node_named d name) refl (ok_or-Ok (station_at (node_named d name)) (fault.NoListener name) s e)
   where
     by : (node : Option Node) → node_named d name ≡ node → station_at node ≡ Some s → node_named d name ≡ Some (Station s)
@@ -161,15 +161,17 @@ some_left taken (Some whole) left e deadline is = by (nat_lt taken whole) refl e
     by false less h = absurd cc
 
 -- what a stream has that is settled
-record IsSettledBy (sketch : SketchDomain) (d : Domain) (before : List (List ℕ)) (stream : StreamText) (one : SettledStream) : Type 0 where
-  named : is_name stream.name ≡ true
-  reservable : are_reservable one.octets ≡ true
-  way_is : settled_way sketch d stream.way ≡ Ok one.way
-  stands : refusal_behind d before stream.name ≡ None
-  deadline_is : deadline_of_stream sketch d stream ≡ Ok one.deadline
-  name_is : stream.name ≡ one.name
+pub record IsSettledBy (sketch : SketchDomain) (d : Domain) (before : List (List ℕ)) (stream : StreamText) (one : SettledStream) : Type 0 where
+  pub named : is_name stream.name ≡ true
+  pub reservable : are_reservable one.octets ≡ true
+  pub way_is : settled_way sketch d stream.way ≡ Ok one.way
+  pub stands : refusal_behind d before stream.name ≡ None
+  pub deadline_is : deadline_of_stream sketch d stream ≡ Ok one.deadline
+  pub name_is : stream.name ≡ one.name
+  pub octets_are : stream.octets ≡ one.octets
+  pub traffic_is : stream.traffic ≡ one.traffic
 
-settled_by : (sketch : SketchDomain) (d : Domain) (before : List (List ℕ)) (stream : StreamText) (one : SettledStream) →
+pub settled_by : (sketch : SketchDomain) (d : Domain) (before : List (List ℕ)) (stream : StreamText) (one : SettledStream) →
     settled_next sketch d before stream ≡ Ok one → IsSettledBy sketch d before stream one
 settled_by sketch d before stream one e =
     let (unnamed, e1) = refuse-Ok (if_so (not (is_name stream.name))) (λ _. unsettled.BadName (length before + 1))
@@ -189,6 +191,8 @@ settled_by sketch d before stream one e =
       stands = stands;
       deadline_is = deadline_is ∙ ap (λ (s : SettledStream). Ok s.deadline) same;
       name_is = ap (λ (s : SettledStream). s.name) same;
+      octets_are = ap (λ (s : SettledStream). s.octets) same;
+      traffic_is = ap (λ (s : SettledStream). s.traffic) same;
     }
 
 -- a stream of this name stands behind those of other names: it isn't one of theirs, and there are fewer than there may be

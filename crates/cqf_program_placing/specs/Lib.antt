@@ -2,3 +2,4 @@ pub mod Faults
 pub mod Settled
 pub mod Placing
 pub mod Routes
+pub mod Room

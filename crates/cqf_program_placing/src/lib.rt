@@ -6,7 +6,8 @@
 //!   no branches by the first ways with room: a [`Placing`], with the [`Outcome`] of each stream.
 //! - A [`PlanFault`] is why a stream isn't settled, or isn't placed.
 //!
-//! `specs/` has both as definitions (`Settled`, `Placing`), and the texts of faults (`Faults`).
+//! `specs/` has both as definitions (`Settled`, `Placing`), the texts of faults (`Faults`), and the law that streams are placed where there is
+//! room (`Room`), which [`placed_where_there_is_room`] proves.
 //!
 //! ```text
 //! with bridges a and b, stations s and t, links a>b, b>s at 1,000 Mb/s, and a talker's link t>a at 1,000 Mb/s with a delay of 500 ns
@@ -21,6 +22,7 @@ mod branches;
 mod deadlines;
 mod entrances;
 mod faults;
+mod laws;
 mod outcomes;
 mod placing;
 mod reserving;
@@ -31,6 +33,7 @@ mod way_settling;
 mod ways_there;
 
 pub use faults::PlanFault;
+pub use laws::placed_where_there_is_room;
 pub use outcomes::Outcome;
 pub use placing::{Placing, place};
 pub use settled::{Settled, Unsettled, Way};

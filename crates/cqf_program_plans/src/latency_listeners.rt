@@ -1,5 +1,5 @@
 //! The latencies of the streams of a table to their listeners.
-ghost use Rattle.std.specs.Prelude.{ℕ, ◌≡◌, ◌<◌, ◌++◌, All, IfOk, OnOk, Some, None, if◌then◌else◌, length};
+ghost use Rattle.std.specs.Prelude.{ℕ, ◌≡◌, ◌*◌, ◌<◌, ◌≤◌, ◌^◌, ◌++◌, All, IfOk, OnOk, Some, None, if◌then◌else◌, length};
 ghost use Rattle.cqf_admission.specs.Tables.{AreAlongLinks, AreOfEachCycle};
 ghost use Rattle.cqf_laws_history.specs.StateLaws.{AreHeld};
 ghost use Rattle.cqf_laws_latency.specs.Latency.{least_of, most_of, window_of};
@@ -27,15 +27,15 @@ fn least_to(domain: &Domain, link: u16, depth: u8) -> u64
     waits + 1 + 72 * octet_time(ends.rate) + u64::from(ends.delay)
 }
 
-/// The most that a frame takes to the end of a link of this depth, of which the streams cost so much.
-fn most_to(domain: &Domain, link: u16, depth: u8, cost: u32) -> u64
-    requires { link < length domain.now.links }
+/// The most that a frame takes to the end of a link of this depth, in nanoseconds, of which the streams cost so many octets (profile).
+pub fn most_to(domain: &Domain, link: u16, depth: u8, cost: u64) -> u64
+    requires link { link < length domain.now.links }
+    requires cost { cost ≤ 2 ^ 32 * 100000 }
     ensures { result ≡ most_of domain.now link depth cost }
 {
     let (cycle_time, ends) = (domain.cycle_time().0, domain.link(link));
     let waits = u64::from(depth) * cycle_time;
-    let octets = u64::from(cost.saturating_sub(12));
-    waits + octet_time(ends.rate) * octets + u64::from(ends.delay)
+    waits + octet_time(ends.rate) * cost.saturating_sub(12) + u64::from(ends.delay)
 }
 
 /// How far apart the frames of one cycle can be whole at the end of a link of which the streams cost so much.
@@ -74,7 +74,7 @@ fn latency_at(costs: &Costs<'_>, row: &Row, deadline: Option<u32>, hop: &Hop) ->
         listener,
         bridges: depth,
         least: least_to(domain, link, depth),
-        most: most_to(domain, link, depth, cost),
+        most: most_to(domain, link, depth, u64::from(cost)),
         window: window_at(domain, link, cost),
         deadline,
     })

@@ -16,7 +16,7 @@ fn put_header<W: Sink>(press: &mut Press<'_, W>)
 }
 
 /// Puts a deadline, where there is one.
-fn put_deadline<W: Sink>(press: &mut Press<'_, W>, deadline: Option<u32>)
+pub fn put_deadline<W: Sink>(press: &mut Press<'_, W>, deadline: Option<u32>)
     ensures { Puts W.contents press.old press.new (text_of_deadline deadline) }
 {
     if let Some(deadline) = deadline {

@@ -3,7 +3,7 @@ mod LineRuns
 mod LineTables
 mod RunOutputs
 mod ReportOutputs
-pub mod Noted
+pub mod NotedStarts
 pub mod Passed
 pub mod ByBook
 mod PassageLines
@@ -11,16 +11,16 @@ mod Lines
 mod Fates
 mod CallsWell
 mod RefusedInLogs
-mod Well
+pub mod Well
 pub mod Arrived
 pub mod Listeners
 mod Once
 mod Planned
 mod Passing
 mod Later
-mod Judged
+pub mod Judged
 mod Told
 mod OfCycles
 mod Room
-mod OneMore
+pub mod OneMore
 mod Counted

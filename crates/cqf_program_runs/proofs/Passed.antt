@@ -29,7 +29,7 @@ use Rattle.cqf_program_runs.specs.declared.delivery.Delivery.{Delivery}
 use Rattle.cqf_program_runs.specs.Arrivals.{AreNoted, whole_in}
 use Rattle.cqf_program_runs.specs.ByVerdict.{Known, deliveries_for, deliveries_of_all, deliveries_within}
 use Rattle.cqf_program_runs.specs.Deliveries.{delivery_to, whole_on}
-use Rattle.cqf_program_runs.proofs.Noted.{whole_in-on}
+use Rattle.cqf_program_runs.proofs.NotedStarts.{whole_in-on}
 
 module _ (d : Domain) (cycles : ℕ) (known : Known) (verdict : Offered → Verdict) (offers : List Offer) (place : ℕ) (offer : Offer)
     (at : slice_get offers place ≡ Some offer) where

@@ -26,9 +26,9 @@ use cqf_topology::Domain;
 use cqf_units::{Memory, cycle_of};
 use std::alloc::Global;
 
-/// What is noted of a scenario that was run.
+/// What is noted of a scenario that was run: what becomes of each offer, its deadline, and when frames are whole at their listeners.
 #[derive(Drop)]
-pub(crate) struct Noted {
+pub struct Noted {
     /// The streams that were ever granted, by number.
     pub(crate) rows: Vec<Row>,
     /// What becomes of each offer, by its place.
@@ -40,7 +40,7 @@ pub(crate) struct Noted {
 
 impl Noted {
     /// What deliveries are told from: this, and what was read of the scenario.
-    pub(crate) fn over<'r>(&'r self, planned: &'r PlannedGiven, cycles: u32) -> Ended<'r>
+    pub fn over<'r>(&'r self, planned: &'r PlannedGiven, cycles: u32) -> Ended<'r>
         ensures { over_of result ≡ over_by planned.now cycles self.now }
     {
         Ended {
@@ -133,8 +133,11 @@ pub(crate) fn pass_of(
     Ok((entries, book.into_pass()))
 }
 
-/// What is noted of a scenario over so many cycles, 0 to 100,000.
-pub(crate) fn noted_of_scenario(
+/// What is noted of a scenario over so many cycles, 0 to 100,000. Its starts are told by a pass, and none of them is kept.
+///
+/// # Errors
+/// `Memory` where a growth is refused.
+pub fn noted_of_scenario(
     alloc: Global,
     cycles: u32,
     planned: &PlannedGiven,

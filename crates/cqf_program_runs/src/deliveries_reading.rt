@@ -1,4 +1,4 @@
-//! What the commands `deliveries` and `check` read.
+//! What the commands `deliveries` and `check` read, and others over deliveries.
 ghost use Rattle.std.specs.Prelude.{IfErr, IfOk};
 ghost use Rattle.cqf_program_scenario.specs.Lines.{streams_line};
 ghost use Rattle.cqf_program_scenario.specs.RunParts.{texts_of};
@@ -15,10 +15,10 @@ use std::alloc::Global;
 
 /// What a run is given, and the deadlines of its streams.
 #[derive(Drop)]
-pub(crate) struct PlannedGiven {
-    pub(crate) given: Given,
+pub struct PlannedGiven {
+    pub given: Given,
     /// The deadlines of its requests in nanoseconds, where they have one, by the same places.
-    pub(crate) deadlines: Vec<Option<u32>>,
+    pub deadlines: Vec<Option<u32>>,
 }
 
 /// The requests for the streams of a part, and their deadlines.
@@ -44,12 +44,12 @@ fn read_planned_parts(alloc: Global, cycles: u32, parts: RunParts<'_>) -> Result
     Ok(PlannedGiven { given, deadlines })
 }
 
-/// The scenario of the input with its streams' deadlines, or the end with the line of its first fault.
-pub(crate) fn read_planned_given(
-    alloc: Global,
-    cycles: u32,
-    input: &[u8],
-) -> Result<PlannedGiven, Stop>
+/// The scenario of the input over so many cycles, with its streams' deadlines (profile).
+///
+/// # Errors
+/// With status 1 and the line of the first fault of the input: of its parts, of the domain, the streams, the script, the
+/// offers, or the background frames; and with status 3 for want of memory.
+pub fn read_planned_given(alloc: Global, cycles: u32, input: &[u8]) -> Result<PlannedGiven, Stop>
     ensures ok { IfOk result (λ made. IsPlannedGiven cycles input.now made) }
     ensures err { IfErr result (IsRefused (planned_scenario cycles input.now)) }
 {

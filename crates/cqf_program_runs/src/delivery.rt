@@ -54,8 +54,8 @@ pub struct Delivery {
     pub passage: Passage,
 }
 
-/// How long a frame takes from its offer to its being whole.
-pub(crate) fn latency(at: Nanos, whole: Nanos) -> u64
+/// How long a frame takes from its offer to its being whole, in nanoseconds (profile).
+pub fn latency(at: Nanos, whole: Nanos) -> u64
     ensures { result ≡ latency_of at.0 whole }
 {
     whole.0.saturating_sub(at.0)

@@ -12,6 +12,7 @@ ghost use Rattle.cqf_program_runs.specs.Ending.{IsOver, deliveries_over, over_of
 use crate::delivery::{Delivery, Fate, Journey, Passage, latency};
 use crate::few::Few;
 use crate::made::{Ended, put_those_of};
+use cqf_program_plans::put_deadline;
 use cqf_program_press::{Press, Sink};
 use cqf_report::reason_name;
 use cqf_units::Nanos;
@@ -52,15 +53,6 @@ fn put_latency<W: Sink>(press: &mut Press<'_, W>, at: Nanos, whole: Option<Nanos
 {
     if let Some(whole) = whole {
         press.put_number(latency(at, whole));
-    }
-}
-
-/// Puts the deadline, where there is one.
-fn put_deadline<W: Sink>(press: &mut Press<'_, W>, deadline: Option<u32>)
-    ensures { Puts W.contents press.old press.new (text_of_deadline deadline) }
-{
-    if let Some(deadline) = deadline {
-        press.put_number(deadline);
     }
 }
 

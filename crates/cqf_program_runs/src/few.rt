@@ -9,7 +9,7 @@ use std::marker::Model;
 
 /// Room for the deliveries of one offer: a tree has at most 200 hops.
 #[derive(Drop)]
-pub(crate) struct Few {
+pub struct Few {
     deliveries: Vec<Delivery>,
 }
 
@@ -26,7 +26,10 @@ impl Model for Few {
 
 impl Few {
     /// None so far. This alone asks for memory.
-    pub(crate) fn new(alloc: Global) -> Result<Few, Memory>
+    ///
+    /// # Errors
+    /// Where the memory for them is refused.
+    pub fn new(alloc: Global) -> Result<Few, Memory>
         ensures { IfOk result (λ few. few ≡ []) }
     {
         let deliveries = Vec::with_capacity(alloc, MOST_HOPS)?;
@@ -48,8 +51,8 @@ impl Few {
         self.deliveries.push_reserved(delivery);
     }
 
-    /// What is there.
-    pub(crate) fn as_slice(&self) -> &[Delivery]
+    /// What is there: at most 64 deliveries.
+    pub fn as_slice(&self) -> &[Delivery]
         ensures value { result.now ≡ self.now }
         ensures fits { length result.now ≤ 200 }
     {

@@ -14,6 +14,8 @@
 //!
 //! - A [`Delivery`] is a frame on its way to one listener, or its drop; [`Delivery::fate`] is what becomes of it, a [`Fate`], by
 //!   the [`Deadlines`] of the streams' frames.
+//! - [`read_planned_given`] has the scenario of an input with its deadlines ([`PlannedGiven`]), [`noted_of_scenario`] what its deliveries are
+//!   told from ([`Noted`], [`Ended`]), and [`put_those_of`] those of one offer ([`Few`]), for other commands over deliveries.
 //! - [`complaint_about`], [`unfinished_line`] and [`well_line`] are the lines of a check.
 //! - [`verdicts_tell_deliveries`] is the law that ties deliveries by the verdicts on offers to those of a book.
 //!   [`arrivals_are_the_shift`] says which have come, [`each_is_told_once`] what is told of an offer, and
@@ -63,13 +65,17 @@ mod run_outputs;
 pub use checked::{Counts, complaint_about, first_bad, unfinished_line, well_line};
 pub use deadlines::Deadlines;
 pub use deliveries_command::{check_output, deliveries_output};
+pub use deliveries_made::{Noted, noted_of_scenario};
 pub use deliveries_outputs::DeliveriesOutput;
-pub use delivery::{Delivery, Fate, Journey, Passage};
+pub use deliveries_reading::{PlannedGiven, read_planned_given};
+pub use delivery::{Delivery, Fate, Journey, Passage, latency};
+pub use few::Few;
 pub use laws::{
     arrivals_are_the_shift, check_is_well_exactly, each_is_told_once, verdicts_tell_deliveries,
 };
 pub use line_command::line_output;
 pub use line_outputs::LineOutput;
+pub use made::{Ended, put_those_of};
 pub use report_command::report_output;
 pub use run_command::run_output;
 pub use run_outputs::RunOutput;

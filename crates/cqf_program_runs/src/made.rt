@@ -22,13 +22,13 @@ use cqf_program_plans::listener_at;
 use cqf_topology::{Domain, Request};
 use cqf_units::cycle_of;
 
-/// What the deliveries of a run that is over are told from.
+/// What the deliveries of a run that is over are told from ([`Noted::over`](crate::Noted::over)).
 #[derive(Clone, Copy)]
-pub(crate) struct Ended<'r> {
-    pub(crate) domain: &'r Domain,
+pub struct Ended<'r> {
+    pub domain: &'r Domain,
     /// How many cycles were run.
-    pub(crate) cycles: u32,
-    pub(crate) offers: &'r [Offer],
+    pub cycles: u32,
+    pub offers: &'r [Offer],
     /// The streams that were ever granted, by number.
     pub(crate) rows: &'r [Row],
     /// What becomes of each offer, by its place.
@@ -160,8 +160,9 @@ fn put_offer(here: &mut Few, ended: &Ended<'_>, deadline: Option<u32>, x: &Offer
     put_judged(here, ended, deadline, x, judgement);
 }
 
-/// Puts the deliveries of the offer at a place in place of what was there: none where its cycle isn't run.
-pub(crate) fn put_those_of(here: &mut Few, ended: &Ended<'_>, place: usize)
+/// Puts the deliveries of the offer at a place, from 0, in place of what was there: none where its cycle isn't run (profile). It asks for
+/// no memory.
+pub fn put_those_of(here: &mut Few, ended: &Ended<'_>, place: usize)
     requires over { IsOver (over_of ended.now) }
     requires there { place < length ended.now.offers.now }
     ensures { (x : AnOffered) → slice_get (numbered ended.now.offers.now) place ≡ Some x → here.new ≡ deliveries_at (over_of ended.now) x }

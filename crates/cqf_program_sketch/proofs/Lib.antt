@@ -4,3 +4,4 @@ mod PlacedLemmas
 mod TriedLemmas
 mod TextLemmas
 mod ChoiceLemmas
+mod ReadSketches

@@ -1,10 +1,10 @@
 -- What a told plan keeps (profile).
-use Rattle.std.specs.Prelude.{ℕ, ◌≡◌, ◌≤◌, List, [], All, Option, Ok, false, map, true}
+use Rattle.std.specs.Prelude.{ℕ, ◌≡◌, ◌≤◌, List, [], All, IfSome, Option, Ok, false, map, true}
 use Rattle.std.specs.Option.{ForSome}
 use Rattle.cqf_laws_traffic.specs.Traffic.{needed}
 use Rattle.cqf_model.specs.Domain.{Domain}
 use Rattle.cqf_model.specs.History.{Recorded, held_in}
-use Rattle.cqf_sketch.specs.SketchDomain.{SketchDomain}
+use Rattle.cqf_sketch.specs.SketchDomain.{AreCandidates, IsOpenCycle, SketchDomain}
 use Rattle.cqf_traffic.specs.FlowsText.{FlowText}
 use Rattle.cqf_traffic.specs.TrafficText.{TrafficText, promise_of}
 use Rattle.cqf_program_plans.specs.CompileOutput.{admitted_from}
@@ -12,8 +12,12 @@ use Rattle.cqf_program_plans.specs.declared.latency_latencies.Latency.{Latency}
 use Rattle.cqf_program_plans.specs.LatencyOutput.{latency_of_plan}
 use Rattle.cqf_program_plans.specs.LatencyText.{is_not_sure, latencies_of, latency_text}
 use Rattle.cqf_program_offers.specs.OffersOutput.{asked_in}
+use Rattle.cqf_program_placing.specs.Placing.{PlacedStreams}
+use Rattle.cqf_program_placing.specs.Room.{ArePlacedByRoom}
 use Rattle.cqf_program_placing.specs.Settled.{SettledStream}
 use Rattle.cqf_program_sketch.specs.Choosing.{IsPlanned}
+use Rattle.cqf_program_sketch.specs.Judging.{ArePlacedAt}
+use Rattle.cqf_program_sketch.specs.PlanOutput.{Sketched, sketch_input}
 
 -- the deadlines of a plan's streams, by number
 abbrev pub deadlines_of : List FlowText → List (Option ℕ)
@@ -45,3 +49,10 @@ abbrev pub ToldPlanIsAdmitted : Type 0
 ToldPlanIsAdmitted =
     (sketch : SketchDomain) (streams : List SettledStream) (d : Domain) (flows : List FlowText) → IsPlanned sketch streams d flows →
     IsSoundPlan streams d flows
+
+-- the streams of an input that is a sketch are placed where there is room, on each cycle time that is open to it
+abbrev pub SketchesArePlacedByRoom : Type 0
+SketchesArePlacedByRoom =
+    (given : Option (List ℕ)) (input : List ℕ) (sketched : Sketched) (cycle_time : ℕ) (placed : PlacedStreams) → IfSome given AreCandidates →
+    sketch_input given input ≡ Ok sketched → IsOpenCycle sketched.domain cycle_time →
+    ArePlacedAt sketched.domain sketched.streams cycle_time placed → ArePlacedByRoom sketched.streams placed

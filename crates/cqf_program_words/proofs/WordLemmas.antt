@@ -16,7 +16,7 @@ use Rattle.cqf_program_words.specs.declared.candidates.Candidates.{Candidates}
 use Rattle.cqf_program_words.specs.declared.words.Format.{Format}
 use Rattle.cqf_program_words.specs.declared.words.Job.{Job}
 use Rattle.cqf_program_words.specs.declared.words.Job.TheVariants.{Check, Compile, Deliveries, Hops, Latency, Line}
-use Rattle.cqf_program_words.specs.declared.words.Job.TheVariants.{Load, Offers, Plan, Port, Report, Run}
+use Rattle.cqf_program_words.specs.declared.words.Job.TheVariants.{Load, Offers, Plan, Port, Report, Run, Summary}
 use Rattle.cqf_program_stop.specs.Stops.{EndsWith, line_of}
 use Rattle.cqf_program_stop.specs.declared.stops.Stop.{Stop}
 use Rattle.cqf_program_words.specs.Candidates.{AreNamed}
@@ -49,6 +49,7 @@ only_port rows none (Run cycles threads) job = omega (arith, marked (codes "port
 only_port rows none (Report cycles) job = omega (arith, marked (codes "port") (codes "report") job.0)
 only_port rows none (Deliveries cycles) job = omega (arith, marked (codes "port") (codes "deliveries") job.0)
 only_port rows none (Check cycles) job = omega (arith, marked (codes "port") (codes "check") job.0)
+only_port rows none (Summary cycles) job = omega (arith, marked (codes "port") (codes "summary") job.0)
 only_port rows none (Offers cycles seed) job = omega (arith, marked (codes "port") (codes "offers") job.0)
 only_port rows none (Hops cycles stream frame) job = omega (arith, marked (codes "port") (codes "hops") job.0)
 only_port rows none (Plan table given) job = omega (arith, marked (codes "port") (codes "plan") job.0)
@@ -65,6 +66,7 @@ only_compile rows none (Run cycles threads) job = omega (arith, marked (codes "c
 only_compile rows none (Report cycles) job = omega (arith, marked (codes "compile") (codes "report") job.0)
 only_compile rows none (Deliveries cycles) job = omega (arith, marked (codes "compile") (codes "deliveries") job.0)
 only_compile rows none (Check cycles) job = omega (arith, marked (codes "compile") (codes "check") job.0)
+only_compile rows none (Summary cycles) job = omega (arith, marked (codes "compile") (codes "summary") job.0)
 only_compile rows none (Offers cycles seed) job = omega (arith, marked (codes "compile") (codes "offers") job.0)
 only_compile rows none (Hops cycles stream frame) job = omega (arith, marked (codes "compile") (codes "hops") job.0)
 only_compile rows none (Plan table given) job = omega (arith, marked (codes "compile") (codes "plan") job.0)
@@ -81,6 +83,7 @@ only_offers rows none (Run cycles threads) job = omega (arith, marked (codes "of
 only_offers rows none (Report cycles) job = omega (arith, marked (codes "offers") (codes "report") job.0)
 only_offers rows none (Deliveries cycles) job = omega (arith, marked (codes "offers") (codes "deliveries") job.0)
 only_offers rows none (Check cycles) job = omega (arith, marked (codes "offers") (codes "check") job.0)
+only_offers rows none (Summary cycles) job = omega (arith, marked (codes "offers") (codes "summary") job.0)
 only_offers rows none (Offers cycles seed) job = none cycles seed job
 only_offers rows none (Hops cycles stream frame) job = omega (arith, marked (codes "offers") (codes "hops") job.0)
 only_offers rows none (Plan table given) job = omega (arith, marked (codes "offers") (codes "plan") job.0)
@@ -98,6 +101,7 @@ only_hops rows none (Run cycles threads) job = omega (arith, marked (codes "hops
 only_hops rows none (Report cycles) job = omega (arith, marked (codes "hops") (codes "report") job.0)
 only_hops rows none (Deliveries cycles) job = omega (arith, marked (codes "hops") (codes "deliveries") job.0)
 only_hops rows none (Check cycles) job = omega (arith, marked (codes "hops") (codes "check") job.0)
+only_hops rows none (Summary cycles) job = omega (arith, marked (codes "hops") (codes "summary") job.0)
 only_hops rows none (Offers cycles seed) job = omega (arith, marked (codes "hops") (codes "offers") job.0)
 only_hops rows none (Hops cycles stream frame) job = none cycles stream frame job
 only_hops rows none (Plan table given) job = omega (arith, marked (codes "hops") (codes "plan") job.0)
@@ -114,6 +118,7 @@ only_plan rows none (Run cycles threads) job = omega (arith, marked (codes "plan
 only_plan rows none (Report cycles) job = omega (arith, marked (codes "plan") (codes "report") job.0)
 only_plan rows none (Deliveries cycles) job = omega (arith, marked (codes "plan") (codes "deliveries") job.0)
 only_plan rows none (Check cycles) job = omega (arith, marked (codes "plan") (codes "check") job.0)
+only_plan rows none (Summary cycles) job = omega (arith, marked (codes "plan") (codes "summary") job.0)
 only_plan rows none (Offers cycles seed) job = omega (arith, marked (codes "plan") (codes "offers") job.0)
 only_plan rows none (Hops cycles stream frame) job = omega (arith, marked (codes "plan") (codes "hops") job.0)
 only_plan rows none (Plan table given) job = none table given job
@@ -148,6 +153,7 @@ no_cycles name rows not_port not_compile not_load not_latency not_offers not_hop
 no_cycles name rows not_port not_compile not_load not_latency not_offers not_hops not_plan none (Report cycles) job = none cycles job.1
 no_cycles name rows not_port not_compile not_load not_latency not_offers not_hops not_plan none (Deliveries cycles) job = none cycles job.1
 no_cycles name rows not_port not_compile not_load not_latency not_offers not_hops not_plan none (Check cycles) job = none cycles job.1
+no_cycles name rows not_port not_compile not_load not_latency not_offers not_hops not_plan none (Summary cycles) job = none cycles job.1
 no_cycles name rows not_port not_compile not_load not_latency not_offers not_hops not_plan none (Offers cycles seed) job = not_offers job.0
 no_cycles name rows not_port not_compile not_load not_latency not_offers not_hops not_plan none (Hops cycles stream frame) job = not_hops job.0
 no_cycles name rows not_port not_compile not_load not_latency not_offers not_hops not_plan none (Plan table given) job = not_plan job.0

@@ -10,8 +10,8 @@ abbrev pub is_command : Text → Bool
 is_command word = bytes_eq word (codes "port") || (bytes_eq word (codes "line") || (bytes_eq word (codes "compile")
     || (bytes_eq word (codes "load") || (bytes_eq word (codes "latency")
     || (bytes_eq word (codes "run") || (bytes_eq word (codes "report")
-    || (bytes_eq word (codes "deliveries") || (bytes_eq word (codes "check") || (bytes_eq word (codes "offers")
-    || (bytes_eq word (codes "hops") || bytes_eq word (codes "plan")))))))))))
+    || (bytes_eq word (codes "deliveries") || (bytes_eq word (codes "check") || (bytes_eq word (codes "summary")
+    || (bytes_eq word (codes "offers") || (bytes_eq word (codes "hops") || bytes_eq word (codes "plan"))))))))))))
 
 -- an option behind which its value stands as a word of its own
 abbrev pub wants_value : Text → Bool

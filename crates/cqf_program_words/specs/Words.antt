@@ -14,7 +14,7 @@ use Rattle.cqf_program_words.specs.declared.words.Format.{Format}
 use Rattle.cqf_program_words.specs.declared.words.Format.TheVariants as form
 use Rattle.cqf_program_words.specs.declared.words.Job.{Job}
 use Rattle.cqf_program_words.specs.declared.words.Job.TheVariants.{Check, Compile, Deliveries, Hops, Latency, Line}
-use Rattle.cqf_program_words.specs.declared.words.Job.TheVariants.{Load, Offers, Plan, Port, Report, Run}
+use Rattle.cqf_program_words.specs.declared.words.Job.TheVariants.{Load, Offers, Plan, Port, Report, Run, Summary}
 use Rattle.cqf_program_stop.specs.Stops.{line_of}
 use Rattle.cqf_program_stop.specs.declared.stops.Stop.{Stop}
 use Rattle.cqf_model.specs.Limits.{last_until, most_cycles, profile}
@@ -96,6 +96,10 @@ deliveries_app = with_rule (new_app (codes "deliveries")) (number_rule (codes "c
 abbrev pub check_app : App
 check_app = with_rule (new_app (codes "check")) (number_rule (codes "cycles") 1 most_cycles)
 
+-- `summary --cycles N`
+abbrev pub summary_app : App
+summary_app = with_rule (new_app (codes "summary")) (number_rule (codes "cycles") 1 most_cycles)
+
 -- `offers --cycles N [--seed S]`
 abbrev pub offers_app : App
 offers_app = with_rule (with_rule (new_app (codes "offers")) (number_rule (codes "cycles") 1 most_cycles)) seed_rule
@@ -128,7 +132,7 @@ abbrev pub app_of_runs : App
 app_of_runs = with_subcommand (with_subcommand app_without_deliveries deliveries_app.top) check_app.top
 
 abbrev pub app_of_scenarios : App
-app_of_scenarios = with_subcommand app_of_runs hops_app.top
+app_of_scenarios = with_subcommand (with_subcommand app_of_runs summary_app.top) hops_app.top
 
 abbrev pub cqf_app : App
 cqf_app = with_subcommand (with_subcommand app_of_scenarios offers_app.top) plan_app.top
@@ -189,6 +193,8 @@ IsJobOf (Report cycles) name rows = (name ≡ codes "report")
 IsJobOf (Deliveries cycles) name rows = (name ≡ codes "deliveries")
     × IsNumberIn 1 most_cycles cycles (first_of (codes "cycles") rows)
 IsJobOf (Check cycles) name rows = (name ≡ codes "check")
+    × IsNumberIn 1 most_cycles cycles (first_of (codes "cycles") rows)
+IsJobOf (Summary cycles) name rows = (name ≡ codes "summary")
     × IsNumberIn 1 most_cycles cycles (first_of (codes "cycles") rows)
 IsJobOf (Offers cycles seed) name rows = (name ≡ codes "offers")
     × IsNumberIn 1 most_cycles cycles (first_of (codes "cycles") rows)

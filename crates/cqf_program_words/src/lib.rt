@@ -28,7 +28,10 @@
 #![tactic(auto)]
 
 mod candidates;
+mod commands;
 mod composing;
+mod endings;
+mod help;
 mod naming;
 mod operands;
 mod shown;

@@ -43,6 +43,7 @@ fn is_command(word: &str) -> bool
         || word == "report"
         || word == "deliveries"
         || word == "check"
+        || word == "summary"
         || word == "offers"
         || word == "hops"
         || word == "plan"

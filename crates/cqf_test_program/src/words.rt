@@ -15,6 +15,7 @@ enum Meant {
     Report { cycles: u32 },
     Deliveries { cycles: u32 },
     Check { cycles: u32 },
+    Summary { cycles: u32 },
     Offers { cycles: u32, seed: Option<u32> },
     Hops { cycles: u32, frame: Option<u32> },
     Plan { table: bool },
@@ -32,6 +33,7 @@ fn job_of(meant: &Meant) -> Job {
         Meant::Report { cycles } => Job::Report { cycles },
         Meant::Deliveries { cycles } => Job::Deliveries { cycles },
         Meant::Check { cycles } => Job::Check { cycles },
+        Meant::Summary { cycles } => Job::Summary { cycles },
         Meant::Offers { cycles, seed } => Job::Offers { cycles, seed },
         Meant::Hops { cycles, frame } => Job::Hops {
             cycles,
@@ -186,6 +188,20 @@ const CASES: &[(&[&str], Option<Meant>, u8)] = &[
     (&["port", "--until", "100000001"], None, USAGE),
     (&["port", "--cycles", "5"], None, USAGE),
     (&["port", "--until", "5", "--rate", "20"], None, USAGE),
+    (
+        &["summary", "--cycles", "1"],
+        Some(Meant::Summary { cycles: 1 }),
+        DONE,
+    ),
+    (
+        &["summary", "--cycles", "100000"],
+        Some(Meant::Summary { cycles: 100_000 }),
+        DONE,
+    ),
+    (&["summary"], None, USAGE),
+    (&["summary", "--cycles", "0"], None, USAGE),
+    (&["summary", "--cycles", "100001"], None, USAGE),
+    (&["summary", "--cycles", "3", "--strict"], None, USAGE),
     (
         &["hops", "--cycles", "5"],
         Some(Meant::Hops {
@@ -399,6 +415,11 @@ const HELP: &[(&[&str], &str)] = &[
     (&["load", "--help"], "cqf load plant.toml\n"),
     (&["latency", "--help"], "Usage: cqf latency [OPTIONS]\n"),
     (&["latency", "--help"], "cqf latency --strict plant.toml\n"),
+    (&["summary", "--help"], "Usage: cqf summary --cycles <N>\n"),
+    (
+        &["summary", "--help"],
+        "cqf summary --cycles 5 plant.toml calls.txt offers.csv\n",
+    ),
     (
         &["hops", "--help"],
         "Usage: cqf hops [OPTIONS] --cycles <N>\n",

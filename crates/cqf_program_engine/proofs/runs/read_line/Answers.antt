@@ -1,7 +1,13 @@
-use Rattle.std.proofs.Common.{map}
+use Rattle.std.proofs.Common.{List, ℕ, map, subst, sym}
+use Rattle.cqf_program_stop.specs.declared.stops.Stop.{Stop}
+use Rattle.cqf_program_engine.specs.Run.{TellsCandidates}
 use Rattle.cqf_program_words.proofs.WordLemmas.{EndsWords-told}
 use Rattle.cqf_program_engine.proofs.runs.read_line.Goals as goal
 
 pub returns-in-Err-clause-err : goal.returns-in-Err-clause-err
 returns-in-Err-clause-err c = EndsWords-told (map (λ word. word.now) c.args.words.now) c.in-Err.stop c.stop_of_line.result
     c.in-Err.ensures.err c.stop_of_line.ensures.status c.stop_of_line.ensures.memory
+
+pub returns-in-Err-clause-tells : goal.returns-in-Err-clause-tells
+returns-in-Err-clause-tells c = λ whole. subst (λ (stop : Stop). TellsCandidates (map (λ word. word.now) c.args.words.now) stop)
+    (sym (c.stop_of_line.ensures.whole whole)) c.in-Err.ensures.line

@@ -9,7 +9,7 @@ pub returns-in-Err-clause-err : goal.returns-in-Err-clause-err
 returns-in-Err-clause-err g c = IsStopped-by_words (map (λ word. word.now) c.args.words.now) (reading g.R.Read.remaining c.args.input.now c.args.input.now)
     c.in-Err.stop c.requires.given c.requires.unheard.sound c.in-Err.ensures.err
     (subst (λ (asking : Bool). IsAsking asking (map (λ word. word.now) c.args.words.now)) c.if-ask_for_version.false c.ask_for_version.ensures)
-    c.in-Err.ensures.own
+    c.in-Err.ensures.own c.in-Err.ensures.line
 
 pub returns-clause-ok : goal.returns-clause-ok
 returns-clause-ok g c = IfOk-weaker c.output_of.result _ _

@@ -1,5 +1,5 @@
 use Rattle.std.proofs.Common.{refl, arith}
-use Rattle.cqf_program_runs.proofs.Noted.{AddsArrival-set}
+use Rattle.cqf_program_runs.proofs.NotedStarts.{AddsArrival-set}
 use Rattle.cqf_program_runs.proofs.arrivals.add_arrival.Goals as goal
 
 pub returns-in_ok-push : goal.returns-in_ok-push

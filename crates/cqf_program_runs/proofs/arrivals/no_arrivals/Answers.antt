@@ -1,4 +1,4 @@
-use Rattle.cqf_program_runs.proofs.Noted.{AreEmpty-next, AreEmpty-none}
+use Rattle.cqf_program_runs.proofs.NotedStarts.{AreEmpty-next, AreEmpty-none}
 use Rattle.cqf_program_runs.proofs.arrivals.no_arrivals.Goals as goal
 
 pub loop-frame-init : goal.loop-frame-init

@@ -5,7 +5,7 @@ use Rattle.cqf_instants.specs.declared.basis.Basis.{Basis}
 use Rattle.cqf_model.specs.declared.frames.Started.{Started}
 use Rattle.cqf_model.specs.Book.{starts_of}
 use Rattle.cqf_program_runs.specs.Arrivals.{AreNoted, IsInTime, lists_of_arrivals}
-use Rattle.cqf_program_runs.proofs.Noted.{AreArrivals-none}
+use Rattle.cqf_program_runs.proofs.NotedStarts.{AreArrivals-none}
 use Rattle.cqf_program_runs.proofs.OfCycles.{of_cycle}
 use Rattle.cqf_program_runs.proofs.arrivals.Arrivals.of_pass.Goals as goal
 

@@ -1,0 +1,117 @@
+-- The history behind streams that are placed: their names are held, and no others.
+use Rattle.std.proofs.Common.{◌≡◌, ◌∙◌, ◌+◌, ◌<◌, ◌≤◌, ◌++◌, ℕ, List, [], ◌∷◌, Option, Some, None, Result, Ok, Err, Contains}
+use Rattle.std.proofs.Common.{length, length-append, ap, arith, inl, inr, refl, subst, sym}
+use Rattle.std.proofs.lemmas.List.Elements.{Contains-append_cases, Contains-append_left, Contains-append_right}
+use Rattle.std.proofs.lemmas.Option.{slice_get_within}
+use Rattle.cqf_lists.proofs.Members.{contains_here, contains_none, contains_one}
+use Rattle.cqf_laws_history.specs.StateLaws.{GrantedIsHeld, HistoryGoesOn, RefusedChangesNothing, SealsAreCounted, granted_row}
+use Rattle.cqf_model.specs.declared.history.Refused.{Refused}
+use Rattle.cqf_model.specs.declared.topology.Row.{Row}
+use Rattle.cqf_model.specs.Domain.{Domain}
+use Rattle.cqf_model.specs.History.{Admits, Asked, Branch, IsLegalHistory, Recorded, admit_reply, held_in, next_number, refusal_of, reply_to, seals}
+use Rattle.cqf_program_plans.specs.CompileOutput.{with_asked}
+use Rattle.cqf_program_placing.specs.declared.faults.PlanFault.{PlanFault}
+use Rattle.cqf_program_placing.specs.Placing.{IsAnswered, IsPlacedBy, IsPlacing, PlacedOr, reserved_on}
+use Rattle.cqf_program_placing.specs.Settled.{SettledStream}
+
+-- behind streams of these names: a legal history without Seals, with a call and a held stream at most for each, which has one of their names
+pub record IsBehind (d : Domain) (names : List (List ℕ)) (entries : List Recorded) : Type 0 where
+  pub legal : IsLegalHistory d entries
+  pub no_seal : seals entries ≡ 0
+  pub few_calls : length entries ≤ length names
+  pub few_rows : length (held_in d entries (seals entries)) ≤ length names
+  pub named : (row : Row) → Contains (held_in d entries (seals entries)) row → Contains names row.name
+
+-- before the first
+pub none_behind : (d : Domain) → IsBehind d [] []
+none_behind d = record {
+  legal = record { replies = λ place e at. absurd (omega (arith, slice_get_within [] place e at)); few_seals = omega arith; few_calls = omega arith };
+  no_seal = refl;
+  few_calls = omega arith;
+  few_rows = let none : length (held_in d [] (seals [])) ≡ 0 = refl in omega (arith, none);
+  named = λ row c. absurd (contains_none row c);
+}
+
+-- a name more, where the held streams are the same
+same_rows : (d : Domain) (names : List (List ℕ)) (name : List ℕ) (entries after : List Recorded) → IsBehind d names entries → IsLegalHistory d after →
+    seals after ≡ 0 → length after ≤ length entries + 1 → held_in d after (seals after) ≡ held_in d entries (seals entries) → IsBehind d (names ++ name ∷ []) after
+same_rows d names name entries after behind legal none few held =
+    let longer : length (names ++ name ∷ []) ≡ length names + 1 = length-append names (name ∷ []) in
+    record {
+      legal = legal;
+      no_seal = none;
+      few_calls = omega (arith, longer, few, behind.few_calls);
+      few_rows = omega (arith, longer, ap length held, behind.few_rows);
+      named = λ row c. Contains-append_left names (name ∷ []) row.name (behind.named row (subst (λ (rows : List Row). Contains rows row) held c));
+    }
+
+-- and where one of that name is held with them
+one_row : (d : Domain) (names : List (List ℕ)) (name : List ℕ) (entries after : List Recorded) (one : Row) → IsBehind d names entries → IsLegalHistory d after →
+    seals after ≡ 0 → length after ≤ length entries + 1 → one.name ≡ name → held_in d after (seals after) ≡ held_in d entries (seals entries) ++ one ∷ [] →
+    IsBehind d (names ++ name ∷ []) after
+one_row d names name entries after one behind legal none few is held =
+    let longer : length (names ++ name ∷ []) ≡ length names + 1 = length-append names (name ∷ []) in
+    let rows : List Row = held_in d entries (seals entries) in
+    let more : length (rows ++ one ∷ []) ≡ length rows + 1 = length-append rows (one ∷ []) in
+    record {
+      legal = legal;
+      no_seal = none;
+      few_calls = omega (arith, longer, few, behind.few_calls);
+      few_rows = omega (arith, longer, ap length held, more, behind.few_rows);
+      named = λ row c. elim (Contains-append_cases rows (one ∷ []) row (subst (λ (rs : List Row). Contains rs row) held c)) [
+        | inl before ↦ Contains-append_left names (name ∷ []) row.name (behind.named row before)
+        | inr last ↦ Contains-append_right names (name ∷ []) row.name
+            (subst (λ (n : List ℕ). Contains (name ∷ []) n) (sym is ∙ ap (λ (r : Row). r.name) (contains_one one row last)) (contains_here name []))
+      ];
+    }
+
+module _ (goes_on : HistoryGoesOn) (counted : SealsAreCounted) (grants : GrantedIsHeld) (refused : RefusedChangesNothing) (d : Domain) where
+  -- a stream of this name is asked for
+  asked_behind : (names : List (List ℕ)) (entries after : List Recorded) (asked : Asked) → IsBehind d names entries → length names < 1024 →
+      after ≡ with_asked d entries asked → IsBehind d (names ++ asked.name ∷ []) after
+  asked_behind names entries after asked behind few is =
+      subst (IsBehind d (names ++ asked.name ∷ [])) (sym is) (by (refusal_of d rows asked) refl)
+    where
+      rows : List Row
+      rows = held_in d entries (seals entries)
+
+      longer : length (with_asked d entries asked) ≡ length entries + 1
+      longer = length-append entries (record { seat = 0; act = Admits asked; reply = reply_to d entries (Admits asked) } ∷ [])
+
+      one_more : length (with_asked d entries asked) ≤ length entries + 1
+      one_more = omega (arith, longer)
+
+      none : seals (with_asked d entries asked) ≡ 0
+      none = omega (arith, counted entries 0 (Admits asked) (reply_to d entries (Admits asked)), behind.no_seal)
+
+      legal : IsLegalHistory d (with_asked d entries asked)
+      legal = goes_on d entries 0 (Admits asked) behind.legal (omega (arith, behind.no_seal)) (omega (arith, behind.few_calls, few, behind.no_seal))
+
+      by : (refusal : Option Refused) → refusal_of d rows asked ≡ refusal → IsBehind d (names ++ asked.name ∷ []) (with_asked d entries asked)
+      by None e =
+          let state = grants d entries rows (next_number d entries) 0 asked behind.legal (record { held = refl; number = refl }) e in
+          one_row d names asked.name entries (with_asked d entries asked) (granted_row d (next_number d entries) (seals entries) asked) behind legal none one_more refl
+          state.held
+      by (Some why) e =
+          let state = refused d entries rows (next_number d entries) 0 (Admits asked) why (record { held = refl; number = refl })
+          (ap (admit_reply (next_number d entries) (seals entries)) e) in
+          same_rows d names asked.name entries (with_asked d entries asked) behind legal none one_more state.held
+
+  -- a stream more is placed behind the others
+  pub one_behind : (names : List (List ℕ)) (entries after : List Recorded) (stream : SettledStream) (become : PlacedOr) → IsBehind d names entries →
+      length names < 1024 → IsPlacing d entries stream become after → IsBehind d (names ++ stream.name ∷ []) after
+  one_behind names entries after stream become behind few placed = by_reserved (reserved_on d.cycle_time stream) placed
+    where
+      unchanged : after ≡ entries → IsBehind d (names ++ stream.name ∷ []) after
+      unchanged same = subst (IsBehind d (names ++ stream.name ∷ [])) (sym same)
+          (same_rows d names stream.name entries entries behind behind.legal behind.no_seal (omega arith) refl)
+
+      by_routed : (octets : ℕ) (routed : Result (List Branch) PlanFault) → IsAnswered d entries stream.name octets routed become after →
+          IsBehind d (names ++ stream.name ∷ []) after
+      by_routed octets (Err found) is = unchanged is.1
+      by_routed octets (Ok paths) is =
+          asked_behind names entries after (record { name = stream.name; octets = octets; paths = paths }) behind few is.1
+
+      by_reserved : (reserved : Result ℕ PlanFault) → IsPlacedBy d entries stream reserved become after → IsBehind d (names ++ stream.name ∷ []) after
+      by_reserved (Err found) is = unchanged is.1
+      by_reserved (Ok octets) is = by_routed octets is.routed is.is_answered

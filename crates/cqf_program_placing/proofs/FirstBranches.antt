@@ -1,0 +1,285 @@
+-- The branches of first ways are those of a tree, and each of its links has room.
+use Rattle.std.proofs.Common.{◌≡◌, ◌≢◌, ◌∙◌, ◌+◌, ◌-◌, ◌<◌, ◌≤◌, ◌++◌, ℕ, zero, suc, Bool, true, false, ◌==◌, List, [], ◌∷◌, Option, Some, None}
+use Rattle.std.proofs.Common.{AllPairs, Contains, cond, get_or, is_some, length, map, not, option_map, position, take, refl, ap, subst, sym, arith}
+use Rattle.std.specs.Prelude.{is_none, nat_le, nat_lt, slice_get}
+use Rattle.std.specs.Option.{option_map_or}
+use Rattle.std.specs.List.{flat_map, list_all, list_any}
+use Rattle.std.proofs.lemmas.Bool.{and_from, and_parts, both_ways, false_from_ne_true, leb-true, ltb-true, not-true, not_from_false}
+use Rattle.std.proofs.lemmas.List.{length-map, length-take-le}
+use Rattle.std.proofs.lemmas.Option.{get_or_from_slice_get, same_Some, slice_get-get_or, slice_get-map, slice_get_within}
+use Rattle.cqf_lists.specs.Lists.{least, or_else}
+use Rattle.cqf_lists.proofs.Any.{position_any}
+use Rattle.cqf_lists.proofs.EachBelow.{contains_from_below, none_below}
+use Rattle.cqf_lists.proofs.EachOnce.{once_from}
+use Rattle.cqf_lists.proofs.Members.{any_member, contains_from_flat, contains_from_map, contains_here, contains_later, contains_none, contains_one}
+use Rattle.cqf_lists.proofs.Members.{find_member, place_of_member}
+use Rattle.cqf_lists.proofs.Places.{slice_get-take}
+use Rattle.cqf_model.specs.declared.topology.Hop.{Hop}
+use Rattle.cqf_model.specs.declared.topology.Node.{Node}
+use Rattle.cqf_model.specs.declared.topology.Node.TheVariants.{Bridge, Station}
+use Rattle.cqf_model.specs.declared.topology.Row.{Row}
+use Rattle.cqf_model.specs.Domain.{Domain, is_text, node_named}
+use Rattle.cqf_model.specs.History.{Branch, are_apart, broken_place, first_place, hop_to, hops_along, is_broken_at, is_loop_at, is_stray, left_on}
+use Rattle.cqf_model.specs.History.{link_at, link_before, make_a_tree, part, short_link, tree_of}
+use Rattle.cqf_model.specs.Table.{links_in}
+use Rattle.cqf_model.proofs.Texts.{is_text_itself, is_text_same}
+use Rattle.cqf_topology.specs.DomainText.{IsDomain}
+use Rattle.cqf_ways.specs.Steps.{led_along}
+use Rattle.cqf_ways.specs.WayLaws.{FirstWaysHaveNoLoop, FirstWaysPartForGood, PartForGood, ends_along}
+use Rattle.cqf_ways.specs.Ways.{IsFirstWay, has_room, led_to}
+use Rattle.cqf_ways.proofs.PartLemmas.{leads_on}
+use Rattle.cqf_report.specs.Books.{name_of_node}
+use Rattle.cqf_program_plans.specs.EndNames.{name_of_end}
+use Rattle.cqf_program_placing.specs.Placing.{lefts_on, names_along}
+use Rattle.cqf_program_placing.specs.Room.{HaveRoom}
+use Rattle.cqf_program_placing.proofs.RouteLemmas.{left_there, lefts_many}
+use Rattle.cqf_program_placing.proofs.WayNames.{branch_from, known_there, link_there, named_end, simple_there, whole_there}
+
+-- branches that are those of a tree
+pub record AreBranches (d : Domain) (paths : List Branch) : Type 0 where
+  pub known : position (λ name. is_none (node_named d name)) (flat_map (λ branch. branch) paths) ≡ None
+  pub whole : broken_place d paths ≡ None
+  pub simple : first_place (is_loop_at d) paths ≡ None
+  pub together : least (is_stray paths) (length paths) ≡ None
+
+-- ---- what no branch fails
+
+-- where no number below a bound passes a test, none is the least that does
+none_least : (test : ℕ → Bool) (n : ℕ) → ((k : ℕ) → k < n → test k ≡ false) → least test n ≡ None
+none_least test n none =
+    ap (λ (xs : List ℕ). slice_get xs 0)
+    (none_below (λ k. cond (test k) (k ∷ []) []) n (λ k below. ap (λ (b : Bool). cond b (k ∷ []) []) (none k below)))
+
+-- where no place of a branch fails, none of the branches does
+no_place_fails : (fails : Branch → ℕ → Bool) (paths : List Branch) →
+    ((branch : Branch) (k : ℕ) → Contains paths branch → k < length branch + 1 → fails branch k ≡ false) → first_place fails paths ≡ None
+no_place_fails fails [] none = refl
+no_place_fails fails (branch ∷ paths) none =
+    let here : least (fails branch) (length branch + 1) ≡ None =
+    none_least (fails branch) (length branch + 1) (λ k below. none branch k (contains_here branch paths) below) in
+    let rest : first_place fails paths ≡ None = no_place_fails fails paths (λ other k c below. none other k (contains_later branch paths other c) below) in
+    (λ i. or_else (here i) (option_map (λ place. length branch + place) (rest i)))
+
+-- and where there is a branch, they aren't broken
+none_broken : (d : Domain) (paths : List Branch) → 0 < length paths → first_place (is_broken_at d) paths ≡ None → broken_place d paths ≡ None
+none_broken d [] some none = absurd (omega (arith, some))
+none_broken d (branch ∷ paths) some none = none
+
+-- where each name is a node's, none is unknown
+none_unknown : (d : Domain) (paths : List Branch) →
+    ((branch : Branch) (name : List ℕ) → Contains paths branch → Contains branch name → is_none (node_named d name) ≡ false) →
+    position (λ name. is_none (node_named d name)) (flat_map (λ branch. branch) paths) ≡ None
+none_unknown d paths known =
+    let test : List ℕ → Bool = λ name. is_none (node_named d name) in
+    let names : List (List ℕ) = flat_map (λ branch. branch) paths in
+    let none : list_any test names ≡ false = false_from_ne_true (list_any test names) (λ t.
+    let (name, among, fails) = any_member test names t in
+    let (branch, in_paths, there) = contains_from_flat (λ b. b) paths name among in
+    both_ways (test name) (known branch name in_paths there) fails) in
+    by (position test names) (position_any test names ∙ none)
+  where
+    by : (o : Option ℕ) → is_some o ≡ false → o ≡ None
+    by None e = refl
+    by (Some k) e = absurd cc
+
+-- where each two make a tree, none is stray
+none_stray : (paths : List Branch) → ((i j : ℕ) (xs ys : Branch) → i < j → slice_get paths i ≡ Some xs → slice_get paths j ≡ Some ys → make_a_tree xs ys ≡ true) →
+    least (is_stray paths) (length paths) ≡ None
+none_stray paths each = none_least (is_stray paths) (length paths) (λ place inside. by place inside (slice_get paths place) refl)
+  where
+    by : (place : ℕ) → place < length paths → (o : Option Branch) → slice_get paths place ≡ o →
+        option_map_or (λ branch. list_any (λ before. not (make_a_tree before branch)) (take place paths)) o false ≡ false
+    by place inside None at = refl
+    by place inside (Some branch) at = false_from_ne_true (list_any (λ before. not (make_a_tree before branch)) (take place paths)) (λ t.
+        let found = any_member (λ before. not (make_a_tree before branch)) (take place paths) t in
+        let stands = place_of_member (take place paths) found.0 found.1 in
+        let below : stands.0 < place =
+        omega (arith, slice_get_within (take place paths) stands.0 found.0 stands.1, length-take-le place paths (omega (arith, inside))) in
+        both_ways (make_a_tree found.0 branch) (not-true (make_a_tree found.0 branch) found.2)
+        (each stands.0 place found.0 branch below (sym (slice_get-take paths place stands.0 below) ∙ stands.1) at))
+
+-- ---- the links of a tree
+
+-- a hop is made of its link
+made_by : (depth : ℕ) (from o : Option ℕ) (hop : Hop) → Contains (hop_to depth from o) hop → o ≡ Some hop.link
+made_by depth from None hop c = absurd (contains_none hop c)
+made_by depth from (Some l) hop c = ap (λ (h : Hop). Some h.link) (contains_one (record { link = l; depth = depth; from = from }) hop c)
+
+-- a link of a tree is one of a branch
+pub record LinkStands (d : Domain) (paths : List Branch) (l : ℕ) : Type 0 where
+  pub branch : Branch
+  pub among : Contains paths branch
+  pub place : ℕ
+  pub stands : link_at d branch place ≡ Some l
+
+pub tree_link : (d : Domain) (paths : List Branch) (l : ℕ) → Contains (links_in (tree_of d paths)) l → LinkStands d paths l
+tree_link d paths l c =
+    let (hop, in_tree, same) = contains_from_map (λ (h : Hop). h.link) (tree_of d paths) l c in
+    let (branch, among, along) = contains_from_flat (hops_along d) paths hop
+    (once_from (λ (a b : Hop). a.link == b.link) (flat_map (hops_along d) paths) hop in_tree) in
+    let (k, below, made) = contains_from_below (λ place. hop_to (place + 1) (link_before d branch place) (link_at d branch place)) (length branch - 1) hop along in
+    record {
+      branch = branch;
+      among = among;
+      place = k;
+      stands = made_by (k + 1) (link_before d branch k) (link_at d branch k) hop made ∙ ap (λ (m : ℕ). Some m) same;
+    }
+
+-- where each link of it has left what a stream costs, none is short
+pub none_short : (d : Domain) (rows : List Row) (cost : ℕ) (paths : List Branch) →
+    ((l : ℕ) → Contains (links_in (tree_of d paths)) l → cost ≤ left_on d rows l) → short_link d rows cost (tree_of d paths) ≡ None
+none_short d rows cost paths enough = by (short_link d rows cost (tree_of d paths)) refl
+  where
+    by : (o : Option ℕ) → short_link d rows cost (tree_of d paths) ≡ o → o ≡ None
+    by None e = refl
+    by (Some l) e =
+        let found = find_member (λ k. nat_lt (left_on d rows k) cost) (links_in (tree_of d paths)) l e in
+        absurd (omega (arith, ltb-true (left_on d rows l) cost found.1, enough l found.0))
+
+-- a link with room has it left
+has_left : (d : Domain) (rows : List Row) (cost l : ℕ) → has_room (lefts_on d rows) cost l ≡ true → cost ≤ left_on d rows l
+has_left d rows cost l h = by (slice_get (lefts_on d rows) l) refl h
+  where
+    by : (o : Option ℕ) → slice_get (lefts_on d rows) l ≡ o → option_map_or (λ octets. nat_le cost octets) o false ≡ true → cost ≤ left_on d rows l
+    by None at e = absurd cc
+    by (Some octets) at e =
+        let inside : l < length d.links = omega (arith, slice_get_within (lefts_on d rows) l octets at, lefts_many d rows) in
+        let same : octets ≡ left_on d rows l = sym (get_or_from_slice_get (lefts_on d rows) l octets 0 at) ∙ left_there d rows l inside in
+        omega (arith, leb-true cost octets e, same)
+
+-- each link of a way with room has it
+room_there : (room : ℕ → Bool) (way : List ℕ) (k l : ℕ) → list_all room way ≡ true → slice_get way k ≡ Some l → room l ≡ true
+room_there room [] k l e at = absurd cc
+room_there room (x ∷ way) zero l e at = let parts = and_parts (room x) (list_all room way) e in ap room (sym (same_Some x l at)) ∙ parts.0
+room_there room (x ∷ way) (suc k) l e at = let parts = and_parts (room x) (list_all room way) e in room_there room way k l parts.1 at
+
+-- ---- two branches
+
+-- branches with a common front part where these end
+part_there : (f : ℕ → List ℕ) (common : List ℕ) (x y : ℕ) (rest more : List ℕ) → is_text (f x) (f y) ≡ false →
+    are_apart (map f (x ∷ rest)) (map f (y ∷ more)) ≡ true → part (map f (common ++ (x ∷ rest))) (map f (common ++ (y ∷ more))) ≡ true
+part_there f [] x y rest more differ apart =
+    ap (λ b. cond b (part (map f rest) (map f more)) (are_apart (map f (x ∷ rest)) (map f (y ∷ more)))) differ ∙ apart
+part_there f (c ∷ common) x y rest more differ apart =
+    let front = map f (common ++ (x ∷ rest)) in
+    let other = map f (common ++ (y ∷ more)) in
+    ap (λ b. cond b (part front other) (are_apart (f c ∷ front) (f c ∷ other))) (is_text_itself (f c))
+    ∙ part_there f common x y rest more differ apart
+
+module _ (d : Domain) (good : IsDomain d) where
+  -- names of nodes that are apart are apart
+  names_apart : (node to there : Node) (way other : List ℕ) (a b : List ℕ) → led_along (led_to d.links) node way ≡ Some to →
+      led_along (led_to d.links) node other ≡ Some there →
+      ((end : Node) → Contains (ends_along d.links node way) end → ¬ Contains (ends_along d.links node other) end) →
+      Contains (map (name_of_end d) way) a → Contains (map (name_of_end d) other) b → is_text a b ≡ false
+  names_apart node to there way other a b e f apart in_way in_other = false_from_ne_true (is_text a b) (λ t.
+      let one = named_end d good node to way a e in_way in
+      let two = named_end d good node there other b f in_other in
+      let same : one.0 ≡ two.0 = same_Some one.0 two.0 (sym one.2 ∙ ap (node_named d) (is_text_same a b t) ∙ two.2) in
+      apart one.0 one.1 (subst (λ (n : Node). Contains (ends_along d.links node other) n) (sym same) two.1))
+
+  all_apart : (node to there : Node) (way other : List ℕ) → led_along (led_to d.links) node way ≡ Some to →
+      led_along (led_to d.links) node other ≡ Some there →
+      ((end : Node) → Contains (ends_along d.links node way) end → ¬ Contains (ends_along d.links node other) end) →
+      are_apart (map (name_of_end d) way) (map (name_of_end d) other) ≡ true
+  all_apart node to there way other e f apart =
+      let xs = map (name_of_end d) way in
+      let ys = map (name_of_end d) other in
+      not_from_false (list_any (λ x. list_any (λ y. is_text x y) ys) xs) (false_from_ne_true (list_any (λ x. list_any (λ y. is_text x y) ys) xs) (λ t.
+      let a = any_member (λ x. list_any (λ y. is_text x y) ys) xs t in
+      let b = any_member (λ y. is_text a.0 y) ys a.2 in
+      both_ways (is_text a.0 b.0) (names_apart node to there way other a.0 b.0 e f apart a.1 b.1) b.2))
+
+  -- ways that part for good are branches of one tree
+  pub make_one : (node to there : Node) (way other : List ℕ) → led_along (led_to d.links) node way ≡ Some to →
+      led_along (led_to d.links) node other ≡ Some there → PartForGood d.links node way other → make_a_tree (branch_from d node way) (branch_from d node other) ≡ true
+  make_one node to there way other e f p =
+      let xs = p.first ∷ p.rest in
+      let ys = p.second ∷ p.more in
+      let on : led_along (led_to d.links) p.node xs ≡ Some to =
+      leads_on d.links node p.node to p.common xs p.to_node (sym (ap (led_along (led_to d.links) node) p.way_is) ∙ e) in
+      let also : led_along (led_to d.links) p.node ys ≡ Some there =
+      leads_on d.links node p.node there p.common ys p.to_node (sym (ap (led_along (led_to d.links) node) p.other_is) ∙ f) in
+      let names = name_of_end d in
+      let differ : is_text (names p.first) (names p.second) ≡ false =
+      names_apart p.node to there xs ys (names p.first) (names p.second) on also p.apart (contains_here (names p.first) (map names p.rest))
+      (contains_here (names p.second) (map names p.more)) in
+      and_from (is_text (name_of_node d node) (name_of_node d node)) (part (map names way) (map names other)) (is_text_itself (name_of_node d node))
+      ((λ i. part (map names (p.way_is i)) (map names (p.other_is i)))
+      ∙ part_there names p.common p.first p.second p.rest p.more differ (all_apart p.node to there xs ys on also p.apart))
+
+  -- ---- the branches of first ways
+
+  module _ (rows : List Row) (cost bridge : ℕ) (inside : bridge < length d.bridges) (stations : List ℕ) (ways : List (List ℕ))
+      (first : HaveRoom d rows cost bridge stations ways) where
+    -- each leads to its station
+    pub way_there : (k : ℕ) (way : List ℕ) → slice_get ways k ≡ Some way →
+        IsFirstWay d.links (has_room (lefts_on d rows) cost) (Bridge bridge) (Station (get_or stations k 0)) way
+    way_there k way at =
+        let low : k < length stations = omega (arith, slice_get_within ways k way at, first.one_each) in
+        first.each k (get_or stations k 0) way (slice_get-get_or stations k 0 low) at
+
+    -- a branch is one of a way
+    branch_at : (k : ℕ) (branch : Branch) → slice_get (map (names_along d bridge) ways) k ≡ Some branch →
+        (way : List ℕ) × (slice_get ways k ≡ Some way) × (names_along d bridge way ≡ branch)
+    branch_at k branch at = by (slice_get ways k) refl (sym (slice_get-map (names_along d bridge) ways k) ∙ at)
+      where
+        by : (o : Option (List ℕ)) → slice_get ways k ≡ o → option_map (names_along d bridge) o ≡ Some branch →
+            (way : List ℕ) × (slice_get ways k ≡ Some way) × (names_along d bridge way ≡ branch)
+        by None is e = absurd cc
+        by (Some way) is e = (way, is, same_Some (names_along d bridge way) branch e)
+
+    way_of : (branch : Branch) → Contains (map (names_along d bridge) ways) branch → (k : ℕ) × (way : List ℕ) × (slice_get ways k ≡ Some way)
+        × (names_along d bridge way ≡ branch)
+    way_of branch c =
+        let (k, at) = place_of_member (map (names_along d bridge) ways) branch c in
+        let (way, is, same) = branch_at k branch at in (k, way, is, same)
+
+    -- so they are branches of a tree, where there is a station and no two are the same
+    pub first_branches : 0 < length stations → AllPairs (λ a b. a ≢ b) stations → FirstWaysHaveNoLoop → FirstWaysPartForGood →
+        AreBranches d (map (names_along d bridge) ways)
+    first_branches some apart no_loop parts =
+        let paths = map (names_along d bridge) ways in
+        let many : length paths ≡ length ways = length-map ways (names_along d bridge) in
+        record {
+          known = none_unknown d paths (λ branch name c among.
+              let (k, way, at, same) = way_of branch c in
+              let w = way_there k way at in
+              known_there d good bridge inside way (Station (get_or stations k 0)) name w.is_way.leads
+              (subst (λ (b : Branch). Contains b name) (sym same) among));
+          whole = none_broken d paths (omega (arith, some, many, first.one_each)) (no_place_fails (is_broken_at d) paths (λ branch place c below.
+              let (k, way, at, same) = way_of branch c in
+              let w = way_there k way at in
+              subst (λ (b : Branch). is_broken_at d b place ≡ false) same
+              (whole_there d good bridge inside way (get_or stations k 0) place w.is_way.leads w.is_way.few)));
+          simple = no_place_fails (is_loop_at d) paths (λ branch place c below.
+              let (k, way, at, same) = way_of branch c in
+              let w = way_there k way at in
+              let to = Station (get_or stations k 0) in
+              let within : place ≤ length (names_along d bridge way) = omega (arith, below, ap (λ (b : Branch). length b) same) in
+              subst (λ (b : Branch). is_loop_at d b place ≡ false) same
+              (simple_there d good bridge inside way to place w.is_way.leads
+              (no_loop d.links (has_room (lefts_on d rows) cost) (Bridge bridge) to way w) within));
+          together = none_stray paths (λ i j xs ys before at_i at_j.
+              let (way, is, same) = branch_at i xs at_i in
+              let (other, is_other, same_other) = branch_at j ys at_j in
+              let low : j < length stations = omega (arith, slice_get_within ways j other is_other, first.one_each) in
+              let one = way_there i way is in
+              let two = way_there j other is_other in
+              let s = get_or stations i 0 in
+              let t = get_or stations j 0 in
+              (λ k. make_a_tree (sym same k) (sym same_other k))
+              ∙ make_one (Bridge bridge) (Station s) (Station t) way other one.is_way.leads two.is_way.leads
+              (parts d.links (has_room (lefts_on d rows) cost) (Bridge bridge) s t way other (apart i j 0 before low) one two));
+        }
+
+    -- and each link of that tree has left what the stream costs
+    pub first_enough : short_link d rows cost (tree_of d (map (names_along d bridge) ways)) ≡ None
+    first_enough = none_short d rows cost (map (names_along d bridge) ways) (λ l c.
+        let stands = tree_link d (map (names_along d bridge) ways) l c in
+        let (k, way, at, same) = way_of stands.branch stands.among in
+        let w = way_there k way at in
+        let here : slice_get way stands.place ≡ Some l =
+        sym (link_there d good (Bridge bridge) (Station (get_or stations k 0)) way stands.place inside w.is_way.leads)
+        ∙ ap (λ (b : Branch). link_at d b stands.place) same ∙ stands.stands in
+        has_left d rows cost l (room_there (has_room (lefts_on d rows) cost) way stands.place l w.is_way.roomy here))

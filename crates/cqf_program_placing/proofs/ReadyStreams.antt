@@ -1,0 +1,231 @@
+-- What settled streams have that were read of a sketch's text.
+use Rattle.std.proofs.Common.{◌≡◌, ◌≢◌, ◌∙◌, ◌+◌, ◌-◌, ◌*◌, ◌<◌, ◌≤◌, ℕ, suc, Bool, true, false, ◌&&◌, ◌||◌, List, [], ◌∷◌, Option, Some, None, Ok, Err}
+use Rattle.std.proofs.Common.{AllPairs, Contains, IfSome, cond, length, ok_or, option_map, position, refl, ap, subst, sym, inl, inr, arith}
+use Rattle.std.specs.Prelude.{is_none, nat_le, nat_lt}
+use Rattle.std.specs.List.{flat_map}
+use Rattle.std.proofs.lemmas.Bool.{and_parts, leb-true}
+use Rattle.std.proofs.lemmas.Nat.{le-div}
+use Rattle.std.proofs.Math.Nat.{mul-le-mul_right}
+use Rattle.cqf_lists.specs.Lists.{least, or_else}
+use Rattle.cqf_lists.proofs.Least.{or_else_none}
+use Rattle.cqf_lists.proofs.Members.{contains_cases, contains_here, contains_later, contains_none}
+use Rattle.cqf_lists.proofs.Pairs.{pairs_cons, pairs_head, pairs_none, pairs_tail}
+use Rattle.cqf_units.specs.Name.{is_name}
+use Rattle.cqf_laws_history.proofs.Granted.{refused_at_none}
+use Rattle.cqf_laws_traffic.specs.Traffic.{intervals_in, needed}
+use Rattle.cqf_model.specs.declared.history.Refused.TheVariants as refused
+use Rattle.cqf_model.specs.declared.topology.Node.{Node}
+use Rattle.cqf_model.specs.declared.topology.Node.TheVariants.{Bridge, Station}
+use Rattle.cqf_model.specs.Domain.{Domain, node_named}
+use Rattle.cqf_model.specs.History.{Branch, begins_elsewhere, broken_place, ends_at_bridge, first_place, is_beyond_most, is_broken_at, is_loop_at, is_stray}
+use Rattle.cqf_model.specs.History.{link_from, node_at, refused_at}
+use Rattle.cqf_model.proofs.Texts.{named_once}
+use Rattle.cqf_topology.proofs.Refusals.{and_then-Ok, ok_or-Ok, refuse-Ok}
+use Rattle.cqf_sketch.specs.SketchDomain.{HasTalkerLinks, SketchDomain, domain_at}
+use Rattle.cqf_traffic.specs.TrafficText.{IsTrafficText, TrafficText, promise_of}
+use Rattle.cqf_sketch_streams.specs.StreamsText.{StreamText, WantedText, Along as AlongText, Between as BetweenText}
+use Rattle.cqf_admission_trees.specs.Branches.{tree_refusal}
+use Rattle.cqf_program_placing.specs.declared.faults.PlanFault.TheVariants as fault
+use Rattle.cqf_program_placing.specs.Placing.{if_enough, reserved_by, reserved_on}
+use Rattle.cqf_program_placing.specs.Settled.{Along, Between, SettledStream, SettledWay, are_reservable, entrance_at, first_apart, settled_next, settled_way}
+use Rattle.cqf_program_placing.specs.Settled.{station_by_name, stations_by_name}
+use Rattle.cqf_program_placing.proofs.FirstBranches.{AreBranches}
+use Rattle.cqf_program_placing.proofs.SettledLemmas.{and_first-Ok, entrance_there, settled_by, station_named_by}
+
+-- some listeners, all different
+abbrev pub AreListeners : WantedText → Type 0
+AreListeners (AlongText paths) = Unit {0}
+AreListeners (BetweenText from to) = (0 < length to) × AllPairs (λ a b. a ≢ b) to
+
+-- what a stream has that was read: octets that it asks for, or traffic; traffic within its ranges; and listeners
+pub record IsReadStream (stream : StreamText) : Type 0 where
+  pub reserves : stream.octets ≡ None → stream.traffic ≡ None → ⊥
+  pub traffic : IfSome stream.traffic IsTrafficText
+  pub listeners : AreListeners stream.way
+
+-- from a bridge of the domain to some stations, all different
+pub record IsToStations (d : Domain) (bridge : ℕ) (stations : List ℕ) : Type 0 where
+  pub inside : bridge < length d.bridges
+  pub some : 0 < length stations
+  pub apart : AllPairs (λ a b. a ≢ b) stations
+
+-- or along the branches of a tree
+abbrev pub IsGoodWay : Domain → SettledWay → Type 0
+IsGoodWay d (Along paths) = AreBranches d paths
+IsGoodWay d (Between bridge stations) = IsToStations d bridge stations
+
+-- what a settled stream has of this
+pub record IsReady (d : Domain) (stream : SettledStream) : Type 0 where
+  pub named : is_name stream.name ≡ true
+  pub reservable : are_reservable stream.octets ≡ true
+  pub reserves : stream.octets ≡ None → stream.traffic ≡ None → ⊥
+  pub traffic : IfSome stream.traffic IsTrafficText
+  pub good_way : IsGoodWay d stream.way
+
+-- ---- its reservation
+
+-- some frame of 64 octets comes in a cycle, or more
+needed_least : (cycle_time : ℕ) (t : TrafficText) → 1 ≤ cycle_time → IsTrafficText t → 64 ≤ needed cycle_time (promise_of t)
+needed_least cycle_time t some inside =
+    let intervals : ℕ = intervals_in cycle_time (promise_of t) in
+    let one : 1 ≤ intervals =
+    le-div 1 (cycle_time + t.jitter + t.interval - 1) t.interval (omega (arith, inside.interval.least)) (omega (arith, some, inside.interval.least)) in
+    let frames : 1 * t.frames ≤ intervals * t.frames = mul-le-mul_right t.frames one in
+    let each : 1 ≤ intervals * t.frames = omega (arith, frames, inside.frames.least) in
+    let octets : 1 * t.size ≤ intervals * t.frames * t.size = mul-le-mul_right t.size each in
+    omega (arith, octets, inside.size.least)
+
+-- octets that may be reserved are no fewer than the fewest
+least_octets : (octets : ℕ) → are_reservable (Some octets) ≡ true → 64 ≤ octets
+least_octets octets may = leb-true 64 octets (and_parts (nat_le 64 octets) (nat_le octets 60000) may).0
+
+-- and so is what is reserved
+least_by : (octets needs : Option ℕ) (reserved : ℕ) → are_reservable octets ≡ true → (octets ≡ None → needs ≡ None → ⊥) → IfSome needs (λ n. 64 ≤ n) →
+    reserved_by octets needs ≡ Ok reserved → 64 ≤ reserved
+least_by None None reserved may reserves least e = absurd (reserves refl refl)
+least_by (Some octets) None reserved may reserves least e = let same : octets ≡ reserved = cc in omega (arith, same, least_octets octets may)
+least_by octets (Some needs) reserved may reserves least e = by_needs (nat_lt 60000 needs) e
+  where
+    by_octets : (o : Option ℕ) → are_reservable o ≡ true → if_enough o needs ≡ Ok reserved → 64 ≤ reserved
+    by_octets None may e = let same : needs ≡ reserved = cc in omega (arith, same, least)
+    by_octets (Some asked) may e = by_asked (nat_lt asked needs) e
+      where
+        by_asked : (b : Bool) → cond b (Err (fault.TooLittle needs)) (Ok asked) ≡ Ok reserved → 64 ≤ reserved
+        by_asked true e = absurd cc
+        by_asked false e = let same : asked ≡ reserved = cc in omega (arith, same, least_octets asked may)
+
+    by_needs : (b : Bool) → cond b (Err (fault.TooMuch needs)) (if_enough octets needs) ≡ Ok reserved → 64 ≤ reserved
+    by_needs true e = absurd cc
+    by_needs false e = by_octets octets may e
+
+pub reserved_least : (d : Domain) (stream : SettledStream) (cycle_time octets : ℕ) → 1 ≤ cycle_time → IsReady d stream →
+    reserved_on cycle_time stream ≡ Ok octets → 64 ≤ octets
+reserved_least d stream cycle_time octets some ready e = least_by stream.octets (option_map needs stream.traffic) octets ready.reservable
+    (λ none_asked none_needed. ready.reserves none_asked (unmapped stream.traffic none_needed)) (each stream.traffic ready.traffic) e
+  where
+    needs : TrafficText → ℕ
+    needs = λ (t : TrafficText). needed cycle_time (promise_of t)
+
+    unmapped : (o : Option TrafficText) → option_map needs o ≡ None → o ≡ None
+    unmapped None none = refl
+    unmapped (Some t) none = absurd cc
+
+    each : (o : Option TrafficText) → IfSome o IsTrafficText → IfSome (option_map needs o) (λ n. 64 ≤ n)
+    each None inside = tt
+    each (Some t) inside = needed_least cycle_time t some inside
+
+-- ---- its listeners
+
+-- a station a name
+so_many : (d : Domain) (names : List (List ℕ)) (stations : List ℕ) → stations_by_name d names ≡ Ok stations → length stations ≡ length names
+so_many d [] stations e = let nil : [] ≡ stations = cc in ap length (sym nil)
+so_many d (name ∷ names) stations e =
+    let both = and_first-Ok (station_by_name d name) (stations_by_name d names) stations e in
+    ap length both.all ∙ ap (λ (n : ℕ). suc n) (so_many d names both.more both.others_are)
+
+-- each is that of some name
+of_name : (d : Domain) (names : List (List ℕ)) (stations : List ℕ) (s : ℕ) → stations_by_name d names ≡ Ok stations → Contains stations s →
+    (name : List ℕ) × Contains names name × (node_named d name ≡ Some (Station s))
+of_name d [] stations s e c = let nil : [] ≡ stations = cc in absurd (contains_none s (subst (λ (xs : List ℕ). Contains xs s) (sym nil) c))
+of_name d (name ∷ names) stations s e c =
+    let both = and_first-Ok (station_by_name d name) (stations_by_name d names) stations e in
+    elim (contains_cases both.one both.more s (subst (λ (xs : List ℕ). Contains xs s) both.all c)) [
+      | inl here ↦ (
+        name,
+        contains_here name names,
+        station_named_by d name both.one both.first_is ∙ ap (λ (n : ℕ). Some (Station n)) here,
+      )
+      | inr later ↦ let r = of_name d names both.more s both.others_are later in (r.0, contains_later name names r.0 r.1, r.2)
+    ]
+
+-- so names that differ are those of stations that do
+stations_apart : (d : Domain) (names : List (List ℕ)) (stations : List ℕ) → stations_by_name d names ≡ Ok stations → AllPairs (λ a b. a ≢ b) names →
+    AllPairs (λ a b. a ≢ b) stations
+stations_apart d [] stations e apart =
+    let nil : [] ≡ stations = cc in subst (λ (xs : List ℕ). AllPairs (λ a b. a ≢ b) xs) nil (pairs_none (λ (a b : ℕ). a ≢ b))
+stations_apart d (name ∷ names) stations e apart =
+    let both = and_first-Ok (station_by_name d name) (stations_by_name d names) stations e in
+    let here = station_named_by d name both.one both.first_is in
+    subst (λ (xs : List ℕ). AllPairs (λ a b. a ≢ b) xs) (sym both.all)
+    (pairs_cons (λ (a b : ℕ). a ≢ b) both.one both.more
+    (λ s c same.
+    let r = of_name d names both.more s both.others_are c in
+    pairs_head (λ (a b : List ℕ). a ≢ b) name names r.0 apart r.1
+    (named_once d name r.0 (Station s) (here ∙ ap (λ (n : ℕ). Some (Station n)) same) r.2))
+    (stations_apart d names both.more both.others_are (pairs_tail (λ (a b : List ℕ). a ≢ b) name names apart)))
+
+-- ---- its branches
+
+module _ (sketch : SketchDomain) (cycle other : ℕ) where
+  -- a link between two nodes of a sketch's plant is the same whatever the cycle time
+  same_link : (from to : Option Node) → link_from (domain_at sketch cycle) from to ≡ link_from (domain_at sketch other) from to
+  same_link None to = refl
+  same_link (Some (Bridge b)) None = refl
+  same_link (Some (Station s)) None = refl
+  same_link (Some (Bridge b)) (Some to) = refl
+  same_link (Some (Station s)) (Some to) = refl
+
+  -- so a branch is broken at the same places
+  same_broken : (branch : Branch) (place : ℕ) → is_broken_at (domain_at sketch cycle) branch place ≡ is_broken_at (domain_at sketch other) branch place
+  same_broken branch place =
+      let d : Domain = domain_at sketch other in
+      (λ i. begins_elsewhere d branch place
+      || (nat_le 1 place && nat_lt place (length branch) && is_none (same_link (node_at d branch (place - 1)) (node_at d branch (place - 1 + 1)) i))
+      || ends_at_bridge d branch place || is_beyond_most branch place)
+
+  same_place : (paths : List Branch) → broken_place (domain_at sketch cycle) paths ≡ broken_place (domain_at sketch other) paths
+  same_place [] = refl
+  same_place (branch ∷ paths) = (λ i. first_place (λ b place. same_broken b place i) (branch ∷ paths))
+
+  -- and branches that are a tree of it are one
+  pub same_branches : (paths : List Branch) → tree_refusal (domain_at sketch cycle) paths ≡ None → AreBranches (domain_at sketch other) paths
+  same_branches paths e =
+      let d : Domain = domain_at sketch cycle in
+      let unknown = position (λ name. is_none (node_named d name)) (flat_map (λ branch. branch) paths) in
+      let stray = refused_at (λ branch. refused.NotATree branch) (least (is_stray paths) (length paths)) in
+      let looping = or_else (refused_at (λ place. refused.LoopingPath place) (first_place (is_loop_at d) paths)) stray in
+      let broken = or_else (refused_at (λ place. refused.BrokenPath place) (broken_place d paths)) looping in
+      let a = or_else_none (refused_at (λ place. refused.UnknownNode place) unknown) broken e in
+      let b = or_else_none (refused_at (λ place. refused.BrokenPath place) (broken_place d paths)) looping a.1 in
+      let c = or_else_none (refused_at (λ place. refused.LoopingPath place) (first_place (is_loop_at d) paths)) stray b.1 in
+      record {
+        known = refused_at_none (λ place. refused.UnknownNode place) unknown a.0;
+        whole = sym (same_place paths) ∙ refused_at_none (λ place. refused.BrokenPath place) (broken_place d paths) b.0;
+        simple = refused_at_none (λ place. refused.LoopingPath place) (first_place (is_loop_at d) paths) c.0;
+        together = refused_at_none (λ branch. refused.NotATree branch) (least (is_stray paths) (length paths)) c.1;
+      }
+
+  -- ---- the stream
+
+  way_ready : (wanted : WantedText) (way : SettledWay) → HasTalkerLinks sketch → AreListeners wanted →
+      settled_way sketch (domain_at sketch cycle) wanted ≡ Ok way → IsGoodWay (domain_at sketch other) way
+  way_ready (AlongText paths) way talkers listeners e =
+      let parts = refuse-Ok (tree_refusal (domain_at sketch cycle) paths) fault.Refused (Ok (Along paths)) way e in
+      let is : Along paths ≡ way = let h = parts.1 in cc in
+      subst (IsGoodWay (domain_at sketch other)) is (same_branches paths parts.0)
+  way_ready (BetweenText from to) way talkers listeners e =
+      let d : Domain = domain_at sketch cycle in
+      let (entrance, entered, rest) = and_then-Ok (ok_or (entrance_at sketch (node_named d from)) fault.NoTalker) _ way e in
+      let (stations, named, more) = and_then-Ok (stations_by_name d to) _ way rest in
+      let parts = refuse-Ok (first_apart d entrance.bridge to) fault.NoWay (Ok (Between entrance.bridge stations)) way more in
+      let is : Between entrance.bridge stations ≡ way = let h = parts.1 in cc in
+      let many : length stations ≡ length to = so_many d to stations named in
+      let good : IsToStations (domain_at sketch other) entrance.bridge stations = record {
+        inside = entrance_there sketch d from entrance talkers refl (ok_or-Ok _ fault.NoTalker entrance entered);
+        some = omega (arith, listeners.0, many);
+        apart = stations_apart d to stations named listeners.1;
+      } in
+      subst (IsGoodWay (domain_at sketch other)) is good
+
+  -- a stream that was read, and is settled behind others, is ready
+  pub next_ready : (before : List (List ℕ)) (text : StreamText) (one : SettledStream) → HasTalkerLinks sketch → IsReadStream text →
+      settled_next sketch (domain_at sketch cycle) before text ≡ Ok one → IsReady (domain_at sketch other) one
+  next_ready before text one talkers read e =
+      let so = settled_by sketch (domain_at sketch cycle) before text one e in
+      record {
+        named = subst (λ (n : List ℕ). is_name n ≡ true) so.name_is so.named;
+        reservable = so.reservable;
+        reserves = λ none_asked none_needed. read.reserves (so.octets_are ∙ none_asked) (so.traffic_is ∙ none_needed);
+        traffic = subst (λ (t : Option TrafficText). IfSome t IsTrafficText) so.traffic_is read.traffic;
+        good_way = way_ready text.way one.way talkers read.listeners so.way_is;
+      }

@@ -1,0 +1,250 @@
+-- Streams are placed where there is room.
+use Rattle.std.proofs.Common.{◌≡◌, ◌∙◌, ◌<◌, ◌≤◌, ◌++◌, ℕ, suc, true, false, ◌&&◌, List, [], ◌∷◌, Some, None, Result, Ok, Err}
+use Rattle.std.proofs.Common.{All, Contains, ext_get_or, get_or, length, map, not, option_map, ap, arith, inl, inr, refl, subst, sym}
+use Rattle.std.specs.Prelude.{nat_le}
+use Rattle.std.specs.List.{list_any}
+use Rattle.std.proofs.lemmas.Bool.{both_ways, false_from_ne_true, le-leb}
+use Rattle.std.proofs.lemmas.Bool.Decides.{nat_tests}
+use Rattle.std.proofs.lemmas.List.Elements.{All-contains}
+use Rattle.std.proofs.lemmas.Option.{slice_get-get_or, slice_get_within}
+use Rattle.cqf_lists.specs.Lists.{or_else}
+use Rattle.cqf_lists.proofs.Members.{any_member, contains_here, member_any}
+use Rattle.cqf_units.specs.Name.{is_name}
+use Rattle.cqf_units.specs.Timing.{cost_of}
+use Rattle.cqf_laws_traffic.specs.Traffic.{needed}
+use Rattle.cqf_traffic.specs.TrafficText.{TrafficText, promise_of}
+use Rattle.cqf_laws_history.specs.StateLaws.{GrantedIsHeld, HistoryGoesOn, RefusedChangesNothing, SealsAreCounted}
+use Rattle.cqf_model.specs.declared.history.Refused.{Refused}
+use Rattle.cqf_model.specs.declared.history.Refused.TheVariants as refused
+use Rattle.cqf_model.specs.declared.topology.Node.TheVariants.{Bridge, Station}
+use Rattle.cqf_model.specs.declared.topology.Row.{Row}
+use Rattle.cqf_model.specs.Domain.{Domain, bridge_of, is_text}
+use Rattle.cqf_model.specs.History.{Asked, Branch, Recorded, held_in, left_on, refusal_of, refused_at, refused_if, seals, short_link, tree_of}
+use Rattle.cqf_topology.specs.DomainText.{IsDomain, is_among}
+use Rattle.cqf_sketch.specs.SketchDomain.{IsSketch, SketchDomain, domain_at, open_cycle}
+use Rattle.cqf_sketch_streams.specs.StreamsText.{StreamText}
+use Rattle.cqf_report.specs.Books.{name_of_bridge}
+use Rattle.cqf_ways.specs.WayLaws.{FirstWayIsOne, FirstWaysHaveNoLoop, FirstWaysPartForGood}
+use Rattle.cqf_ways.specs.Ways.{has_room}
+use Rattle.cqf_program_plans.specs.EndNames.{name_of_end}
+use Rattle.cqf_program_placing.specs.declared.faults.PlanFault.{PlanFault}
+use Rattle.cqf_program_placing.specs.declared.faults.PlanFault.TheVariants as fault
+use Rattle.cqf_program_placing.specs.Placing.{ArePlacedFrom, IsAnswered, IsPlacedBy, IsPlacing, IsRouted, Placed, PlacedOr, Unplaced, answered}
+use Rattle.cqf_program_placing.specs.Placing.{lefts_on, names_along, reserved_on}
+use Rattle.cqf_program_placing.specs.Room.{ArePlacedByRoomFrom, HasNoRoom, HaveRoom, IsPlacedAlong, IsPlacedBetween, IsPlacedByRoom, IsPlacedOnWay, IsPlacedWith}
+use Rattle.cqf_program_placing.specs.Room.{PlacedWhereThereIsRoom}
+use Rattle.cqf_program_placing.specs.Settled.{Along, Between, SettledStream, SettledWay, settled_behind, settled_next}
+use Rattle.cqf_program_placing.proofs.Behind.{IsBehind, none_behind, one_behind}
+use Rattle.cqf_program_placing.proofs.FirstBranches.{AreBranches, first_branches, first_enough, none_short, way_there}
+use Rattle.cqf_program_placing.proofs.PlaceLemmas.{reserved_few}
+use Rattle.cqf_program_placing.proofs.ReadyStreams.{IsGoodWay, IsReadStream, IsReady, IsToStations, next_ready, reserved_least}
+use Rattle.cqf_program_placing.proofs.StreamsRead.{streams_read}
+use Rattle.cqf_program_placing.proofs.SettledLemmas.{and_first-Ok, next_stands}
+
+-- ---- what admission answers
+
+-- nothing is to be said against a request of this name and with these octets, whatever its branches
+pub record MayAsk (rows : List Row) (name : List ℕ) (octets : ℕ) : Type 0 where
+  pub named : is_name name ≡ true
+  pub least_octets : 64 ≤ octets
+  pub most_octets : octets ≤ 60000
+  pub name_free : list_any (λ (row : Row). is_text row.name name) rows ≡ false
+  pub few : length rows < 1024
+
+not_many : (n : ℕ) → n < 1024 → nat_le 1024 n ≡ false
+not_many n few = grind (arith, nat_tests)
+
+module _ (d : Domain) (rows : List Row) (name : List ℕ) (octets : ℕ) (paths : List Branch) (may : MayAsk rows name octets) (branches : AreBranches d paths) where
+  -- the request
+  abbrev asked : Asked
+  asked = record { name = name; octets = octets; paths = paths }
+
+  abbrev lacks_room : ℕ → Refused
+  lacks_room l = refused.BudgetShort l (left_on d rows l)
+
+  -- where its branches are those of a tree it is refused for want of room, or for nothing
+  refused_for_room : refusal_of d rows asked ≡ refused_at lacks_room (short_link d rows (cost_of octets) (tree_of d paths))
+  refused_for_room =
+      let named = may.named in
+      let least_is : nat_le 64 octets ≡ true = le-leb 64 octets may.least_octets in
+      let most_is : nat_le octets 60000 ≡ true = le-leb octets 60000 may.most_octets in
+      let many = not_many (length rows) may.few in
+      let short = refused_at lacks_room (short_link d rows (cost_of octets) (tree_of d paths)) in
+      (λ i. or_else (refused_if (not (named i)) refused.BadName)
+      (or_else (refused_if (not (least_is i && most_is i)) refused.BadOctets)
+      (or_else (refused_at (λ place. refused.UnknownNode place) (branches.known i))
+      (or_else (refused_at (λ place. refused.BrokenPath place) (branches.whole i))
+      (or_else (refused_at (λ place. refused.LoopingPath place) (branches.simple i))
+      (or_else (refused_at (λ branch. refused.NotATree branch) (branches.together i))
+      (or_else (refused_if (may.name_free i) refused.NameHeld)
+      (or_else (refused_if (many i) refused.TooManyStreams) short))))))))
+
+  -- where no link lacks room it is granted
+  granted_so : (become : PlacedOr) → short_link d rows (cost_of octets) (tree_of d paths) ≡ None →
+      become ≡ answered d (record { name = name; octets = octets; paths = paths }) (refusal_of d rows (record { name = name; octets = octets; paths = paths })) →
+      become ≡ Placed (record { name = name; octets = octets; paths = paths })
+  granted_so become enough is = is ∙ ap (answered d asked) (refused_for_room ∙ ap (refused_at lacks_room) enough)
+
+  -- and where one does, it is refused for the first
+  short_so : (become : PlacedOr) (l : ℕ) → short_link d rows (cost_of octets) (tree_of d paths) ≡ Some l →
+      become ≡ answered d (record { name = name; octets = octets; paths = paths }) (refusal_of d rows (record { name = name; octets = octets; paths = paths })) →
+      become ≡ Unplaced (fault.Short (name_of_bridge d (bridge_of d l)) (name_of_end d l) (left_on d rows l))
+  short_so become l short is = is ∙ ap (answered d asked) (refused_for_room ∙ ap (refused_at lacks_room) short)
+
+-- ---- one stream
+
+module _ (one_way : FirstWayIsOne) (no_loop : FirstWaysHaveNoLoop) (parts : FirstWaysPartForGood) (d : Domain) (good : IsDomain d) (entries : List Recorded) where
+  -- the rows beside which it is placed
+  abbrev rows : List Row
+  rows = held_in d entries (seals entries)
+
+  -- first ways are the same
+  same_ways : (cost bridge : ℕ) (stations : List ℕ) (ways others : List (List ℕ)) → bridge < length d.bridges → HaveRoom d rows cost bridge stations ways →
+      HaveRoom d rows cost bridge stations others → ways ≡ others
+  same_ways cost bridge stations ways others inside first also =
+      ext_get_or [] ways others (first.one_each ∙ sym also.one_each) (λ k low.
+      let there : k < length others = omega (arith, low, first.one_each, also.one_each) in
+      let way = get_or ways k [] in
+      let other = get_or others k [] in
+      one_way d.links (has_room (lefts_on d rows) cost) (Bridge bridge) (Station (get_or stations k 0)) way other
+      (way_there d good rows cost bridge inside stations ways first k way (slice_get-get_or ways k [] low))
+      (way_there d good rows cost bridge inside stations others also k other (slice_get-get_or others k [] there)))
+
+  -- where there are ways to all, there is no first without
+  not_both : (cost bridge : ℕ) (stations : List ℕ) (ways : List (List ℕ)) (place : ℕ) → HaveRoom d rows cost bridge stations ways →
+      HasNoRoom d rows cost bridge stations place → ⊥
+  not_both cost bridge stations ways place first without =
+      let low : place < length ways = omega (arith, slice_get_within stations place without.station without.stands, first.one_each) in
+      let way = get_or ways place [] in
+      without.none way (first.each place without.station way without.stands (slice_get-get_or ways place [] low)).is_way
+
+  -- a stream between a bridge and stations
+  between_so : (name : List ℕ) (octets bridge : ℕ) (stations : List ℕ) (routed : Result (List Branch) PlanFault) (become : PlacedOr) (after : List Recorded) →
+      MayAsk rows name octets → IsToStations d bridge stations → IsRouted d rows (cost_of octets) (Between bridge stations) routed →
+      IsAnswered d entries name octets routed become after → IsPlacedBetween d rows name octets bridge stations become
+  between_so name octets bridge stations (Ok paths) become after may to found is =
+      let cost : ℕ = cost_of octets in
+      let first : HaveRoom d rows cost bridge stations found.ways = found.first in
+      let branches : AreBranches d paths = subst (AreBranches d) (sym found.are)
+      (first_branches d good rows cost bridge to.inside stations found.ways first to.some to.apart no_loop parts) in
+      let enough : short_link d rows cost (tree_of d paths) ≡ None =
+      subst (λ (ps : List Branch). short_link d rows cost (tree_of d ps) ≡ None) (sym found.are)
+      (first_enough d good rows cost bridge to.inside stations found.ways first) in
+      let is_placed = granted_so d rows name octets paths may branches become enough is.0 in
+      record {
+        placed = λ ways also.
+            let same : paths ≡ map (names_along d bridge) ways =
+            found.are ∙ ap (map (names_along d bridge)) (same_ways cost bridge stations found.ways ways to.inside first also) in
+            is_placed ∙ ap (λ (ps : List Branch). Placed (record { name = name; octets = octets; paths = ps })) same;
+        unplaced = λ place without. absurd (not_both cost bridge stations found.ways place first without);
+        either = inl (found.ways, first);
+      }
+  between_so name octets bridge stations (Err found) become after may to full is = record {
+    placed = λ ways first. absurd (not_both (cost_of octets) bridge stations ways full.place first full.without);
+    unplaced = λ place without. (found, is.0, full);
+    either = inr (full.place, full.without);
+  }
+
+  -- one along given branches
+  along_so : (name : List ℕ) (octets : ℕ) (paths : List Branch) (routed : Result (List Branch) PlanFault) (become : PlacedOr) (after : List Recorded) →
+      MayAsk rows name octets → AreBranches d paths → routed ≡ Ok paths → IsAnswered d entries name octets routed become after →
+      IsPlacedAlong d rows name octets paths become
+  along_so name octets paths routed become after may branches given is =
+      let answer = subst (λ (r : Result (List Branch) PlanFault). IsAnswered d entries name octets r become after) given is in
+      record {
+        placed = λ enough. granted_so d rows name octets paths may branches become (none_short d rows (cost_of octets) paths enough) answer.0;
+        unplaced = λ l short. short_so d rows name octets paths may branches become l short answer.0;
+      }
+
+  on_way_so : (name : List ℕ) (octets : ℕ) (way : SettledWay) (routed : Result (List Branch) PlanFault) (become : PlacedOr) (after : List Recorded) →
+      MayAsk rows name octets → IsGoodWay d way → IsRouted d rows (cost_of octets) way routed → IsAnswered d entries name octets routed become after →
+      IsPlacedOnWay d rows name octets way become
+  on_way_so name octets (Along paths) routed become after may branches given is = along_so name octets paths routed become after may branches given is
+  on_way_so name octets (Between bridge stations) routed become after may to found is = between_so name octets bridge stations routed become after may to found is
+
+  -- a stream that is ready, under a name that isn't held, beside few rows
+  pub placed_so : (stream : SettledStream) (become : PlacedOr) (after : List Recorded) → IsReady d stream →
+      list_any (λ (row : Row). is_text row.name stream.name) (held_in d entries (seals entries)) ≡ false → length (held_in d entries (seals entries)) < 1024 →
+      IsPlacing d entries stream become after → IsPlacedByRoom d (held_in d entries (seals entries)) stream become
+  placed_so stream become after ready free few placed = by (reserved_on d.cycle_time stream) refl placed
+    where
+      some_time : 1 ≤ d.cycle_time
+      some_time = omega (arith, good.accepted.cycle_least)
+
+      by : (reserved : Result ℕ PlanFault) → reserved_on d.cycle_time stream ≡ reserved → IsPlacedBy d entries stream reserved become after →
+          IsPlacedWith d rows stream reserved become
+      by (Err found) e is = is.0
+      by (Ok octets) e is =
+          let may : MayAsk rows stream.name octets = record {
+            named = ready.named;
+            least_octets = reserved_least d stream d.cycle_time octets some_time ready e;
+            most_octets = reserved_few stream.octets (option_map (λ (t : TrafficText). needed d.cycle_time (promise_of t)) stream.traffic) octets ready.reservable e;
+            name_free = free;
+            few = few;
+          } in
+          on_way_so stream.name octets stream.way is.routed become after may ready.good_way is.is_routed is.is_answered
+
+-- ---- streams one after the other
+
+-- none
+no_stream : (d : Domain) (entries end : List Recorded) (outcomes : List PlacedOr) → ArePlacedFrom d entries [] outcomes end →
+    ArePlacedByRoomFrom d entries [] outcomes end
+no_stream d entries end [] placed = placed
+no_stream d entries end (become ∷ more) placed = absurd placed
+
+-- a name that isn't among some isn't that of a row of theirs
+free_name : (names : List (List ℕ)) (rows : List Row) (name own : List ℕ) → own ≡ name → is_among name names ≡ false →
+    ((row : Row) → Contains rows row → Contains names row.name) → list_any (λ (row : Row). is_text row.name own) rows ≡ false
+free_name names rows name own same absent named = false_from_ne_true (list_any (λ (row : Row). is_text row.name own) rows) (λ t.
+    let (row, there, is) = any_member (λ (r : Row). is_text r.name own) rows t in
+    both_ways (is_among name names) absent
+    (member_any (λ other. is_text other name) names row.name (named row there) (sym (ap (is_text row.name) same) ∙ is)))
+
+module _ (goes_on : HistoryGoesOn) (counted : SealsAreCounted) (grants : GrantedIsHeld) (refuses : RefusedChangesNothing) (one_way : FirstWayIsOne)
+    (no_loop : FirstWaysHaveNoLoop) (parts : FirstWaysPartForGood) (sketch : SketchDomain) (is_sketch : IsSketch sketch) (cycle : ℕ) (good : IsDomain (domain_at sketch cycle)) where
+  abbrev d : Domain
+  d = domain_at sketch cycle
+
+  -- a stream, and then the others
+  one_stream : (names : List (List ℕ)) (text : StreamText) (one : SettledStream) (streams : List SettledStream) (entries end : List Recorded)
+      (outcomes : List PlacedOr) → IsBehind d names entries → IsReadStream text → settled_next sketch (domain_at sketch (open_cycle sketch)) names text ≡ Ok one →
+      ((after : List Recorded) (more : List PlacedOr) → IsBehind d (names ++ text.name ∷ []) after → ArePlacedFrom d after streams more end →
+      ArePlacedByRoomFrom d after streams more end) → ArePlacedFrom d entries (one ∷ streams) outcomes end → ArePlacedByRoomFrom d entries (one ∷ streams) outcomes end
+  one_stream names text one streams entries end [] behind read settled rest placed = absurd placed
+  one_stream names text one streams entries end (become ∷ more) behind read settled rest placed =
+      let stands = next_stands sketch (domain_at sketch (open_cycle sketch)) names text one settled in
+      let ready = next_ready sketch (open_cycle sketch) cycle names text one is_sketch.has_talkers read settled in
+      let rows : List Row = held_in d entries (seals entries) in
+      let free = free_name names rows text.name one.name stands.own_name stands.not_held behind.named in
+      let few : length rows < 1024 = omega (arith, behind.few_rows, stands.few) in
+      let after = placed.0 in
+      let longer = one_behind goes_on counted grants refuses d names entries after one become behind stands.few placed.1 in
+      let next : IsBehind d (names ++ text.name ∷ []) after = subst (λ (n : List ℕ). IsBehind d (names ++ n ∷ []) after) stands.own_name longer in
+      (after, placed.1, placed_so one_way no_loop parts d good entries one become after ready free few placed.1, rest after more next placed.2)
+
+  -- all of them
+  pub all_streams : (names : List (List ℕ)) (texts : List StreamText) (streams : List SettledStream) (entries end : List Recorded) (outcomes : List PlacedOr) →
+      IsBehind d names entries → All IsReadStream texts → settled_behind sketch (domain_at sketch (open_cycle sketch)) names texts ≡ Ok streams →
+      ArePlacedFrom d entries streams outcomes end → ArePlacedByRoomFrom d entries streams outcomes end
+  all_streams names [] streams entries end outcomes behind read settled placed =
+      let nil : [] ≡ streams = cc in
+      subst (λ (ss : List SettledStream). ArePlacedFrom d entries ss outcomes end → ArePlacedByRoomFrom d entries ss outcomes end) nil
+      (no_stream d entries end outcomes) placed
+  all_streams names (text ∷ texts) streams entries end outcomes behind read settled placed =
+      let plant : Domain = domain_at sketch (open_cycle sketch) in
+      let both = and_first-Ok (settled_next sketch plant names text) (settled_behind sketch plant (names ++ text.name ∷ []) texts) streams settled in
+      let first : IsReadStream text = All-contains IsReadStream (text ∷ texts) text read (contains_here text texts) in
+      let others : All IsReadStream texts = λ k x low. read (suc k) x (omega (arith, low)) in
+      subst (λ (ss : List SettledStream). ArePlacedFrom d entries ss outcomes end → ArePlacedByRoomFrom d entries ss outcomes end) (sym both.all)
+      (one_stream names text both.one both.more entries end outcomes behind first both.first_is
+      (λ after more next later. all_streams (names ++ text.name ∷ []) texts both.more after end more next others both.others_are later)) placed
+
+-- so the streams of a sketch are
+pub placed_by_room : HistoryGoesOn → SealsAreCounted → GrantedIsHeld → RefusedChangesNothing → FirstWayIsOne → FirstWaysHaveNoLoop → FirstWaysPartForGood →
+    PlacedWhereThereIsRoom
+placed_by_room goes_on counted grants refuses one_way no_loop parts sketch text texts streams cycle placed is_sketch is_open read settled domain are =
+    let good = is_sketch.domains cycle is_open in
+    subst (λ (d : Domain). ArePlacedByRoomFrom d [] streams placed.outcomes placed.entries) (sym domain)
+    (all_streams goes_on counted grants refuses one_way no_loop parts sketch is_sketch cycle good [] texts streams [] placed.entries placed.outcomes
+    (none_behind (domain_at sketch cycle)) (streams_read text texts read) settled
+    (subst (λ (d : Domain). ArePlacedFrom d [] streams placed.outcomes placed.entries) domain are))

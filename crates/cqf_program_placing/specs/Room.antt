@@ -1,0 +1,77 @@
+-- Streams are placed where there is room, in a planner's words.
+use Rattle.std.specs.Prelude.{ℕ, ◌≡◌, ◌≤◌, ◌⊎◌, List, [], ◌∷◌, Contains, Result, Ok, Err, Some, map}
+use Rattle.cqf_units.specs.Timing.{cost_of}
+use Rattle.cqf_model.specs.declared.topology.Node.TheVariants.{Bridge}
+use Rattle.cqf_model.specs.declared.topology.Row.{Row}
+use Rattle.cqf_model.specs.Domain.{Domain, bridge_of}
+use Rattle.cqf_model.specs.History.{Branch, Recorded, held_in, left_on, seals, short_link, tree_of}
+use Rattle.cqf_model.specs.Table.{links_in}
+use Rattle.cqf_report.specs.Books.{name_of_bridge}
+use Rattle.cqf_sketch.specs.SketchDomain.{IsOpenCycle, IsSketch, SketchDomain, domain_at}
+use Rattle.cqf_sketch_streams.specs.StreamsText.{StreamText, sketch_streams_of_text}
+use Rattle.cqf_ways.specs.Listeners.{AreFirstWays, IsFirstWithout}
+use Rattle.cqf_ways.specs.Ways.{has_room}
+use Rattle.cqf_program_plans.specs.EndNames.{name_of_end}
+use Rattle.cqf_program_placing.specs.declared.faults.PlanFault.{PlanFault}
+use Rattle.cqf_program_placing.specs.declared.faults.PlanFault.TheVariants as fault
+use Rattle.cqf_program_placing.specs.Placing.{ArePlaced, IsFull, IsPlacing, Placed, PlacedOr, PlacedStreams, Unplaced, lefts_on, names_along, reserved_on}
+use Rattle.cqf_program_placing.specs.Settled.{Along, Between, SettledStream, SettledWay, settled_of}
+
+-- the first ways from a bridge to stations, beside some rows, on which each link has left what a stream costs
+abbrev pub HaveRoom : Domain → List Row → ℕ → ℕ → List ℕ → List (List ℕ) → Type 0
+HaveRoom d rows cost bridge stations ways = AreFirstWays d.links (has_room (lefts_on d rows) cost) (Bridge bridge) stations ways
+
+-- there is no such way to the station at a place, the first of them
+abbrev pub HasNoRoom : Domain → List Row → ℕ → ℕ → List ℕ → ℕ → Type 0
+HasNoRoom d rows cost bridge stations place = IsFirstWithout d.links (has_room (lefts_on d rows) cost) (Bridge bridge) stations place
+
+-- a stream between a bridge and stations: where there are ways with room it is placed by the first, with its name and its reservation;
+-- where there is none to some station it isn't, for the first such; and one of the two is the case. So it is never refused for its
+-- name, its octets, its branches or its tree, for its number among the streams, or for a link that lacks room
+pub record IsPlacedBetween (d : Domain) (rows : List Row) (name : List ℕ) (octets bridge : ℕ) (stations : List ℕ) (become : PlacedOr) : Type 0 where
+  pub placed : (ways : List (List ℕ)) → HaveRoom d rows (cost_of octets) bridge stations ways →
+      become ≡ Placed (record { name = name; octets = octets; paths = map (names_along d bridge) ways })
+  pub unplaced : (place : ℕ) → HasNoRoom d rows (cost_of octets) bridge stations place →
+      (found : PlanFault) × (become ≡ Unplaced found) × IsFull d rows (cost_of octets) bridge stations found
+  pub either : ((ways : List (List ℕ)) × HaveRoom d rows (cost_of octets) bridge stations ways)
+      ⊎ ((place : ℕ) × HasNoRoom d rows (cost_of octets) bridge stations place)
+
+-- one along given branches: where each link of their tree has left what it costs it is placed by them, and else it isn't, for the first
+-- link, in the tree's order, that has less left
+pub record IsPlacedAlong (d : Domain) (rows : List Row) (name : List ℕ) (octets : ℕ) (paths : List Branch) (become : PlacedOr) : Type 0 where
+  pub placed : ((l : ℕ) → Contains (links_in (tree_of d paths)) l → cost_of octets ≤ left_on d rows l) →
+      become ≡ Placed (record { name = name; octets = octets; paths = paths })
+  pub unplaced : (l : ℕ) → short_link d rows (cost_of octets) (tree_of d paths) ≡ Some l →
+      become ≡ Unplaced (fault.Short (name_of_bridge d (bridge_of d l)) (name_of_end d l) (left_on d rows l))
+
+abbrev pub IsPlacedOnWay : Domain → List Row → List ℕ → ℕ → SettledWay → PlacedOr → Type 0
+IsPlacedOnWay d rows name octets (Along paths) become = IsPlacedAlong d rows name octets paths become
+IsPlacedOnWay d rows name octets (Between bridge stations) become = IsPlacedBetween d rows name octets bridge stations become
+
+-- by its reservation: a stream that has none isn't placed, and this is told of it
+abbrev pub IsPlacedWith : Domain → List Row → SettledStream → Result ℕ PlanFault → PlacedOr → Type 0
+IsPlacedWith d rows stream (Err found) become = become ≡ Unplaced found
+IsPlacedWith d rows stream (Ok octets) become = IsPlacedOnWay d rows stream.name octets stream.way become
+
+-- a stream is placed beside some rows where there is room
+abbrev pub IsPlacedByRoom : Domain → List Row → SettledStream → PlacedOr → Type 0
+IsPlacedByRoom d rows stream become = IsPlacedWith d rows stream (reserved_on d.cycle_time stream) become
+
+-- so is each of some streams behind these entries, beside the rows of those that are placed before it
+abbrev pub ArePlacedByRoomFrom : Domain → List Recorded → List SettledStream → List PlacedOr → List Recorded → Type 0
+ArePlacedByRoomFrom d entries [] [] end = end ≡ entries
+ArePlacedByRoomFrom d entries [] (become ∷ more) end = ⊥
+ArePlacedByRoomFrom d entries (stream ∷ streams) [] end = ⊥
+ArePlacedByRoomFrom d entries (stream ∷ streams) (become ∷ more) end =
+    (after : List Recorded) × IsPlacing d entries stream become after × IsPlacedByRoom d (held_in d entries (seals entries)) stream become
+    × ArePlacedByRoomFrom d after streams more end
+
+abbrev pub ArePlacedByRoom : List SettledStream → PlacedStreams → Type 0
+ArePlacedByRoom streams placed = ArePlacedByRoomFrom placed.domain [] streams placed.outcomes placed.entries
+
+-- the streams of a sketch's text, settled, are so, on each cycle time that is open to its domain
+abbrev pub PlacedWhereThereIsRoom : Type 0
+PlacedWhereThereIsRoom =
+    (sketch : SketchDomain) (text : List ℕ) (texts : List StreamText) (streams : List SettledStream) (cycle_time : ℕ) (placed : PlacedStreams) →
+    IsSketch sketch → IsOpenCycle sketch cycle_time → sketch_streams_of_text text ≡ Ok texts → settled_of sketch texts ≡ Ok streams →
+    placed.domain ≡ domain_at sketch cycle_time → ArePlaced streams placed → ArePlacedByRoom streams placed

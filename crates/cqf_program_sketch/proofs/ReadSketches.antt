@@ -1,0 +1,69 @@
+-- A sketch that is read is one, and its streams are placed where there is room.
+use Rattle.std.proofs.Common.{◌≡◌, ℕ, List, [], Option, Result, Ok, Err, IfSome, subst}
+use Rattle.cqf_text.specs.Parts.{parts_of}
+use Rattle.cqf_topology.specs.declared.faults.DomainFault.TheVariants as domain
+use Rattle.cqf_topology.specs.DomainText.{first_taken, if_so}
+use Rattle.cqf_topology.proofs.Refusals.{and_then-Ok, refuse-Ok}
+use Rattle.cqf_sketch.specs.declared.faults.SketchFault.TheVariants.{Domain, TwoTalkerLinks}
+use Rattle.cqf_sketch.specs.Edges.{Edge, first_long_delay, first_long_gap, first_twice, joined}
+use Rattle.cqf_sketch.specs.SketchDomain.{AreCandidates, IsSketch, SketchDomain, checked, is_guard_too_long, is_too_many, name_taken}
+use Rattle.cqf_sketch.specs.SketchDomain.{second_talker, sketch_domain_of_text, sketch_with, with_edges, with_names}
+use Rattle.cqf_sketch.specs.SketchText.{SketchText, sketch_of_text}
+use Rattle.cqf_sketch.proofs.CheckedLemmas.{passes_sketch}
+use Rattle.cqf_sketch.proofs.InsideLemmas.{all_joined}
+use Rattle.cqf_sketch.proofs.OpenLemmas.{passed_is_sketch}
+use Rattle.cqf_sketch.proofs.ReadLemmas.{sketch_readable}
+use Rattle.cqf_sketch_streams.specs.StreamsText.{sketch_streams_of_text}
+use Rattle.cqf_program_offers.specs.OffersOutput.{flows_line}
+use Rattle.cqf_program_scenario.specs.Parts.{two_parts}
+use Rattle.cqf_program_stop.specs.Stops.{or_line}
+use Rattle.cqf_program_placing.specs.Room.{PlacedWhereThereIsRoom}
+use Rattle.cqf_program_placing.specs.Settled.{settled_of}
+use Rattle.cqf_program_sketch.specs.PlanLaws.{SketchesArePlacedByRoom}
+use Rattle.cqf_program_sketch.specs.PlanOutput.{Sketched, sketch_line, unsettled_line}
+
+-- what was read before a line was to be told
+or_line-Ok : {A E : Type 0} (line : E → List ℕ) (r : Result A E) (x : A) → or_line line r ≡ Ok x → r ≡ Ok x
+or_line-Ok line (Ok y) x e = cc
+or_line-Ok line (Err fault) x e = absurd cc
+
+-- a sketch whose edges pass the checks is what the text says with them
+with_these_edges : (text : SketchText) (edges : List Edge) (sketch : SketchDomain) → with_edges text edges ≡ Ok sketch → sketch_with text edges ≡ sketch
+with_these_edges text edges sketch e =
+    let a = refuse-Ok (first_twice edges) (λ (element : ℕ). Domain (domain.LinkTwice element)) _ sketch e in
+    let b = refuse-Ok (second_talker text edges) (λ (station : List ℕ). TwoTalkerLinks station) _ sketch a.1 in
+    let c = refuse-Ok (if_so (is_guard_too_long text)) (λ (u : Unit {0}). Domain domain.GuardTooLong) _ sketch b.1 in
+    let f = refuse-Ok (first_long_delay text.guard edges) (λ (element : ℕ). Domain (domain.DelayTooLong element)) _ sketch c.1 in
+    let g = refuse-Ok (first_long_gap text.guard edges) (λ (element : ℕ). Domain (domain.GapTooLong element)) _ sketch f.1 in
+    let h = refuse-Ok (if_so (is_too_many text edges)) (λ (u : Unit {0}). Domain domain.TooMany) (Ok (sketch_with text edges)) sketch g.1 in
+    let same = h.1 in
+    cc
+
+-- the domain of a sketch's text is a sketch
+read_is_sketch : (given : Option (List ℕ)) (text : List ℕ) (sketch : SketchDomain) → IfSome given AreCandidates →
+    sketch_domain_of_text given text ≡ Ok sketch → IsSketch sketch
+read_is_sketch given text sketch are e =
+    let (draft, read, passed) = and_then-Ok (sketch_of_text given text) checked sketch e in
+    let readable = sketch_readable given text draft are read in
+    let (bridges_apart, rest) = refuse-Ok (first_taken [] draft.bridges) name_taken _ sketch passed in
+    let (stations_apart, numbered) = refuse-Ok (first_taken draft.bridges draft.stations) name_taken (with_names draft) sketch rest in
+    let (edges, joined_are, checks) = and_then-Ok (joined draft.bridges draft.stations 0 draft.links) (with_edges draft) sketch numbered in
+    subst IsSketch (with_these_edges draft edges sketch checks)
+    (passed_is_sketch draft edges readable (passes_sketch draft edges sketch checks)
+    (all_joined draft.bridges draft.stations 0 draft.links edges readable.delays_most joined_are) bridges_apart stations_apart)
+
+-- so the streams of an input are placed where there is room
+pub sketches_are_placed : PlacedWhereThereIsRoom → SketchesArePlacedByRoom
+sketches_are_placed law given input sketched cycle placed are e is_open placed_at =
+    let (parts, two, e1) = and_then-Ok (two_parts (parts_of input)) _ sketched e in
+    let (sketch, of_domain, e2) = and_then-Ok (or_line sketch_line (sketch_domain_of_text given parts.0)) _ sketched e1 in
+    let (texts, of_streams, e3) = and_then-Ok (or_line flows_line (sketch_streams_of_text parts.1)) _ sketched e2 in
+    let (streams, settled, e4) = and_then-Ok (or_line unsettled_line (settled_of sketch texts)) _ sketched e3 in
+    let made : Sketched = record { domain = sketch; streams = streams } in
+    let same : made ≡ sketched = cc in
+    let is_sketch = read_is_sketch given parts.0 sketch are (or_line-Ok sketch_line (sketch_domain_of_text given parts.0) sketch of_domain) in
+    let is : IsSketch sketched.domain = subst (λ (s : Sketched). IsSketch s.domain) same is_sketch in
+    law sketched.domain parts.1 texts sketched.streams cycle placed is is_open
+    (or_line-Ok flows_line (sketch_streams_of_text parts.1) texts of_streams)
+    (subst (λ (s : Sketched). settled_of s.domain texts ≡ Ok s.streams) same (or_line-Ok unsettled_line (settled_of sketch texts) streams settled))
+    placed_at.domain placed_at.placed_are

@@ -1,0 +1,19 @@
+use Rattle.std.proofs.Common.{◌∙◌, ◌++◌, append-nil, ap, sym}
+use Rattle.std.specs.Prelude.{option_map}
+use Rattle.cqf_program_plans.proofs.Found.{items_of}
+use Rattle.cqf_program_summary.specs.Listing.{cost_in}
+use Rattle.cqf_program_summary.proofs.Found.{first_way, ways_more}
+use Rattle.cqf_program_summary.proofs.fares.push_listeners.Goals as goal
+use Rattle.cqf_program_summary.proofs.fares.push_listeners.Goals.{in-Some+in_ok-push_way, in_default}
+
+pub loop-hop-preserved : goal.loop-hop-preserved
+loop-hop-preserved c =
+    let done = c.loop-hop.ways.items in
+    let more = ways_more c.args.domain.now (cost_in c.args.costs.now) c.as_slice-hop-items.result.now c.loop-hop.hop-index c.listener_to.result
+    c.args.ways.now.items done c.loop-hop-test.true c.listener_to.ensures c.loop-hop.invariant in
+    elim c.match-listener_to.branch [
+      | in-Some+in_ok-push_way w ↦
+          ap (λ v. v.items) w.ways-is ∙ w.in_ok-push_way.ensures ∙ ap (λ o. done ++ items_of (option_map first_way o)) (sym w.in-Some.is) ∙ more
+      | in_default w ↦
+          ap (λ v. v.items) w.ways-is ∙ sym (append-nil done) ∙ ap (λ o. done ++ items_of (option_map first_way o)) (sym w.in_default.is) ∙ more
+    ]

@@ -1,0 +1,33 @@
+use Rattle.std.proofs.Common.{◌≡◌, ◌∙◌, ◌++◌, ◌∷◌, [], ℕ, Bool, true, false, List, Option, ap, arith, refl, subst, subst₂, sym}
+use Rattle.std.specs.List.{list_any}
+use Rattle.cqf_model.specs.declared.topology.Row.{Row}
+use Rattle.cqf_model.specs.Domain.{is_text}
+use Rattle.cqf_model.specs.History.{Asked}
+use Rattle.cqf_units.specs.Name.{is_name}
+use Rattle.cqf_admission.specs.Asking.{asked_of}
+use Rattle.cqf_program_summary.specs.Listing.{HasOctets, ListsOne}
+use Rattle.cqf_program_summary.specs.Told.{told_streams}
+use Rattle.cqf_program_summary.proofs.Listed.{known_by_name, listing_more, listing_stays, told_known}
+use Rattle.cqf_program_summary.proofs.listing.Listing.with.Goals as goal
+
+pub returns-then-contains : goal.returns-then-contains
+returns-then-contains c = λ before is.
+    let asked = asked_of c.args.request.now in
+    let named = ap is_name (sym c.as_bytes.ensures.value) ∙ c.in-Some.ensures.form.0 refl in
+    let name_is = c.in-Some.ensures.value ∙ c.as_bytes.ensures.value in
+    let known =
+    ap (λ (n : List ℕ). list_any (λ (a : Asked). is_text a.name n) (told_streams before)) (sym name_is)
+    ∙ sym (known_by_name c.args.domain.now before c.args.self is c.in-Some.name) ∙ sym c.contains.ensures ∙ c.if-contains.true in
+    listing_stays c.args.domain.now before (before ++ asked ∷ []) c.args.self (told_known before asked named known) is
+
+pub returns : goal.returns
+returns c = λ before is.
+    let asked = asked_of c.args.request.now in
+    let named = ap is_name (sym c.as_bytes.ensures.value) ∙ c.in-Some.ensures.form.0 refl in
+    let name_is = c.in-Some.ensures.value ∙ c.as_bytes.ensures.value in
+    let new =
+    ap (λ (n : List ℕ). list_any (λ (a : Asked). is_text a.name n) (told_streams before)) (sym name_is)
+    ∙ sym (known_by_name c.args.domain.now before c.args.self is c.in-Some.name) ∙ sym c.contains.ensures ∙ c.if-contains.false in
+    listing_more c.args.domain.now before asked c.args.self c.in_ok-after.after is named new (omega (arith, c.len.ensures.len, c.if-len.false))
+    (subst HasOctets c.in_ok-row.ensures.row c.in_ok-row.ensures.octets)
+    (subst₂ (λ (n : List ℕ) (r : Option Row). ListsOne c.args.self n r c.in_ok-after.after) name_is c.in_ok-row.ensures.row c.in_ok-after.ensures)

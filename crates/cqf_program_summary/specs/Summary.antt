@@ -1,0 +1,101 @@
+-- How the frames of streams fare to their listeners in a run, by its book (profile).
+use Rattle.std.specs.Prelude.{ℕ, ◌&&◌, List, [], ◌∷◌, Option, Some, None, count_by, filter, length, map, nat_lt, option_map}
+use Rattle.cqf_model.specs.declared.frames.Offered.{Offered}
+use Rattle.cqf_model.specs.declared.topology.Hop.{Hop}
+use Rattle.cqf_model.specs.declared.topology.Row.{Row}
+use Rattle.cqf_model.specs.Book.{Contents}
+use Rattle.cqf_model.specs.Domain.{Domain, is_text}
+use Rattle.cqf_model.specs.History.{Asked}
+use Rattle.cqf_model.specs.Run.{Run}
+use Rattle.cqf_model.specs.Shift.{offer_cycle}
+use Rattle.cqf_model.specs.Traffic.{numbered}
+use Rattle.cqf_topology.specs.PlannedText.{PlannedText}
+use Rattle.cqf_laws_latency.specs.Latency.{most_of}
+use Rattle.cqf_program_plans.specs.EndNames.{name_of_end}
+use Rattle.cqf_program_plans.specs.LatencyInput.{asked_in}
+use Rattle.cqf_program_plans.specs.LatencyText.{listeners_of}
+use Rattle.cqf_program_runs.specs.declared.delivery.Delivery.{Delivery}
+use Rattle.cqf_program_runs.specs.Deliveries.{deadline_named, deliveries_of, fate_of}
+use Rattle.cqf_program_summary.specs.declared.fares.Listener.{Listener}
+use Rattle.cqf_program_summary.specs.declared.fares.Others.{Others}
+use Rattle.cqf_program_summary.specs.declared.fares.Way.{Way}
+use Rattle.cqf_program_summary.specs.Tallies.{is_dropped, tally_to}
+use Rattle.cqf_program_summary.specs.Told.{is_other, row_of_stream, told_cost, told_streams}
+
+-- what is told of a stream: its name and its deadline, how many offers claim the name, how many of these are dropped, and the ways
+-- to its listeners; of a stream whose octets or path are refused one way to none
+pub record Fare : Type 0 where
+  pub name : List ℕ
+  pub deadline : Option ℕ
+  pub offered : ℕ
+  pub dropped : ℕ
+  pub ways : List Way
+
+-- a summary: that of each stream, and how many offers claim other names
+pub record Summary : Type 0 where
+  pub fares : List Fare
+  pub others : Others
+
+-- the listener at the end of a hop, with the most that a frame can take to it, where the streams cost so much of each link
+abbrev pub listener_to : Domain → (ℕ → ℕ) → Hop → Listener
+listener_to d cost hop = record { name = name_of_end d hop.link; bound = most_of d hop.link hop.depth (cost hop.link) }
+
+-- a way to a listener, where there is one, by the deliveries of a stream's frames
+abbrev pub name_of_listener : Option Listener → Option (List ℕ)
+name_of_listener to = option_map (λ (listener : Listener). listener.name) to
+
+abbrev pub way_to : List Delivery → Option Listener → Way
+way_to deliveries to = record { to = to; tally = tally_to (name_of_listener to) deliveries }
+
+-- the listeners of a row, in the order of its tree
+abbrev pub listeners_by : Domain → (ℕ → ℕ) → Option Row → List (Option Listener)
+listeners_by d cost None = None ∷ []
+listeners_by d cost (Some row) = map (λ (hop : Hop). Some (listener_to d cost hop)) (listeners_of d row)
+
+abbrev pub ways_of : Domain → (ℕ → ℕ) → List Delivery → Option Row → List Way
+ways_of d cost deliveries row = map (way_to deliveries) (listeners_by d cost row)
+
+-- how many of some offers claim a name, and what becomes of them
+abbrev pub offers_named : List ℕ → List Offered → ℕ
+offers_named name offers = count_by (λ (x : Offered). is_text x.offer.stream name) offers
+
+abbrev pub deliveries_named : List ℕ → List Delivery → List Delivery
+deliveries_named name deliveries = filter (λ (x : Delivery). is_text x.stream name) deliveries
+
+-- that of a stream, by its number of offers and the deliveries of its frames
+abbrev pub fare_by : Domain → (ℕ → ℕ) → (List ℕ → Option ℕ) → ℕ → List Delivery → Asked → Fare
+fare_by d cost due offered deliveries asked = record {
+  name = asked.name;
+  deadline = due asked.name;
+  offered = offered;
+  dropped = count_by (λ (x : Delivery). is_dropped (fate_of x)) deliveries;
+  ways = ways_of d cost deliveries (row_of_stream d asked);
+}
+
+abbrev pub fare_of : Domain → (ℕ → ℕ) → (List ℕ → Option ℕ) → List Offered → List Delivery → Asked → Fare
+fare_of d cost due offers deliveries asked =
+    fare_by d cost due (offers_named asked.name offers) (deliveries_named asked.name deliveries) asked
+
+-- those of names that none of the streams has
+abbrev pub others_of : List Asked → List Offered → List Delivery → Others
+others_of told offers deliveries = record {
+  offered = count_by (λ (x : Offered). is_other told x.offer.stream) offers;
+  dropped = count_by (λ (x : Delivery). is_other told x.stream && is_dropped (fate_of x)) deliveries;
+}
+
+-- the summary of some streams, where names have these deadlines, by some offers and what becomes of them
+abbrev pub summary_by : Domain → List Asked → (List ℕ → Option ℕ) → List Offered → List Delivery → Summary
+summary_by d told due offers deliveries = record {
+  fares = map (fare_of d (told_cost d told) due offers deliveries) told;
+  others = others_of told offers deliveries;
+}
+
+-- the offers of the cycles that are run
+abbrev pub offers_within : Domain → ℕ → List Offered → List Offered
+offers_within d cycles offers = filter (λ (x : Offered). nat_lt (offer_cycle d x) cycles) offers
+
+-- that of a run over some streams, by its book
+abbrev pub summary_of : Run → List PlannedText → Contents → Summary
+summary_of run streams book =
+    summary_by run.domain (told_streams (asked_in streams)) (deadline_named streams)
+    (offers_within run.domain (length run.tables) (numbered run.offers)) (deliveries_of run streams book)

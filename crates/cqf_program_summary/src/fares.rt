@@ -1,0 +1,273 @@
+//! How the frames of a stream fare to its listeners.
+ghost use Rattle.std.specs.Prelude.{ℕ, ◌≡◌, ◌+◌, ◌*◌, ◌≤◌, ◌<◌, ◌^◌, ◌++◌, ◌∷◌, [], Some, None, IfOk, OnOk, if◌then◌else◌, length, map, position, slice_get};
+ghost use Rattle.cqf_model.specs.Domain.{end_of};
+ghost use Rattle.cqf_program_plans.specs.LatencyText.{is_station};
+ghost use Rattle.cqf_program_runs.specs.Deliveries.{fate_of};
+ghost use Rattle.cqf_program_summary.specs.Counting.{AreApart, FareWithin, OthersWithin, WaysWithin};
+ghost use Rattle.cqf_program_summary.specs.Counting.{fare_with, fare_with_each, fare_with_offer, leads_there, leads_to, others_with, place_by, way_with, ways_with};
+ghost use Rattle.cqf_program_summary.specs.Listing.{AreBounded, IsOfStream, cost_in, fare_from};
+ghost use Rattle.cqf_program_summary.specs.Summary.{listener_to, way_to, ways_of};
+
+use crate::listing::Listed;
+use crate::tallies::{Tally, count_dropped, drops_of};
+use cqf_model::{Hop, Row};
+use cqf_program_plans::{listener_at, most_to};
+use cqf_program_runs::{Delivery, Fate, Journey, Passage};
+use cqf_topology::Domain;
+use cqf_units::{Memory, Name, Nanos};
+use std::alloc::Global;
+use std::marker::Model;
+
+/// A listener of a stream.
+#[derive(Debug, Drop)]
+pub(crate) struct Listener {
+    /// The name of its station.
+    pub(crate) name: Name,
+    /// No frame of the stream takes more to it, in nanoseconds, where calls admit streams of the file alone.
+    pub(crate) bound: u64,
+}
+
+/// The way of a stream to one of its listeners.
+#[derive(Debug, Drop)]
+pub(crate) struct Way {
+    /// The listener; none is known of a stream whose octets or path are refused.
+    pub(crate) to: Option<Listener>,
+    /// How its frames fare.
+    pub(crate) tally: Tally,
+}
+
+/// How the frames of a stream fare: those that claim its name.
+#[derive(Drop)]
+pub(crate) struct Fares {
+    pub(crate) name: Name,
+    /// What a frame is to take at most, in nanoseconds, where the stream has a deadline.
+    pub(crate) deadline: Option<u32>,
+    /// How many are offered in cycles that are run.
+    pub(crate) offered: u32,
+    /// How many of them are dropped.
+    pub(crate) dropped: u32,
+    /// The ways to its listeners, in the order of its tree.
+    pub(crate) ways: Vec<Way>,
+}
+
+impl Model for Fares {
+    ghost use Rattle.cqf_program_summary.specs.Counting.{AreApart};
+    ghost use Rattle.cqf_program_summary.specs.Summary.{Fare};
+
+    ghost Value = { Fare };
+
+    ghost view = { λ f. record { name = f.name; deadline = f.deadline; offered = f.offered; dropped = f.dropped; ways = f.ways.items } };
+
+    ghost invariant = { λ f. AreApart f.ways.items };
+}
+
+/// Offers that claim names of none of the streams.
+#[derive(Clone, Copy, Debug, PartialEq, Eq)]
+pub(crate) struct Others {
+    /// How many are of cycles that are run.
+    pub(crate) offered: u32,
+    /// How many of them are dropped.
+    pub(crate) dropped: u32,
+}
+
+/// The listener at the end of a hop, where one is there. Hops by links that the domain lacks have none.
+fn listener_to(domain: &Domain, costs: &[u64; 64], hop: &Hop) -> Option<Listener>
+    requires { AreBounded costs.now }
+    ensures { result ≡ (if is_station (end_of domain.now hop.now.link) then Some (listener_to domain.now (cost_in costs.now) hop.now) else None) }
+{
+    // the domain is accepted: it has at most 64 links
+    let _cycle_time = domain.cycle_time();
+    if hop.link >= domain.links() {
+        return None;
+    }
+    let name = listener_at(domain, hop.link)?;
+    let cost = costs[usize::from(hop.link)];
+    Some(Listener {
+        name,
+        bound: most_to(domain, hop.link, hop.depth, cost),
+    })
+}
+
+/// Puts a way, on which no frame has gone, behind those before it.
+fn push_way(ways: &mut Vec<Way>, to: Option<Listener>) -> Result<(), Memory>
+    ensures { OnOk result (ways.new.items ≡ ways.old.items ++ way_to [] to ∷ []) }
+{
+    ways.push(Way {
+        to,
+        tally: Tally::none(),
+    })?;
+    Ok(())
+}
+
+/// Puts the ways to the listeners of a row behind those before it.
+fn push_listeners(
+    ways: &mut Vec<Way>,
+    domain: &Domain,
+    costs: &[u64; 64],
+    row: &Row,
+) -> Result<(), Memory>
+    requires { AreBounded costs.now }
+    ensures { OnOk result (ways.new.items ≡ ways.old.items ++ ways_of domain.now (cost_in costs.now) [] (Some row.now)) }
+{
+    for hop in row.tree.as_slice() {
+        if let Some(listener) = listener_to(domain, costs, hop) {
+            push_way(ways, Some(listener))?;
+        }
+    }
+    Ok(())
+}
+
+/// The ways to the listeners of a stream with this row; one to none where it has no row.
+fn ways_of(
+    alloc: Global,
+    domain: &Domain,
+    costs: &[u64; 64],
+    row: &Option<Row>,
+) -> Result<Vec<Way>, Memory>
+    requires { AreBounded costs.now }
+    ensures { IfOk result (λ ways. ways.items ≡ ways_of domain.now (cost_in costs.now) [] row.now) }
+{
+    let mut ways = Vec::new(alloc);
+    match row {
+        Some(row) => push_listeners(&mut ways, domain, costs, row)?,
+        None => push_way(&mut ways, None)?,
+    }
+    Ok(ways)
+}
+
+/// Whether a way leads to the listener of a name.
+fn leads_to(to: &Option<Listener>, name: &Name) -> bool
+    ensures { result ≡ leads_to name.now to.now }
+{
+    match to {
+        Some(listener) => *name == listener.name,
+        None => false,
+    }
+}
+
+/// Whether there is a way at a place, and it leads to the listener of a name.
+fn leads_there(ways: &[Way], place: usize, name: &Name) -> bool
+    ensures { result ≡ leads_there name.now (slice_get ways.now place) }
+{
+    match ways.get(place) {
+        Some(way) => leads_to(&way.to, name),
+        None => false,
+    }
+}
+
+/// The place of the first way to the listener of a name.
+fn first_to(ways: &[Way], name: &Name) -> Option<usize>
+    ensures { result ≡ position (λ way. leads_to name.now way.to) ways.now }
+{
+    ways.iter().position(|way| leads_to(&way.to, name))
+}
+
+/// The place of the way to the listener of a name: the expected one where that leads there, and else the first. Deliveries come in the
+/// order of the ways, so that each is mostly expected.
+fn place_to(ways: &[Way], expected: usize, name: &Name) -> Option<usize>
+    ensures { result ≡ place_by ways.now expected name.now }
+{
+    if leads_there(ways, expected, name) {
+        return Some(expected);
+    }
+    first_to(ways, name)
+}
+
+/// Adds a frame on its journey to the way to its listener.
+fn add_journey(ways: &mut [Way], expected: usize, ending: Fate, at: Nanos, journey: &Journey)
+    requires apart { AreApart ways.old }
+    requires few { WaysWithin 64999999 ways.old }
+    ensures ways { ways.new ≡ map (way_with ending at.0 journey.now) ways.old }
+    ensures more { (many : ℕ) → WaysWithin many ways.old → WaysWithin (many + 1) ways.new }
+{
+    if let Some(place) = place_to(ways, expected, &journey.listener) {
+        let way = &mut ways[place];
+        way.tally = way.tally.with(ending, at, journey.whole);
+    }
+}
+
+/// Adds a delivery to the way to its listener: a drop goes nowhere.
+fn add_passage(ways: &mut [Way], expected: usize, delivery: &Delivery)
+    requires apart { AreApart ways.old }
+    requires few { WaysWithin 64999999 ways.old }
+    ensures ways { ways.new ≡ ways_with (fate_of delivery.now) delivery.now.at.0 delivery.now.passage ways.old }
+    ensures more { (many : ℕ) → WaysWithin many ways.old → WaysWithin (many + 1) ways.new }
+{
+    if let Passage::Goes(journey) = &delivery.passage {
+        add_journey(ways, expected, delivery.fate(), delivery.at, journey);
+    }
+}
+
+impl Fares {
+    /// Those of a stream of this name and row, of which nothing is offered yet, where streams cost so much of each link.
+    pub(crate) fn new(
+        alloc: Global,
+        domain: &Domain,
+        costs: &[u64; 64],
+        listed: &Listed,
+        deadline: Option<u32>,
+    ) -> Result<Fares, Memory>
+        requires bounded { AreBounded costs.now }
+        requires listed { IsOfStream domain.now listed.now }
+        ensures { IfOk result (λ fares. fares ≡ fare_from domain.now (cost_in costs.now) deadline listed.now) }
+    {
+        // names are apart: a fact for the ways
+        let _cycle_time = domain.cycle_time();
+        let ways = ways_of(alloc, domain, costs, &listed.row)?;
+        Ok(Fares {
+            name: listed.name.copied(),
+            deadline,
+            offered: 0,
+            dropped: 0,
+            ways,
+        })
+    }
+
+    /// Adds a delivery of a frame, which is expected on the way of a place.
+    fn add(&mut self, expected: usize, delivery: &Delivery)
+        requires { FareWithin 64999999 self.old }
+        ensures fare { self.new ≡ fare_with self.old delivery.now }
+        ensures more { (many : ℕ) → FareWithin many self.old → FareWithin (many + 1) self.new }
+    {
+        self.dropped += drops_of(delivery);
+        add_passage(self.ways.as_mut_slice(), expected, delivery);
+    }
+
+    /// Adds the deliveries of an offer, at most 64.
+    fn add_each(&mut self, here: &[Delivery])
+        requires few { length here.now ≤ 64 }
+        requires within { FareWithin 64999936 self.old }
+        ensures fare { self.new ≡ fare_with_each here.now self.old }
+        ensures more { (many : ℕ) → FareWithin many self.old → FareWithin (many + 64) self.new }
+    {
+        for (place, delivery) in here.iter().enumerate() {
+            self.add(place, delivery);
+        }
+    }
+
+    /// Adds an offer that claims the stream's name, and its deliveries, at most 64.
+    pub(crate) fn add_offer(&mut self, here: &[Delivery])
+        requires few { length here.now ≤ 64 }
+        requires within { FareWithin 64999935 self.old }
+        ensures fare { self.new ≡ fare_with_offer here.now self.old }
+        ensures more { (many : ℕ) → FareWithin many self.old → FareWithin (many + 65) self.new }
+    {
+        self.offered += 1;
+        self.add_each(here);
+    }
+}
+
+impl Others {
+    /// The same with an offer more, and its deliveries, at most 64.
+    pub(crate) fn with(self, here: &[Delivery]) -> Others
+        requires few { length here.now ≤ 64 }
+        requires within { OthersWithin 64999935 self }
+        ensures others { result ≡ others_with here.now self }
+        ensures more { (many : ℕ) → OthersWithin many self → OthersWithin (many + 65) result }
+    {
+        Others {
+            offered: self.offered + 1,
+            dropped: self.dropped + count_dropped(here) as u32,
+        }
+    }
+}

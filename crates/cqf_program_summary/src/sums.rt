@@ -1,0 +1,117 @@
+//! How the frames of all streams fare, found by name.
+ghost use Rattle.std.specs.Prelude.{ℕ, ◌≡◌, ◌≤◌, ◌+◌, [], All, IfOk, length, map};
+ghost use Rattle.cqf_admission.specs.Asking.{asked_of};
+ghost use Rattle.cqf_program_runs.specs.Deadlines.{deadline_in};
+ghost use Rattle.cqf_program_summary.specs.Counting.{SummaryWithin, summary_with};
+ghost use Rattle.cqf_program_summary.specs.Listing.{AreBounded, IsOfStream, cost_in, fare_named};
+ghost use Rattle.cqf_program_summary.specs.Summary.{summary_by};
+ghost use Rattle.cqf_program_summary.specs.Told.{told_streams};
+
+use crate::fares::{Fares, Others};
+use crate::listing::{Listed, Listing, list_streams};
+use cqf_program_runs::{Deadlines, Delivery};
+use cqf_topology::{Domain, Request};
+use cqf_units::{Memory, Name};
+use indexmap::IndexSet;
+use std::alloc::Global;
+use std::marker::Model;
+
+/// How the frames of each stream fare of which is told, and what is offered of other names.
+#[derive(Drop)]
+pub(crate) struct Sums {
+    names: IndexSet<Name>,
+    fares: Vec<Fares>,
+    others: Others,
+}
+
+impl Model for Sums {
+    ghost use Rattle.std.specs.Prelude.{◌≡◌, map};
+    ghost use Rattle.cqf_program_summary.specs.Summary.{Summary};
+
+    ghost Value = { Summary };
+
+    ghost view = { λ s. record { fares = s.fares.items; others = s.others } };
+
+    ghost invariant = { λ s. s.names.keys ≡ map (λ fare. fare.name) s.fares.items };
+}
+
+/// Those of listed streams with these deadlines, of which nothing is offered yet.
+fn fares_of(
+    alloc: Global,
+    domain: &Domain,
+    costs: &[u64; 64],
+    streams: &[Listed],
+    deadlines: &Deadlines<'_>,
+) -> Result<Vec<Fares>, Memory>
+    requires bounded { AreBounded costs.now }
+    requires listed { All (IsOfStream domain.now) streams.now }
+    ensures { IfOk result (λ fares. fares.items ≡ map (fare_named domain.now (cost_in costs.now) (deadline_in deadlines.now)) streams.now) }
+{
+    let mut fares = Vec::with_capacity(alloc, streams.len())?;
+    for listed in streams {
+        let deadline = deadlines.of(&listed.name);
+        fares.push(Fares::new(alloc, domain, costs, listed, deadline)?)?;
+    }
+    Ok(fares)
+}
+
+impl Sums {
+    /// Those of the streams of some requests with these deadlines, of which nothing is offered yet.
+    pub(crate) fn new(
+        alloc: Global,
+        domain: &Domain,
+        requests: &[Request],
+        deadlines: &[Option<u32>],
+    ) -> Result<Sums, Memory>
+        ensures { let due = deadline_in (record { requests = requests.now; deadlines = deadlines.now }) in
+            IfOk result (λ sums. sums ≡ summary_by domain.now (told_streams (map asked_of requests.now)) due [] []) }
+    {
+        // the domain is accepted: it has at most 64 links
+        let _cycle_time = domain.cycle_time();
+        let listing = list_streams(alloc, domain, requests)?;
+        let due = Deadlines::new(alloc, requests, deadlines)?;
+        let fares = fares_of(
+            alloc,
+            domain,
+            &listing.costs,
+            listing.streams.as_slice(),
+            &due,
+        )?;
+        let Listing { names, .. } = listing;
+        Ok(Sums {
+            names,
+            fares,
+            others: Others {
+                offered: 0,
+                dropped: 0,
+            },
+        })
+    }
+
+    /// Adds an offer of a name, and its deliveries, at most 64, in a time that doesn't grow with the streams.
+    pub(crate) fn add(&mut self, name: &Name, here: &[Delivery])
+        requires few { length here.now ≤ 64 }
+        requires within { SummaryWithin 64999935 self.old }
+        ensures sums { self.new ≡ summary_with name.now here.now self.old }
+        ensures more { (many : ℕ) → SummaryWithin many self.old → SummaryWithin (many + 65) self.new }
+    {
+        match self.names.get_index_of(name) {
+            Some(place) => self.fares[place].add_offer(here),
+            None => self.others = self.others.with(here),
+        }
+    }
+
+    /// Those of each stream, in their order.
+    pub(crate) fn fares(&self) -> &[Fares]
+        ensures { result.now ≡ self.now.fares }
+    {
+        self.fares.as_slice()
+    }
+
+    /// What is offered of other names.
+    pub(crate) fn others(&self) -> Others
+        ensures { result ≡ self.now.others }
+    {
+        self.others
+    }
+}
