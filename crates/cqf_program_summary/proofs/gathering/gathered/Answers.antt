@@ -31,7 +31,7 @@ loop-place-preserved c =
     let read : slice_get offers place ≡ Some offer = slice_get_read offers (length offers) place offer refl inside c.index-ended-place.is in
     let at : slice_get (numbered offers) place ≡ Some x = numbered_at offers place offer read in
     let is_here : here ≡ deliveries_at over x = c.put_those_of.ensures x at in
-    let next : 65 * place + 65 ≡ 65 * (place + 1) = omega arith in
+    let next : 201 * place + 201 ≡ 201 * (place + 1) = omega arith in
     elim c.if-is_run.branch [
       | then-is_run w ↦ record {
         is = λ streams due first.
@@ -40,15 +40,15 @@ loop-place-preserved c =
             ∙ ap (λ (ds : List Delivery). summary_with (get_or offers place offer).stream ds c.loop-place.sums) w.as_slice.ensures.value
             ∙ ap (λ (o : Offer). summary_with o.stream here c.loop-place.sums) (sym c.index-ended-place.is)
             ∙ is_run_more over streams due place x at here is_here inside c.put_those_of.ensures c.loop-place.sums (ap (λ (o : Offer). nat_lt (cycle_at over.domain.cycle_time o.at.0) over.cycles) c.index-ended-place.is ∙ sym c.is_run.ensures ∙ w.if-is_run.true) (c.loop-place.invariant.is streams due first);
-        within = subst (SummaryWithin (65 * (place + 1))) (sym w.sums-is)
-            (subst (λ (k : ℕ). SummaryWithin k w.add.new.self) next (w.add.ensures.more (65 * place) c.loop-place.invariant.within));
+        within = subst (SummaryWithin (201 * (place + 1))) (sym w.sums-is)
+            (subst (λ (k : ℕ). SummaryWithin k w.add.new.self) next (w.add.ensures.more (201 * place) c.loop-place.invariant.within));
       }
       | else-is_run w ↦ record {
         is = λ streams due first.
             w.sums-is
             ∙ not_run_more over streams due place x at here is_here inside c.put_those_of.ensures c.loop-place.sums (ap (λ (o : Offer). nat_lt (cycle_at over.domain.cycle_time o.at.0) over.cycles) c.index-ended-place.is ∙ sym c.is_run.ensures ∙ w.if-is_run.false) (c.loop-place.invariant.is streams due first);
-        within = subst (SummaryWithin (65 * (place + 1))) (sym w.sums-is)
-            (subst (λ (k : ℕ). SummaryWithin k c.loop-place.sums) next (summary_later (65 * place) 65 c.loop-place.sums c.loop-place.invariant.within));
+        within = subst (SummaryWithin (201 * (place + 1))) (sym w.sums-is)
+            (subst (λ (k : ℕ). SummaryWithin k c.loop-place.sums) next (summary_later (201 * place) 201 c.loop-place.sums c.loop-place.invariant.within));
       }
     ]
 
