@@ -3,7 +3,7 @@ use Rattle.std.specs.Prelude.{ℕ, ◌≡◌, ◌+◌, ◌<◌, ◌≤◌, List,
 use Rattle.std.specs.List.{list_any}
 use Rattle.cqf_units.specs.Timing.{cost_of}
 use Rattle.cqf_model.specs.declared.topology.Row.{Row}
-use Rattle.cqf_model.specs.Table.{cost_on, is_held, link_cost, residence}
+use Rattle.cqf_model.specs.Table.{cost_on, is_held, link_cost, links_of, residence}
 use Rattle.cqf_laws_history.specs.LedgerLaws.{ends_in}
 use Rattle.cqf_admission_ledger.specs.Holdings.{Standing}
 use Rattle.cqf_units.specs.declared.reservations.Cycle.{Cycle}

@@ -94,6 +94,18 @@ module _ (links : List ℕ) (i : ℕ) (apart : AllPairs (λ (a b : ℕ). a ≢ b
       subst (λ (p : ℕ). AreLessOn sums (take (i + 1) links) number (set now p (get_or now p 0 - number))) (sym is)
       (less_next sums now number (subst (λ (p : ℕ). p < length sums) is low) so_far)
 
+  pub room_step : (sums now : List ℕ) (number place : ℕ) → place ≡ get_or links i place → place < length sums → HaveRoomOn sums links number →
+      AreMoreOn sums (take i links) number now → get_or now place 0 + number < 2 ^ 64
+  room_step sums now number place same low room so_far =
+      let is : place ≡ get_or links i 0 = same ∙ get_or_default links i place 0 inside in
+      subst (λ (p : ℕ). get_or now p 0 + number < 2 ^ 64) (sym is) (room_next sums now number (subst (λ (p : ℕ). p < length sums) is low) room so_far)
+
+  pub held_step : (sums now : List ℕ) (number place : ℕ) → place ≡ get_or links i place → place < length sums → HaveOn sums links number →
+      AreLessOn sums (take i links) number now → number ≤ get_or now place 0
+  held_step sums now number place same low held so_far =
+      let is : place ≡ get_or links i 0 = same ∙ get_or_default links i place 0 inside in
+      subst (λ (p : ℕ). number ≤ get_or now p 0) (sym is) (held_next sums now number (subst (λ (p : ℕ). p < length sums) is low) held so_far)
+
 -- before the first link they are as they were
 pub more_none : (sums links : List ℕ) (number : ℕ) → AreMoreOn sums (take 0 links) number sums
 more_none sums links number = record { as_many = refl; each = λ l within. omega arith }
