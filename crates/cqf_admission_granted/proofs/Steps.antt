@@ -198,5 +198,5 @@ pub is_there : {d : Domain} (requests : List Asked) (place : ℕ) → IsAdmissib
 is_there requests place admitted = elim (cases_lt place (length requests)) [
   | inl low ↦ low
   | inr past ↦ absurd (true_not_false (sym admitted.named ∙ ap (λ (asked : Asked). is_name asked.name)
-      (get_or_past requests place (record { name = []; octets = 0; paths = [] }) past)))
+      (get_or_past requests place (record { name = []; octets = 0; every = 0; phase = 0; paths = [] }) past)))
 ]

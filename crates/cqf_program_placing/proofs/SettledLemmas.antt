@@ -196,18 +196,25 @@ settled_by sketch d before stream one e =
     }
 
 -- a stream of this name stands behind those of other names: it isn't one of theirs, and there are fewer than there may be
-pub record StandsNext (before : List (List ℕ)) (name own : List ℕ) : Type 0 where
+pub record StandsNext (d : Domain) (before : List (List ℕ)) (name own : List ℕ) : Type 0 where
   pub own_name : own ≡ name
   pub not_held : is_among name before ≡ false
   pub few : length before < most_streams
+  pub few_set : length before < streams_within d.limits
 
 -- so it stands
 pub next_stands : (sketch : SketchDomain) (d : Domain) (before : List (List ℕ)) (stream : StreamText) (one : SettledStream) →
-    settled_next sketch d before stream ≡ Ok one → StandsNext before stream.name one.name
+    settled_next sketch d before stream ≡ Ok one → StandsNext d before stream.name one.name
 next_stands sketch d before stream one e =
     let by_name = settled_by sketch d before stream one e in
     let tests = by (is_among stream.name before) (nat_le (streams_within d.limits) (length before)) refl refl by_name.stands in
-    record { own_name = sym by_name.name_is; not_held = tests.0; few = omega (arith, leb-false (streams_within d.limits) (length before) tests.1, min-le_right d.limits.streams most_streams) }
+    let below = leb-false (streams_within d.limits) (length before) tests.1 in
+    record {
+      own_name = sym by_name.name_is;
+      not_held = tests.0;
+      few = omega (arith, below, min-le_right d.limits.streams most_streams);
+      few_set = omega (arith, below);
+    }
   where
     by : (held full : Bool) → is_among stream.name before ≡ held → nat_le (streams_within d.limits) (length before) ≡ full →
         (if held then Some refused.NameHeld else (if full then Some refused.TooManyStreams else None)) ≡ None →

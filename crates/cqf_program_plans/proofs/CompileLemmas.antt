@@ -55,7 +55,7 @@ pub AreAllHeld-more : (d : Domain) (entries : List Recorded) (asked : Asked) →
 AreAllHeld-more d entries asked goes_on counted grants finds all granted_is =
     let rows : List Row = held_in d entries (seals entries) in
     let count : length rows ≡ length entries = ap (λ c. length (held_in d entries c)) all.no_seal ∙ all.one_each in
-    let room : length rows < 1024 = finds d rows asked granted_is in
+    let room : length rows < 16384 = finds d rows asked granted_is in
     let one_more : length (with_asked d entries asked) ≡ length entries + 1 = length-append entries _ in
     let no_seal : seals (with_asked d entries asked) ≡ 0 = omega (arith, counted entries 0 (Admits asked) (reply_to d entries (Admits asked)), all.no_seal) in
     let state = grants d entries rows (next_number d entries) 0 asked all.legal (record { held = refl; number = refl }) granted_is in
