@@ -51,7 +51,7 @@ impl Few {
         self.deliveries.push_reserved(delivery);
     }
 
-    /// What is there: at most 64 deliveries.
+    /// What is there: at most 200 deliveries.
     pub fn as_slice(&self) -> &[Delivery]
         ensures value { result.now ≡ self.now }
         ensures fits { length result.now ≤ 200 }

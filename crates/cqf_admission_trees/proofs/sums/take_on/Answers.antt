@@ -1,5 +1,5 @@
-use Rattle.std.proofs.Common.{◌≡◌, ◌<◌, ◌∙◌, ℕ, List, arith, get_or, length, subst, sym}
-use Rattle.std.proofs.lemmas.List.{get_or_default, take_all}
+use Rattle.std.proofs.Common.{◌<◌, ◌-◌, ◌+◌, ℕ, List, arith, get_or, length, set, subst, sym, take}
+use Rattle.std.proofs.lemmas.List.{take_all}
 use Rattle.std.proofs.lemmas.List.Elements.{All-get_or}
 use Rattle.cqf_admission_trees.specs.Sums.{AreLessOn}
 use Rattle.cqf_admission_trees.proofs.SumLemmas.{less_step, held_step}
@@ -8,28 +8,23 @@ use Rattle.cqf_admission_trees.proofs.sums.take_on.Goals as goal
 pub index_mut-requires : goal.index_mut-requires
 index_mut-requires c =
     let sums = c.args.sums.now.items in
-    let k = c.loop-link.link-index in
-    let link = c.link-item.result in
-    let low : get_or c.args.links.now k link < length sums =
-    All-get_or (λ (l : ℕ). l < length sums) c.args.links.now k link c.loop-link-test.true c.requires.inside in
-    omega (arith, low, c.link-item.is, c.from-place.ensures, c.loop-link.invariant.as_many)
+    let low : get_or c.args.links.now c.loop-link.link-index 0 < length sums =
+    All-get_or (λ (l : ℕ). l < length sums) c.args.links.now c.loop-link.link-index 0 c.loop-link-test.true c.requires.inside in
+    omega (arith, low, c.from-place.ensures, c.loop-link.invariant.as_many)
 
 pub overflow_sub-index_mut : goal.overflow_sub-index_mut
 overflow_sub-index_mut c =
-    let sums = c.args.sums.now.items in
-    let k = c.loop-link.link-index in
-    let link = c.link-item.result in
-    let low : get_or c.args.links.now k link < length sums =
-    All-get_or (λ (l : ℕ). l < length sums) c.args.links.now k link c.loop-link-test.true c.requires.inside in
-    let place = c.from-place.result in
-    let is : place ≡ get_or c.args.links.now k place = c.from-place.ensures ∙ c.link-item.is ∙ get_or_default c.args.links.now k link place c.loop-link-test.true in
-    omega (arith, c.index_mut.ensures.value, c.from.ensures,
-    held_step c.args.links.now k c.requires.apart c.loop-link-test.true sums c.loop-link.sums.items c.args.number place is
-    (omega (arith, low, c.link-item.is, c.from-place.ensures)) c.requires.held c.loop-link.invariant,
-    get_or_default c.loop-link.sums.items place c.index_mut.result.now 0 (omega (arith, low, c.link-item.is, c.from-place.ensures, c.loop-link.invariant.as_many)))
+    let step = held_step c.args.links.now c.loop-link.link-index c.requires.apart c.loop-link-test.true c.args.sums.now.items c.loop-link.sums.items c.args.number
+    c.from-place.result c.index_mut.result.now c.from-place.ensures c.requires.inside c.index_mut.ensures.value c.requires.held c.loop-link.invariant in
+    omega (arith, step.1, c.from.ensures)
 
 pub loop-link-preserved : goal.loop-link-preserved
-loop-link-preserved c = ?
+loop-link-preserved c =
+    let now = c.loop-link.sums.items in
+    let here = c.index_mut.result.now in
+    subst (λ (n : ℕ). AreLessOn c.args.sums.now.items (take (c.loop-link.link-index + 1) c.args.links.now) c.args.number (set now c.from-place.result (here - n))) (sym c.from.ensures)
+    (less_step c.args.links.now c.loop-link.link-index c.requires.apart c.loop-link-test.true c.args.sums.now.items now c.args.number c.from-place.result here
+    c.from-place.ensures c.requires.inside c.index_mut.ensures.value c.loop-link.invariant)
 
 pub returns : goal.returns
 returns c =
