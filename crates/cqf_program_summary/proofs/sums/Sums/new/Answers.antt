@@ -1,14 +1,22 @@
-use Rattle.std.proofs.Common.{◌≡◌, ◌∙◌, ◌∷◌, [], ℕ, All, List, Option, ap, map, refl, subst, sym}
+use Rattle.std.proofs.Common.{◌≡◌, ◌∙◌, ◌∷◌, [], ℕ, All, List, Option, ap, length, map, refl, subst, sym}
 use Rattle.cqf_model.specs.Domain.{Domain}
 use Rattle.cqf_model.specs.History.{Asked}
 use Rattle.cqf_admission.specs.Asking.{asked_of}
 use Rattle.cqf_program_runs.specs.Deadlines.{Due, deadline_in}
 use Rattle.cqf_program_summary.specs.declared.listing.Listed.{Listed}
-use Rattle.cqf_program_summary.specs.Listing.{IsOfStream, cost_in, fare_named}
+use Rattle.cqf_program_summary.specs.Listing.{AreBounded, IsOfStream, cost_in, fare_named}
 use Rattle.cqf_program_summary.specs.Summary.{Fare, Summary, fare_of, summary_by}
 use Rattle.cqf_program_summary.specs.Told.{told_cost, told_streams}
 use Rattle.cqf_program_summary.proofs.Listed.{bounded_listing, first_fares, listed_are}
 use Rattle.cqf_program_summary.proofs.sums.Sums.new.Goals as goal
+
+pub fares_of-requires-clause-bounded : goal.fares_of-requires-clause-bounded
+fares_of-requires-clause-bounded c =
+    subst AreBounded (sym c.as_slice.ensures.value)
+    (bounded_listing c.args.domain.now (map asked_of c.args.requests.now) c.in_ok-listing.listing c.in_ok-listing.ensures)
+
+pub fares_of-requires-clause-all : goal.fares_of-requires-clause-all
+fares_of-requires-clause-all c = ap (λ (costs : List ℕ). length costs) c.as_slice.ensures.value ∙ c.in_ok-listing.ensures.all
 
 pub fares_of-requires-clause-listed : goal.fares_of-requires-clause-listed
 fares_of-requires-clause-listed c =
