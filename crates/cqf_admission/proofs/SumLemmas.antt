@@ -43,7 +43,7 @@ costs_small links (x ∷ rows) l each =
 pub none_summed : (links : ℕ) (sums : List ℕ) → sums ≡ replicate links 0 → AreSums [] sums
 none_summed links sums are = subst (AreSums []) (sym are) (record {
   countable = λ row among. absurd (contains_none row among);
-  each = λ l inside. get_or-replicate links l 0 0 (omega (arith, inside, length-replicate links 0));
+  each = λ l inside. get_or-replicate {A = ℕ} links l 0 0 (omega (arith, inside, length-replicate {A = ℕ} links 0));
 })
 
 -- there is room for what a row more costs

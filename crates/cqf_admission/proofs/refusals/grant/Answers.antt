@@ -38,8 +38,8 @@ returns-then-is_some c =
     ∙ c.if-is_some.true in
     refusal_later d rows asked form.none ∙ refusal_held d rows asked found
 
-pub returns-then-len-ge-streams_within : goal.returns-then-len-ge-streams_within
-returns-then-len-ge-streams_within c =
+pub returns-then-len-streams_within : goal.returns-then-len-streams_within
+returns-then-len-streams_within c =
     let d = c.args.domain.now in
     let rows = c.args.held.now.rows in
     let asked = asked_of c.args.request.now in
@@ -50,7 +50,7 @@ returns-then-len-ge-streams_within c =
     ∙ sym (position_any (λ (row : Row). is_text row.name name) rows) ∙ ap is_some (sym c.place_of.ensures) ∙ sym c.is_some.ensures
     ∙ c.if-is_some.false in
     let many : streams_within d.limits ≤ length rows =
-    omega (arith, c.if-len-ge-streams_within.true, c.len.ensures, c.streams_within.ensures, ap streams_within c.limits.ensures) in
+    omega (arith, c.if-len-streams_within.true, c.len.ensures, c.streams_within.ensures, ap streams_within c.limits.ensures) in
     refusal_later d rows asked form.none ∙ refusal_many d rows asked found many
 
 pub short_of-requires-clause-inside : goal.short_of-requires-clause-inside
@@ -72,7 +72,7 @@ returns-in-Some c =
     ∙ sym (position_any (λ (row : Row). is_text row.name name) rows) ∙ ap is_some (sym c.place_of.ensures) ∙ sym c.is_some.ensures
     ∙ c.if-is_some.false in
     let few : length rows < streams_within d.limits =
-    omega (arith, c.if-len-ge-streams_within.false, c.len.ensures, c.streams_within.ensures, ap streams_within c.limits.ensures) in
+    omega (arith, c.if-len-streams_within.false, c.len.ensures, c.streams_within.ensures, ap streams_within c.limits.ensures) in
     let asked_same : short_refusal d rows (cost_of asked.octets) each_cycle (tree_of d asked.paths) ≡ c.short_of.result =
     short_same d rows (cost_of asked.octets) (tree_of d asked.paths) c.requires.sound.paced
     ∙ sym (c.short_of.ensures
@@ -92,7 +92,7 @@ returns c =
     ∙ sym (position_any (λ (row : Row). is_text row.name name) rows) ∙ ap is_some (sym c.place_of.ensures) ∙ sym c.is_some.ensures
     ∙ c.if-is_some.false in
     let few : length rows < streams_within d.limits =
-    omega (arith, c.if-len-ge-streams_within.false, c.len.ensures, c.streams_within.ensures, ap streams_within c.limits.ensures) in
+    omega (arith, c.if-len-streams_within.false, c.len.ensures, c.streams_within.ensures, ap streams_within c.limits.ensures) in
     let asked_same : short_refusal d rows (cost_of asked.octets) each_cycle (tree_of d asked.paths) ≡ c.short_of.result =
     short_same d rows (cost_of asked.octets) (tree_of d asked.paths) c.requires.sound.paced
     ∙ sym (c.short_of.ensures

@@ -51,29 +51,29 @@ pub take_row-requires-clause-countable : goal.take_row-requires-clause-countable
 take_row-requires-clause-countable c =
     let now = c.loop-left.self-inside in
     let rows : List Row = map (λ row. arc_value row) now.rows.items in
-    let at = mapped_at (λ row. arc_value row) now.rows.items c.in-Some.place c.index.result.now c.index.ensures in
+    let at = mapped_at (λ row. arc_value row) now.rows.items c.in-Some.place c.index-then-not-is_held.result.now c.index-then-not-is_held.ensures in
     let there : c.in-Some.place < length rows = omega (
       arith,
       c.in-Some.ensures.within,
       ap (λ (ns : List (List ℕ)). length ns) c.loop-left.invariant.0.are_names,
       length-map rows (λ (r : Row). r.name),
     ) in
-    subst (IsCountable (length now.sums.items)) (sym c.deref-in-Some-2.ensures)
-    (row_countable rows now.sums.items (arc_value c.index.result.now) c.in-Some.place c.loop-left.invariant.1 there at)
+    subst (IsCountable (length now.sums.items)) (sym c.deref-then-not-is_held.ensures)
+    (row_countable rows now.sums.items (arc_value c.index-then-not-is_held.result.now) c.in-Some.place c.loop-left.invariant.1 there at)
 
 pub take_row-requires-clause-held : goal.take_row-requires-clause-held
 take_row-requires-clause-held c =
     let now = c.loop-left.self-inside in
     let rows : List Row = map (λ row. arc_value row) now.rows.items in
-    let at = mapped_at (λ row. arc_value row) now.rows.items c.in-Some.place c.index.result.now c.index.ensures in
+    let at = mapped_at (λ row. arc_value row) now.rows.items c.in-Some.place c.index-then-not-is_held.result.now c.index-then-not-is_held.ensures in
     let there : c.in-Some.place < length rows = omega (
       arith,
       c.in-Some.ensures.within,
       ap (λ (ns : List (List ℕ)). length ns) c.loop-left.invariant.0.are_names,
       length-map rows (λ (r : Row). r.name),
     ) in
-    subst (λ (row : Row). HaveOn now.sums.items (links_of row) (cost_of row.octets)) (sym c.deref-in-Some-2.ensures)
-    (part_within rows now.sums.items (arc_value c.index.result.now) c.in-Some.place c.loop-left.invariant.1 there at)
+    subst (λ (row : Row). HaveOn now.sums.items (links_of row) (cost_of row.octets)) (sym c.deref-then-not-is_held.ensures)
+    (part_within rows now.sums.items (arc_value c.index-then-not-is_held.result.now) c.in-Some.place c.loop-left.invariant.1 there at)
 
 pub loop-left-preserved-after-get_index_of : goal.loop-left-preserved-after-get_index_of
 loop-left-preserved-after-get_index_of c =
@@ -112,11 +112,87 @@ loop-left-preserved-after-get_index_of c =
           let among = inside cycle all rows ending _ last c.loop-left.invariant.4 apart is due place row there at in
           let gone = ap (λ (r : Row). is_held r cycle) (sym w.deref-in-Some.ensures) ∙ sym w.is_held.ensures ∙ w.if-not-is_held.true in
           let less = mapped_less (λ row. arc_value row) now.rows.items w.remove.new.self.items place w.remove.ensures.items in
-          let taken = subst (λ (r : Row). AreLessOn now.sums.items (links_of r) (cost_of r.octets) w.take_row.new.self-inside-sums.items)
-          w.deref-in-Some-2.ensures w.take_row.ensures in
+          let taken = subst (λ (r : Row). AreLessOn now.sums.items (links_of r) (cost_of r.octets) w.take_row.new.sums.items)
+          w.deref-then-not-is_held.ensures w.take_row.ensures in
+          let own = mapped_at (λ row. arc_value row) now.rows.items place w.index-then-not-is_held.result.now w.index-then-not-is_held.ensures in
           rw w.self-inside-is (
             columns_removed now.names.keys _ rows _ place c.loop-left.invariant.0 among less w.shift_remove_index.ensures.keys,
-            sums_less rows now.sums.items row place c.loop-left.invariant.1 among at _ _ less taken,
+            sums_less rows now.sums.items (arc_value w.index-then-not-is_held.result.now) place c.loop-left.invariant.1 among own _ _ less taken,
+            λ yes. absurd cc,
+            numbered_removed (arc_value now.numbers) now.numbered _ rows _ place c.loop-left.invariant.3 among less w.numbered_without-self-inside.ensures,
+            goes cycle all rows ending _ last c.loop-left.invariant.4 apart is due place row there at _ gone less,
+            left,
+            taken.as_many ∙ c.loop-left.invariant.6,
+          ))
+      | in-Some+else-not-is_held w ↦ (
+          let place = w.in-Some.place in
+          let row = arc_value w.index.result.now in
+          let there = found ∙ w.in-Some.is in
+          let at = mapped_at (λ row. arc_value row) now.rows.items place w.index.result.now w.index.ensures in
+          let held = ap (λ (r : Row). is_held r cycle) (sym w.deref-in-Some.ensures) ∙ sym w.is_held.ensures ∙ w.if-not-is_held.false in
+          rw w.self-inside-is (
+            c.loop-left.invariant.0,
+            c.loop-left.invariant.1,
+            c.loop-left.invariant.2,
+            c.loop-left.invariant.3,
+            held_still cycle all rows ending _ last c.loop-left.invariant.4 apart is due place row there at held,
+            left,
+            c.loop-left.invariant.6,
+          ))
+      | in_default w ↦ rw w.self-inside-is (
+        c.loop-left.invariant.0,
+        c.loop-left.invariant.1,
+        c.loop-left.invariant.2,
+        c.loop-left.invariant.3,
+        not_there cycle all rows ending _ last c.loop-left.invariant.4 apart is due (found ∙ w.in_default.is),
+        left,
+        c.loop-left.invariant.6,
+      )
+    ]
+
+pub loop-left-preserved : goal.loop-left-preserved
+loop-left-preserved c =
+    let all : List Row = map (λ row. arc_value row) c.self.inside.rows.items in
+    let now = c.loop-left.self-inside in
+    let rows : List Row = map (λ row. arc_value row) now.rows.items in
+    let ending : List Row = map (λ row. arc_value row) now.ending.items in
+    let last = arc_value c.index-ended.result.now in
+    let cycle = c.args.cycle.0 in
+    let so_many = c.loop-left.invariant.5 in
+    let apart = pairs_from_map (λ (a b : List ℕ). a ≢ b) (λ (r : Row). r.name) rows
+    (subst (AllPairs (λ (a b : List ℕ). a ≢ b)) c.loop-left.invariant.0.are_names c.loop-left.invariant.0.apart) in
+    let due : end_of_row last ≤ cycle =
+    omega (arith, c.if-end_of-from.false, c.from.ensures, c.end_of.ensures, ap (λ (r : Row). end_of_row r) c.deref.ensures) in
+    let found : position (λ (r : Row). is_text r.name last.name) rows ≡ c.get_index_of.result =
+    ap (λ (row : Row). position (λ (r : Row). is_text r.name row.name) rows) (sym c.deref-in-loop-left.ensures)
+    ∙ sym (c.get_index_of.ensures.index ∙ ap (position (pointwise nat_eq c.deref-in-loop-left.result.now.name)) c.loop-left.invariant.0.are_names
+    ∙ place_of_name c.deref-in-loop-left.result.now.name rows) in
+    let same : c.match-get_index_of.self-inside.ending ≡ now.ending = elim c.match-get_index_of.branch [
+      | in-Some+then-not-is_held w ↦ ap (λ h. h.ending) w.self-inside-is
+      | in-Some+else-not-is_held w ↦ ap (λ h. h.ending) w.self-inside-is
+      | in_default w ↦ ap (λ h. h.ending) w.self-inside-is
+    ] in
+    let fewer : c.pop.new.self.items ≡ take (c.loop-left.left - 1) now.ending.items =
+    c.pop.ensures.rest ∙ (λ i. take (vec_len (same i) - 1) (same i).items) ∙ ap (λ (n : ℕ). take n now.ending.items) (omega (arith, so_many)) in
+    let is = last_of (λ row. arc_value row) now.ending.items c.pop.new.self.items (c.loop-left.left - 1) c.index-ended.result.now
+    (omega (arith, so_many, c.loop-left-test.true)) (omega (arith, so_many)) c.index-ended.ensures fewer in
+    let left : c.loop-left.left - 1 ≡ length c.pop.new.self.items =
+    omega (arith, ap (λ xs. length xs) fewer, length-take-le (c.loop-left.left - 1) now.ending.items (omega (arith, so_many))) in
+    elim c.match-get_index_of.branch [
+      | in-Some+then-not-is_held w ↦ (
+          let place = w.in-Some.place in
+          let row = arc_value w.index.result.now in
+          let there = found ∙ w.in-Some.is in
+          let at = mapped_at (λ row. arc_value row) now.rows.items place w.index.result.now w.index.ensures in
+          let among = inside cycle all rows ending _ last c.loop-left.invariant.4 apart is due place row there at in
+          let gone = ap (λ (r : Row). is_held r cycle) (sym w.deref-in-Some.ensures) ∙ sym w.is_held.ensures ∙ w.if-not-is_held.true in
+          let less = mapped_less (λ row. arc_value row) now.rows.items w.remove.new.self.items place w.remove.ensures.items in
+          let taken = subst (λ (r : Row). AreLessOn now.sums.items (links_of r) (cost_of r.octets) w.take_row.new.sums.items)
+          w.deref-then-not-is_held.ensures w.take_row.ensures in
+          let own = mapped_at (λ row. arc_value row) now.rows.items place w.index-then-not-is_held.result.now w.index-then-not-is_held.ensures in
+          rw w.self-inside-is (
+            columns_removed now.names.keys _ rows _ place c.loop-left.invariant.0 among less w.shift_remove_index.ensures.keys,
+            sums_less rows now.sums.items (arc_value w.index-then-not-is_held.result.now) place c.loop-left.invariant.1 among own _ _ less taken,
             λ yes. absurd cc,
             numbered_removed (arc_value now.numbers) now.numbered _ rows _ place c.loop-left.invariant.3 among less w.numbered_without-self-inside.ensures,
             goes cycle all rows ending _ last c.loop-left.invariant.4 apart is due place row there at _ gone less,

@@ -47,7 +47,7 @@ invariant_of-self c =
       columns_pushed names rows c.args.row _ _ c.self.invariant.0 few free named items,
       sums_more rows _ c.self.inside.sums.items _ c.args.row c.self.invariant.1
           (subst (λ (h : HeldRows). IsCountable h.links c.args.row) (sym c.self.view_is) c.requires.countable) items
-          (subst (λ (row : Row). AreMoreOn c.self.inside.sums.items (links_of row) (cost_of row.octets) c.add_row.new.self-inside-sums.items)
+          (subst (λ (row : Row). AreMoreOn c.self.inside.sums.items (links_of row) (cost_of row.octets) c.add_row.new.sums.items)
           (c.deref.ensures ∙ c.in_ok-shared.ensures.ok) c.add_row.ensures),
       λ same. absurd cc,
       numbered_pushed (arc_value c.self.inside.numbers) c.self.inside.numbered rows _ c.args.row c.self.invariant.3 items,

@@ -36,6 +36,6 @@ invariant_of-self c =
     let own = subst (λ (h : Stands). AreAlong h.links stand.links) (sym c.self.view_is) c.requires.along in
     let count : c.len-number.result ≡ length rows = omega (arith, c.len-number.ensures, length-map c.self.inside.rows.items standing_of) in
     rw count (figures_more rows by_name c.self.inside.sums.items c.self.inside.count c.self.invariant stand (map standing_of c.push.new.self.items)
-    c.requires.held free named few grown c.add_on.new.self-inside-sums.items own
-    (subst (λ (links : List ℕ). AreMoreOn c.self.inside.sums.items links stand.cost c.add_on.new.self-inside-sums.items) c.as_slice.ensures.value
+    c.requires.held free named few grown c.add_on.new.sums.items own
+    (subst (λ (links : List ℕ). AreMoreOn c.self.inside.sums.items links stand.cost c.add_on.new.sums.items) c.as_slice.ensures.value
     c.add_on.ensures))
