@@ -65,16 +65,16 @@ contains_from_set (z ∷ xs) (suc k) y x among = elim (contains_cases z (set xs 
 ]
 
 -- the figures of none
-pub figures_none : (by_name : List ℕ) (links : ℕ) → ((name : ℕ) → name < length by_name → get_or by_name name 0 ≡ 2 ^ 32 - 1) →
-    HaveFigures [] by_name (replicate links 0) 0
-figures_none by_name links nobody = record {
+pub figures_none : (by_name sums : List ℕ) (links : ℕ) → ((name : ℕ) → name < length by_name → get_or by_name name 0 ≡ 2 ^ 32 - 1) →
+    sums ≡ replicate links 0 → HaveFigures [] by_name sums 0
+figures_none by_name sums links nobody are = subst (λ (ss : List ℕ). HaveFigures [] by_name ss 0) (sym are) (record {
   along = λ stand among. absurd (contains_none stand among);
   costs = λ l low. get_or-replicate {A = ℕ} links l 0 0 (omega (arith, low, length-replicate {A = ℕ} links 0));
   counted = refl;
   few = omega arith;
   leads = λ name low. inr (nobody name low);
   found = λ number d held. absurd (omega (arith, held.inside));
-}
+})
 
 module _ (rows : List Standing) (by_name sums : List ℕ) (count : ℕ) (h : HaveFigures rows by_name sums count) where
   -- sums have room for what the streams have room for
@@ -248,8 +248,15 @@ module _ (rows : List Standing) (by_name sums : List ℕ) (count : ℕ) (h : Hav
       held_here = record { inside = inside; held = λ d. ap (λ (x : Standing). x.held) (was d) ∙ is_held }
 
       -- its name leads to it
-      led : (s.name < length by_name) × (get_or by_name s.name 0 ≡ number)
+      pub led : (s.name < length by_name) × (get_or by_name s.name 0 ≡ number)
       led = subst (λ (n : ℕ). (n < length by_name) × (get_or by_name n 0 ≡ number)) (ap (λ (x : Standing). x.name) (was s)) (h.found number s held_here)
+
+      -- one is held at least
+      pub some_held : 0 < count
+      some_held =
+          let total = sum_by-set held_one rows number (released s) s inside in
+          let one : held_one (get_or rows number s) ≡ 1 = ap held_one (was s) ∙ one_held s is_held in
+          omega (arith, total, one, h.counted)
 
       -- and its part is in the sums
       pub goes_within : HaveOn sums s.links s.cost

@@ -1,6 +1,6 @@
 //! Accepted streams by number, of which some are held.
 ghost use Rattle.std.specs.Prelude.{◌≡◌, ◌+◌, ◌-◌, ◌<◌, ◌≤◌, ◌^◌, ℕ, [], ◌∷◌, ◌++◌, length, true, IfOk, OnOk};
-ghost use Rattle.std.specs.Prelude.{MatchOption, slice_index_or, slice_set, vec_len, vec_capacity};
+ghost use Rattle.std.specs.Prelude.{MatchOption, replicate, slice_index_or, slice_set, vec_len, vec_capacity};
 ghost use Rattle.cqf_admission_trees.specs.Sums.{part_on};
 ghost use Rattle.cqf_admission_ledger.specs.Holdings.{AreAlong, IsFree, IsHolder, IsHeldAt, Standing, holding_ended, held_cost, held_count, released, standing_of};
 
@@ -53,6 +53,13 @@ impl Model for Holdings {
     ghost invariant = { λ h. HaveFigures (map standing_of h.rows.items) h.by_name.items h.sums.items h.count };
 }
 
+/// A sum of nothing for each of so many links.
+fn no_sums(alloc: Global, links: usize) -> Result<Vec<u64>, Memory>
+    ensures { IfOk result (λ sums. sums.items ≡ replicate links 0) }
+{
+    Ok(vec![in alloc; 0; links]?)
+}
+
 impl Holdings {
     /// No streams, of so many names and links, unless memory runs out.
     pub(crate) fn new(alloc: Global, names: usize, links: usize) -> Result<Holdings, Memory>
@@ -64,10 +71,11 @@ impl Holdings {
         for _ in 0..names {
             by_name.push(NOBODY)?;
         }
+        let sums = no_sums(alloc, links)?;
         Ok(Holdings {
             rows: Vec::new(alloc),
             by_name,
-            sums: vec![in alloc; 0; links]?,
+            sums,
             count: 0,
         })
     }
@@ -165,8 +173,9 @@ impl Holdings {
         ensures links { self.new.links ≡ self.old.links }
     {
         let place = number as usize;
-        let (name, cost) = (self.rows[place].name, self.rows[place].cost);
-        take_on(&mut self.sums, self.rows[place].links.as_slice(), cost);
+        let stand = &self.rows[place];
+        let name = stand.name;
+        take_on(&mut self.sums, stand.links.as_slice(), stand.cost);
         self.by_name[name] = NOBODY;
         self.rows[place].held = false;
         self.count -= 1;
