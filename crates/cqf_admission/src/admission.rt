@@ -1,5 +1,5 @@
 //! The admission of streams.
-ghost use Rattle.std.specs.Prelude.{◌≡◌, ◌≤◌, ◌<◌, [], map, length, string_bytes, IfOk};
+ghost use Rattle.std.specs.Prelude.{ℕ, ◌≡◌, ◌≤◌, ◌<◌, [], map, length, string_bytes, IfOk};
 ghost use Rattle.cqf_model.specs.Domain.{budget};
 ghost use Rattle.cqf_model.specs.History.{Admits, Withdraws, IsLegalHistory, held_in, seals};
 ghost use Rattle.cqf_model.specs.Table.{link_cost};

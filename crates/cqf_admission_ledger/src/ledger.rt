@@ -1,5 +1,5 @@
 //! The administration of streams by figures, over requests and a script that stand elsewhere.
-ghost use Rattle.std.specs.Prelude.{◌≡◌, ◌≤◌, ◌<◌, ◌+◌, [], map, length, IfOk};
+ghost use Rattle.std.specs.Prelude.{ℕ, ◌≡◌, ◌≤◌, ◌<◌, ◌+◌, [], map, length, IfOk};
 ghost use Rattle.cqf_model.specs.Domain.{budget};
 ghost use Rattle.cqf_model.specs.History.{Admits, IsLegalHistory, Withdraws, seals};
 ghost use Rattle.cqf_model.specs.Table.{link_cost};
