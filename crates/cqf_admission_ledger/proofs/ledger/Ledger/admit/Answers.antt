@@ -185,9 +185,14 @@ invariant_of-self-in_ok-stand-in-None c =
     c.push.new.self.rows
     (record { no = c.len-no.result; effect = record { 0 = i.sealed } }) low is of c.in-None.ensures
     c.in_ok-stand-in-None.ensures
-    (λ k. record { no = c.len-no.ensures k; effect = record { 0 = i.sealed } }) c.push.ensures.rows c.enter.ensures in
-    (done.of, known, c.self.invariant.2, c.push.ensures.names ∙ c.reserve-2.ensures.names ∙ c.self.invariant.3, done.there,
-    c.push.ensures.links ∙ c.reserve-2.ensures.links ∙ c.self.invariant.5)
+    (λ k. record { no = c.len-no.ensures k; effect = record { 0 = i.sealed } }) c.push.ensures.rows c.enter.ensures in (
+      done.of,
+      known,
+      c.self.invariant.2,
+      c.push.ensures.names ∙ c.reserve-2.ensures.names ∙ c.self.invariant.3,
+      done.there,
+      c.push.ensures.links ∙ c.reserve-2.ensures.links ∙ c.self.invariant.5,
+    )
 
 pub returns-in_ok-stand-in-None-clause-answers : goal.returns-in_ok-stand-in-None-clause-answers
 returns-in_ok-stand-in-None-clause-answers c =
