@@ -1,5 +1,5 @@
 -- One stream more is listed.
-use Rattle.std.proofs.Common.{◌≡◌, ◌∙◌, ◌+◌, ◌*◌, ◌++◌, ◌∷◌, ◌≤◌, ◌<◌, ◌^◌, [], ℕ, All, Bool, true, false, Contains, List, Some, None, Option, ap, append-nil, arith, filter, get_or, if◌then◌else◌, inl, inr, length, map, refl, subst, sym}
+use Rattle.std.proofs.Common.{◌≡◌, ◌∙◌, ◌+◌, ◌*◌, ◌++◌, ◌∷◌, ◌≤◌, ◌<◌, ◌^◌, [], ℕ, All, Bool, true, false, List, Some, None, Option, ap, append-nil, arith, filter, get_or, if◌then◌else◌, inl, inr, length, map, refl, subst, sym}
 use Rattle.std.specs.Prelude.{fold, is_none, nat_eq, option_map, replicate, slice_get}
 use Rattle.std.specs.List.{list_any}
 use Rattle.std.specs.Cmp.Lexicographic.{pointwise}
@@ -17,7 +17,6 @@ use Rattle.cqf_units.specs.Timing.{cost_of}
 use Rattle.cqf_model.specs.declared.history.Refused.{Refused}
 use Rattle.cqf_model.specs.declared.topology.Hop.{Hop}
 use Rattle.cqf_model.specs.declared.topology.Link.{Link}
-use Rattle.cqf_model.specs.declared.topology.Node.{Node}
 use Rattle.cqf_model.specs.declared.topology.Row.{Row}
 use Rattle.cqf_model.specs.Domain.{Domain, IsAccepted, end_of, is_text}
 use Rattle.cqf_model.specs.History.{Asked}
@@ -30,11 +29,10 @@ use Rattle.cqf_admission.specs.Judging.{form_refusal}
 use Rattle.cqf_program_plans.specs.EndNames.{name_of_end}
 use Rattle.cqf_program_plans.specs.LatencyText.{is_station, listeners_of}
 use Rattle.cqf_program_runs.specs.declared.delivery.Delivery.{Delivery}
-use Rattle.cqf_program_summary.specs.declared.fares.Listener.{Listener}
 use Rattle.cqf_program_summary.specs.declared.listing.Listed.{Listed}
 use Rattle.cqf_program_summary.specs.declared.listing.Listing.{Listing}
-use Rattle.cqf_program_summary.specs.Listing.{AddsCost, AreBounded, CostsWith, HasOctets, IsListing, IsOfStream, ListsOne, cost_in, fare_named, listed_of}
-use Rattle.cqf_program_summary.specs.Summary.{Fare, fare_of, listener_to, listeners_by, summary_by, way_to, ways_of}
+use Rattle.cqf_program_summary.specs.Listing.{AreBounded, CostsWith, HasOctets, IsListing, IsOfStream, ListsOne, cost_in, fare_named, listed_of}
+use Rattle.cqf_program_summary.specs.Summary.{fare_of, listener_to, listeners_by, summary_by, way_to, ways_of}
 use Rattle.cqf_program_summary.specs.Told.{is_good, row_of_stream, row_unless, told_cost, told_streams}
 
 -- none is listed
