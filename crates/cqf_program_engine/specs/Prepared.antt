@@ -4,7 +4,7 @@ use Rattle.cqf_program_engine.specs.declared.prepared.Prepared.{Prepared}
 use Rattle.cqf_program_engine.specs.declared.prepared.Prepared.TheVariants.{Account, Config, Deliveries, Hops, Latency, Line, Load, Port, Run, Script, Summary, Text}
 use Rattle.cqf_program_plans.specs.ConfigTold.{text_of_config}
 use Rattle.cqf_program_hops.specs.LegsText.{text_of_legs}
-use Rattle.cqf_program_runs.specs.DeliveriesText.{text_of_deliveries}
+use Rattle.cqf_program_runs.specs.Following.{AreDeliveriesTold}
 use Rattle.cqf_program_summary.specs.SummaryText.{text_of_summary}
 use Rattle.cqf_program_plans.specs.LatencyText.{text_of_latency}
 use Rattle.cqf_program_runs.specs.LineTold.{IsLineTold}
@@ -25,7 +25,7 @@ IsTextOf (Load output) text = text ≡ text_of_load output
 IsTextOf (Latency output) text = text ≡ text_of_latency output
 IsTextOf (Run output) text = IsRunTold output text
 IsTextOf (Account output) text = text ≡ text_of_account output
-IsTextOf (Deliveries output) text = text ≡ text_of_deliveries output
+IsTextOf (Deliveries output) text = AreDeliveriesTold output text
 IsTextOf (Summary output) text = text ≡ text_of_summary output
 IsTextOf (Hops output) text = text ≡ text_of_legs output.domain output.offers output.legs
 

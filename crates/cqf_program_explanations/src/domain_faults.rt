@@ -193,13 +193,32 @@ fn is_checked(given: &Given<'_>, network: &Network<'_>, link: &Link<'_>) -> bool
     !reads_sketch(given) || is_of_plant(network, link)
 }
 
-/// Tells of a guard time that isn't below the cycle time.
-pub(crate) fn tell_guard(given: &Given<'_>, told: &mut Told) -> Result<(), AllocError> {
-    let (guard, cycle) = (given.plant.number("guard"), greatest_cycle(given)?);
+/// Tells of a guard time that isn't below a cycle time.
+pub(crate) fn tell_guard_at(
+    given: &Given<'_>,
+    told: &mut Told,
+    cycle: u64,
+) -> Result<(), AllocError> {
     if let Some(found) = given.plant.top("guard") {
-        let (place, guard, cycle) = (found.place, Grouped(guard), Grouped(cycle));
+        let (place, cycle) = (found.place, Grouped(cycle));
+        let guard = Grouped(given.plant.number("guard"));
         told.tell(format!(in given.alloc;
             "{place}: the guard time of {guard} ns isn't below the cycle time of {cycle} ns"
+        )?)?;
+    }
+    Ok(())
+}
+
+/// Tells of a guard time that is below no cycle time: the greatest of the file's, or where it is below that, of others that are given.
+pub(crate) fn tell_guard(given: &Given<'_>, told: &mut Told) -> Result<(), AllocError> {
+    let (guard, cycle) = (given.plant.number("guard"), greatest_cycle(given)?);
+    if cycle <= guard {
+        return tell_guard_at(given, told, cycle);
+    }
+    if let Some(found) = given.plant.top("guard") {
+        let (place, guard) = (found.place, Grouped(guard));
+        told.tell(format!(in given.alloc;
+            "{place}: the guard time of {guard} ns is below none of the cycle times that are given"
         )?)?;
     }
     Ok(())

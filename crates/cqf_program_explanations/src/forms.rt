@@ -32,7 +32,7 @@ pub(crate) enum Form {
     Rate,
     Name,
     Text,
-    /// A name, or an array of names.
+    /// A name, or an array of 1 to 64 different names.
     Ends,
     Path,
     Paths,
@@ -106,7 +106,10 @@ fn form_of_stream(key: &str) -> Option<(Form, &'static str)> {
             "a deadline is a whole number, 1 to 4,294,967,295 ns",
         )),
         "from" => Some((Form::Name, NAME_FORM)),
-        "to" => Some((Form::Ends, "to is a name, or an array of 1 to 64 names")),
+        "to" => Some((
+            Form::Ends,
+            "to is a name, or an array of 1 to 64 names, all different",
+        )),
         _ => form_of_traffic(key),
     }
 }
@@ -162,6 +165,27 @@ fn are_names(value: &Value) -> bool {
     }
 }
 
+/// Whether a value stands before another that is the same.
+fn is_twice(values: &[Value]) -> bool {
+    values.iter().enumerate().any(|(place, value)| {
+        values
+            .iter()
+            .take(place)
+            .any(|earlier| earlier.as_str() == value.as_str())
+    })
+}
+
+/// Whether the value is an array of 1 to 64 names, all different.
+fn are_ends(value: &Value) -> bool {
+    match value.as_array() {
+        Some(values) => {
+            let values = values.as_slice();
+            (1..=64).contains(&values.len()) && are_names(value) && !is_twice(values)
+        }
+        None => false,
+    }
+}
+
 /// Whether the value is an array of arrays of texts.
 fn are_paths(value: &Value) -> bool {
     match value.as_array() {
@@ -209,7 +233,7 @@ pub(crate) fn fits(form: Form, value: &Value) -> bool {
         Form::Rate => matches!(value.as_integer(), Some(10 | 100 | 1000)),
         Form::Name => is_name(value),
         Form::Text => value.is_str(),
-        Form::Ends => is_name(value) || are_names(value),
+        Form::Ends => is_name(value) || are_ends(value),
         Form::Path => are_texts(value),
         Form::Paths => are_paths(value),
         Form::Boolean => value.is_bool(),

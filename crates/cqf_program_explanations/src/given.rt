@@ -4,6 +4,7 @@ use crate::explaining::Source;
 use crate::network::{Network, network_of, smallest_network};
 use crate::parts::{Input, input_of};
 use crate::plant::Plant;
+use crate::sketch::reads_sketch;
 use std::alloc::{AllocError, Global};
 
 /// The command, its files, and what they come to.
@@ -43,6 +44,6 @@ impl Given<'_> {
         if self.command == "line" {
             return smallest_network(self.alloc);
         }
-        network_of(self.alloc, &self.plant)
+        network_of(self.alloc, &self.plant, reads_sketch(self))
     }
 }

@@ -1,6 +1,7 @@
 //! The network of a plant: its nodes and links by name.
 
 use crate::plant::{Found, Item, Kind, Plant};
+use crate::sketch::is_duplex;
 use crate::words::question;
 use std::alloc::{AllocError, Global};
 
@@ -25,6 +26,8 @@ pub(crate) struct Network<'p> {
     /// In ns.
     pub cycle: u64,
     pub guard: u64,
+    /// Whether it is a sketch's, in which a link may stand for two, there and back.
+    pub is_sketch: bool,
 }
 
 /// Puts the texts of an array behind others.
@@ -48,10 +51,11 @@ fn link_of<'p>(item: &Item<'p>) -> Link<'p> {
     }
 }
 
-/// The network of a plant.
+/// The network of a plant, or of a sketch.
 pub(crate) fn network_of<'p>(
     alloc: Global,
     plant: &'p Plant<'_>,
+    is_sketch: bool,
 ) -> Result<Network<'p>, AllocError> {
     let (bridge_names, station_names) = (plant.names("bridges")?, plant.names("stations")?);
     let (mut bridges, mut nodes) = (Vec::new(alloc), Vec::new(alloc));
@@ -69,6 +73,7 @@ pub(crate) fn network_of<'p>(
         links,
         cycle: plant.number("cycle"),
         guard: plant.number("guard"),
+        is_sketch,
     })
 }
 
@@ -80,6 +85,7 @@ pub(crate) fn smallest_network<'p>(alloc: Global) -> Result<Network<'p>, AllocEr
         links: Vec::new(alloc),
         cycle: 0,
         guard: 0,
+        is_sketch: false,
     })
 }
 
@@ -115,6 +121,17 @@ impl<'p> Network<'p> {
         self.links
             .iter()
             .position(|link| link.from == from && link.to == to)
+    }
+
+    /// Whether a link of the plant leads from one node to another.
+    pub(crate) fn leads(&self, from: &str, to: &str) -> bool {
+        self.is_bridge(from) && (self.link_between(from, to).is_some() || self.leads_back(from, to))
+    }
+
+    /// Whether a link of a sketch leads so that stands for two, and is written the other way.
+    fn leads_back(&self, from: &str, to: &str) -> bool {
+        self.is_sketch
+            && self.links.iter().any(|link| link.from == to && link.to == from && is_duplex(link))
     }
 
     /// The question whether a bridge was meant.

@@ -1,6 +1,6 @@
 //! Streams of a sketch that aren't placed, or may be late (profile).
 
-use crate::domain_faults::tell_guard;
+use crate::domain_faults::tell_guard_at;
 use crate::given::Given;
 use crate::network::Network;
 use crate::places::Grouped;
@@ -21,17 +21,24 @@ struct Unplaced<'a> {
     value: &'a str,
 }
 
-/// What stands behind `; at CYCLE ` in a line that tells of several cycle times; in others the whole.
-fn behind_cycle<'a>(refusal: Refusal<'a>) -> Option<&'a str> {
+/// The cycle time of a line that tells of several, and what stands behind `; at CYCLE `.
+fn at_cycle<'a>(refusal: Refusal<'a>) -> Option<(&'a str, &'a str)> {
     let (_, behind) = refusal.value.split_once("; at ")?;
-    let (_, fault) = behind.split_once(' ')?;
-    Some(fault)
+    behind.split_once(' ')
+}
+
+/// The cycle time of a line that tells of several, in ns.
+fn cycle_of(refusal: Refusal<'_>) -> u64 {
+    match at_cycle(refusal) {
+        Some((cycle, _)) => number_in(Some(cycle)),
+        None => 0,
+    }
 }
 
 /// The stream that a line tells of.
 fn unplaced_of<'a>(refusal: Refusal<'a>) -> Option<Unplaced<'a>> {
-    let (stream, told) = match behind_cycle(refusal) {
-        Some(text) => text.split_once(": ")?,
+    let (stream, told) = match at_cycle(refusal) {
+        Some((_, text)) => text.split_once(": ")?,
         None => (refusal.fault.strip_suffix(":")?, refusal.value),
     };
     let (fault, value) = told.split_once(' ').unwrap_or((told, ""));
@@ -270,7 +277,7 @@ pub(crate) fn tell_plan(
     refusal: Refusal<'_>,
 ) -> Result<(), AllocError> {
     let Some(unplaced) = unplaced_of(refusal) else {
-        return tell_guard(given, told);
+        return tell_guard_at(given, told, cycle_of(refusal));
     };
     match unplaced.fault {
         "NoTalker" => return tell_no_talkers(given, told),

@@ -98,7 +98,7 @@ fn has_unknown(network: &Network<'_>, path: &[&str]) -> bool {
 fn first_gap<'p>(network: &Network<'_>, path: &[&'p str]) -> Option<(&'p str, &'p str)> {
     let behind = path.iter().skip(1);
     for (from, to) in path.iter().zip(behind) {
-        if network.link_between(from, to).is_none() {
+        if !network.leads(from, to) {
             return Some((*from, *to));
         }
     }

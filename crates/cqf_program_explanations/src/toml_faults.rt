@@ -348,8 +348,11 @@ fn tell_bad_tables(given: &Given<'_>, told: &mut Told, key: &str) -> Result<(), 
 fn bad_form<'p>(item: &Item<'p>, key: &str) -> Option<(Found<'p>, &'static str)> {
     let found = item.found(key)?;
     let (form, words) = form_of(item.kind, key)?;
+    let has_path = item.get("path").is_some() || item.get("paths").is_some();
     if key == "paths" && item.get("path").is_some() {
         Some((found, "give path or paths, not both"))
+    } else if matches!(key, "from" | "to") && has_path {
+        Some((found, "give a path, or from and to, not both"))
     } else if fits(form, found.value) {
         None
     } else {

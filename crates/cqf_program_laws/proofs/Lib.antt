@@ -5,3 +5,8 @@ pub mod Judged
 pub mod PlannedRows
 pub mod Promised
 pub mod Sketched
+mod Firsts
+mod Admitted
+mod Balance
+mod RowLaws
+mod Bounded

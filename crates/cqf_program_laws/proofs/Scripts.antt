@@ -65,7 +65,7 @@ unless true fault x found h = absurd (cc)
 unless false fault x found h = cc
 
 -- a value with a line for its fault is the value
-lined : {A E : Type 0} (line : E → List ℕ) (found : Result A E) (x : A) → or_line line found ≡ Ok x → found ≡ Ok x
+pub lined : {A E : Type 0} (line : E → List ℕ) (found : Result A E) (x : A) → or_line line found ≡ Ok x → found ≡ Ok x
 lined line (Err e) x h = absurd (cc)
 lined line (Ok y) x h = cc
 

@@ -1,3 +1,4 @@
 pub mod ScriptLaws
 pub mod VerdictLaws
 pub mod PlanLaws
+pub mod SummaryLaws

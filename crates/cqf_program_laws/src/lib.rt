@@ -13,6 +13,7 @@ ghost use Rattle.cqf_program_laws.specs.PlanLaws.{DeadlinesOfSketchesAreKept, De
 ghost use Rattle.cqf_program_laws.specs.PlanLaws.{PlansKeepTheirWordOnThreads, PlansKeepTheirWordToScripts, SettledStreamsAreOfSketches};
 ghost use Rattle.cqf_program_laws.specs.ScriptLaws.{AccountsAdmitOnly, HistoriesAdmitOnly, HistoriesAreLegal};
 ghost use Rattle.cqf_program_laws.specs.ScriptLaws.{PlannedScenariosAskOnly, ScenariosAskOnly, ScriptsAskOnly};
+ghost use Rattle.cqf_program_laws.specs.SummaryLaws.{LatenciesAreBounded, RowsAddUp};
 ghost use Rattle.cqf_program_laws.specs.VerdictLaws.{VerdictsHoldOfAccounts, VerdictsHoldOfDeliveries, VerdictsHoldOfScripts};
 
 /// The calls of a script ask for no stream but those of its streams text. So its history admits no other, on one thread and in each
@@ -67,4 +68,28 @@ pub fn told_plans_keep_their_word()
     cqf_laws_latency::branches_end_at_listeners();
     cqf_laws_traffic::conforming_stream_is_covered();
     cqf_laws_traffic::conforming_stream_is_in_time();
+}
+
+/// Each offer that a row of `summary` counts ends in just one of four ways at the row's listener: it is delivered, late, dropped, or under
+/// way. So it is of every script over the streams of the file, whatever it admits and withdraws, whatever is offered, and beside any
+/// background frames (profile).
+pub fn summaries_add_up()
+    ensures { RowsAddUp }
+{
+    scripts_admit_only();
+    cqf_laws_latency::lists_bound_costs();
+    cqf_laws_history::tables_are_orderly();
+    cqf_program_runs::each_is_told_once();
+}
+
+/// What the frames took that came to the listener of a row of `summary` lies between the least that `latency` has for the last link of
+/// their way and the row's bound, in every such script (profile).
+pub fn summaries_are_within_bounds()
+    ensures { LatenciesAreBounded }
+{
+    scripts_admit_only();
+    cqf_laws_latency::lists_bound_costs();
+    cqf_laws_latency::lists_bound_latencies();
+    cqf_laws_history::tables_are_orderly();
+    cqf_program_runs::arrivals_are_the_shift();
 }

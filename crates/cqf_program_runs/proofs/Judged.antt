@@ -80,6 +80,18 @@ due_is streams requests deadlines planned name =
     by None is = ap (option_and_then (λ (planned : PlannedText). planned.1)) (found_nowhere (named name) streams is)
     by (Some k) is = due_at streams k (find (named name) streams) (found_there (named name) streams k is)
 
+-- each judgement is what the definitions say
+pub judgements_decide : OffersAreJudged → (cycles : ℕ) (s : Scenario) (book : Contents) (rows : List Row) (judgements : List Judgement) →
+    IsBookOfScenario cycles s book → AreJudged s.domain (history_of cycles s) rows s.offers (length s.offers) judgements → StandInOrder s.offers →
+    AreDecided (run_of_scenario cycles s) (verdict_at s.domain rows judgements)
+judgements_decide law cycles s book rows judgements is_book judged ordered x inside within =
+    let many : length (tables_of s.domain (history_of cycles s) cycles) ≡ cycles = length-singles (table_at s.domain (history_of cycles s)) cycles in
+    let early : offer_cycle s.domain x < cycles = omega (arith, within, many) in
+    let sealed : cycles ≤ seals (history_of cycles s) = is_book.is_book.sealed in
+    subst (IsDecided (run_of_scenario cycles s) x)
+    (sym (at_place s.domain (history_of cycles s) rows s.offers judgements judged cycles sealed x inside early))
+    (law s.domain (history_of cycles s) s.offers s.background cycles x sealed ordered inside early)
+
 -- the deliveries by the judgements are those by the book
 pub AreDeliveries-made : OffersAreJudged → (cycles : ℕ) (s : Scenario) (streams : List PlannedText) (book : Contents) (rows : List Row)
     (judgements : List Judgement) (due : List ℕ → Option ℕ) (deliveries : List Delivery) → IsBookOfScenario cycles s book →
@@ -93,21 +105,13 @@ AreDeliveries-made law cycles s streams book rows judgements due deliveries is_b
   are = are
       ∙ ap (λ (n : ℕ). deliveries_of_all s.domain n (known_by due (whole_on s.domain book.starts)) (verdict_at s.domain rows judgements) (numbered s.offers))
       (sym many)
-      ∙ deliveries_judged (run_of_scenario cycles s) streams book is_book.promise.says due same_due (verdict_at s.domain rows judgements) decided;
+      ∙ deliveries_judged (run_of_scenario cycles s) streams book is_book.promise.says due same_due (verdict_at s.domain rows judgements)
+      (judgements_decide law cycles s book rows judgements is_book judged ordered);
 }
   where
     -- there is a table for each cycle
     many : length (tables_of s.domain (history_of cycles s) cycles) ≡ cycles
     many = length-singles (table_at s.domain (history_of cycles s)) cycles
-
-    -- each judgement is what the definitions say
-    decided : AreDecided (run_of_scenario cycles s) (verdict_at s.domain rows judgements)
-    decided x inside within =
-        let early : offer_cycle s.domain x < cycles = omega (arith, within, many) in
-        let sealed : cycles ≤ seals (history_of cycles s) = is_book.is_book.sealed in
-        subst (IsDecided (run_of_scenario cycles s) x)
-        (sym (at_place s.domain (history_of cycles s) rows s.offers judgements judged cycles sealed x inside early))
-        (law s.domain (history_of cycles s) s.offers s.background cycles x sealed ordered inside early)
 
 -- and so where they were made of the same things otherwise named
 pub AreDeliveries-run : OffersAreJudged → (cycles : ℕ) (s : Scenario) (streams : List PlannedText) (book : Contents) (d : Domain) (entries : List Recorded)

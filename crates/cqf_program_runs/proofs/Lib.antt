@@ -3,7 +3,6 @@ mod LineRuns
 mod LineTables
 mod RunOutputs
 mod ReportOutputs
-pub mod NotedStarts
 pub mod Passed
 pub mod ByBook
 mod PassageLines
@@ -24,3 +23,10 @@ mod OfCycles
 mod Room
 pub mod OneMore
 mod Counted
+mod KeptSlots
+mod ToldStarts
+mod InOrder
+mod FollowedOn
+mod BehindOffers
+mod SlotsTell
+mod Greatest

@@ -8,7 +8,7 @@ pub mod Deliveries
 pub mod DeliveriesText
 pub mod RefusedCalls
 pub mod Checked
-pub mod Arrivals
+pub mod UnderWay
 pub mod Deadlines
 pub mod ByVerdict
 pub mod BookLaws
@@ -21,6 +21,7 @@ pub mod CheckOutput
 pub mod ReportTelling
 pub mod DeliveriesReading
 pub mod Ending
+pub mod Following
 pub mod Counting
 pub mod Checking
 pub mod RefusedInLog

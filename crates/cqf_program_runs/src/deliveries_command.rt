@@ -1,5 +1,5 @@
 //! The commands `deliveries` and `check`.
-ghost use Rattle.std.specs.Prelude.{◌≡◌, ◌≤◌, true, None, Ok, Err, IfErr, IfOk, map};
+ghost use Rattle.std.specs.Prelude.{ℕ, ◌≡◌, ◌≤◌, true, List, None, Ok, Err, IfErr, IfOk, Option, map};
 ghost use Rattle.cqf_admission.specs.Asking.{asked_of};
 ghost use Rattle.cqf_admission_ledger.specs.Ledger.{recorded_in};
 ghost use Rattle.cqf_admission_requests.specs.Orders.{StandsIn};
@@ -9,15 +9,15 @@ ghost use Rattle.cqf_program_scenario.specs.Logged.{HasOrders};
 ghost use Rattle.cqf_program_stop.specs.Stops.{EndsWith, IsRefused};
 ghost use Rattle.cqf_program_runs.specs.Checked.{complaint_line, finished, is_bad, unfinished_line, well_line};
 ghost use Rattle.cqf_program_runs.specs.Deliveries.{fate_of};
-ghost use Rattle.cqf_program_runs.specs.DeliveriesText.{text_of_deliveries};
 ghost use Rattle.cqf_program_runs.specs.CheckOutput.{IsCheckRefusal, IsChecked};
 ghost use Rattle.cqf_program_runs.specs.Counting.{checked_over};
-ghost use Rattle.cqf_program_runs.specs.Ending.{IsNotedOf, IsOver, IsPassOf, over_of};
+ghost use Rattle.cqf_program_runs.specs.Ending.{over_of};
+ghost use Rattle.cqf_program_runs.specs.Following.{AreDeliveriesTold, CanFollow, IsFollowed, IsNotedOf, IsPassOf, TellsDeliveriesOf};
+ghost use Rattle.cqf_units.specs.declared.timing.Nanos.{Nanos as AnInstant};
 ghost use Rattle.cqf_program_runs.specs.Checking.{IsCheckedGiven, IsRefusedGiven};
 ghost use Rattle.cqf_program_runs.specs.DeliveriesOutput.{IsDeliveriesOutput};
 ghost use Rattle.cqf_program_runs.specs.PlannedScenario.{planned_scenario};
 ghost use Rattle.cqf_program_runs.specs.RefusedCalls.{first_refused, is_refused, refused_call_line};
-ghost use Rattle.cqf_program_runs.specs.DeliveriesReading.{AreDeliveriesOf};
 ghost use Rattle.cqf_model.specs.Limits.{most_cycles};
 
 use crate::checked::no_counts;
@@ -27,6 +27,7 @@ use crate::deliveries_reading::{PlannedGiven, read_planned_given};
 use crate::few::Few;
 use crate::made::{Ended, put_those_of};
 use crate::refused_calls::{first_refused, refused_line};
+use crate::under_way::UnderWay;
 use crate::{Counts, Delivery, complaint_about, first_bad, unfinished_line, well_line};
 use cqf_admission_ledger::Logged;
 use cqf_instants::Pass;
@@ -41,15 +42,16 @@ fn output_of(alloc: Global, cycles: u32, planned: PlannedGiven) -> Result<Delive
     requires short { cycles ≤ most_cycles }
     requires may { MayBeRun cycles (scenario_given planned.given) }
     requires stand { HasOrders planned.given }
-    ensures { IfOk result (λ output. AreDeliveriesOf cycles planned output) }
+    ensures { IfOk result (λ output. TellsDeliveriesOf cycles planned output) }
 {
-    let noted = noted_of_scenario(alloc, cycles, &planned)?;
+    let (noted, under_way) = noted_of_scenario(alloc, cycles, &planned)?;
     let here = Few::new(alloc)?;
     let sheet = Sheet::new(alloc)?;
     Ok(DeliveriesOutput {
         planned,
         cycles,
         noted,
+        under_way,
         here,
         sheet,
     })
@@ -63,7 +65,7 @@ fn output_of(alloc: Global, cycles: u32, planned: PlannedGiven) -> Result<Delive
 /// offers, or the background frames; and with status 3 for want of memory.
 pub fn deliveries_output(alloc: Global, cycles: u32, input: &[u8]) -> Result<DeliveriesOutput, Stop>
     requires { cycles ≤ most_cycles }
-    ensures ok { IfOk result (λ output. IsDeliveriesOutput cycles input.now (text_of_deliveries output)) }
+    ensures ok { IfOk result (λ output. (text : List ℕ) × AreDeliveriesTold output text × IsDeliveriesOutput cycles input.now text) }
     ensures err { IfErr result (IsRefused (planned_scenario cycles input.now)) }
 {
     let planned = read_planned_given(alloc, cycles, input)?;
@@ -110,18 +112,26 @@ fn finish(alloc: Global, counts: Counts) -> Result<Vec<u8>, Stop>
     }
 }
 
-/// What is told of the deliveries of a run that is over, of whose offers so many are of cycles that aren't run. What was there is room for the
-/// deliveries of one offer.
-fn check_each(alloc: Global, here: Few, ended: &Ended<'_>, later: usize) -> Result<Vec<u8>, Stop>
-    requires { IsOver (over_of ended.now) }
-    ensures ok { IfOk result (λ line. checked_over (over_of ended.now) later ≡ Ok line.items) }
-    ensures err { IfErr result (IsRefused (checked_over (over_of ended.now) later)) }
+/// What is told of the deliveries of a run that is over, whose frames are followed from the first offer on, and of whose offers so many are of
+/// cycles that aren't run. What was there is room for the deliveries of one offer.
+fn check_each(
+    alloc: Global,
+    here: Few,
+    under_way: UnderWay,
+    ended: &Ended<'_>,
+    later: usize,
+) -> Result<Vec<u8>, Stop>
+    requires { CanFollow ended.now 0 under_way }
+    ensures ok { IfOk result (λ line. (whole : ℕ → ℕ → Option AnInstant) → IsFollowed (over_of ended.now whole) 0 under_way →
+        checked_over (over_of ended.now whole) later ≡ Ok line.items) }
+    ensures err { IfErr result (λ stop. (whole : ℕ → ℕ → Option AnInstant) → IsFollowed (over_of ended.now whole) 0 under_way →
+        IsRefused (checked_over (over_of ended.now whole) later) stop) }
 {
-    let mut here = here;
+    let (mut here, mut under_way) = (here, under_way);
     let many = ended.offers.len();
     let mut counts = no_counts(many, later);
     for place in 0..many {
-        put_those_of(&mut here, ended, place);
+        put_those_of(&mut here, ended, &mut under_way, place);
         if let Some(delivery) = first_bad(here.as_slice()) {
             return Err(complaint_stop(alloc, delivery));
         }
@@ -136,17 +146,18 @@ fn check_noted(
     cycles: u32,
     planned: &PlannedGiven,
     noted: &Noted,
+    under_way: UnderWay,
 ) -> Result<Vec<u8>, Stop>
     requires may { MayBeRun cycles (scenario_given planned.now.given) }
     requires granted { first_refused (history_of cycles (scenario_given planned.now.given)) ≡ None }
-    requires noted { IsNotedOf cycles planned.now noted.now }
+    requires noted { IsNotedOf cycles planned.now noted.now under_way }
     ensures ok { IfOk result (λ line. IsCheckedGiven cycles planned.now (Ok line.items)) }
     ensures err { IfErr result (IsRefusedGiven cycles planned.now) }
 {
     let offers = planned.given.offers.as_slice();
     let later = later_offers(&planned.given.domain, cycles, offers);
     match Few::new(alloc) {
-        Ok(here) => check_each(alloc, here, &noted.over(planned, cycles), later),
+        Ok(here) => check_each(alloc, here, under_way, &noted.over(planned, cycles), later),
         Err(_) => Err(Stop::memory(alloc)),
     }
 }
@@ -167,7 +178,7 @@ fn check_frames(
     ensures err { IfErr result (IsRefusedGiven cycles planned.now) }
 {
     match noted_of(alloc, cycles, planned, entries, pass) {
-        Ok(noted) => check_noted(alloc, cycles, planned, &noted),
+        Ok((noted, under_way)) => check_noted(alloc, cycles, planned, &noted, under_way),
         Err(_) => Err(Stop::memory(alloc)),
     }
 }

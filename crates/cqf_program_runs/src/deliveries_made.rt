@@ -1,6 +1,7 @@
 //! What the deliveries of a scenario are told from.
-ghost use Rattle.std.specs.Prelude.{◌≡◌, ◌≤◌, ◌<◌, IfOk, count_by, map, nat_le};
+ghost use Rattle.std.specs.Prelude.{ℕ, ◌≡◌, ◌≤◌, ◌<◌, IfOk, Option, count_by, map, nat_le};
 ghost use Rattle.cqf_units.specs.Timing.{cycle_at};
+ghost use Rattle.cqf_units.specs.declared.timing.Nanos.{Nanos as AnInstant};
 ghost use Rattle.cqf_model.specs.declared.frames.Offer.{Offer as AnOffer};
 ghost use Rattle.cqf_model.specs.Run.{AreOffers};
 ghost use Rattle.cqf_model.specs.Shift.{offer_cycle};
@@ -8,17 +9,19 @@ ghost use Rattle.cqf_model.specs.Traffic.{numbered};
 ghost use Rattle.cqf_program_scenario.specs.Closing.{MayBeRun, scenario_given};
 ghost use Rattle.cqf_program_scenario.specs.Logged.{HasOrders};
 ghost use Rattle.cqf_program_runs.specs.Deadlines.{deadline_in};
-ghost use Rattle.cqf_program_runs.specs.Ending.{IsNotedOf, IsPassOf, over_by, over_of};
+ghost use Rattle.cqf_program_runs.specs.Ending.{over_by, over_of};
+ghost use Rattle.cqf_program_runs.specs.Following.{IsNotedOf, IsPassOf};
 ghost use Rattle.cqf_model.specs.Limits.{end_of_offers, most_cycles};
 
 use crate::Deadlines;
-use crate::arrivals::Arrivals;
 use crate::deliveries_reading::PlannedGiven;
 use crate::made::Ended;
+use crate::under_way::UnderWay;
 use cqf_admission_granted::granted_of_log;
 use cqf_admission_ledger::Logged;
 use cqf_instants::Pass;
 use cqf_instants_coverage::{Judgement, cover};
+use cqf_laws_history::tables_are_orderly;
 use cqf_laws_report::offers_are_judged;
 use cqf_model::{Offer, Row};
 use cqf_program_scenario::{Given, Ran, run_given};
@@ -26,7 +29,7 @@ use cqf_topology::Domain;
 use cqf_units::{Memory, cycle_of};
 use std::alloc::Global;
 
-/// What is noted of a scenario that was run: what becomes of each offer, its deadline, and when frames are whole at their listeners.
+/// What is noted of a scenario that was run: what becomes of each offer, and its deadline.
 #[derive(Drop)]
 pub struct Noted {
     /// The streams that were ever granted, by number.
@@ -35,13 +38,12 @@ pub struct Noted {
     pub(crate) judgements: Vec<Judgement>,
     /// The deadline of each offer's frame, where it has one, by its place.
     pub(crate) dues: Vec<Option<u32>>,
-    pub(crate) arrivals: Arrivals,
 }
 
 impl Noted {
     /// What deliveries are told from: this, and what was read of the scenario.
     pub fn over<'r>(&'r self, planned: &'r PlannedGiven, cycles: u32) -> Ended<'r>
-        ensures { over_of result ≡ over_by planned.now cycles self.now }
+        ensures { (whole : ℕ → ℕ → Option AnInstant) → over_of result whole ≡ over_by planned.now cycles self.now whole }
     {
         Ended {
             domain: &planned.given.domain,
@@ -52,7 +54,6 @@ impl Noted {
             requests: planned.given.requests.as_slice(),
             deadlines: planned.deadlines.as_slice(),
             dues: self.dues.as_slice(),
-            arrivals: &self.arrivals,
         }
     }
 }
@@ -83,20 +84,21 @@ fn dues_of_scenario(alloc: Global, planned: &PlannedGiven) -> Result<Vec<Option<
     dues_of(alloc, &deadlines, planned.given.offers.as_slice())
 }
 
-/// What is noted of a scenario that was run over so many cycles, with this log and the pass that tells its starts.
+/// What is noted of a scenario that was run over so many cycles, with this log and the pass that tells its starts, and its frames under way.
 pub(crate) fn noted_of(
     alloc: Global,
     cycles: u32,
     planned: &PlannedGiven,
     entries: &[Logged],
     pass: Pass,
-) -> Result<Noted, Memory>
+) -> Result<(Noted, UnderWay), Memory>
     requires short { cycles ≤ most_cycles }
     requires may { MayBeRun cycles (scenario_given planned.now.given) }
     requires ran { IsPassOf cycles planned.now.given entries.now pass }
-    ensures { IfOk result (λ noted. IsNotedOf cycles planned.now noted) }
+    ensures { IfOk result (λ made. IsNotedOf cycles planned.now made.0 made.1) }
 {
     offers_are_judged();
+    tables_are_orderly();
     let given = &planned.given;
     let domain = &given.domain;
     // the domain is accepted: a fact for the instants
@@ -108,13 +110,13 @@ pub(crate) fn noted_of(
     let rows = granted.as_slice();
     let judgements = cover(alloc, domain, rows, offers)?;
     let dues = dues_of_scenario(alloc, planned)?;
-    let arrivals = Arrivals::of_pass(alloc, domain, offers.len(), pass)?;
-    Ok(Noted {
+    let under_way = UnderWay::new(alloc, domain, rows, offers, pass)?;
+    let noted = Noted {
         rows: granted,
         judgements,
         dues,
-        arrivals,
-    })
+    };
+    Ok((noted, under_way))
 }
 
 /// The log of a scenario's history over so many cycles, 0 to 100,000, and the pass that tells its starts.
@@ -133,7 +135,7 @@ pub(crate) fn pass_of(
     Ok((entries, book.into_pass()))
 }
 
-/// What is noted of a scenario over so many cycles, 0 to 100,000. Its starts are told by a pass, and none of them is kept.
+/// What is noted of a scenario over so many cycles, 0 to 100,000, and its frames under way, whose starts are still to be told.
 ///
 /// # Errors
 /// `Memory` where a growth is refused.
@@ -141,11 +143,11 @@ pub fn noted_of_scenario(
     alloc: Global,
     cycles: u32,
     planned: &PlannedGiven,
-) -> Result<Noted, Memory>
+) -> Result<(Noted, UnderWay), Memory>
     requires short { cycles ≤ most_cycles }
     requires may { MayBeRun cycles (scenario_given planned.now.given) }
     requires stand { HasOrders planned.now.given }
-    ensures { IfOk result (λ noted. IsNotedOf cycles planned.now noted) }
+    ensures { IfOk result (λ made. IsNotedOf cycles planned.now made.0 made.1) }
 {
     let (entries, pass) = pass_of(alloc, cycles, &planned.given)?;
     noted_of(alloc, cycles, planned, entries.as_slice(), pass)

@@ -1,5 +1,5 @@
 //! Deliveries, told line by line.
-ghost use Rattle.std.specs.Prelude.{◌≡◌, ◌∷◌, []};
+ghost use Rattle.std.specs.Prelude.{ℕ, ◌≡◌, ◌∷◌, [], Option};
 ghost use Rattle.std.specs.List.{join_with_byte};
 ghost use Rattle.cqf_program_press.specs.Press.{Puts};
 ghost use Rattle.cqf_report.specs.Written.{line_of_fields};
@@ -7,11 +7,14 @@ ghost use Rattle.cqf_program_plans.specs.LatencyText.{text_of_deadline};
 ghost use Rattle.cqf_program_runs.specs.DeliveriesText.{passage_fields, deliveries_header, delivery_fields};
 ghost use Rattle.cqf_program_runs.specs.DeliveriesText.{lines_of_deliveries, name_of_fate, text_of_deliveries};
 ghost use Rattle.cqf_program_runs.specs.DeliveriesText.{text_of_instant, text_of_listeners_latency};
-ghost use Rattle.cqf_program_runs.specs.Ending.{IsOver, deliveries_over, over_of};
+ghost use Rattle.cqf_program_runs.specs.Ending.{deliveries_over, over_of};
+ghost use Rattle.cqf_program_runs.specs.Following.{CanFollow, IsFollowed};
+ghost use Rattle.cqf_units.specs.declared.timing.Nanos.{Nanos as AnInstant};
 
 use crate::delivery::{Delivery, Fate, Journey, Passage, latency};
 use crate::few::Few;
 use crate::made::{Ended, put_those_of};
+use crate::under_way::UnderWay;
 use cqf_program_plans::put_deadline;
 use cqf_program_press::{Press, Sink};
 use cqf_report::reason_name;
@@ -116,23 +119,31 @@ fn put_each<W: Sink>(press: &mut Press<'_, W>, deliveries: &[Delivery])
     }
 }
 
-/// Puts a line for each delivery of a run that is over.
-fn put_all<W: Sink>(press: &mut Press<'_, W>, here: Few, ended: &Ended<'_>)
-    requires { IsOver (over_of ended.now) }
-    ensures { Puts W.contents press.old press.new (lines_of_deliveries (deliveries_over (over_of ended.now))) }
+/// Puts a line for each delivery of a run that is over, whose frames are followed from the first offer on.
+fn put_all<W: Sink>(press: &mut Press<'_, W>, here: Few, under_way: UnderWay, ended: &Ended<'_>)
+    requires { CanFollow ended.now 0 under_way }
+    ensures { (whole : ℕ → ℕ → Option AnInstant) → IsFollowed (over_of ended.now whole) 0 under_way →
+        Puts W.contents press.old press.new (lines_of_deliveries (deliveries_over (over_of ended.now whole))) }
 {
-    let mut here = here;
+    let (mut here, mut under_way) = (here, under_way);
     for place in 0..ended.offers.len() {
-        put_those_of(&mut here, ended, place);
+        put_those_of(&mut here, ended, &mut under_way, place);
         put_each(press, here.as_slice());
     }
 }
 
-/// Puts the text of the deliveries of a run that is over; what was there is room for those of one offer.
-pub(crate) fn put_deliveries<W: Sink>(press: &mut Press<'_, W>, here: Few, ended: &Ended<'_>)
-    requires { IsOver (over_of ended.now) }
-    ensures { Puts W.contents press.old press.new (text_of_deliveries (deliveries_over (over_of ended.now))) }
+/// Puts the text of the deliveries of a run that is over, whose frames are followed from the first offer on; what was there is room for those
+/// of one offer.
+pub(crate) fn put_deliveries<W: Sink>(
+    press: &mut Press<'_, W>,
+    here: Few,
+    under_way: UnderWay,
+    ended: &Ended<'_>,
+)
+    requires { CanFollow ended.now 0 under_way }
+    ensures { (whole : ℕ → ℕ → Option AnInstant) → IsFollowed (over_of ended.now whole) 0 under_way →
+        Puts W.contents press.old press.new (text_of_deliveries (deliveries_over (over_of ended.now whole))) }
 {
     put_header(press);
-    put_all(press, here, ended);
+    put_all(press, here, under_way, ended);
 }

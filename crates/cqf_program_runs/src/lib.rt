@@ -9,13 +9,14 @@
 //! - [`deliveries_output`]: what becomes of the offers of a scenario, a row for each offer and listener ([`DeliveriesOutput`]).
 //! - [`check_output`]: the line that tells that all goes well, or the end of the run with the line that tells what doesn't.
 //!
-//! No list of deliveries is kept: of each frame it is noted when it is whole at its listeners, while a pass tells the starts of the run, and
-//! deliveries are told, or looked at, offer by offer.
+//! No list of deliveries is kept: of the frames under way alone it is noted when they are whole at their listeners, while a pass tells the
+//! starts of the run, and deliveries are told, or looked at, offer by offer.
 //!
 //! - A [`Delivery`] is a frame on its way to one listener, or its drop; [`Delivery::fate`] is what becomes of it, a [`Fate`], by
 //!   the [`Deadlines`] of the streams' frames.
 //! - [`read_planned_given`] has the scenario of an input with its deadlines ([`PlannedGiven`]), [`noted_of_scenario`] what its deliveries are
-//!   told from ([`Noted`], [`Ended`]), and [`put_those_of`] those of one offer ([`Few`]), for other commands over deliveries.
+//!   told from ([`Noted`], [`Ended`]) with the frames under way ([`UnderWay`]), and [`put_those_of`] those of one offer ([`Few`]), for
+//!   other commands over deliveries.
 //! - [`complaint_about`], [`unfinished_line`] and [`well_line`] are the lines of a check.
 //! - [`verdicts_tell_deliveries`] is the law that ties deliveries by the verdicts on offers to those of a book.
 //!   [`arrivals_are_the_shift`] says which have come, [`each_is_told_once`] what is told of an offer, and
@@ -40,7 +41,6 @@
 //! ```
 #![tactic(auto)]
 
-mod arrivals;
 mod checked;
 mod deadlines;
 mod deliveries_command;
@@ -59,8 +59,10 @@ mod made;
 mod refused_calls;
 mod report_carried;
 mod report_command;
+mod rooms;
 mod run_command;
 mod run_outputs;
+mod under_way;
 
 pub use checked::{Counts, complaint_about, first_bad, unfinished_line, well_line};
 pub use deadlines::Deadlines;
@@ -79,3 +81,4 @@ pub use made::{Ended, put_those_of};
 pub use report_command::report_output;
 pub use run_command::run_output;
 pub use run_outputs::RunOutput;
+pub use under_way::UnderWay;

@@ -1,26 +1,29 @@
 //! The deliveries of a run that is over, offer by offer.
-ghost use Rattle.std.specs.Prelude.{◌≡◌, ◌+◌, ◌≤◌, ◌<◌, [], Some, None, if◌then◌else◌, length, slice_get};
+ghost use Rattle.std.specs.Prelude.{ℕ, ◌≡◌, ◌+◌, ◌-◌, ◌≤◌, ◌<◌, [], Option, Some, None, if◌then◌else◌, length, option_copied};
+ghost use Rattle.std.specs.Prelude.{slice_get};
 ghost use Rattle.cqf_instants_coverage.specs.Coverage.{verdict_of};
 ghost use Rattle.cqf_program_plans.specs.LatencyText.{is_station};
 ghost use Rattle.cqf_model.specs.declared.frames.Offered.{Offered as AnOffered};
 ghost use Rattle.cqf_model.specs.Domain.{end_of};
 ghost use Rattle.cqf_model.specs.Shift.{offer_cycle};
 ghost use Rattle.cqf_model.specs.Traffic.{numbered};
-ghost use Rattle.cqf_program_runs.specs.Arrivals.{whole_in};
+ghost use Rattle.cqf_program_runs.specs.Following.{CanFollow, IsFollowed};
+ghost use Rattle.cqf_program_runs.specs.UnderWay.{TellsWhole, row_at, row_judged, whole_in};
+ghost use Rattle.cqf_units.specs.declared.timing.Nanos.{Nanos as AnInstant};
 ghost use Rattle.cqf_program_runs.specs.ByVerdict.{deliveries_for};
 ghost use Rattle.cqf_program_runs.specs.Deliveries.{deliveries_to, delivery_of, delivery_to};
-ghost use Rattle.cqf_program_runs.specs.Ending.{IsOver, deliveries_at, known_over, over_of};
+ghost use Rattle.cqf_program_runs.specs.Ending.{deliveries_at, due_of, known_over, over_of};
 ghost use Rattle.cqf_program_runs.specs.Deadlines.{deadline_in};
-ghost use Rattle.cqf_model.specs.Limits.{end_of_offers, most_rows};
+ghost use Rattle.cqf_model.specs.Limits.{most_rows};
 
-use crate::arrivals::Arrivals;
 use crate::delivery::{Delivery, Journey, Passage};
 use crate::few::Few;
+use crate::under_way::{UnderWay, whole_in};
 use cqf_instants_coverage::Judgement;
 use cqf_model::{Hop, Offer, Offered, Row};
 use cqf_program_plans::listener_at;
 use cqf_topology::{Domain, Request};
-use cqf_units::cycle_of;
+use cqf_units::{Nanos, cycle_of};
 
 /// What the deliveries of a run that is over are told from ([`Noted::over`](crate::Noted::over)).
 #[derive(Clone, Copy)]
@@ -38,8 +41,6 @@ pub struct Ended<'r> {
     pub(crate) deadlines: &'r [Option<u32>],
     /// By these the deadline of each offer's frame, by its place.
     pub(crate) dues: &'r [Option<u32>],
-    /// When frames are whole at their listeners.
-    pub(crate) arrivals: &'r Arrivals,
 }
 
 /// The offer at a place, with its number.
@@ -73,61 +74,81 @@ fn delivery_of(domain: &Domain, x: &Offered, passage: Passage) -> Delivery
     }
 }
 
-/// The delivery to the end of a hop, where a listener is there, of a frame that has this deadline. Hops by links that the domain lacks
-/// have none.
+/// The delivery to the end of a hop, where a listener is there, of a frame that is whole there by then and has this deadline. Hops by links
+/// that the domain lacks have none.
 fn delivery_to(
     domain: &Domain,
-    arrivals: &Arrivals,
+    whole: Option<Nanos>,
     deadline: Option<u32>,
     x: &Offered,
     hop: &Hop,
 ) -> Option<Delivery>
     requires { x.now.offer.bridge < length domain.now.bridges }
     ensures { result ≡ (if is_station (end_of domain.now hop.now.link)
-        then Some (delivery_to domain.now (whole_in arrivals.now x.now.frame) deadline x.now hop.now) else None) }
+        then Some (delivery_to domain.now (λ _. whole) deadline x.now hop.now) else None) }
 {
     if hop.link >= domain.links() {
         return None;
     }
     let journey = Journey {
         listener: listener_at(domain, hop.link)?,
-        whole: arrivals.whole_at(x.frame, hop.link),
+        whole,
         deadline,
     };
     Some(delivery_of(domain, x, Passage::Goes(journey)))
 }
 
-/// Puts the deliveries of a frame to the listeners of a row.
+/// Puts the deliveries of a frame to the listeners of a row, by what is kept of it.
 fn put_to_listeners(
     here: &mut Few,
-    ended: &Ended<'_>,
+    domain: &Domain,
+    slot: &[Option<Nanos>],
     deadline: Option<u32>,
     x: &Offered,
     row: &Row,
 )
     requires empty { here.old ≡ [] }
-    requires bridge { x.now.offer.bridge < length ended.now.domain.now.bridges }
-    ensures { here.new ≡ deliveries_to ended.now.domain.now (whole_in ended.now.arrivals.now x.now.frame) deadline x.now row.now }
+    requires bridge { x.now.offer.bridge < length domain.now.bridges }
+    ensures { here.new ≡ deliveries_to domain.now (whole_in domain.now row.now slot.now) deadline x.now row.now }
 {
     for hop in row.tree.as_slice() {
-        if let Some(delivery) = delivery_to(ended.domain, ended.arrivals, deadline, x, hop) {
+        let whole = whole_in(domain, row, slot, hop.link);
+        if let Some(delivery) = delivery_to(domain, whole, deadline, x, hop) {
             here.push(delivery);
         }
     }
 }
 
-/// Puts the deliveries of an offer that is judged so, whose frame has this deadline.
+/// The row at a place, where there is one.
+fn row_there(rows: &[Row], place: usize) -> Option<&Row>
+    ensures { option_copied result ≡ slice_get rows.now place }
+{
+    rows.get(place)
+}
+
+/// The judgement at a place.
+fn judgement_there(judgements: &[Judgement], place: usize) -> Judgement
+    requires { place < length judgements.now }
+    ensures { slice_get judgements.now place ≡ Some result }
+{
+    judgements[place]
+}
+
+/// Puts the deliveries of an offer that is judged so, whose frame has this deadline, by what is kept of it.
 fn put_judged(
     here: &mut Few,
     ended: &Ended<'_>,
+    slot: &[Option<Nanos>],
     deadline: Option<u32>,
     x: &Offered,
     judgement: Judgement,
 )
     requires empty { here.old ≡ [] }
     requires bridge { x.now.offer.bridge < length ended.now.domain.now.bridges }
-    requires due { deadline ≡ deadline_in (over_of ended.now).due x.now.offer.stream }
-    ensures { here.new ≡ deliveries_for ended.now.domain.now (known_over (over_of ended.now)) x.now
+    requires due { deadline ≡ deadline_in (due_of ended.now) x.now.offer.stream }
+    ensures { (whole : ℕ → ℕ → Option AnInstant) →
+        TellsWhole ended.now.domain.now (row_judged ended.now.rows.now judgement) slot.now (whole x.now.frame) →
+        here.new ≡ deliveries_for ended.now.domain.now (known_over (over_of ended.now whole)) x.now
         (verdict_of ended.now.rows.now (offer_cycle ended.now.domain.now x.now) judgement) }
 {
     match judgement {
@@ -135,39 +156,53 @@ fn put_judged(
             here.push(delivery_of(ended.domain, x, Passage::Dropped(reason)));
         }
         Judgement::Covered(place) => {
-            if let Some(row) = ended.rows.get(place) {
-                put_to_listeners(here, ended, deadline, x, row);
+            if let Some(row) = row_there(ended.rows, place) {
+                put_to_listeners(here, ended.domain, slot, deadline, x, row);
             }
         }
     }
 }
 
-/// Puts the deliveries of an offer whose frame has this deadline: none where its cycle isn't run.
-fn put_offer(here: &mut Few, ended: &Ended<'_>, deadline: Option<u32>, x: &Offered)
+/// Puts the deliveries of an offer of this cycle, whose frame has this deadline, by what is kept of it: none where its cycle isn't run.
+fn put_offer(
+    here: &mut Few,
+    ended: &Ended<'_>,
+    slot: &[Option<Nanos>],
+    deadline: Option<u32>,
+    x: &Offered,
+    cycle: u32,
+)
     requires empty { here.old ≡ [] }
     requires bridge { x.now.offer.bridge < length ended.now.domain.now.bridges }
-    requires early { x.now.offer.at.0 < end_of_offers }
+    requires cycle { cycle ≡ offer_cycle ended.now.domain.now x.now }
     requires first { 1 ≤ x.now.frame }
     requires last { x.now.frame ≤ length ended.now.judgements.now }
-    requires due { deadline ≡ deadline_in (over_of ended.now).due x.now.offer.stream }
-    ensures { here.new ≡ deliveries_at (over_of ended.now) x.now }
+    requires due { deadline ≡ deadline_in (due_of ended.now) x.now.offer.stream }
+    ensures { (whole : ℕ → ℕ → Option AnInstant) →
+        TellsWhole ended.now.domain.now (row_at ended.now.rows.now ended.now.judgements.now (x.now.frame - 1)) slot.now (whole x.now.frame) →
+        here.new ≡ deliveries_at (over_of ended.now whole) x.now }
 {
-    let cycle = cycle_of(x.offer.at, ended.domain.cycle_time());
-    if cycle.0 >= ended.cycles {
+    if cycle >= ended.cycles {
         return;
     }
-    let judgement = ended.judgements[x.frame as usize - 1];
-    put_judged(here, ended, deadline, x, judgement);
+    let judgement = judgement_there(ended.judgements, x.frame as usize - 1);
+    put_judged(here, ended, slot, deadline, x, judgement);
 }
 
-/// Puts the deliveries of the offer at a place, from 0, in place of what was there: none where its cycle isn't run (profile). It asks for
-/// no memory.
-pub fn put_those_of(here: &mut Few, ended: &Ended<'_>, place: usize)
-    requires over { IsOver (over_of ended.now) }
+/// Puts the deliveries of the offer at a place, from 0, in place of what was there: none where its cycle isn't run (profile). The frames
+/// under way are those from this place on, and then those from the next one on. It asks for no memory.
+pub fn put_those_of(here: &mut Few, ended: &Ended<'_>, under_way: &mut UnderWay, place: usize)
+    requires followed { CanFollow ended.now place under_way.old }
     requires there { place < length ended.now.offers.now }
-    ensures { (x : AnOffered) → slice_get (numbered ended.now.offers.now) place ≡ Some x → here.new ≡ deliveries_at (over_of ended.now) x }
+    ensures here { (whole : ℕ → ℕ → Option AnInstant) → IsFollowed (over_of ended.now whole) place under_way.old → (x : AnOffered) →
+        slice_get (numbered ended.now.offers.now) place ≡ Some x → here.new ≡ deliveries_at (over_of ended.now whole) x }
+    ensures next { (whole : ℕ → ℕ → Option AnInstant) → IsFollowed (over_of ended.now whole) place under_way.old →
+        IsFollowed (over_of ended.now whole) (place + 1) under_way.new }
 {
     here.clear();
     let x = offered(place, &ended.offers[place]);
-    put_offer(here, ended, ended.dues[place], &x);
+    let cycle = cycle_of(x.offer.at, ended.domain.cycle_time()).0;
+    under_way.tell_up_to(ended, place, u64::from(cycle) + u64::from(under_way.depth));
+    put_offer(here, ended, under_way.first(), ended.dues[place], &x, cycle);
+    under_way.go_on();
 }

@@ -2,9 +2,7 @@
 use Rattle.std.proofs.Common.{◌≡◌, ◌≢◌, ◌∙◌, ◌∷◌, ◌<◌, [], ℕ, AllPairs, Bool, true, false, Contains, List, Some, None, Option, ap, arith, filter, get_or, if◌then◌else◌, inl, inr, length, map, not, refl, subst, sym}
 use Rattle.std.specs.Prelude.{◌&&◌, is_none, is_some, nat_le, nat_lt, option_map, position, slice_get}
 use Rattle.std.specs.List.{flat_map, list_any}
-use Rattle.std.proofs.lemmas.Bool.{cases_lt, not-false}
 use Rattle.std.proofs.lemmas.List.Kept.{AllPairs-filter}
-use Rattle.std.proofs.lemmas.Option.{get_or_from_slice_get, slice_get_within}
 use Rattle.cqf_lists.specs.Lists.{least, or_else}
 use Rattle.cqf_lists.proofs.Any.{none_member, position_any}
 use Rattle.cqf_lists.proofs.Least.{least_none, or_else_none}

@@ -1,5 +1,5 @@
 -- Lists with one element changed.
-use Rattle.std.proofs.Common.{◌≡◌, ◌≢◌, ◌∙◌, ◌∷◌, [], ℕ, List, Some, None, Option, ap, ap₂, arith, map, set, sym}
+use Rattle.std.proofs.Common.{◌≡◌, ◌≢◌, ◌∙◌, ◌∷◌, [], ℕ, List, Some, ap, ap₂, arith, map, set, sym}
 use Rattle.std.specs.Prelude.{slice_get, suc, zero}
 use Rattle.std.proofs.lemmas.List.{map-id}
 use Rattle.std.proofs.lemmas.Option.{same_Some}

@@ -20,7 +20,6 @@ use Rattle.cqf_units.specs.Timing.{cost_of}
 use Rattle.cqf_model.specs.declared.history.Refused.{Refused}
 use Rattle.cqf_model.specs.declared.topology.Hop.{Hop}
 use Rattle.cqf_model.specs.declared.topology.Link.{Link}
-use Rattle.cqf_model.specs.declared.topology.Node.{Node}
 use Rattle.cqf_model.specs.declared.topology.Row.{Row}
 use Rattle.cqf_model.specs.Domain.{Domain, IsAccepted, end_of, is_text}
 use Rattle.cqf_model.specs.History.{Asked, pace_of, tree_of}
@@ -40,10 +39,9 @@ use Rattle.cqf_admission.specs.Judging.{form_refusal}
 use Rattle.cqf_program_plans.specs.EndNames.{name_of_end}
 use Rattle.cqf_program_plans.specs.LatencyText.{is_station, listeners_of}
 use Rattle.cqf_program_runs.specs.declared.delivery.Delivery.{Delivery}
-use Rattle.cqf_program_summary.specs.declared.fares.Listener.{Listener}
 use Rattle.cqf_program_summary.specs.declared.listing.Listed.{Listed}
 use Rattle.cqf_program_summary.specs.declared.listing.Listing.{Listing}
-use Rattle.cqf_program_summary.specs.Listing.{AddsCost, AreBounded, CostsWith, IsListing, IsOfStream, ListsOne, MayBeCounted, cost_in, costs_by_link, fare_named, listed_of}
+use Rattle.cqf_program_summary.specs.Listing.{AddsCost, AreBounded, CostsWith, IsListing, IsOfStream, ListsOne, MayBeCounted, cost_in, costs_by_link, fare_named, listed_of, HasOctets}
 use Rattle.cqf_program_summary.specs.Summary.{Fare, fare_of, listener_to, listeners_by, summary_by, way_to, ways_of}
 use Rattle.cqf_program_summary.specs.Told.{is_good, row_of_stream, row_unless, told_cost, told_streams}
 

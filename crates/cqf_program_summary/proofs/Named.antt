@@ -1,5 +1,5 @@
 -- Streams are found by name.
-use Rattle.std.proofs.Common.{◌≡◌, ◌∙◌, ◌+◌, ◌∷◌, [], ℕ, List, Option, ap, map, nat_eq, position, refl}
+use Rattle.std.proofs.Common.{◌≡◌, ◌∙◌, ◌+◌, ◌∷◌, [], ℕ, List, ap, map, nat_eq, position, refl}
 use Rattle.std.specs.Cmp.Lexicographic.{pointwise}
 use Rattle.cqf_admission.proofs.HeldLemmas.{position-map}
 use Rattle.cqf_model.specs.Domain.{is_text}

@@ -1,8 +1,8 @@
 -- One offer more, with its deliveries.
 use Rattle.std.proofs.Common.{◌≡◌, ◌≢◌, ◌∙◌, ◌+◌, ◌++◌, ◌∷◌, ◌<◌, [], ℕ, AllPairs, Bool, true, false, Contains, List, Some, None, Option, ap, ap₂, append-nil, arith, count_by, filter, get_or, if◌then◌else◌, inl, inr, length, map, nat_lt, not, position, refl, subst, sym, take}
-use Rattle.std.specs.Prelude.{◌&&◌, cond, fold, is_some, slice_get, suc}
+use Rattle.std.specs.Prelude.{◌&&◌, cond, is_some, slice_get, suc}
 use Rattle.std.specs.List.{list_any}
-use Rattle.std.proofs.lemmas.Bool.{cases_Bool, cases_lt}
+use Rattle.std.proofs.lemmas.Bool.{cases_lt}
 use Rattle.std.proofs.lemmas.List.{length-append, take_more}
 use Rattle.std.proofs.lemmas.List.Elements.{filter-append}
 use Rattle.std.proofs.lemmas.List.Quantifiers.{position-Some}
@@ -12,10 +12,9 @@ use Rattle.cqf_admission.proofs.HeldLemmas.{position-map}
 use Rattle.cqf_lists.proofs.Any.{position_any}
 use Rattle.cqf_lists.proofs.EachBelow.{filter_each, filter_none, fold_same}
 use Rattle.cqf_lists.proofs.EachOnce.{once_apart}
-use Rattle.cqf_lists.proofs.Members.{contains_at, contains_from_map, contains_none, contains_one, member_any}
+use Rattle.cqf_lists.proofs.Members.{contains_from_map, contains_none, contains_one}
 use Rattle.cqf_topology.proofs.Accepted.{position-None}
 use Rattle.cqf_model.specs.declared.frames.Offered.{Offered}
-use Rattle.cqf_model.specs.declared.topology.Row.{Row}
 use Rattle.cqf_model.specs.Domain.{Domain, is_text}
 use Rattle.cqf_model.specs.History.{Asked}
 use Rattle.cqf_model.specs.Shift.{offer_cycle}
@@ -26,11 +25,10 @@ use Rattle.cqf_instants_columns.specs.Columns.{verdict_at}
 use Rattle.cqf_program_plans.specs.LatencyText.{listeners_of}
 use Rattle.cqf_program_runs.specs.declared.delivery.Delivery.{Delivery}
 use Rattle.cqf_program_runs.specs.declared.delivery.Passage.TheVariants as passage
-use Rattle.cqf_program_runs.specs.ByVerdict.{Known, deliveries_for}
+use Rattle.cqf_program_runs.specs.ByVerdict.{deliveries_for}
 use Rattle.cqf_program_runs.specs.Deliveries.{delivery_of, delivery_to, fate_of}
 use Rattle.cqf_program_runs.specs.Ending.{Over, deliveries_among, deliveries_at, known_over}
 use Rattle.cqf_program_runs.proofs.OneMore.{among_more}
-use Rattle.cqf_program_summary.specs.declared.fares.Others.{Others}
 use Rattle.cqf_program_summary.specs.Counting.{changed_at, fare_with_offer, others_with, summary_at, summary_with}
 use Rattle.cqf_program_summary.specs.Summary.{Fare, Summary, deliveries_named, fare_by, fare_of, offers_named, offers_within, others_of, summary_by}
 use Rattle.cqf_program_summary.specs.Tallies.{is_dropped}

@@ -1,5 +1,5 @@
 -- The way on which a frame goes is found.
-use Rattle.std.proofs.Common.{◌≡◌, ◌≢◌, ◌∙◌, ◌+◌, ◌≤◌, ◌<◌, ℕ, All, Bool, true, false, List, Some, None, Option, ap, arith, get_or, if◌then◌else◌, inl, inr, length, map, position, set, sym, refl}
+use Rattle.std.proofs.Common.{◌≡◌, ◌≢◌, ◌∙◌, ◌+◌, ◌≤◌, ◌<◌, ℕ, Bool, true, false, List, Some, None, Option, ap, arith, get_or, if◌then◌else◌, inl, inr, map, position, set, sym, refl}
 use Rattle.std.specs.Prelude.{slice_get}
 use Rattle.std.proofs.lemmas.Bool.{cases_Bool, cases_lt}
 use Rattle.std.proofs.lemmas.List.Quantifiers.{position-Some}
@@ -8,7 +8,6 @@ use Rattle.cqf_topology.proofs.Accepted.{position-None}
 use Rattle.cqf_program_runs.specs.declared.delivery.Fate.{Fate}
 use Rattle.cqf_program_runs.specs.declared.delivery.Journey.{Journey}
 use Rattle.cqf_program_summary.specs.declared.fares.Way.{Way}
-use Rattle.cqf_program_summary.specs.declared.tallies.Tally.{Tally}
 use Rattle.cqf_program_summary.specs.Counting.{AreApart, leads_there, leads_to, place_by, tally_with, way_with}
 use Rattle.cqf_program_summary.proofs.Changed.{map_keeps, set_maps}
 

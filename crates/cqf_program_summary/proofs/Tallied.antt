@@ -1,12 +1,11 @@
 -- One delivery more is counted.
 use Rattle.std.proofs.Common.{◌≡◌, ◌∙◌, ◌+◌, ◌++◌, ◌∷◌, [], ℕ, Bool, true, false, List, Some, None, Option, ap, ap₂, append-nil, append_assoc, arith, count_by, if◌then◌else◌, inl, inr, length, map, sym, refl}
-use Rattle.std.specs.Prelude.{◌&&◌, cond, fold, max, min, sum}
+use Rattle.std.specs.Prelude.{◌&&◌, cond, max, min, sum}
 use Rattle.std.specs.List.{flat_map}
 use Rattle.std.proofs.lemmas.Bool.{cases_Bool}
 use Rattle.std.proofs.lemmas.Grind.{flat_map-append}
 use Rattle.std.proofs.lemmas.List.{length_push}
-use Rattle.std.proofs.lemmas.List.Sums.{fold-append, sum_by-append}
-use Rattle.std.proofs.lemmas.Simd.{map-map}
+use Rattle.std.proofs.lemmas.List.Sums.{fold-append}
 use Rattle.cqf_units.specs.declared.timing.Nanos.{Nanos}
 use Rattle.cqf_model.specs.declared.frames.Reason.{Reason}
 use Rattle.cqf_model.specs.Domain.{Domain}
@@ -24,7 +23,7 @@ use Rattle.cqf_program_summary.specs.declared.fares.Way.{Way}
 use Rattle.cqf_program_summary.specs.declared.tallies.Taken.{Taken}
 use Rattle.cqf_program_summary.specs.declared.tallies.Tally.{Tally}
 use Rattle.cqf_program_summary.specs.Counting.{fare_with, fare_with_each, fare_with_offer, leads_to, taken_more, taken_with, tally_with, way_with, ways_with}
-use Rattle.cqf_program_summary.specs.Summary.{Fare, fare_by, listeners_by, name_of_listener, way_to, ways_of}
+use Rattle.cqf_program_summary.specs.Summary.{fare_by, listeners_by, name_of_listener, way_to}
 use Rattle.cqf_program_summary.specs.Tallies.{count_to, is_dropped, is_late, latencies_to, latency_by, latency_on, reaches, taken_of, tally_to}
 use Rattle.cqf_program_summary.specs.Told.{row_of_stream}
 

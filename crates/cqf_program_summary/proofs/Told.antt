@@ -1,34 +1,34 @@
 -- The summary that is made is that of the input's scenario.
-use Rattle.std.proofs.Common.{◌≡◌, ◌∙◌, ℕ, List, Option, ap, length, map, refl, sym}
+use Rattle.std.proofs.Common.{◌≡◌, ◌∙◌, ℕ, List, ap, length, map, sym}
 use Rattle.cqf_lists.proofs.EachBelow.{length-singles}
-use Rattle.cqf_model.specs.declared.frames.Offered.{Offered}
-use Rattle.cqf_model.specs.History.{Asked, table_at}
+use Rattle.cqf_model.specs.History.{table_at}
 use Rattle.cqf_model.specs.Traffic.{numbered}
-use Rattle.cqf_topology.specs.PlannedText.{PlannedText}
 use Rattle.cqf_admission.specs.Asking.{asked_of}
 use Rattle.cqf_program_scenario.specs.Calls.{history_of}
 use Rattle.cqf_program_scenario.specs.Closing.{scenario_given}
 use Rattle.cqf_program_runs.specs.declared.deliveries_made.Noted.{Noted}
 use Rattle.cqf_program_runs.specs.declared.deliveries_reading.PlannedGiven.{PlannedGiven}
+use Rattle.cqf_program_runs.specs.declared.under_way.UnderWay.{UnderWay}
 use Rattle.cqf_program_runs.specs.Deadlines.{deadline_in}
 use Rattle.cqf_program_runs.specs.DeliveriesReading.{IsPlannedGiven}
-use Rattle.cqf_program_runs.specs.Deliveries.{deadline_named}
-use Rattle.cqf_program_runs.specs.Ending.{IsNotedOf, deliveries_over, over_by}
+use Rattle.cqf_program_runs.specs.Ending.{deliveries_over, over_by}
+use Rattle.cqf_program_runs.specs.Following.{IsNotedOf}
 use Rattle.cqf_program_runs.specs.PlannedScenario.{run_of_scenario}
 use Rattle.cqf_program_runs.proofs.Judged.{due_is}
 use Rattle.cqf_program_summary.specs.Gathering.{IsSummaryOf}
-use Rattle.cqf_program_summary.specs.Summary.{Summary, offers_within, summary_by, summary_of}
+use Rattle.cqf_program_summary.specs.Summary.{Summary, offers_within, summary_by}
 use Rattle.cqf_program_summary.specs.SummaryOutput.{IsSummaryOutput}
 use Rattle.cqf_program_summary.specs.SummaryText.{text_of_summary}
 use Rattle.cqf_program_summary.specs.Told.{told_streams}
 
 -- by what is noted of a scenario
-pub IsSummaryOf-noted : (cycles : ℕ) (planned : PlannedGiven) (noted : Noted) (summary : Summary) → IsNotedOf cycles planned noted →
+pub IsSummaryOf-noted : (cycles : ℕ) (planned : PlannedGiven) (noted : Noted) (under_way : UnderWay) (summary : Summary)
+    (is : IsNotedOf cycles planned noted under_way) →
     summary ≡ summary_by planned.given.domain (told_streams (map asked_of planned.given.requests.items))
     (deadline_in (record { requests = planned.given.requests.items; deadlines = planned.deadlines.items }))
-    (offers_within planned.given.domain cycles (numbered planned.given.offers.items)) (deliveries_over (over_by planned cycles noted)) →
+    (offers_within planned.given.domain cycles (numbered planned.given.offers.items)) (deliveries_over (over_by planned cycles noted is.whole)) →
     IsSummaryOf cycles planned summary
-IsSummaryOf-noted cycles planned noted summary is made streams those =
+IsSummaryOf-noted cycles planned noted under_way summary is made streams those =
     let s = scenario_given planned.given in
     let told = is.are streams those in
     let as_many : length (run_of_scenario cycles s).tables ≡ cycles = length-singles (table_at s.domain (history_of cycles s)) cycles in

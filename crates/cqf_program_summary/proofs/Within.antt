@@ -1,6 +1,6 @@
 -- No more is counted than there is room for.
-use Rattle.std.proofs.Common.{◌≡◌, ◌+◌, ◌*◌, ◌≤◌, ◌<◌, ◌^◌, ◌∷◌, [], ℕ, All, Contains, List, Some, None, Option, arith, get_or, length, map, set, subst, sym}
-use Rattle.std.proofs.lemmas.List.Elements.{All-contains, All-get_or, All-set}
+use Rattle.std.proofs.Common.{◌≡◌, ◌+◌, ◌*◌, ◌≤◌, ◌<◌, ◌^◌, ◌∷◌, [], ℕ, All, List, Some, None, Option, arith, map, set, subst, sym}
+use Rattle.std.proofs.lemmas.List.Elements.{All-contains, All-set}
 use Rattle.cqf_lists.proofs.Members.{all_from_members, contains_from_map}
 use Rattle.cqf_model.specs.Domain.{Domain}
 use Rattle.cqf_model.specs.History.{Asked}

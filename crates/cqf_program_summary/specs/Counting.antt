@@ -1,5 +1,5 @@
 -- What is counted, step by step.
-use Rattle.std.specs.Prelude.{ℕ, ◌≡◌, ◌+◌, ◌*◌, ◌≤◌, ◌^◌, ⊤, All, AllPairs, Bool, true, false, List, [], ◌∷◌, Option, Some, None, count_by, fold, if◌then◌else◌, map, max, min, option_map, position, slice_get, suc, zero}
+use Rattle.std.specs.Prelude.{ℕ, ◌≡◌, ◌+◌, ◌*◌, ◌≤◌, ◌^◌, ⊤, All, AllPairs, Bool, true, false, List, [], ◌∷◌, Option, Some, None, count_by, fold, if◌then◌else◌, map, max, min, position, slice_get, suc, zero}
 use Rattle.cqf_units.specs.declared.timing.Nanos.{Nanos}
 use Rattle.cqf_model.specs.Domain.{is_text}
 use Rattle.cqf_program_runs.specs.declared.delivery.Delivery.{Delivery}

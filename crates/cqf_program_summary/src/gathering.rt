@@ -1,16 +1,18 @@
 //! A summary, gathered offer by offer.
-ghost use Rattle.std.specs.Prelude.{◌≡◌, ◌≤◌, ◌<◌, IfOk, nat_lt};
+ghost use Rattle.std.specs.Prelude.{ℕ, ◌≡◌, ◌≤◌, ◌<◌, IfOk, Option, nat_lt};
 ghost use Rattle.cqf_units.specs.Timing.{cycle_at};
+ghost use Rattle.cqf_units.specs.declared.timing.Nanos.{Nanos as AnInstant};
 ghost use Rattle.cqf_model.specs.Limits.{end_of_offers, most_cycles};
 ghost use Rattle.cqf_program_scenario.specs.Closing.{MayBeRun, scenario_given};
 ghost use Rattle.cqf_program_scenario.specs.Logged.{HasOrders};
-ghost use Rattle.cqf_program_runs.specs.Ending.{IsOver, over_of};
+ghost use Rattle.cqf_program_runs.specs.Ending.{over_of};
+ghost use Rattle.cqf_program_runs.specs.Following.{CanFollow, IsFollowed};
 ghost use Rattle.cqf_program_summary.specs.Counting.{SummaryWithin};
 ghost use Rattle.cqf_program_summary.specs.Gathering.{IsSummaryOf, IsSummaryOver};
 
 use crate::sums::Sums;
 use cqf_model::Offer;
-use cqf_program_runs::{Ended, Few, PlannedGiven, noted_of_scenario, put_those_of};
+use cqf_program_runs::{Ended, Few, PlannedGiven, UnderWay, noted_of_scenario, put_those_of};
 use cqf_topology::Domain;
 use cqf_units::{Memory, cycle_of};
 use std::alloc::Global;
@@ -23,16 +25,18 @@ fn is_run(domain: &Domain, cycles: u32, offer: &Offer) -> bool
     cycle_of(offer.at, domain.cycle_time()).0 < cycles
 }
 
-/// Adds the offers of a run that is over to sums to which none is added yet; what was there is room for the deliveries of one offer.
-fn gathered(here: Few, ended: &Ended<'_>, sums: Sums) -> Sums
-    requires over { IsOver (over_of ended.now) }
+/// Adds the offers of a run that is over, whose frames are followed from the first one on, to sums to which none is added yet; what was there
+/// is room for the deliveries of one offer.
+fn gathered(here: Few, under_way: UnderWay, ended: &Ended<'_>, sums: Sums) -> Sums
+    requires followed { CanFollow ended.now 0 under_way }
     requires fresh { SummaryWithin 0 sums }
-    ensures { IsSummaryOver (over_of ended.now) sums result }
+    ensures { (whole : ℕ → ℕ → Option AnInstant) → IsFollowed (over_of ended.now whole) 0 under_way →
+        IsSummaryOver (over_of ended.now whole) sums result }
 {
-    let (mut here, mut sums) = (here, sums);
+    let (mut here, mut under_way, mut sums) = (here, under_way, sums);
     for place in 0..ended.offers.len() {
         let offer = &ended.offers[place];
-        put_those_of(&mut here, ended, place);
+        put_those_of(&mut here, ended, &mut under_way, place);
         if is_run(ended.domain, ended.cycles, offer) {
             sums.add(&offer.stream, here.as_slice());
         }
@@ -54,7 +58,7 @@ pub(crate) fn sums_of_scenario(
     let given = &planned.given;
     let requests = given.requests.as_slice();
     let sums = Sums::new(alloc, &given.domain, requests, planned.deadlines.as_slice())?;
-    let noted = noted_of_scenario(alloc, cycles, planned)?;
+    let (noted, under_way) = noted_of_scenario(alloc, cycles, planned)?;
     let here = Few::new(alloc)?;
-    Ok(gathered(here, &noted.over(planned, cycles), sums))
+    Ok(gathered(here, under_way, &noted.over(planned, cycles), sums))
 }

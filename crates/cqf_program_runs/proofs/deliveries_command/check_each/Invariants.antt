@@ -1,7 +1,11 @@
--- None of the deliveries so far is bad, and all are counted.
+-- None of the deliveries so far is bad, all are counted, and the run is followed from the next offer on.
+use Rattle.std.proofs.Common.{ℕ, Option}
+use Rattle.cqf_units.specs.declared.timing.Nanos.{Nanos}
 use Rattle.cqf_program_runs.specs.Counting.{GoesWellSoFar}
 use Rattle.cqf_program_runs.specs.Ending.{over_of}
+use Rattle.cqf_program_runs.specs.Following.{IsFollowed}
 use Rattle.cqf_program_runs.proofs.deliveries_command.check_each.Given as goal
 
 abbrev pub invariant-loop-place : goal.invariant-loop-place
-invariant-loop-place l = GoesWellSoFar (over_of l.ended) l.later l.place l.counts
+invariant-loop-place l = (whole : ℕ → ℕ → Option Nanos) → IsFollowed (over_of l.ended whole) 0 l.initial.under_way →
+    IsFollowed (over_of l.ended whole) l.place l.under_way × GoesWellSoFar (over_of l.ended whole) l.later l.place l.counts

@@ -1,3 +1,5 @@
+use Rattle.std.proofs.Common.{subst, sym}
+use Rattle.cqf_program_runs.specs.DeliveriesOutput.{IsDeliveriesOutput}
 use Rattle.cqf_program_runs.proofs.Told.{IsDeliveriesOutput-made}
 use Rattle.cqf_program_runs.proofs.deliveries_command.deliveries_output.Goals as goal
 
@@ -6,4 +8,9 @@ output_of-requires-clause-may c = c.in_ok-planned.ensures.ok.may
 
 pub returns-in-Ok-clause-ok : goal.returns-in-Ok-clause-ok
 returns-in-Ok-clause-ok c =
-    IsDeliveriesOutput-made c.args.cycles c.args.input.now c.in_ok-planned.planned c.in-Ok.output c.in_ok-planned.ensures.ok c.in-Ok.ensures
+    let made = c.in-Ok.ensures in (
+      made.0,
+      made.1,
+      subst (IsDeliveriesOutput c.args.cycles c.args.input.now) (sym made.4)
+          (IsDeliveriesOutput-made c.args.cycles c.args.input.now c.in_ok-planned.planned made.2 c.in_ok-planned.ensures.ok made.3),
+    )

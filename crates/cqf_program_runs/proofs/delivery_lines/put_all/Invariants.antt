@@ -1,12 +1,15 @@
--- The lines of the deliveries of the offers so far are put.
-use Rattle.std.proofs.Common.{take}
+-- The lines of the deliveries of the offers so far are put, and the run is followed from the next one on.
+use Rattle.std.proofs.Common.{ℕ, Option, take}
+use Rattle.cqf_units.specs.declared.timing.Nanos.{Nanos}
 use Rattle.cqf_model.specs.Traffic.{numbered}
 use Rattle.cqf_program_press.specs.Press.{Puts}
 use Rattle.cqf_program_runs.specs.DeliveriesText.{lines_of_deliveries}
 use Rattle.cqf_program_runs.specs.Ending.{deliveries_among, over_of}
+use Rattle.cqf_program_runs.specs.Following.{IsFollowed}
 use Rattle.cqf_program_runs.proofs.delivery_lines.put_all.Given as goal
 
 abbrev pub invariant-loop-place : goal.invariant-loop-place
-invariant-loop-place g l =
-    Puts g.W.Write.contents l.initial.press l.press
-    (lines_of_deliveries (deliveries_among (over_of l.ended) (take l.place (numbered l.ended.offers.now))))
+invariant-loop-place g l = (whole : ℕ → ℕ → Option Nanos) → IsFollowed (over_of l.ended whole) 0 l.initial.under_way →
+    IsFollowed (over_of l.ended whole) l.place l.under_way
+    × Puts g.W.Write.contents l.initial.press l.press
+    (lines_of_deliveries (deliveries_among (over_of l.ended whole) (take l.place (numbered l.ended.offers.now))))

@@ -5,5 +5,6 @@ use Rattle.cqf_program_runs.specs.Ending.{deliveries_over, over_of}
 use Rattle.cqf_program_runs.proofs.delivery_lines.put_deliveries.Goals as goal
 
 pub returns : goal.returns
-returns g c =
-    Puts-then (line_of_fields deliveries_header) (lines_of_deliveries (deliveries_over (over_of c.args.ended.now))) c.put_header.ensures c.put_all.ensures
+returns g c = λ whole followed.
+    Puts-then (line_of_fields deliveries_header) (lines_of_deliveries (deliveries_over (over_of c.args.ended.now whole))) c.put_header.ensures
+    (c.put_all.ensures whole followed)

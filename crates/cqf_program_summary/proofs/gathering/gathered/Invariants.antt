@@ -1,7 +1,15 @@
--- The offers so far are added.
+-- The offers so far are added, and the run is followed from the next one on.
+use Rattle.std.proofs.Common.{ℕ, ◌*◌, Option}
+use Rattle.cqf_units.specs.declared.timing.Nanos.{Nanos}
 use Rattle.cqf_program_runs.specs.Ending.{over_of}
-use Rattle.cqf_program_summary.specs.Gathering.{IsSummarySoFar}
+use Rattle.cqf_program_runs.specs.Following.{IsFollowed}
+use Rattle.cqf_program_summary.specs.Counting.{SummaryWithin}
+use Rattle.cqf_program_summary.specs.Gathering.{IsSummaryOfFirst}
 use Rattle.cqf_program_summary.proofs.gathering.gathered.Given as goal
 
 abbrev pub invariant-loop-place : goal.invariant-loop-place
-invariant-loop-place l = IsSummarySoFar (over_of l.ended) l.place l.initial.sums l.sums
+invariant-loop-place l = record {
+  within : SummaryWithin (65 * l.place) l.sums;
+  so_far : (whole : ℕ → ℕ → Option Nanos) → IsFollowed (over_of l.ended whole) 0 l.initial.under_way →
+      IsFollowed (over_of l.ended whole) l.place l.under_way × IsSummaryOfFirst (over_of l.ended whole) l.place l.initial.sums l.sums;
+}

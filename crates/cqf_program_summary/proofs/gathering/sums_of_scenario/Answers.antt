@@ -1,7 +1,8 @@
-use Rattle.std.proofs.Common.{◌≡◌, ◌∙◌, [], ap, map, subst, sym}
+use Rattle.std.proofs.Common.{◌≡◌, ◌∙◌, [], map, subst, sym}
 use Rattle.cqf_admission.specs.Asking.{asked_of}
 use Rattle.cqf_program_runs.specs.Deadlines.{Due, deadline_in}
-use Rattle.cqf_program_runs.specs.Ending.{IsOver, Over, over_by}
+use Rattle.cqf_program_runs.specs.Ending.{Over, over_by}
+use Rattle.cqf_program_runs.specs.Following.{IsFollowed}
 use Rattle.cqf_program_summary.specs.Counting.{SummaryWithin}
 use Rattle.cqf_program_summary.specs.Gathering.{IsSummaryOver}
 use Rattle.cqf_program_summary.specs.Summary.{summary_by}
@@ -10,8 +11,13 @@ use Rattle.cqf_program_summary.proofs.Told.{IsSummaryOf-noted}
 use Rattle.cqf_program_summary.proofs.Within.{none_within}
 use Rattle.cqf_program_summary.proofs.gathering.sums_of_scenario.Goals as goal
 
-pub gathered-requires-clause-over : goal.gathered-requires-clause-over
-gathered-requires-clause-over c = subst IsOver (sym c.over.ensures) c.in_ok-noted.ensures.is_over
+pub gathered-requires-clause-followed : goal.gathered-requires-clause-followed
+gathered-requires-clause-followed c =
+    let noted = c.in_ok-noted.ensures in
+    record {
+      whole = noted.whole;
+      is = subst (λ (over : Over). IsFollowed over 0 c.in_ok-noted.under_way) (sym (c.over.ensures noted.whole)) noted.followed;
+    }
 
 pub gathered-requires-clause-fresh : goal.gathered-requires-clause-fresh
 gathered-requires-clause-fresh c =
@@ -29,7 +35,10 @@ returns c =
     c.in_ok-sums.ensures
     ∙ (λ i. summary_by d (told_streams (map asked_of (c.as_slice-requests.ensures.value i)))
     (deadline_in (record { requests = c.as_slice-requests.ensures.value i; deadlines = c.as_slice.ensures.value i })) [] []) in
-    let over : IsSummaryOver (over_by planned c.args.cycles c.in_ok-noted.noted) c.in_ok-sums.sums c.gathered.result =
-    subst (λ (o : Over). IsSummaryOver o c.in_ok-sums.sums c.gathered.result) c.over.ensures c.gathered.ensures in
-    IsSummaryOf-noted c.args.cycles planned c.in_ok-noted.noted c.gathered.result c.in_ok-noted.ensures
+    let noted = c.in_ok-noted.ensures in
+    let same = c.over.ensures noted.whole in
+    let followed = subst (λ (o : Over). IsFollowed o 0 c.in_ok-noted.under_way) (sym same) noted.followed in
+    let over : IsSummaryOver (over_by planned c.args.cycles c.in_ok-noted.noted noted.whole) c.in_ok-sums.sums c.gathered.result =
+    subst (λ (o : Over). IsSummaryOver o c.in_ok-sums.sums c.gathered.result) same (c.gathered.ensures noted.whole followed) in
+    IsSummaryOf-noted c.args.cycles planned c.in_ok-noted.noted c.in_ok-noted.under_way c.gathered.result noted
     (over (map asked_of requests) (deadline_in due) first)

@@ -1,7 +1,7 @@
 use Rattle.cqf_program_runs.proofs.deliveries_made.Noted.over.Goals as goal
 
 pub returns : goal.returns
-returns c = λ i. record {
+returns c = λ whole. λ i. record {
   domain = c.args.planned.now.given.domain;
   cycles = c.args.cycles;
   offers = c.as_slice.ensures.value i;
@@ -9,5 +9,5 @@ returns c = λ i. record {
   judgements = c.as_slice-3.ensures.value i;
   due = record { requests = c.as_slice-4.ensures.value i; deadlines = c.as_slice-5.ensures.value i };
   dues = c.as_slice-6.ensures.value i;
-  arrivals = c.args.self.now.arrivals;
+  whole = whole;
 }

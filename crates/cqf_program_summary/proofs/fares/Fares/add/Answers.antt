@@ -1,6 +1,5 @@
-use Rattle.std.proofs.Common.{◌≡◌, ◌+◌, List, arith, rules, subst, sym}
+use Rattle.std.proofs.Common.{◌≡◌, ◌+◌, arith, rules, subst, sym}
 use Rattle.std.proofs.lemmas.List.{places, with_items_is}
-use Rattle.cqf_program_summary.specs.declared.fares.Way.{Way}
 use Rattle.cqf_program_summary.specs.Counting.{AreApart, FareWithin, WaysWithin}
 use Rattle.cqf_program_summary.proofs.Apart.{passage_apart}
 use Rattle.cqf_program_summary.proofs.fares.Fares.add.Goals as goal

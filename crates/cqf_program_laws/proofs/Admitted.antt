@@ -1,0 +1,126 @@
+-- What a script admits is told of, so each row that covers an offer is that of a stream of which is told.
+use Rattle.std.proofs.Common.{◌≡◌, ◌∙◌, ℕ, Bool, true, List, Some, None, Option, Result, Ok, ap, filter, refl, subst, sym, take}
+use Rattle.std.specs.Prelude.{◌&&◌, is_none, nat_le, not}
+use Rattle.std.proofs.lemmas.Bool.{le-leb}
+use Rattle.cqf_lists.specs.Lists.{or_else}
+use Rattle.cqf_lists.specs.Results.{and_then}
+use Rattle.cqf_lists.proofs.Members.{contains_filter, place_of_member}
+use Rattle.cqf_units.specs.Name.{is_name}
+use Rattle.cqf_model.specs.declared.frames.Background.{Background}
+use Rattle.cqf_model.specs.declared.frames.Offer.{Offer}
+use Rattle.cqf_model.specs.declared.history.Receipt.{Receipt}
+use Rattle.cqf_model.specs.declared.history.Refused.{Refused}
+use Rattle.cqf_model.specs.declared.history.Refused.TheVariants.{BadName, BadOctets, UnknownNode, BrokenPath, LoopingPath, NotATree}
+use Rattle.cqf_model.specs.declared.history.Reply.TheVariants.{Accepted}
+use Rattle.cqf_model.specs.declared.topology.Row.{Row}
+use Rattle.cqf_model.specs.Domain.{Domain}
+use Rattle.cqf_model.specs.History.{Asked, IsLegalHistory, Recorded, admit_reply, held_in, next_number, refusal_of, refused_at, refused_if, reply_to, seals}
+use Rattle.cqf_laws_history.proofs.Granted.{granted}
+use Rattle.cqf_laws_latency.specs.Streams.{AdmitsOnly}
+use Rattle.cqf_text.specs.Lines.{lines_of}
+use Rattle.cqf_text.specs.Parts.{parts_of}
+use Rattle.cqf_topology.specs.DomainText.{domain_of_text}
+use Rattle.cqf_topology.specs.PlannedText.{PlannedText, planned_of_text}
+use Rattle.cqf_admission_script.specs.Script.{Called, administrators, script_of}
+use Rattle.cqf_program_stop.specs.Stops.{or_line}
+use Rattle.cqf_program_scenario.specs.Lines.{domain_line, script_line, streams_line}
+use Rattle.cqf_program_scenario.specs.Parts.{RunTexts, run_parts}
+use Rattle.cqf_program_scenario.specs.Scenario.{Scenario, frames_of_part, scenario_behind}
+use Rattle.cqf_program_plans.specs.LatencyInput.{asked_in}
+use Rattle.cqf_program_plans.proofs.CompileLemmas.{same_ok}
+use Rattle.cqf_program_runs.specs.PlannedScenario.{planned_scenario, planned_scenario_of}
+use Rattle.cqf_program_laws.specs.ScriptLaws.{AskOnly, ScriptsAskOnly}
+use Rattle.cqf_program_laws.proofs.Scripts.{lined, stepped}
+use Rattle.cqf_program_summary.specs.Told.{is_good, told_streams}
+use Rattle.cqf_program_laws.proofs.Firsts.{firsts, script_first, told_has}
+
+-- the calls of a scenario that was read are those of its script
+abbrev Read : Type 0
+Read = Scenario × List PlannedText
+
+abbrev made_of : RunTexts → Domain → List Called → List Offer × List Background → Scenario
+made_of texts d calls frames = record {
+  domain = d;
+  calls = calls;
+  sealer = administrators (lines_of texts.script);
+  offers = frames.0;
+  background = frames.1;
+}
+
+abbrev made_by : RunTexts → Domain → List Called → Result Scenario (List ℕ)
+made_by texts d calls = and_then (frames_of_part d texts) (λ (frames : List Offer × List Background). Ok (made_of texts d calls frames))
+
+made_calls : (texts : RunTexts) (d : Domain) (calls : List Called) (s : Scenario) → made_by texts d calls ≡ Ok s → calls ≡ s.calls
+made_calls texts d calls s h =
+    let c = stepped {B = Scenario} (frames_of_part d texts) (λ (frames : List Offer × List Background). Ok (made_of texts d calls frames)) s h in
+    ap (λ (z : Scenario). z.calls) (same_ok (made_of texts d calls c.0) s c.2)
+
+module _ (asks : ScriptsAskOnly) where
+  behind_ask : (cycles : ℕ) (d : Domain) (streams : List Asked) (texts : RunTexts) (s : Scenario) → scenario_behind cycles d streams texts ≡ Ok s →
+      AskOnly (firsts streams) s.calls
+  behind_ask cycles d streams texts s h =
+      let b = stepped {B = Scenario} (or_line script_line (script_of streams cycles texts.script)) (made_by texts d) s h in
+      subst (λ (xs : List Called). AskOnly (firsts streams) xs) (made_calls texts d b.0 s b.2)
+      (asks (firsts streams) cycles texts.script b.0
+      (sym (script_first streams cycles texts.script) ∙ lined script_line (script_of streams cycles texts.script) b.0 b.1))
+
+  read_ask : (cycles : ℕ) (texts : RunTexts) (d : Domain) (found : List PlannedText) (s : Scenario) (read : Read) →
+      scenario_behind cycles d (asked_in found) texts ≡ Ok s → ◌≡◌ {A = Result Read (List ℕ)} (Ok (s, found)) (Ok read) →
+      AskOnly (firsts (asked_in read.1)) read.0.calls
+  read_ask cycles texts d found s read h is =
+      let made : Read = (s, found) in
+      subst (λ (z : Read). AskOnly (firsts (asked_in z.1)) z.0.calls) (same_ok made read is) (behind_ask cycles d (asked_in found) texts s h)
+
+  abbrev with_scenario : List PlannedText → Scenario → Result Read (List ℕ)
+  with_scenario found scenario = Ok (scenario, found)
+
+  abbrev with_streams : ℕ → RunTexts → Domain → List PlannedText → Result Read (List ℕ)
+  with_streams cycles texts d found = and_then (scenario_behind cycles d (asked_in found) texts) (with_scenario found)
+
+  pub asks_firsts : (cycles : ℕ) (input : List ℕ) (read : Read) → planned_scenario cycles input ≡ Ok read → AskOnly (firsts (asked_in read.1)) read.0.calls
+  asks_firsts cycles input read h =
+      let t = stepped {B = Read} (run_parts (parts_of input)) (planned_scenario_of cycles) read h in
+      let texts : RunTexts = t.0 in
+      let a = stepped {B = Read} (or_line domain_line (domain_of_text texts.domain))
+      (λ (d : Domain). and_then (or_line streams_line (planned_of_text texts.streams)) (with_streams cycles texts d)) read t.2 in
+      let b = stepped {B = Read} (or_line streams_line (planned_of_text texts.streams)) (with_streams cycles texts a.0) read a.2 in
+      let c = stepped {B = Read} (scenario_behind cycles a.0 (asked_in b.0) texts) (with_scenario b.0) read b.2 in
+      read_ask cycles texts a.0 b.0 c.0 read c.1 c.2
+
+-- a stream that isn't refused is good, and named by a name
+refused_none : (number effect : ℕ) (refused : Option Refused) (receipt : Receipt) → admit_reply number effect refused ≡ Accepted receipt → refused ≡ None
+refused_none number effect None receipt e = refl
+refused_none number effect (Some refused) receipt e = absurd cc
+
+both_none : (a b : Option Refused) → a ≡ None → b ≡ None → or_else a b ≡ None
+both_none a b first second = ap (λ (o : Option Refused). or_else o b) first ∙ second
+
+good_granted : (d : Domain) (rows : List Row) (asked : Asked) → refusal_of d rows asked ≡ None → (is_name asked.name ≡ true) × (is_good d asked ≡ true)
+good_granted d rows asked none =
+    let g = granted d rows asked none in
+    let in_range : (nat_le 64 asked.octets && nat_le asked.octets 60000) ≡ true =
+    λ i. le-leb 64 asked.octets g.least_octets i && le-leb asked.octets 60000 g.most_octets i in
+    let name = ap {B = Option Refused} (λ (b : Bool). refused_if (not b) BadName) g.named in
+    let octets = ap {B = Option Refused} (λ (b : Bool). refused_if (not b) BadOctets) in_range in
+    let unknown = ap (refused_at (λ place. UnknownNode place)) g.known in
+    let broken = ap (refused_at (λ place. BrokenPath place)) g.whole in
+    let looping = ap (refused_at (λ place. LoopingPath place)) g.simple in
+    let stray = ap (refused_at (λ branch. NotATree branch)) g.together in (
+      g.named,
+      ap {B = Bool} (λ (o : Option Refused). is_none o)
+          (both_none _ _ name (both_none _ _ octets (both_none _ _ unknown (both_none _ _ broken (both_none _ _ looping stray))))),
+    )
+
+-- so a legal history that admits the first streams of their names alone admits the good ones of which is told alone
+pub admits_good : (d : Domain) (entries : List Recorded) (requests : List Asked) → IsLegalHistory d entries → AdmitsOnly (firsts requests) entries →
+    AdmitsOnly (filter (is_good d) (told_streams requests)) entries
+admits_good d entries requests legal only e asked receipt among admits accepted =
+    let place = place_of_member entries e among in
+    let reply = legal.replies place.0 e place.1 in
+    let before = take place.0 entries in
+    let none : refusal_of d (held_in d before (seals before)) asked ≡ None =
+    refused_none (next_number d before) (seals before) (refusal_of d (held_in d before (seals before)) asked) receipt
+    (sym (reply ∙ ap (reply_to d before) admits) ∙ accepted) in
+    let good = good_granted d (held_in d before (seals before)) asked none in
+    contains_filter (is_good d) (told_streams requests) asked
+    (told_has requests asked (only e asked receipt among admits accepted) good.0) good.1

@@ -1,0 +1,70 @@
+-- The starts of a run's first cycles, and when frames are whole by them.
+use Rattle.std.proofs.Common.{◌≡◌, ◌∙◌, ◌+◌, ◌-◌, ◌<◌, ◌≤◌, ◌++◌, ◌==◌, ◌&&◌, ℕ, List, None, Contains, ap, arith, length, option_map, subst, sym}
+use Rattle.std.specs.Option.{option_or}
+use Rattle.std.specs.Prelude.{suc, zero}
+use Rattle.std.proofs.lemmas.List.Folds.{find-append}
+use Rattle.cqf_lists.proofs.EachBelow.{contains_below, contains_from_below}
+use Rattle.cqf_lists.proofs.Members.{contains_from_map}
+use Rattle.cqf_instants.specs.Meaning.{Given as GivenRun}
+use Rattle.cqf_instants.specs.Progress.{starts_of_cycle}
+use Rattle.cqf_instants.proofs.Steps.{starts_more}
+use Rattle.cqf_model.specs.declared.frames.Started.{Started}
+use Rattle.cqf_model.specs.Book.{batch, started, starts_in}
+use Rattle.cqf_model.specs.Domain.{Domain}
+use Rattle.cqf_program_runs.specs.Deliveries.{start_on, whole_instant, whole_on}
+use Rattle.cqf_program_runs.specs.UnderWay.{starts_told}
+use Rattle.cqf_program_runs.proofs.Fates.{none_found}
+use Rattle.cqf_program_runs.proofs.KeptSlots.{not_these, or_none}
+
+-- what starts in a cycle has its number
+pub of_its_cycle : (given : GivenRun) (cycle : ℕ) (s : Started) → Contains (starts_of_cycle given cycle) s → s.cycle.0 ≡ cycle
+of_its_cycle given cycle s among =
+    let on = contains_from_below (starts_in given.run.domain given.net.carried cycle) (length given.run.domain.links) s among in
+    let sent = contains_from_map (started cycle on.0) (batch given.run.domain given.net.carried on.0 cycle) s on.2 in
+    sym (ap (λ (z : Started). z.cycle.0) sent.2)
+
+-- and what starts in the first cycles has a number below theirs, and starts in more of them
+pub told_in : (given : GivenRun) (cycles : ℕ) (s : Started) → Contains (starts_told given cycles) s → s.cycle.0 < cycles
+told_in given cycles s among =
+    let at = contains_from_below (starts_of_cycle given) cycles s among in
+    omega (arith, at.1, of_its_cycle given at.0 s at.2)
+
+pub told_later : (given : GivenRun) (cycles more : ℕ) (s : Started) → cycles ≤ more → Contains (starts_told given cycles) s → Contains (starts_told given more) s
+told_later given cycles more s fewer among =
+    let at = contains_from_below (starts_of_cycle given) cycles s among in
+    contains_below (starts_of_cycle given) more at.0 s (omega (arith, at.1, fewer)) at.2
+
+module _ (d : Domain) (starts : List Started) (frame link : ℕ) where
+  -- a frame of which nothing starts is whole nowhere
+  pub none_starts : ((s : Started) → Contains starts s → s.frame ≡ frame → ⊥) → start_on starts frame link ≡ None
+  none_starts none =
+      none_found (λ (z : Started). (z.frame == frame) && (z.link == link)) starts (λ s c. not_these s.frame s.link frame link (λ own _. none s c own))
+
+  pub none_whole : ((s : Started) → Contains starts s → s.frame ≡ frame → ⊥) → whole_on d starts frame link ≡ None
+  none_whole none = ap (option_map (whole_instant d)) (none_starts none)
+
+-- all starts of a frame are told where the last of them is
+module _ (given : GivenRun) (d : Domain) (told frame link : ℕ) where
+  by_more : (k : ℕ) → ((s : Started) → Contains (starts_told given (told + k)) s → s.frame ≡ frame → s.cycle.0 < told) →
+      start_on (starts_told given (told + k)) frame link ≡ start_on (starts_told given told) frame link
+  by_more zero early = (let same : told + 0 ≡ told = omega arith in ap (λ (n : ℕ). start_on (starts_told given n) frame link) same)
+  by_more (suc k) early =
+      let next : told + k + 1 ≡ told + suc k = omega arith in
+      let before = starts_told given (told + k) in
+      let more = starts_of_cycle given (told + k) in
+      let is : before ++ more ≡ starts_told given (told + suc k) = starts_more given (told + k) ∙ ap (starts_told given) next in
+      ap (λ (ss : List Started). start_on ss frame link) (sym is)
+      ∙ find-append (λ (z : Started). (z.frame == frame) && (z.link == link)) before more
+      ∙ ap (option_or (start_on before frame link)) (none_starts d more frame link (λ s among own.
+      let early_one = early s (contains_below (starts_of_cycle given) (told + suc k) (told + k) s (omega arith) among) own in
+      absurd (omega (arith, early_one, of_its_cycle given (told + k) s among))))
+      ∙ or_none (start_on before frame link)
+      ∙ by_more k (λ s among own. early s (told_later given (told + k) (told + suc k) s (omega arith) among) own)
+
+  pub all_told : (cycles : ℕ) → told ≤ cycles → ((s : Started) → Contains (starts_told given cycles) s → s.frame ≡ frame → s.cycle.0 < told) →
+      whole_on d (starts_told given told) frame link ≡ whole_on d (starts_told given cycles) frame link
+  all_told cycles fewer early =
+      let is : told + (cycles - told) ≡ cycles = omega (arith, fewer) in
+      ap (option_map (whole_instant d))
+      (sym (by_more (cycles - told) (subst (λ (n : ℕ). (s : Started) → Contains (starts_told given n) s → s.frame ≡ frame → s.cycle.0 < told) (sym is) early))
+      ∙ ap (λ (n : ℕ). start_on (starts_told given n) frame link) is)
