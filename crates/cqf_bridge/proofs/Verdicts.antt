@@ -40,7 +40,7 @@ use Rattle.cqf_bridge.specs.Taking.{CanRecord, HasClass, IsWaiting, MayBeTaken, 
 use Rattle.cqf_bridge.specs.Taking.{class_in, passes_by, queue_on, taken_in_cycle, verdict_as, verdict_if}
 use Rattle.cqf_bridge.specs.Taking.{verdict_taken, with_verdict}
 use Rattle.cqf_bridge.proofs.PutGates.{gate_beside, gate_put, kept_cases}
-use Rattle.cqf_model.proofs.Reservations.{max_of_reservation, within_reservation}
+use Rattle.cqf_bridge_gates.proofs.EachCycle.{most_in_each_cycle, within_each_cycle}
 use Rattle.cqf_bridge.proofs.Taking.{frames_none, not_out_of_order}
 
 -- what a gate's word tells of it
@@ -107,7 +107,7 @@ gate_counts : GateCountsCycles → (n reserved s octets t : ℕ) (gate : Gate) �
 gate_counts counts n reserved s octets t gate some entries same =
     let here : same_interval gate.entries s t ≡ true =
     ap (λ es. same_interval es s t) entries ∙ counts n reserved each_cycle 0 s t some ∙ eq-eqb (cycle_at n s) (cycle_at n t) same in
-    let most : octet_max_at gate.entries s ≡ Some reserved = ap (λ es. octet_max_at es s) entries ∙ max_of_reservation n reserved s some in
+    let most : octet_max_at gate.entries s ≡ Some reserved = ap (λ es. octet_max_at es s) entries ∙ most_in_each_cycle n reserved s some in
     let before : taken_at gate s ≡ taken_at gate t =
     ap (λ (b : Bool). if b then gate.taken else 0)
     (ap (λ es. same_interval es gate.last s) entries ∙ counts n reserved each_cycle 0 gate.last s some
@@ -115,7 +115,7 @@ gate_counts counts n reserved s octets t gate some entries same =
     ∙ sym (ap (λ es. same_interval es gate.last t) entries ∙ counts n reserved each_cycle 0 gate.last t some)) in
     let passes : lets_pass gate s octets ≡ nat_le (taken_at gate s + octets) reserved =
     ap (λ es. option_map_or (λ (entry : StreamEntry). within entry.octet_max (taken_at gate s + octets)) (slice_get es (place_at es s)) false) entries
-    ∙ within_reservation n reserved s some (taken_at gate s + octets) in
+    ∙ within_each_cycle n reserved s some (taken_at gate s + octets) in
     ap (λ (b : Bool). if b then taken_behind (octet_max_at gate.entries s) (taken_at gate s) octets else 0) here
     ∙ ap (λ (o : Option ℕ). taken_behind o (taken_at gate s) octets) most
     ∙ added_if (nat_le (taken_at gate s + octets) reserved) (taken_at gate s) octets

@@ -1,14 +1,14 @@
 -- What the gate of a reservation says of a frame, and what it counts, by the cycle.
 use Rattle.cqf_model.specs.Paces.{each_cycle}
-use Rattle.std.proofs.Common.{◌≡◌, ◌+◌, ◌≤◌, ◌<◌, ◌-◌, ℕ, Bool, sym, ap, ap₂, ◌∙◌, Option}
+use Rattle.std.proofs.Common.{◌≡◌, ◌+◌, ◌≤◌, ◌<◌, ℕ, Bool, sym, ap, ap₂, ◌∙◌, Option}
 use Rattle.std.specs.Prelude.{◌==◌, if◌then◌else◌, nat_le}
 use Rattle.std.proofs.lemmas.Bool.{cond-false, cond-true, le-leb, lt-leb}
 use Rattle.cqf_units.specs.Timing.{cycle_at}
 use Rattle.cqf_model.specs.StreamGate.{gate_class, stream_list}
-use Rattle.cqf_model.proofs.Reservations.{max_of_reservation, within_reservation}
 use Rattle.cqf_gates.specs.StreamGate.{Gate, gate_after, lets_pass, taken_at, taken_behind, verdict_on}
 use Rattle.cqf_gates.specs.declared.streams.Passed.TheVariants.{Class, OverOctets}
 use Rattle.cqf_laws_cycle.specs.Compiled.{GateCountsCycles, GateGivesClass, given_class}
+use Rattle.cqf_bridge_gates.proofs.EachCycle.{most_in_each_cycle, within_each_cycle}
 
 -- the gate of a reservation that has been called last at an instant
 abbrev pub reserved_gate : (n reserved last taken : ℕ) → Gate
@@ -25,14 +25,14 @@ module _ (counts : GateCountsCycles) (n reserved last cycle before t octets take
   -- the frame passes where it is within the reservation
   passes : lets_pass (reserved_gate n reserved last before) t octets ≡ nat_le (taken + octets) reserved
   passes =
-      within_reservation n reserved t some (taken_at (reserved_gate n reserved last before) t + octets)
+      within_each_cycle n reserved t some (taken_at (reserved_gate n reserved last before) t + octets)
       ∙ ap (λ (k : ℕ). nat_le (k + octets) reserved) counted
 
   -- the gate behind it
   behind : (sum : ℕ) → (if nat_le (taken + octets) reserved then taken + octets else taken) ≡ sum →
       reserved_gate n reserved t sum ≡ gate_after (reserved_gate n reserved last before) t octets
   behind sum e =
-      ap (reserved_gate n reserved t) (sym (ap₂ (λ (most : Option ℕ) (k : ℕ). taken_behind most k octets) (max_of_reservation n reserved t some) counted ∙ e))
+      ap (reserved_gate n reserved t) (sym (ap₂ (λ (most : Option ℕ) (k : ℕ). taken_behind most k octets) (most_in_each_cycle n reserved t some) counted ∙ e))
 
   -- a frame that isn't within it doesn't pass, and takes nothing
   pub over : reserved < taken + octets → (OverOctets ≡ verdict_on (reserved_gate n reserved last before) t octets)

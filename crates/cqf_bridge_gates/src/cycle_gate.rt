@@ -34,6 +34,7 @@ pub(crate) struct CycleGate {
 impl Model for CycleGate {
     ghost use Rattle.std.specs.Prelude.{◌≡◌, ◌<◌};
     ghost use Rattle.cqf_units.specs.Timing.{cycle_at};
+    ghost use Rattle.cqf_model.specs.Paces.{each_cycle};
     ghost use Rattle.cqf_model.specs.StreamGate.{stream_list};
     ghost use Rattle.cqf_gates.specs.StreamGate.{Gate};
 

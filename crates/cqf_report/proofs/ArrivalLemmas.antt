@@ -10,7 +10,7 @@ use Rattle.cqf_text.specs.Decimal.{decimal_in}
 
 -- an arrival that four fields write
 arrival-with : (at class octets frame : Option ℕ) (arrival : Arrival)
-    → ((n : ℕ) → at ≡ Some n → n ≤ rows_within profile00) → ((n : ℕ) → class ≡ Some n → n ≤ 7) → ((n : ℕ) → octets ≡ Some n → (64 ≤ n) × (n ≤ 1522))
+    → ((n : ℕ) → at ≡ Some n → n ≤ 100000000) → ((n : ℕ) → class ≡ Some n → n ≤ 7) → ((n : ℕ) → octets ≡ Some n → (64 ≤ n) × (n ≤ 1522))
     → arrival_with at class octets frame ≡ Some arrival → IsArrival arrival
 arrival-with None class octets frame arrival early classed sized e = cc
 arrival-with (Some at) None octets frame arrival early classed sized e = cc

@@ -255,6 +255,12 @@ none_most starts most ordered is = record {
   with_rest = λ link below. omega (arith, ap (λ (xs : List ℕ). slice_index xs link) is ∙ get_or-replicate 65536 link 0 0 below);
 }
 
+-- behind the last batch each link has the most of all
+pub all_most : (starts rest : List Started) (most : List ℕ) → AreMostSoFar starts rest most → length rest ≡ 0 → (link : ℕ) → link < 65536 →
+    slice_index most link ≡ most_on link starts
+all_most starts [] most so_far ended link below = omega (arith, so_far.with_rest link below)
+all_most starts (first ∷ rest) most so_far ended link below = absurd (omega (arith, ended))
+
 -- one batch more
 pub more_most : (starts rest batch later : List Started) (most : List ℕ) (d : Started) (octets : ℕ) → rest ≡ batch ++ later → 0 < length batch →
     IsChunkByPrefix are_of_one_batch rest (length batch) → octets ≡ sum_by (λ (start : Started). start.octets) batch → AreMostSoFar starts rest most →

@@ -1,6 +1,6 @@
 //! The sums of streams' frames by link, written as a text.
 
-ghost use Rattle.std.specs.Prelude.{ℕ, ◌≡◌, ◌≤◌, ◌<◌, ◌^◌, ◌++◌, [], List, IfOk, OnOk, Some, length, map, max, sum, sum_by, slice_index, slice_set};
+ghost use Rattle.std.specs.Prelude.{ℕ, ◌≡◌, ◌≤◌, ◌<◌, ◌^◌, ◌++◌, [], List, IfOk, OnOk, Some, length, map, max, replicate, sum, sum_by, slice_index, slice_set};
 ghost use Rattle.cqf_lists.specs.ByNumber.{AddsTo, lists_of};
 ghost use Rattle.cqf_model.specs.Book.{contents_of};
 ghost use Rattle.cqf_model.specs.declared.frames.Started.{Started as AStarted};
@@ -138,13 +138,21 @@ fn raise(most: &mut Vec<u128>, link: u16, octets: u128)
     most[place] = most[place].max(octets);
 }
 
+/// So many zeros.
+fn zeros(alloc: Global, count: usize) -> Result<Vec<u128>, Memory>
+    ensures { IfOk result (λ zeros. zeros.items ≡ replicate count 0) }
+{
+    let zeros = vec![in alloc; 0; count]?;
+    Ok(zeros)
+}
+
 /// The most octets that each of the links 0 to 65,535 has in one cycle. Starts on one link in one cycle stand side by side.
 fn most_by_link(alloc: Global, starts: &[Started]) -> Result<Vec<u128>, Memory>
     requires { AreSumsInOrder starts.now }
     ensures all { IfOk result (λ most. length most.items ≡ 65536) }
     ensures most { IfOk result (λ most. (link : ℕ) → link < 65536 → slice_index most.items link ≡ most_on link starts.now) }
 {
-    let mut most: Vec<u128> = vec![in alloc; 0; LINKS]?;
+    let mut most = zeros(alloc, LINKS)?;
     for batch in starts.chunk_by(
         |first: &Started, second: &Started| -> bool
             ensures { result ≡ are_of_one_batch first.now second.now }

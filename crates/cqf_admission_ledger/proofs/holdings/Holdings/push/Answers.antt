@@ -1,7 +1,7 @@
 use Rattle.std.proofs.Common.{◌≡◌, ◌+◌, ◌<◌, ◌^◌, ◌++◌, ◌∷◌, [], arith, ap, sym, subst, ℕ, length, map, List, ◌∙◌}
 use Rattle.std.proofs.lemmas.List.{length-map, map-append}
 use Rattle.cqf_admission_trees.specs.Sums.{AreMoreOn, HaveRoomOn, part_on}
-use Rattle.cqf_admission_ledger.specs.Holdings.{AreAlong, HaveFigures, IsFree, Standing, Stands, held_cost, standing_of}
+use Rattle.cqf_admission_ledger.specs.Holdings.{AreAlong, IsFree, Standing, Stands, held_cost, standing_of}
 use Rattle.cqf_admission_ledger.proofs.Figures.{figures_more, have_room, held_few}
 use Rattle.cqf_admission_ledger.proofs.holdings.Holdings.push.Goals as goal
 

@@ -1,11 +1,11 @@
-use Rattle.std.proofs.Common.{◌≡◌, ◌∙◌, ◌-◌, ◌<◌, List, get_or, length, sym, subst, arith}
+use Rattle.std.proofs.Common.{◌≡◌, ◌∙◌, ℕ, ◌-◌, ◌<◌, List, get_or, length, refl, sym, subst, arith}
 use Rattle.std.proofs.lemmas.List.{get_or_default, length-map}
 use Rattle.cqf_topology.specs.declared.streams.Request.{Request}
 use Rattle.cqf_admission.specs.Asking.{asked_of}
 use Rattle.cqf_admission_ledger.specs.declared.forms.Form.{Form}
-use Rattle.cqf_admission_ledger.specs.Holdings.{Standing, standing_of}
+use Rattle.cqf_admission_ledger.specs.Holdings.{AreAlong, Standing, standing_of}
 use Rattle.cqf_admission_ledger.specs.declared.logs.Logged.{Logged}
-use Rattle.cqf_admission_ledger.specs.Forms.{IsFormOf, IsSeen}
+use Rattle.cqf_admission_ledger.specs.Forms.{IsFormOf, IsSeen, IsStandBy}
 use Rattle.cqf_admission_ledger.specs.Ledger.{Kept}
 use Rattle.cqf_admission_ledger.specs.Running.{AreOf, AreThere}
 use Rattle.cqf_admission_ledger.proofs.Calls.{admit_granted, admit_refused, entries_of}
@@ -94,8 +94,8 @@ weigh-requires-clause-within c =
 pub weigh-requires-clause-columns : goal.weigh-requires-clause-columns
 weigh-requires-clause-columns c = c.reserve-2.ensures.links ∙ c.self.invariant.5
 
-pub invariant_of-self-in_err-stand_by-in-None : goal.invariant_of-self-in_err-stand_by-in-None
-invariant_of-self-in_err-stand_by-in-None c =
+pub invariant_of-self-in_err-stand-in-None : goal.invariant_of-self-in_err-stand-in-None
+invariant_of-self-in_err-stand-in-None c =
     let i = c.self.inside in
     let d = i.domain.now in
     let rs = i.requests.now in
@@ -133,8 +133,14 @@ push-requires-clause-along c =
     let of : IsFormOf d rs (asked_of request) read =
     subst (λ (f : Form). IsFormOf d rs (asked_of request) f) (sym at)
     (subst (λ (names : List Request). IsFormOf d names (asked_of request) form) c.self.invariant.2 c.in_ok-see.ensures.form) in
-    (weighs_one d rs (entries_of rs script i.log.items) c.reserve-2.new.self.rows i.slots i.sealed r laws.held c.know_domain.ensures (asked_of request) read
-    (standing_of c.in_ok-stand-in-None.stand) of c.in-None.ensures c.in_ok-stand-in-None.ensures).along
+    let stood = c.index-in-None.result.now in
+    let there : stood ≡ form = put_there i.forms.items c.args.place form stood (omega (arith, low, c.self.invariant.1.as_many)) c.index-in-None.ensures in
+    let by : IsStandBy read (standing_of c.in_ok-stand-in-None.stand) =
+    subst (λ (f : Form). IsStandBy f (standing_of c.in_ok-stand-in-None.stand)) (there ∙ sym at) c.in_ok-stand-in-None.ensures in
+    let stand = standing_of c.in_ok-stand-in-None.stand in
+    subst (λ (many : ℕ). AreAlong many stand.links) (sym (c.reserve-2.ensures.links ∙ c.self.invariant.5))
+    (weighs_one d rs (entries_of rs script i.log.items) c.reserve-2.new.self.rows i.slots i.sealed r laws.held c.know_domain.ensures (asked_of request) refl read
+    (standing_of c.in_ok-stand-in-None.stand) of c.in-None.ensures by).along
 
 pub push-requires-clause-fits : goal.push-requires-clause-fits
 push-requires-clause-fits c =
@@ -155,11 +161,15 @@ push-requires-clause-fits c =
     let of : IsFormOf d rs (asked_of request) read =
     subst (λ (f : Form). IsFormOf d rs (asked_of request) f) (sym at)
     (subst (λ (names : List Request). IsFormOf d names (asked_of request) form) c.self.invariant.2 c.in_ok-see.ensures.form) in
-    (weighs_one d rs (entries_of rs script i.log.items) c.reserve-2.new.self.rows i.slots i.sealed r laws.held c.know_domain.ensures (asked_of request) read
-    (standing_of c.in_ok-stand-in-None.stand) of c.in-None.ensures c.in_ok-stand-in-None.ensures).fits
+    let stood = c.index-in-None.result.now in
+    let there : stood ≡ form = put_there i.forms.items c.args.place form stood (omega (arith, low, c.self.invariant.1.as_many)) c.index-in-None.ensures in
+    let by : IsStandBy read (standing_of c.in_ok-stand-in-None.stand) =
+    subst (λ (f : Form). IsStandBy f (standing_of c.in_ok-stand-in-None.stand)) (there ∙ sym at) c.in_ok-stand-in-None.ensures in
+    λ l inside. (weighs_one d rs (entries_of rs script i.log.items) c.reserve-2.new.self.rows i.slots i.sealed r laws.held c.know_domain.ensures (asked_of request) refl read
+    (standing_of c.in_ok-stand-in-None.stand) of c.in-None.ensures by).fits l
 
-pub invariant_of-self-in_ok-stand-in-None : goal.invariant_of-self-in_ok-stand-in-None
-invariant_of-self-in_ok-stand-in-None c =
+pub invariant_of-self-in-None : goal.invariant_of-self-in-None
+invariant_of-self-in-None c =
     let i = c.self.inside in
     let d = i.domain.now in
     let rs = i.requests.now in
@@ -177,6 +187,10 @@ invariant_of-self-in_ok-stand-in-None c =
     let of : IsFormOf d rs (asked_of request) read =
     subst (λ (f : Form). IsFormOf d rs (asked_of request) f) (sym at)
     (subst (λ (names : List Request). IsFormOf d names (asked_of request) form) c.self.invariant.2 c.in_ok-see.ensures.form) in
+    let stood = c.index-in-None.result.now in
+    let there : stood ≡ form = put_there i.forms.items c.args.place form stood (omega (arith, low, c.self.invariant.1.as_many)) c.index-in-None.ensures in
+    let by : IsStandBy read (standing_of c.in_ok-stand-in-None.stand) =
+    subst (λ (f : Form). IsStandBy f (standing_of c.in_ok-stand-in-None.stand)) (there ∙ sym at) c.in_ok-stand-in-None.ensures in
     let few : length i.log.items - i.sealed < 100000 = omega (arith, c.if-len-self-ge-MOST_CALLS.false, c.len.ensures) in
     let known = forms_set d rs i.names i.forms.items c.args.place request form c.self.invariant.1 c.self.invariant.2 low is c.in_ok-see.ensures.form in
     let done = admit_granted d rs script i.log.items c.reserve.new.self.items c.enter.new.log.items c.reserve-2.new.self.rows i.slots i.sealed r
@@ -184,7 +198,7 @@ invariant_of-self-in_ok-stand-in-None c =
     c.streams_follow_history.ensures.granted c.know_domain.ensures c.args.seat c.args.place request read (standing_of c.in_ok-stand-in-None.stand)
     c.push.new.self.rows
     (record { no = c.len-no.result; effect = record { 0 = i.sealed } }) low is of c.in-None.ensures
-    c.in_ok-stand-in-None.ensures
+    by
     (λ k. record { no = c.len-no.ensures k; effect = record { 0 = i.sealed } }) c.push.ensures.rows c.enter.ensures in (
       done.of,
       known,
@@ -213,13 +227,17 @@ returns-in_ok-stand-in-None-clause-answers c =
     let of : IsFormOf d rs (asked_of request) read =
     subst (λ (f : Form). IsFormOf d rs (asked_of request) f) (sym at)
     (subst (λ (names : List Request). IsFormOf d names (asked_of request) form) c.self.invariant.2 c.in_ok-see.ensures.form) in
+    let stood = c.index-in-None.result.now in
+    let there : stood ≡ form = put_there i.forms.items c.args.place form stood (omega (arith, low, c.self.invariant.1.as_many)) c.index-in-None.ensures in
+    let by : IsStandBy read (standing_of c.in_ok-stand-in-None.stand) =
+    subst (λ (f : Form). IsStandBy f (standing_of c.in_ok-stand-in-None.stand)) (there ∙ sym at) c.in_ok-stand-in-None.ensures in
     let few : length i.log.items - i.sealed < 100000 = omega (arith, c.if-len-self-ge-MOST_CALLS.false, c.len.ensures) in
     (admit_granted d rs script i.log.items c.reserve.new.self.items c.enter.new.log.items c.reserve-2.new.self.rows i.slots i.sealed r
     c.self.invariant.4 c.args.self.now c.self.view_is c.reserve.ensures.items few laws.goes_on laws.counted laws.held laws.granted
     c.streams_follow_history.ensures.granted c.know_domain.ensures c.args.seat c.args.place request read (standing_of c.in_ok-stand-in-None.stand)
     c.push.new.self.rows
     (record { no = c.len-no.result; effect = record { 0 = i.sealed } }) low is of c.in-None.ensures
-    c.in_ok-stand-in-None.ensures
+    by
     (λ k. record { no = c.len-no.ensures k; effect = record { 0 = i.sealed } }) c.push.ensures.rows c.enter.ensures).answers
 
 pub returns-in_ok-stand-in-None-clause-held : goal.returns-in_ok-stand-in-None-clause-held
@@ -241,13 +259,17 @@ returns-in_ok-stand-in-None-clause-held c =
     let of : IsFormOf d rs (asked_of request) read =
     subst (λ (f : Form). IsFormOf d rs (asked_of request) f) (sym at)
     (subst (λ (names : List Request). IsFormOf d names (asked_of request) form) c.self.invariant.2 c.in_ok-see.ensures.form) in
+    let stood = c.index-in-None.result.now in
+    let there : stood ≡ form = put_there i.forms.items c.args.place form stood (omega (arith, low, c.self.invariant.1.as_many)) c.index-in-None.ensures in
+    let by : IsStandBy read (standing_of c.in_ok-stand-in-None.stand) =
+    subst (λ (f : Form). IsStandBy f (standing_of c.in_ok-stand-in-None.stand)) (there ∙ sym at) c.in_ok-stand-in-None.ensures in
     let few : length i.log.items - i.sealed < 100000 = omega (arith, c.if-len-self-ge-MOST_CALLS.false, c.len.ensures) in
     (admit_granted d rs script i.log.items c.reserve.new.self.items c.enter.new.log.items c.reserve-2.new.self.rows i.slots i.sealed r
     c.self.invariant.4 c.args.self.now c.self.view_is c.reserve.ensures.items few laws.goes_on laws.counted laws.held laws.granted
     c.streams_follow_history.ensures.granted c.know_domain.ensures c.args.seat c.args.place request read (standing_of c.in_ok-stand-in-None.stand)
     c.push.new.self.rows
     (record { no = c.len-no.result; effect = record { 0 = i.sealed } }) low is of c.in-None.ensures
-    c.in_ok-stand-in-None.ensures
+    by
     (λ k. record { no = c.len-no.ensures k; effect = record { 0 = i.sealed } }) c.push.ensures.rows c.enter.ensures).holds
 
 pub invariant_of-self-in-Some : goal.invariant_of-self-in-Some
