@@ -7,7 +7,7 @@ use Rattle.cqf_program_summary.specs.declared.listing.Listed.{Listed}
 use Rattle.cqf_program_summary.specs.Listing.{AreBounded, IsOfStream, cost_in, fare_named}
 use Rattle.cqf_program_summary.specs.Summary.{Fare, Summary, fare_of, summary_by}
 use Rattle.cqf_program_summary.specs.Told.{told_cost, told_streams}
-use Rattle.cqf_program_summary.proofs.Listed.{first_fares, listed_are}
+use Rattle.cqf_program_summary.proofs.Listed.{bounded_listing, first_fares, listed_are}
 use Rattle.cqf_program_summary.proofs.sums.Sums.new.Goals as goal
 
 pub fares_of-requires-clause-bounded : goal.fares_of-requires-clause-bounded
