@@ -90,6 +90,13 @@ module _ (old new : Administration) (asked : Asked) (receipt : Receipt) (answers
   entered : new.entries ≡ with_asked old.domain old.entries asked
   entered = answers.entered refl ∙ ap (λ reply. with_entry old.entries 0 (Admits asked) reply) (answers.due refl)
 
+  -- so those behind it are admitted behind that entry
+  pub granted-goes_on : (place : ℕ) (more : List Asked) →
+      admitted_from old.domain old.entries place (asked ∷ more) ≡ admitted_from old.domain new.entries (place + 1) more
+  granted-goes_on place more =
+      ap (λ (r : Option Refused). refuse r (stream_line place) (admitted_from old.domain (with_asked old.domain old.entries asked) (place + 1) more)) none_due
+      ∙ ap (λ (entries : List Recorded). admitted_from old.domain entries (place + 1) more) (sym entered)
+
   -- so its stream is held with the others
   pub granted-held : HistoryGoesOn → SealsAreCounted → GrantedIsHeld → GrantedFindsRoom → AreAllHeld old.domain old.entries → AreAllHeld new.domain new.entries
   granted-held goes_on counted grants finds all =

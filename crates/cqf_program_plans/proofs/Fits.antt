@@ -1,12 +1,12 @@
 -- What fits is what is accepted.
-use Rattle.std.proofs.Common.{ℕ, ◌≡◌, ◌≤◌, ◌<◌, ◌+◌, ◌-◌, ◌==◌, ◌/◌, ◌%◌, ◌∙◌, Bool, true, false, not, ◌&&◌, cond, nat_lt, Option}
-use Rattle.std.proofs.Common.{Some, None, List, [], ◌∷◌, length, get_or, fold, max, ap, arith, subst, sym, refl, inl, inr}
+use Rattle.std.proofs.Common.{ℕ, ◌≡◌, ◌≤◌, ◌<◌, ◌+◌, ◌++◌, ◌-◌, ◌==◌, ◌/◌, ◌%◌, ◌∙◌, Bool, true, false, not, ◌&&◌, cond, nat_lt, Option}
+use Rattle.std.proofs.Common.{Some, None, List, [], ◌∷◌, append-nil, length, get_or, fold, max, ap, arith, subst, sym, refl, inl, inr}
 use Rattle.std.specs.Prelude.{All, find, if◌then◌else◌, nat_le, suc, zero}
 use Rattle.std.specs.List.{list_any}
 use Rattle.std.proofs.lemmas.Bool.{and_from, cases_Bool, leb-true, leb-false, ltb-false, le-ltb, eq-eqb}
 use Rattle.std.proofs.lemmas.List.{get_or-map, length-map}
 use Rattle.std.proofs.lemmas.List.Folds.{list_any_at}
-use Rattle.std.proofs.lemmas.List.Sums.{fold-append}
+use Rattle.std.proofs.lemmas.List.Sums.{fold_push}
 use Rattle.std.proofs.lemmas.List.Elements.{All-cons, All-head, All-nil, All-tail}
 use Rattle.cqf_lists.specs.Lists.{each_below, or_else}
 use Rattle.cqf_units.specs.Name.{is_name}
@@ -123,7 +123,7 @@ module _ (d : Domain) (rows : List Row) (asked : Asked) (h : listing_refusal d r
   by_budget : refusal_of d rows asked ≡ short_refusal d rows (cost_of asked.octets) (pace_of asked) (tree_of d asked.paths)
   by_budget = refusal_later d rows asked form ∙ refusal_last d rows asked free few
 
-  refused_short : ℕ → Refused
+  abbrev refused_short : ℕ → Refused
   refused_short l = BudgetShort l (left_on d rows (tree_of d asked.paths) (pace_of asked) l)
 
   -- what its links have left for it, where it is one of each cycle, they have left in each
@@ -167,23 +167,37 @@ accepted_listed d rows asked none =
     ∙ ap (λ o. or_else o many) (first_none held (or_else many short) behind)
     ∙ first_none many short (second_none held (or_else many short) behind)
 
+-- the greater of two numbers that are within a third is within it
+within_both : (a b most : ℕ) → a ≤ most → b ≤ most → max a b ≤ most
+within_both a b most first second = omega arith
+
+-- the most of what is taken in some turns is within what each of these is within
+most_taken : (test : ℕ → Bool) (costs : ℕ → ℕ) (most : ℕ) → ((turn : ℕ) → test turn ≡ true → costs turn ≤ most) → (n : ℕ) →
+    fold max 0 (each_below (λ turn. if test turn then costs turn ∷ [] else []) n) ≤ most
+most_taken test costs most each zero = omega arith
+most_taken test costs most each (suc n) =
+    let before : List ℕ = each_below (λ turn. if test turn then costs turn ∷ [] else []) n in
+    let so_far : fold max 0 before ≤ most = most_taken test costs most each n in
+    elim (cases_Bool (test n)) [
+      | inl on ↦
+          subst (λ (b : Bool). fold max 0 (before ++ (if b then costs n ∷ [] else [])) ≤ most) (sym on)
+          (subst (λ (x : ℕ). x ≤ most) (sym (fold_push max 0 before (costs n))) (within_both (fold max 0 before) (costs n) most so_far (each n on)))
+      | inr off ↦
+          subst (λ (b : Bool). fold max 0 (before ++ (if b then costs n ∷ [] else [])) ≤ most) (sym off)
+          (subst (λ (xs : List ℕ). fold max 0 xs ≤ most) (sym (append-nil before)) so_far)
+    ]
+
 -- the most that streams cost of a link in the turns of another is within what they cost at most in each of these
 most_within : (rows : List Row) (tree : List Hop) (pace : Pace) (l most : ℕ) → ((turn : ℕ) → uses tree pace l turn ≡ true → link_cost rows l turn ≤ most) →
     most_beside rows tree pace l ≤ most
-most_within rows tree pace l most each = go 80 where
-  taken : Bool → ℕ → List ℕ
-  taken b k = if b then link_cost rows l k ∷ [] else []
+most_within rows tree pace l most each = most_taken (uses tree pace l) (link_cost rows l) most each 80
 
-  more : (k so_far : ℕ) (b : Bool) → uses tree pace l k ≡ b → so_far ≤ most → fold max so_far (taken b k) ≤ most
-  more k so_far true is low = omega (arith, each k is, low)
-  more k so_far false is low = low
+-- where a cost and what is held are within a budget, the rest of it has room for both
+beside_cost : (held mine cost most : ℕ) → held + mine ≤ most → mine ≡ cost → held ≤ most - cost
+beside_cost held mine cost most room is = omega arith
 
-  go : (n : ℕ) → fold max 0 (each_below (λ k. taken (uses tree pace l k) k) n) ≤ most
-  go zero = omega arith
-  go (suc n) =
-      subst (λ (x : ℕ). x ≤ most)
-      (sym (fold-append max 0 (each_below (λ k. taken (uses tree pace l k) k) n) (taken (uses tree pace l n) n)))
-      (more n (fold max 0 (each_below (λ k. taken (uses tree pace l k) k) n)) (uses tree pace l n) refl (go n))
+room_beside : (held mine cost beside most : ℕ) → held + mine ≤ most → mine ≡ cost → beside ≤ most - cost → cost ≤ most - beside
+room_beside held mine cost beside most room is low = omega arith
 
 -- a stream uses the links of its tree in some cycle
 in_a_turn : (tree : List Hop) (pace : Pace) (k : ℕ) (none : Hop) → k < length tree → (turn : ℕ) × (uses tree pace (get_or tree k none).link turn ≡ true)
@@ -211,12 +225,16 @@ accepted_where_room d rows asked h room =
     let pace = pace_of asked in
     let cost : (turn : ℕ) → uses tree pace l turn ≡ true → cost_on (listed_row d rows asked) l turn ≡ cost_of asked.octets =
     λ turn on. ap {B = ℕ} (λ (b : Bool). if b then cost_of asked.octets else 0) on in
-    let most = most_within rows tree pace l (budget d l - cost_of asked.octets) (λ turn on. omega (arith, room l turn (inside k other low), cost turn on)) in
+    let new = listed_row d rows asked in
+    let most = most_within rows tree pace l (budget d l - cost_of asked.octets)
+    (λ turn on. beside_cost (link_cost rows l turn) (cost_on new l turn) (cost_of asked.octets) (budget d l) (room l turn (inside k other low)) (cost turn on)) in
     let below : k < length tree = omega (arith, low, length-map tree (λ (hop : Hop). hop.link)) in
     let on : (turn : ℕ) × (uses tree pace l turn ≡ true) =
     subst (λ n. (turn : ℕ) × (uses tree pace n turn ≡ true)) (sym (get_or-map (λ (hop : Hop). hop.link) tree k first other below))
     (in_a_turn tree pace k first below) in
-    le-ltb (left_on d rows tree pace l) (cost_of asked.octets) (omega (arith, most, room l on.0 (inside k other low), cost on.0 on.1))) in
+    le-ltb (left_on d rows tree pace l) (cost_of asked.octets)
+    (room_beside (link_cost rows l on.0) (cost_on new l on.0) (cost_of asked.octets) (most_beside rows tree pace l) (budget d l)
+    (room l on.0 (inside k other low)) (cost on.0 on.1) most)) in
     by_budget d rows asked h ∙ ap (refused_at (refused_short d rows asked h)) (none_found (is_short d rows asked h) links enough)
 
 pub one_more : OneMoreFits

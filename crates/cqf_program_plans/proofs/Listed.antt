@@ -17,18 +17,22 @@ use Rattle.cqf_program_plans.specs.Adding.{AddsWhere}
 use Rattle.cqf_program_plans.specs.Fitting.{streams_on}
 use Rattle.cqf_program_plans.specs.Listing.{IsListing}
 
+-- of as many sums that are each 0, each is
+none_held : (sums : List ℕ) (count l : ℕ) → sums ≡ replicate count 0 → l < count → slice_index_or sums l 0 ≡ 0
+none_held sums count l is low = ap (λ (s : List ℕ). slice_index_or s l 0) is ∙ get_or-replicate {A = ℕ} count l 0 0 low
+
 -- no streams
-pub none_listed : IsListing [] [] (replicate 4096 0) (replicate 4096 0)
-none_listed = record {
+pub none_listed : (held crossing : List ℕ) → held ≡ replicate 4096 0 → crossing ≡ replicate 4096 0 → IsListing [] [] held crossing
+none_listed held crossing costs counts = record {
   are_names = refl;
   paced = λ row among. absurd (contains_none row among);
   few = omega arith;
-  costs = length-replicate {A = ℕ} 4096 0;
-  counts = length-replicate {A = ℕ} 4096 0;
-  cost = λ l low. get_or-replicate {A = ℕ} 4096 l 0 0 low;
-  bounded = λ l low. omega (arith, get_or-replicate {A = ℕ} 4096 l 0 0 low);
-  count = λ l low. get_or-replicate {A = ℕ} 4096 l 0 0 low;
-  counted = λ l low. omega (arith, get_or-replicate {A = ℕ} 4096 l 0 0 low);
+  costs = ap length costs ∙ length-replicate {A = ℕ} 4096 0;
+  counts = ap length counts ∙ length-replicate {A = ℕ} 4096 0;
+  cost = λ l low. none_held held 4096 l costs low;
+  bounded = λ l low. omega (arith, none_held held 4096 l costs low);
+  count = λ l low. none_held crossing 4096 l counts low;
+  counted = λ l low. omega (arith, none_held crossing 4096 l counts low);
 }
 
 -- a sum far from the most that a word holds has room for a number

@@ -1,5 +1,5 @@
 //! Streams that are listed beside one another, whatever room links have.
-ghost use Rattle.std.specs.Prelude.{ℕ, ◌≡◌, ◌≤◌, ◌<◌, ◌^◌, [], ◌∷◌, ◌++◌, IfOk, false, length, slice_index_or};
+ghost use Rattle.std.specs.Prelude.{ℕ, ◌≡◌, ◌≤◌, ◌<◌, ◌^◌, [], ◌∷◌, ◌++◌, IfOk, false, length, replicate, slice_index_or};
 ghost use Rattle.std.specs.List.{list_any};
 ghost use Rattle.cqf_model.specs.Domain.{is_text};
 ghost use Rattle.cqf_admission_trees.specs.Branches.{branches_of, places_of};
@@ -42,6 +42,13 @@ impl Model for Listing {
     ghost invariant = { λ l. IsListing l.names.keys l.rows.items l.held.items l.crossing.items };
 }
 
+/// As many sums as these, each 0, unless memory runs out.
+fn no_sums(alloc: Global, count: usize) -> Result<Vec<u64>, Memory>
+    ensures { IfOk result (λ sums. sums.items ≡ replicate count 0) }
+{
+    Ok(vec![in alloc; 0; count]?)
+}
+
 /// Adds a number to that of each link by which a row's stream goes.
 fn add_where(by_link: &mut Vec<u64>, row: &Row, number: u32)
     requires all { length by_link.old.items ≡ most_links }
@@ -58,11 +65,13 @@ impl Listing {
     pub(crate) fn new(alloc: Global) -> Result<Listing, Memory>
         ensures { IfOk result (λ listing. listing ≡ []) }
     {
+        let held = no_sums(alloc, MOST_LINKS)?;
+        let crossing = no_sums(alloc, MOST_LINKS)?;
         Ok(Listing {
             names: IndexSet::new(alloc),
             rows: Vec::new(alloc),
-            held: vec![in alloc; 0; MOST_LINKS]?,
-            crossing: vec![in alloc; 0; MOST_LINKS]?,
+            held,
+            crossing,
         })
     }
 

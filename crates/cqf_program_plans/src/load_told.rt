@@ -34,7 +34,7 @@ fn rate_on(domain: &Domain, link: u16) -> u32
     megabits_of(domain.link(link).rate)
 }
 
-/// The budget of a link, in octets a cycle. A domain has at most 64 links.
+/// The budget of a link, in octets a cycle. A domain has at most 4,096 links.
 fn budget_on(domain: &Domain, link: u16) -> u64
     requires { link < length domain.now.links }
     ensures value { result ≡ budget domain.now link }

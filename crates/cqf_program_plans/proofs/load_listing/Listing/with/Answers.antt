@@ -20,5 +20,5 @@ invariant_of-result c =
     ∙ (λ i. cond (list_any (pointwise nat_eq (c.copied.ensures i)) names) names (names ++ c.copied.ensures i ∷ []))
     ∙ ap (λ (b : Bool). cond b names (names ++ row.name ∷ []))
     (ap (list_any (pointwise nat_eq row.name)) c.self.invariant.are_names ∙ name_among row.name rows ∙ free) in
-    one_listed names rows c.self.inside.held c.self.inside.crossing row c.self.invariant few c.requires.countable.octets c.requires.paced _ _ _ _ named c.in_ok-push.ensures.items
+    one_listed names rows c.self.inside.held.items c.self.inside.crossing.items row c.self.invariant few c.requires.countable.octets c.requires.paced _ _ _ _ named c.in_ok-push.ensures.items
     (rw (c.cost.ensures) at c.add_where.ensures) c.add_where-2.ensures
