@@ -14,7 +14,7 @@ use Rattle.cqf_model.specs.Domain.{Domain, is_text}
 use Rattle.cqf_model.specs.History.{Asked, refused_if}
 use Rattle.cqf_model.specs.Limits.{streams_within}
 use Rattle.cqf_model.specs.Table.{links_of}
-use Rattle.cqf_program_plans.specs.Listing.{IsListed, listed_row, listing_refusal}
+use Rattle.cqf_program_plans.specs.Listing.{IsListed, listed_row}
 
 -- no domain has more streams than the most that are counted
 few_of : (within number : ℕ) → number < min within 16384 → number < 16384

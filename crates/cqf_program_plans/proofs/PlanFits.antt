@@ -1,23 +1,18 @@
 -- A plan whose streams are all listed is admitted where it fits.
-use Rattle.std.proofs.Common.{ℕ, ◌≡◌, ◌≤◌, ◌<◌, ◌+◌, ◌++◌, ◌∙◌, Bool, true, false, cond, nat_lt, Option, Some, None}
-use Rattle.std.proofs.Common.{Result, Ok, Err, List, [], ◌∷◌, length, get_or, ap, arith, refl, subst, sym}
-use Rattle.std.specs.Prelude.{All, Contains, find, if◌then◌else◌}
-use Rattle.std.proofs.lemmas.Bool.{le-ltb}
+use Rattle.std.proofs.Common.{ℕ, ◌≡◌, ◌≤◌, ◌<◌, ◌+◌, ◌++◌, ◌∙◌, None}
+use Rattle.std.proofs.Common.{Result, Ok, List, [], ◌∷◌, length, ap, arith, refl, subst, sym}
 use Rattle.std.proofs.lemmas.List.{length_push}
 use Rattle.std.proofs.lemmas.Option.{slice_get_within}
 use Rattle.std.proofs.lemmas.List.Sums.{sum_by_push}
 use Rattle.cqf_lists.specs.Results.{refuse}
-use Rattle.cqf_units.specs.Timing.{cost_of}
-use Rattle.cqf_model.specs.declared.history.Refused.{Refused}
 use Rattle.cqf_model.specs.declared.topology.Row.{Row}
 use Rattle.cqf_model.specs.Domain.{Domain, budget}
-use Rattle.cqf_model.specs.History.{Admits, Asked, IsLegalHistory, Recorded, held_in, left_on, next_number, refusal_of, reply_to, seals, tree_of}
-use Rattle.cqf_model.specs.Table.{cost_on, crosses, link_cost, links_in}
-use Rattle.cqf_model.proofs.Hops.{hops_inside}
-use Rattle.cqf_laws_history.specs.StateLaws.{AreHeld, GrantedFindsRoom, GrantedIsHeld, HeldAreSound, HistoryGoesOn, IsState, SealsAreCounted, granted_row}
+use Rattle.cqf_model.specs.History.{Asked, IsLegalHistory, Recorded, held_in, next_number, refusal_of, seals}
+use Rattle.cqf_model.specs.Table.{cost_on, link_cost}
+use Rattle.cqf_laws_history.specs.StateLaws.{AreHeld, GrantedFindsRoom, GrantedIsHeld, HeldAreSound, HistoryGoesOn, SealsAreCounted, granted_row}
 use Rattle.cqf_program_plans.specs.CompileOutput.{AreAllHeld, admitted_from, stream_line, with_asked}
 use Rattle.cqf_program_plans.proofs.CompileLemmas.{AreAllHeld-more, AreAllHeld-none, refuse_ok, same_ok}
-use Rattle.cqf_program_plans.specs.FitLaws.{AdmittedAreListed, AreAdmitted, PlanFits}
+use Rattle.cqf_program_plans.specs.FitLaws.{AreAdmitted}
 use Rattle.cqf_program_plans.specs.Listing.{listed_row, listing_refusal}
 use Rattle.cqf_program_plans.specs.LoadOutput.{listed_from}
 use Rattle.cqf_program_plans.proofs.Fits.{accepted_listed, accepted_where_room}
