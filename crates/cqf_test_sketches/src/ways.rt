@@ -26,7 +26,7 @@ fn links() -> [Link; 5] {
 }
 
 /// Whether the first way from bridge 0 to station 0 is this, where so much is left.
-fn goes(left: &[u32], wanted: Option<&[u8]>) -> bool {
+fn goes(left: &[u32], wanted: Option<&[u16]>) -> bool {
     let links = links();
     let room = Room {
         links: &links,
@@ -52,7 +52,7 @@ fn the_first_way_has_room(rt: HostRuntime) {
 }
 
 /// Whether the first ways to stations 0 and 1 are these.
-fn goes_to_both(alloc: Global, left: &[u32], first: &[u8], second: &[u8]) -> bool {
+fn goes_to_both(alloc: Global, left: &[u32], first: &[u16], second: &[u16]) -> bool {
     let links = links();
     let room = Room {
         links: &links,
