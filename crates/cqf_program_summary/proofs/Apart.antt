@@ -1,6 +1,6 @@
 -- No two ways of a stream lead to one listener.
-use Rattle.std.proofs.Common.{◌≡◌, ◌≢◌, ◌∙◌, ◌∷◌, ◌<◌, [], ℕ, AllPairs, Bool, true, false, Contains, List, Some, None, Option, ap, arith, filter, get_or, if◌then◌else◌, inl, inr, length, map, not, refl, subst, sym}
-use Rattle.std.specs.Prelude.{◌&&◌, is_none, is_some, nat_le, nat_lt, option_map, position, slice_get}
+use Rattle.std.proofs.Common.{◌≡◌, ◌≢◌, ◌∙◌, ℕ, Bool, true, false, Contains, List, Some, None, Option, ap, if◌then◌else◌, length, map, not, refl, sym}
+use Rattle.std.specs.Prelude.{◌&&◌, is_none, is_some, nat_le, nat_lt, position}
 use Rattle.std.specs.List.{flat_map, list_any}
 use Rattle.std.proofs.lemmas.List.Kept.{AllPairs-filter}
 use Rattle.cqf_lists.specs.Lists.{least, or_else}

@@ -1,6 +1,6 @@
 -- One stream more is listed.
 use Rattle.std.proofs.Common.{◌≡◌, ◌∙◌, ◌+◌, ◌*◌, ◌++◌, ◌∷◌, ◌≤◌, ◌<◌, ◌^◌, [], ℕ, All, Bool, true, false, Contains, List, Some, None, Option, ap, append-nil, arith, filter, get_or, if◌then◌else◌, inl, inr, length, map, refl, subst, sym}
-use Rattle.std.specs.Prelude.{◌==◌, fold, is_none, max, nat_eq, option_map, replicate, slice_get, slice_index_or, sum_by}
+use Rattle.std.specs.Prelude.{◌==◌, fold, is_none, max, nat_eq, option_map, replicate, slice_get, sum_by}
 use Rattle.std.specs.List.{list_any}
 use Rattle.std.specs.Cmp.Lexicographic.{pointwise}
 use Rattle.std.proofs.lemmas.Bool.{cases_Bool, eq-eqb}
@@ -9,9 +9,8 @@ use Rattle.std.proofs.lemmas.List.Elements.{All-weaker, filter-append}
 use Rattle.std.proofs.lemmas.List.Sums.{fold-append, sum_by-cons, sum_by_push}
 use Rattle.std.proofs.lemmas.Simd.{map-map}
 use Rattle.std.proofs.lemmas.Option.{slice_get_within}
-use Rattle.cqf_lists.specs.Lists.{each_below}
 use Rattle.cqf_lists.proofs.Any.{list_any-map}
-use Rattle.cqf_lists.proofs.EachBelow.{fold_same, same_below}
+use Rattle.cqf_lists.proofs.EachBelow.{same_below}
 use Rattle.cqf_lists.proofs.EachOnce.{keep, once_from}
 use Rattle.cqf_lists.proofs.Made.{map_same}
 use Rattle.cqf_lists.proofs.Members.{all_from_members, contains_cases, contains_from_filter, contains_from_map, contains_here, contains_later, contains_map, contains_none, contains_one, member_any}
@@ -24,25 +23,23 @@ use Rattle.cqf_model.specs.declared.topology.Row.{Row}
 use Rattle.cqf_model.specs.Domain.{Domain, IsAccepted, end_of, is_text}
 use Rattle.cqf_model.specs.History.{Asked, pace_of, tree_of}
 use Rattle.cqf_model.specs.Paces.{each_cycle}
-use Rattle.cqf_model.specs.declared.topology.Pace.{Pace}
 use Rattle.cqf_model.specs.Table.{cost_on, crosses, links_in, links_of, uses}
 use Rattle.cqf_model.proofs.EachCycle.{cost_same, most_same, uses_same}
 use Rattle.cqf_model.proofs.Represented.{few_links}
 use Rattle.cqf_model.proofs.Texts.{pointwise-is_text}
 use Rattle.cqf_laws_history.specs.StateLaws.{granted_row}
 use Rattle.cqf_laws_latency.specs.Latency.{most_of}
-use Rattle.cqf_laws_latency.specs.Streams.{cost_of_all, most_beside_all}
+use Rattle.cqf_laws_latency.specs.Streams.{cost_of_all}
 use Rattle.cqf_admission.specs.Rows.{IsCountable, cost_by_link}
 use Rattle.cqf_admission.proofs.GrantLemmas.{granted_countable}
 use Rattle.cqf_admission_trees.specs.Sums.{part_on}
 use Rattle.cqf_admission.specs.Judging.{form_refusal}
 use Rattle.cqf_program_plans.specs.EndNames.{name_of_end}
 use Rattle.cqf_program_plans.specs.LatencyText.{is_station, listeners_of}
-use Rattle.cqf_program_runs.specs.declared.delivery.Delivery.{Delivery}
 use Rattle.cqf_program_summary.specs.declared.listing.Listed.{Listed}
 use Rattle.cqf_program_summary.specs.declared.listing.Listing.{Listing}
-use Rattle.cqf_program_summary.specs.Listing.{AddsCost, AreBounded, CostsWith, IsListing, IsOfStream, ListsOne, MayBeCounted, cost_in, costs_by_link, fare_named, listed_of, HasOctets}
-use Rattle.cqf_program_summary.specs.Summary.{Fare, fare_of, listener_to, listeners_by, summary_by, way_to, ways_of}
+use Rattle.cqf_program_summary.specs.Listing.{AreBounded, CostsWith, IsListing, IsOfStream, ListsOne, MayBeCounted, cost_in, costs_by_link, fare_named, listed_of}
+use Rattle.cqf_program_summary.specs.Summary.{fare_of, listener_to, listeners_by, summary_by, way_to}
 use Rattle.cqf_program_summary.specs.Told.{is_good, row_of_stream, row_unless, told_cost, told_streams}
 
 -- none is listed

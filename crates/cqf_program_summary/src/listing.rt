@@ -1,5 +1,5 @@
 //! The streams of which is told, and what they cost of links.
-ghost use Rattle.std.specs.Prelude.{◌≡◌, ◌++◌, ◌∷◌, [], IfOk, List, length, map};
+ghost use Rattle.std.specs.Prelude.{◌≡◌, ◌++◌, ◌∷◌, [], IfOk, List, length, map, replicate};
 ghost use Rattle.cqf_admission.specs.Asking.{asked_of};
 ghost use Rattle.cqf_model.specs.Domain.{Domain as ADomain};
 ghost use Rattle.cqf_model.specs.History.{Asked};
@@ -86,15 +86,23 @@ fn row_of_request(domain: &Domain, request: &Request) -> Result<Option<Row>, Mem
     }
 }
 
+/// What no streams cost of each link.
+fn no_costs(alloc: Global) -> Result<Vec<u64>, Memory>
+    ensures { IfOk result (λ costs. costs.items ≡ replicate most_links 0) }
+{
+    Ok(vec![in alloc; 0; MOST_LINKS]?)
+}
+
 impl Listing {
     /// None so far, unless memory runs out.
     fn new(alloc: Global) -> Result<Listing, Memory>
         ensures { IfOk result (λ listing. (d : ADomain) → IsListing d [] listing) }
     {
+        let costs = no_costs(alloc)?;
         Ok(Listing {
             names: IndexSet::new(alloc),
             streams: Vec::new(alloc),
-            costs: vec![in alloc; 0; MOST_LINKS]?,
+            costs,
         })
     }
 

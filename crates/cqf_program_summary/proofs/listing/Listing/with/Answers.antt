@@ -1,5 +1,6 @@
-use Rattle.std.proofs.Common.{◌≡◌, ◌∙◌, ◌++◌, ◌∷◌, [], ℕ, true, false, List, Option, ap, arith, refl, subst, subst₂, sym}
+use Rattle.std.proofs.Common.{◌≡◌, ◌∙◌, ℕ, true, false, List, Option, ap, arith, refl, subst, subst₂, sym}
 use Rattle.std.specs.List.{list_any}
+use Rattle.std.proofs.lemmas.Bool.{both_ways, false_from_ne_true}
 use Rattle.cqf_model.specs.declared.topology.Row.{Row}
 use Rattle.cqf_model.specs.Domain.{is_text}
 use Rattle.cqf_model.specs.History.{Asked}
@@ -7,8 +8,15 @@ use Rattle.cqf_units.specs.Name.{is_name}
 use Rattle.cqf_admission.specs.Asking.{asked_of}
 use Rattle.cqf_program_summary.specs.Listing.{ListsOne, MayBeCounted}
 use Rattle.cqf_program_summary.specs.Told.{told_streams}
-use Rattle.cqf_program_summary.proofs.Listed.{known_by_name, listing_more, listing_stays, told_known}
+use Rattle.cqf_program_summary.proofs.Listed.{known_by_name, listing_more, listing_stays, told_known, told_unnamed}
 use Rattle.cqf_program_summary.proofs.listing.Listing.with.Goals as goal
+
+pub returns-in_default : goal.returns-in_default
+returns-in_default c = λ before is.
+    let asked = asked_of c.args.request.now in
+    let unnamed : is_name asked.name ≡ false =
+    false_from_ne_true (is_name asked.name) (λ t. both_ways false refl (c.in_default.ensures.form.1 (ap is_name c.as_bytes.ensures.value ∙ t))) in
+    listing_stays c.args.domain.now before asked c.args.self (told_unnamed before asked unnamed) refl is
 
 pub returns-then-contains : goal.returns-then-contains
 returns-then-contains c = λ before is.
