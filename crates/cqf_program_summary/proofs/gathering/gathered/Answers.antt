@@ -1,4 +1,4 @@
-use Rattle.std.proofs.Common.{◌≡◌, ◌∙◌, ◌+◌, ◌*◌, ◌<◌, ℕ, List, nat_lt, Some, ap, arith, get_or, length, refl, subst, sym}
+use Rattle.std.proofs.Common.{◌≡◌, ◌∙◌, ◌+◌, ◌-◌, ◌*◌, ◌≤◌, ◌<◌, ℕ, List, nat_lt, Some, ap, arith, get_or, length, refl, subst, sym}
 use Rattle.std.specs.Prelude.{slice_get}
 use Rattle.std.proofs.lemmas.List.{take_all}
 use Rattle.std.proofs.lemmas.Option.{slice_get_read}
@@ -21,6 +21,17 @@ use Rattle.cqf_program_summary.proofs.gathering.gathered.Goals as goal
 pub put_those_of-requires-clause-followed : goal.put_those_of-requires-clause-followed
 put_those_of-requires-clause-followed c =
     record { whole = c.requires.followed.whole; is = (c.loop-place.invariant.so_far c.requires.followed.whole c.requires.followed.is).0 }
+
+pub add-requires-clause-within : goal.add-requires-clause-within
+add-requires-clause-within c =
+    let offers = c.args.ended.now.offers.now in
+    let place = c.loop-place.place in
+    let few : length offers ≤ 16777215 = c.requires.followed.is.is_over.few in
+    let inside : place < length offers = omega (arith, c.loop-place-test.true) in
+    let rest = 3372220014 - 201 * place in
+    let all : 201 * place + rest ≡ 3372220014 = omega arith in
+    subst (λ (k : ℕ). SummaryWithin k c.loop-place.sums) all
+    (summary_later (201 * place) rest c.loop-place.sums c.loop-place.invariant.within)
 
 pub loop-place-preserved : goal.loop-place-preserved
 loop-place-preserved c =
