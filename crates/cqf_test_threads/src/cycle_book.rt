@@ -383,7 +383,7 @@ fn a_book_closes_with_its_own_shares_alone(rt: HostRuntime) {
 /// Whether the book takes the page with a start on a link of 2 less the bridge's number.
 fn takes<R: Wait>(rt: &R, alloc: Global, book: &CycleBook, share: &mut Share, cycle: u32) -> bool {
     let bridge = share.bridge();
-    match page_with(alloc, bridge, cycle, 2u8.saturating_sub(bridge)) {
+    match page_with(alloc, bridge, cycle, 2u16.saturating_sub(bridge)) {
         Ok(page) => book.post(rt, share, page).is_ok(),
         Err(_) => false,
     }
